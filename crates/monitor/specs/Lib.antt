@@ -1,0 +1,11 @@
+pub mod Formula
+pub mod Meaning
+pub mod Terms
+pub mod Moment
+pub mod Keeper
+pub mod Layout
+pub mod Checks
+pub mod Tables
+pub mod Monitor
+pub mod Agreement
+pub mod Rows
