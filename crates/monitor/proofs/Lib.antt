@@ -1,2 +1,16 @@
 pub mod Spelled
 pub mod Good
+pub mod Record
+pub mod Now
+pub mod Sweeps
+pub mod Row
+pub mod Inside
+pub mod Front
+pub mod Words
+pub mod Parts
+pub mod Kept
+pub mod Past
+pub mod Held
+pub mod Refused
+pub mod Demand
+pub mod Cases
