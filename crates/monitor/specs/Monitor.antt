@@ -15,8 +15,8 @@ use Rattle.monitor.specs.declared.Verdict.{Verdict as VerdictCase}
 use Rattle.monitor.specs.declared.Verdict.the-variants.{Grant, Deny}
 use Rattle.monitor.specs.declared.Answer.{Answer as AnswerCase}
 use Rattle.monitor.specs.declared.Answer.the-variants.{Decided, Refused}
-use Rattle.monitor.specs.declared.Opened.{Opened}
-use Rattle.monitor.specs.declared.Opened.the-variants.{Done, Unopened}
+use Rattle.monitor.specs.declared.Outcome.{Outcome as OutcomeCase}
+use Rattle.monitor.specs.declared.Outcome.the-variants.{Done, Refused as Undone}
 
 -- ---- the enums' cases, in document 01's words
 
@@ -29,14 +29,14 @@ abbrev pub answerOf : AnswerCase → Answer
 answerOf (Decided v) = decided (verdictOf v)
 answerOf (Refused n l) = refused n l
 
--- An opening is done, or refused with its number and line.
-pub data Opening : Type 0 where
-  opened : Opening
-  unopened : (number line : ℕ) → Opening
+-- A check passes and an opening is done, or it is refused with its number and line.
+pub data Outcome : Type 0 where
+  passed : Outcome
+  failed : (number line : ℕ) → Outcome
 
-abbrev pub openingOf : Opened → Opening
-openingOf Done = opened
-openingOf (Unopened n l) = unopened n l
+abbrev pub outcomeOf : OutcomeCase → Outcome
+outcomeOf Done = passed
+outcomeOf (Undone n l) = failed n l
 
 -- ---- look and request
 
@@ -70,23 +70,33 @@ unfoldable pub scratchAfter : (terms state scratch : List ℕ) → (j u v : ℕ)
 scratchAfter terms state scratch j u v =
     cond (granted (answer terms state scratch j u v)) (replicate scratchWords 0 ++ drop scratchWords scratch) scratch
 
+-- ---- check
+
+-- What checking terms and a state gives: lengths (6), terms (7), state (8).
+unfoldable pub checks : (terms state : List ℕ) → Outcome
+checks terms state =
+    cond (ltb (length terms) termsWords || ltb (length state) stateWords) (failed 6 0)
+    (cond (not (goodMemory terms)) (failed 7 0)
+    (cond (not (goodState (termsOf terms) state)) (failed 8 0)
+    passed))
+
 -- ---- open
 
 -- What opening gives: lengths of terms and state (6), terms (7), relations that break the layout (8).
-unfoldable pub opens : (terms state : List ℕ) → Opening
+unfoldable pub opens : (terms state : List ℕ) → Outcome
 opens terms state =
-    cond (ltb (length terms) termsWords || ltb (length state) stateWords) (unopened 6 0)
-    (cond (not (goodMemory terms)) (unopened 7 0)
-    (cond (not (goodRelations (termsOf terms) state)) (unopened 8 0)
-    opened))
+    cond (ltb (length terms) termsWords || ltb (length state) stateWords) (failed 6 0)
+    (cond (not (goodMemory terms)) (failed 7 0)
+    (cond (not (goodRelations (termsOf terms) state)) (failed 8 0)
+    passed))
 
-abbrev pub isOpened : Opening → Bool
-isOpened opened = true
-isOpened (unopened n l) = false
+abbrev pub hasPassed : Outcome → Bool
+hasPassed passed = true
+hasPassed (failed n l) = false
 
 -- What opening leaves: the state of moment 0 of the relations that stand there, whatever tables and event word were.
 unfoldable pub openedState : (terms state : List ℕ) → List ℕ
 openedState terms state =
-    cond (isOpened (opens terms state))
+    cond (hasPassed (opens terms state))
     (wordsOf (termsOf terms) (opening (termsOf terms) (stateOf state .now .edge)) ++ drop stateWords state)
     state

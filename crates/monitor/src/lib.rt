@@ -13,8 +13,8 @@ pub enum Answer {
     Refused(usize, usize),
 }
 
-// An opening is done, or refused with its number and line.
-pub enum Opened {
+// A check passes and an opening is done, or it is refused with its number and line.
+pub enum Outcome {
     Done,
-    Unopened(usize, usize),
+    Refused(usize, usize),
 }
