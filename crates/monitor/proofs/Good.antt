@@ -168,13 +168,13 @@ good w e =
         subst (λ k. effectFits (getD w 1 0) (getD w k 0) (getD w (k + 1) 0) (getD w (k + 2) 0) ≡ true) (at j i)
         (all-out 4 (λ i. effectFits (getD w 1 0) (getD w (effectAt j i) 0) (getD w (effectAt j i + 1) 0) (getD w (effectAt j i + 2) 0)) t i l)
 
-lone-out : (f : Formula) → lone f ≡ true → (x y : ℕ) → x < 16 → y < 16 → free f x ≡ true → free f y ≡ true → x ≡ y
+pub lone-out : (f : Formula) → lone f ≡ true → (x y : ℕ) → x < 16 → y < 16 → free f x ≡ true → free f y ≡ true → x ≡ y
 unfolding lone
 lone-out f e x y xl yl p q =
     eqb-true x y (implied (free f y) _ (implied (free f x) _
     (all-out 16 (λ y. free f x ⇒ (free f y ⇒ eqb x y)) (all-out 16 (λ x. allBelow 16 (λ y. free f x ⇒ (free f y ⇒ eqb x y))) e x xl) y yl) p) q)
 
-target-out : (f : Formula) → targetOnly f ≡ true → (x : ℕ) → x < 16 → free f x ≡ true → x ≡ 0
+pub target-out : (f : Formula) → targetOnly f ≡ true → (x : ℕ) → x < 16 → free f x ≡ true → x ≡ 0
 unfolding targetOnly
 target-out f e x xl p = eqb-true x 0 (implied (free f x) _ (all-out 16 (λ x. free f x ⇒ eqb x 0) e x xl) p)
 

@@ -9,3 +9,4 @@ pub mod Tables
 pub mod Monitor
 pub mod Agreement
 pub mod Rows
+pub mod Moving

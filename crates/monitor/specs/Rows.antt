@@ -5,7 +5,7 @@ use mathlib.Core.Bool.{Bool, true, cond, not, _&&_, _||_}
 use mathlib.Core.List.{List}
 use lib.Dec.{eqb, ltb}
 use lib.ListN.{length, getD}
-use Rattle.sets.specs.Sets.{bit}
+use Rattle.sets.specs.Sets.{anyBelow, bit}
 use Rattle.monitor.specs.Formula.{number, isPast, free, column}
 use Rattle.monitor.specs.Meaning.{Graph, Assignment, standing}
 use Rattle.monitor.specs.Terms.{Terms, formula}
@@ -89,3 +89,50 @@ nextSince T rel past i a b =
 pub record Masked (T : Terms) (masks : List ℕ) : Type 0 where
   pub long : length masks ≡ 256
   pub bits : (i x : ℕ) → i < T .entries → bit (getD masks i 0) x ≡ free (formula T i) x
+
+-- s has exactly the members with p.
+abbrev pub Has : ℕ → (ℕ → Bool) → Type 0
+Has s p = (m : ℕ) → bit s m ≡ p m
+
+-- b is in row a of f.
+abbrev pub inRow : List ℕ → (a b : ℕ) → Bool
+inRow f a b = bit (getD f a 0) b
+
+-- s is s₀ with those b in row a that have p a b.
+abbrev pub Added : List ℕ → (ℕ → ℕ → Bool) → List ℕ → Type 0
+Added s₀ p s = (a b : ℕ) → inRow s a b ≡ (inRow s₀ a b || p a b)
+
+-- Row a of f and row a of table t both have b.
+abbrev pub kept : List ℕ → (past : List ℕ) → (t a b : ℕ) → Bool
+kept f past t a b = inRow f a b && tableBit past t a b
+
+-- E leads to b from some member of set.
+abbrev pub ahead : (E : ℕ → ℕ → Bool) → (set b : ℕ) → Bool
+ahead E set b = anyBelow 64 (λ a. bit set a && E a b)
+
+-- a is in from, and E leads from it to some member of set.
+abbrev pub behind : (E : ℕ → ℕ → Bool) → (from set a : ℕ) → Bool
+behind E from set a = bit from a && anyBelow 64 (λ b. E a b && bit set b)
+
+-- E leads from a to some member whose row of f has b.
+abbrev pub gathered : (E : ℕ → ℕ → Bool) → List ℕ → (a b : ℕ) → Bool
+gathered E f a b = anyBelow 64 (λ c. E a c && inRow f c b)
+
+-- E leads to a from some member of from whose row of f has b.
+abbrev pub scattered : (E : ℕ → ℕ → Bool) → (from : ℕ) → List ℕ → (a b : ℕ) → Bool
+scattered E from f a b = anyBelow 64 (λ c. bit from c && (E c a && inRow f c b))
+
+-- s has those members of want from which label l leads anywhere, and none that is not in want.
+pub record Senders (r event l want s : ℕ) : Type 0 where
+  pub within : (a : ℕ) → bit s a ≡ true → bit want a ≡ true
+  pub enough : (rel : List ℕ) (a b : ℕ) → bit want a ≡ true → edge r rel event l a b ≡ true → bit s a ≡ true
+
+-- What reading a past-time entry's table asks.
+pub record Recalled (plan past : List ℕ) (g : Assignment) (entry : ℕ) : Type 0 where
+  pub exists : getD plan entry 0 / 16 < 32
+  pub long : 2048 ≤ length past
+  pub vars-in : (x : ℕ) → x < 16 → g x < 64
+
+-- A past-time entry, whose plan word is p, holds at a, under g with x standing for b; b is in all.
+abbrev pub remembered : (past : List ℕ) → Assignment → (x p all a b : ℕ) → Bool
+remembered past g x p all a b = bit all b && tableBit past (p / 16) a (opened g x b (p % 16))

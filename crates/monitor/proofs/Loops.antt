@@ -1,0 +1,275 @@
+-- Loops over the members of a set, least first, and over the numbers below 64: of each shape its start, one turn and its end.
+use Prim.Native.Nat.{ℕ, zero, suc, _+_, _-_, _^_, _<_, _≤_}
+use mathlib.Core.Path.{_≡_, refl, sym, ap, ap₂, _∙_, subst, fun-ext}
+use mathlib.Core.Bool.{Bool, true, false, cond, not, _&&_, _||_, and-true, and-or-distrib-right, true≢false}
+use mathlib.Core.List.{List}
+use mathlib.Core.Logic.{⊎-elim}
+use native.Mathlib.Omega.{arith}
+use lib.Dec.{eqb, ltb}
+use lib.ListN.{length, getD, set, replicate, length-replicate, length-set, List·getD-eq-default}
+use lib.Seq.{getD-set-same, getD-set-other, ext-getD}
+use lib.Bits.{bitAnd, bitOr}
+use borrow.Author.Tests.{lt-ltb, le-ltb, ltb-true, ltb-false, eqb-true, eqb-false, eq-eqb}
+use Rattle.sets.specs.Sets.{anyBelow, bit, least}
+use Rattle.sets.proofs.Finite.{bool-iff, and-left, and-right, and-both, or-left, or-right, or-cases, is-false, not-both, any-intro, any-elim, below-suc, true-or-false}
+use Rattle.sets.proofs.Bits.{bit-zero, bit-or}
+use Rattle.sets.proofs.Least.{Least, Rest, least-law, rest-law}
+use Rattle.monitor.specs.Rows.{Rows, inRow, Added}
+
+-- ---- over the members of want; those of rest are to come
+abbrev Done : ℕ → ℕ → ℕ → Bool
+Done want rest k = bit want k && not (bit rest k)
+
+pub record Going (want rest : ℕ) : Type 0 where
+  pub fits : rest < 2 ^ 64
+  pub inside : (k : ℕ) → bit rest k ≡ true → bit want k ≡ true
+
+going : (want : ℕ) → want < 2 ^ 64 → Going want want
+going want h = record { fits = h; inside = λ k e. e }
+
+-- one turn: a is the least of rest, and rest' is what is left
+pub record Turn (want rest a rest' : ℕ) : Type 0 where
+  pub upon : Going want rest
+  pub next : Least rest a
+  pub left : Rest rest rest'
+
+pub turn : {want rest a rest' : ℕ} → Going want rest → (rest ≡ 0 → ⊥) → a ≡ least rest → rest' ≡ bitAnd rest (rest - 1) → Turn want rest a rest'
+turn {want} {rest} {a} {rest'} o n l r =
+    let p : 0 < rest = omega arith in
+    record { upon = o; next = least-law rest a p (o .fits) l; left = rest-law rest rest' p (o .fits) r }
+
+pub least-small : {want rest a : ℕ} → Going want rest → (rest ≡ 0 → ⊥) → a ≡ least rest → a < 64
+least-small {want} {rest} {a} o n l = least-law rest a (let p : 0 < rest = omega arith in p) (o .fits) l .small
+
+pub least-wanted : {want rest a : ℕ} → Going want rest → (rest ≡ 0 → ⊥) → a ≡ least rest → bit want a ≡ true
+least-wanted {want} {rest} {a} o n l = o .inside a (least-law rest a (let p : 0 < rest = omega arith in p) (o .fits) l .here)
+
+pub rest-less : {want rest rest' : ℕ} → Going want rest → (rest ≡ 0 → ⊥) → rest' ≡ bitAnd rest (rest - 1) → rest' < rest
+rest-less {want} {rest} {rest'} o n r = rest-law rest rest' (let p : 0 < rest = omega arith in p) (o .fits) r .less
+
+done-self : (x : Bool) → (x && not x) ≡ false
+done-self true = refl
+done-self false = refl
+
+done-all : (want rest k : ℕ) → rest ≡ 0 → Done want rest k ≡ bit want k
+done-all want rest k e =
+    ap (λ (x : ℕ). bit want k && not (bit x k)) e ∙ ap (λ (x : Bool). bit want k && not x) (bit-zero k) ∙ and-true (bit want k)
+
+done-bool : (w r e : Bool) → (r ≡ true → w ≡ true) → (e ≡ true → r ≡ true) → (w && not (r && not e)) ≡ (e || (w && not r))
+done-bool true true true f g = refl
+done-bool true true false f g = refl
+done-bool true false true f g = refl
+done-bool true false false f g = refl
+done-bool false true e f g = absurd (true≢false (sym (f refl)))
+done-bool false false true f g = absurd (true≢false (sym (g refl)))
+done-bool false false false f g = refl
+
+module _ {want rest a rest' : ℕ} (t : Turn want rest a rest') where
+  going-on : Going want rest'
+  going-on = record {
+    fits = (let p : rest' < rest = t .left .less in let q : rest < 2 ^ 64 = t .upon .fits in omega arith);
+    inside = λ k e. t .upon .inside k (and-left (bit rest k) _ (sym (t .left .bits k) ∙ e));
+  }
+
+  done-more : (k : ℕ) → Done want rest' k ≡ (eqb k a || Done want rest k)
+  done-more k =
+      ap (λ (x : Bool). bit want k && not x) (t .left .bits k ∙ ap (λ (x : ℕ). bit rest k && not (eqb k x)) (sym (t .next .is)))
+      ∙ done-bool (bit want k) (bit rest k) (eqb k a) (t .upon .inside k) (λ e. ap (bit rest) (eqb-true k a e) ∙ t .next .here)
+
+-- ---- rows
+pub zeros : (n y : ℕ) → _≡_ {A = ℕ} (getD (replicate n 0) y 0) 0
+zeros zero y = refl
+zeros (suc n) zero = refl
+zeros (suc n) (suc y) = zeros n y
+
+pub zero-rows : {r : List ℕ} → r ≡ replicate 64 0 → (a b : ℕ) → inRow r a b ≡ false
+zero-rows e a b = ap (λ (l : List ℕ). bit (getD l a 0) b) e ∙ ap (λ (x : ℕ). bit x b) (zeros 64 a) ∙ bit-zero b
+
+zero-long : {r : List ℕ} → r ≡ replicate 64 0 → length r ≡ 64
+zero-long e = ap length e ∙ length-replicate {A = ℕ} 64 0
+
+row-set : (r : List ℕ) (a w k b : ℕ) → a < length r → inRow (set r a w) k b ≡ cond (eqb k a) (bit w b) (inRow r k b)
+row-set r a w k b h =
+    ⊎-elim
+    (λ e. ap (λ (j : ℕ). inRow (set r a w) j b) (eqb-true k a e) ∙ ap (λ (x : ℕ). bit x b) (getD-set-same r a w 0 h)
+    ∙ sym (ap (λ (t : Bool). cond t (bit w b) (inRow r k b)) e))
+    (λ e. ap (λ (x : ℕ). bit x b) (getD-set-other r a k w 0 (eqb-false k a e))
+    ∙ sym (ap (λ (t : Bool). cond t (bit w b) (inRow r k b)) e))
+    (true-or-false (eqb k a))
+
+-- rows that say the same of the members of want
+pub rows-map : {want : ℕ} {p q : ℕ → ℕ → Bool} {r : List ℕ} → Rows want p r → ((a b : ℕ) → bit want a ≡ true → p a b ≡ q a b) → Rows want q r
+rows-map {want} {p} {q} f h = record { long = f .long; bits = λ a b. f .bits a b ∙ under (bit want a) (p a b) (q a b) (h a b) }
+  where
+    under : (w x y : Bool) → (w ≡ true → x ≡ y) → (w && x) ≡ (w && y)
+    under true x y h = h refl
+    under false x y h = refl
+
+-- an empty set has no rows
+pub no-rows : {want : ℕ} (p : ℕ → ℕ → Bool) {r : List ℕ} → want ≡ 0 → r ≡ replicate 64 0 → Rows want p r
+no-rows {want} p e z = record {
+  long = zero-long z;
+  bits = λ a b. zero-rows z a b ∙ sym (ap (λ (t : Bool). t && p a b) (ap (λ (w : ℕ). bit w a) e ∙ bit-zero a));
+}
+
+-- ---- such a loop that fills a row a turn
+pub record Filling (want : ℕ) (p : ℕ → ℕ → Bool) (rest : ℕ) (r : List ℕ) : Type 0 where
+  pub upon : Going want rest
+  pub long : length r ≡ 64
+  pub bits : (a b : ℕ) → inRow r a b ≡ (Done want rest a && p a b)
+
+pub filling : {want : ℕ} (p : ℕ → ℕ → Bool) {r : List ℕ} → want < 2 ^ 64 → r ≡ replicate 64 0 → Filling want p want r
+filling {want} p h e = record {
+  upon = going want h;
+  long = zero-long e;
+  bits = λ a b. zero-rows e a b ∙ sym (ap (λ (x : Bool). x && p a b) (done-self (bit want a)));
+}
+
+pub filling-more : {want : ℕ} {p : ℕ → ℕ → Bool} {rest a rest' : ℕ} {r : List ℕ} (w : ℕ) → Filling want p rest r → Turn want rest a rest'
+    → ((b : ℕ) → bit w b ≡ p a b) → Filling want p rest' (set r a w)
+filling-more {want} {p} {rest} {a} {rest'} {r} w f t h = record {
+  upon = going-on t;
+  long = length-set r a w ∙ f .long;
+  bits = λ k b.
+      row-set r a w k b (subst (λ (x : ℕ). a < x) (sym (f .long)) (t .next .small))
+      ∙ ⊎-elim
+      (λ e. ap (λ (y : Bool). cond y (bit w b) (inRow r k b)) e ∙ h b ∙ ap (λ (x : ℕ). p x b) (sym (eqb-true k a e))
+      ∙ sym (ap (λ (y : Bool). y && p k b) (done-more t k ∙ ap (λ (y : Bool). y || Done want rest k) e)))
+      (λ e. ap (λ (y : Bool). cond y (bit w b) (inRow r k b)) e ∙ f .bits k b
+      ∙ sym (ap (λ (y : Bool). y && p k b) (done-more t k ∙ ap (λ (y : Bool). y || Done want rest k) e)))
+      (true-or-false (eqb k a));
+}
+
+pub filling-all : {want : ℕ} {p : ℕ → ℕ → Bool} {rest : ℕ} {r : List ℕ} → Filling want p rest r → rest ≡ 0 → Rows want p r
+filling-all {want} {p} {rest} {r} f e = record {
+  long = f .long;
+  bits = λ a b. f .bits a b ∙ ap (λ (x : Bool). x && p a b) (done-all want rest a e);
+}
+
+-- ---- some member that is done has p
+abbrev Some : ℕ → ℕ → (ℕ → Bool) → Bool
+Some want rest p = anyBelow 64 (λ c. Done want rest c && p c)
+
+some-none : (want : ℕ) (p : ℕ → Bool) → Some want want p ≡ false
+some-none want p =
+    is-false (Some want want p) (λ e.
+    let w : (k : ℕ) × (k < 64) × ((Done want want k && p k) ≡ true) = any-elim 64 (λ c. Done want want c && p c) e in
+    not-both _ (and-left (Done want want (w .0)) (p (w .0)) (w .2)) (done-self (bit want (w .0))))
+
+some-more : {want rest a rest' : ℕ} (p : ℕ → Bool) → Turn want rest a rest' → (p a || Some want rest p) ≡ Some want rest' p
+some-more {want} {rest} {a} {rest'} p t =
+    bool-iff _ _
+    (λ e. ⊎-elim
+    (λ q. any-intro 64 (λ c. Done want rest' c && p c) a (t .next .small)
+    (and-both (Done want rest' a) (p a) (done-more t a ∙ or-left (eqb a a) (Done want rest a) (eq-eqb a a refl)) q))
+    (λ q.
+    let w : (k : ℕ) × (k < 64) × ((Done want rest k && p k) ≡ true) = any-elim 64 (λ c. Done want rest c && p c) q in
+    any-intro 64 (λ c. Done want rest' c && p c) (w .0) (w .1)
+    (and-both (Done want rest' (w .0)) (p (w .0))
+    (done-more t (w .0) ∙ or-right (eqb (w .0) a) (Done want rest (w .0)) (and-left (Done want rest (w .0)) (p (w .0)) (w .2)))
+    (and-right (Done want rest (w .0)) (p (w .0)) (w .2))))
+    (or-cases (p a) (Some want rest p) e))
+    (λ e.
+    let w : (k : ℕ) × (k < 64) × ((Done want rest' k && p k) ≡ true) = any-elim 64 (λ c. Done want rest' c && p c) e in
+    let k = w .0 in
+    ⊎-elim
+    (λ q. or-left (p a) (Some want rest p) (subst (λ (x : ℕ). p x ≡ true) (eqb-true k a q) (and-right (Done want rest' k) (p k) (w .2))))
+    (λ q. or-right (p a) (Some want rest p)
+    (any-intro 64 (λ c. Done want rest c && p c) k (w .1) (and-both (Done want rest k) (p k) q (and-right (Done want rest' k) (p k) (w .2)))))
+    (or-cases (eqb k a) (Done want rest k) (sym (done-more t k) ∙ and-left (Done want rest' k) (p k) (w .2))))
+
+some-all : (want rest : ℕ) (p : ℕ → Bool) → rest ≡ 0 → Some want rest p ≡ anyBelow 64 (λ c. bit want c && p c)
+some-all want rest p e = ap (anyBelow 64) (fun-ext (λ c. ap (λ (x : Bool). x && p c) (done-all want rest c e)))
+
+-- ---- such a loop that adds to a set
+pub record Adding (want : ℕ) (p : ℕ → ℕ → Bool) (rest s : ℕ) : Type 0 where
+  pub upon : Going want rest
+  pub bits : (b : ℕ) → bit s b ≡ Some want rest (λ c. p c b)
+
+pub adding : (want : ℕ) (p : ℕ → ℕ → Bool) → want < 2 ^ 64 → Adding want p want 0
+adding want p h = record { upon = going want h; bits = λ b. bit-zero b ∙ sym (some-none want (λ c. p c b)) }
+
+pub adding-more : {want : ℕ} {p : ℕ → ℕ → Bool} {rest a rest' s : ℕ} (w : ℕ) → Adding want p rest s → Turn want rest a rest'
+    → ((b : ℕ) → bit w b ≡ p a b) → Adding want p rest' (bitOr w s)
+adding-more {want} {p} {rest} {a} {rest'} {s} w f t h = record {
+  upon = going-on t;
+  bits = λ b. bit-or w s b ∙ ap₂ _||_ (h b) (f .bits b) ∙ some-more (λ c. p c b) t;
+}
+
+pub adding-all : {want : ℕ} {p : ℕ → ℕ → Bool} {rest s : ℕ} → Adding want p rest s → rest ≡ 0 → (b : ℕ) → bit s b ≡ anyBelow 64 (λ c. bit want c && p c b)
+adding-all {want} {p} {rest} f e b = f .bits b ∙ some-all want rest (λ c. p c b) e
+
+-- ---- such a loop that adds rows: of each c that is done, those b that have p c a b to the row of a
+pub record Scattering (from : ℕ) (p : ℕ → ℕ → ℕ → Bool) (rest : ℕ) (r : List ℕ) : Type 0 where
+  pub upon : Going from rest
+  pub long : length r ≡ 64
+  pub bits : (a b : ℕ) → inRow r a b ≡ Some from rest (λ c. p c a b)
+
+pub scattering : {from : ℕ} (p : ℕ → ℕ → ℕ → Bool) {r : List ℕ} → from < 2 ^ 64 → r ≡ replicate 64 0 → Scattering from p from r
+scattering {from} p h e = record {
+  upon = going from h;
+  long = zero-long e;
+  bits = λ a b. zero-rows e a b ∙ sym (some-none from (λ c. p c a b));
+}
+
+or-turned : (x y : Bool) → (x || y) ≡ (y || x)
+or-turned true true = refl
+or-turned true false = refl
+or-turned false true = refl
+or-turned false false = refl
+
+pub scattering-more : {from : ℕ} {p : ℕ → ℕ → ℕ → Bool} {rest c rest' : ℕ} {r r' : List ℕ} (add : ℕ → ℕ → Bool) → Scattering from p rest r → Turn from rest c rest'
+    → length r' ≡ length r → Added r add r' → ((a b : ℕ) → add a b ≡ p c a b) → Scattering from p rest' r'
+scattering-more {from} {p} {rest} {c} {rest'} {r} {r'} add f t e h q = record {
+  upon = going-on t;
+  long = e ∙ f .long;
+  bits = λ a b. h a b ∙ ap₂ _||_ (f .bits a b) (q a b) ∙ or-turned (Some from rest (λ k. p k a b)) (p c a b) ∙ some-more (λ k. p k a b) t;
+}
+
+pub scattering-all : {from : ℕ} {p : ℕ → ℕ → ℕ → Bool} {rest : ℕ} {r : List ℕ} → Scattering from p rest r → rest ≡ 0
+    → (a b : ℕ) → inRow r a b ≡ anyBelow 64 (λ c. bit from c && p c a b)
+scattering-all {from} {p} {rest} f e a b = f .bits a b ∙ some-all from rest (λ c. p c a b) e
+
+-- ---- such a loop that adds w to the row of each member
+pub record Joining (set w : ℕ) (t₀ : List ℕ) (rest : ℕ) (t : List ℕ) : Type 0 where
+  pub upon : Going set rest
+  pub long : length t ≡ length t₀
+  pub bits : (a b : ℕ) → inRow t a b ≡ (inRow t₀ a b || (Done set rest a && bit w b))
+
+or-none : (x : Bool) → x ≡ (x || false)
+or-none true = refl
+or-none false = refl
+
+or-again : (x y z : Bool) → ((x || (z && y)) || y) ≡ (x || y)
+or-again true y z = refl
+or-again false true true = refl
+or-again false true false = refl
+or-again false false true = refl
+or-again false false false = refl
+
+pub joining : (set w : ℕ) (t : List ℕ) → set < 2 ^ 64 → Joining set w t set t
+joining set w t h = record {
+  upon = going set h;
+  long = refl;
+  bits = λ a b. or-none _ ∙ sym (ap (λ (x : Bool). inRow t a b || (x && bit w b)) (done-self (bit set a)));
+}
+
+pub joining-more : {want w : ℕ} {t₀ t : List ℕ} {rest a rest' : ℕ} → Joining want w t₀ rest t → Turn want rest a rest' → length t₀ ≡ 64
+    → Joining want w t₀ rest' (set t a (bitOr (getD t a 0) w))
+joining-more {want} {w} {t₀} {t} {rest} {a} {rest'} f n h = record {
+  upon = going-on n;
+  long = length-set t a _ ∙ f .long;
+  bits = λ k b.
+      row-set t a (bitOr (getD t a 0) w) k b (let x : a < 64 = n .next .small in let y : length t ≡ length t₀ = f .long in omega arith)
+      ∙ ⊎-elim
+      (λ e. ap (λ (x : Bool). cond x (bit (bitOr (getD t a 0) w) b) (inRow t k b)) e ∙ bit-or (getD t a 0) w b
+      ∙ ap (λ (x : Bool). x || bit w b) (ap (λ (x : ℕ). inRow t x b) (sym (eqb-true k a e)) ∙ f .bits k b)
+      ∙ or-again (inRow t₀ k b) (bit w b) (Done want rest k)
+      ∙ sym (ap (λ (x : Bool). inRow t₀ k b || (x && bit w b)) (done-more n k ∙ ap (λ (x : Bool). x || Done want rest k) e)))
+      (λ e. ap (λ (x : Bool). cond x (bit (bitOr (getD t a 0) w) b) (inRow t k b)) e ∙ f .bits k b
+      ∙ sym (ap (λ (x : Bool). inRow t₀ k b || (x && bit w b)) (done-more n k ∙ ap (λ (x : Bool). x || Done want rest k) e)))
+      (true-or-false (eqb k a));
+}
+
+pub joining-all : {want w : ℕ} {t₀ t : List ℕ} {rest : ℕ} → Joining want w t₀ rest t → rest ≡ 0 → Added t₀ (λ a b. bit want a && bit w b) t
+joining-all {want} {w} {t₀} {t} {rest} f e a b = f .bits a b ∙ ap (λ (x : Bool). inRow t₀ a b || (x && bit w b)) (done-all want rest a e)

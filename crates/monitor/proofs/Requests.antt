@@ -1,0 +1,109 @@
+-- What a request and the tables of past-time entries take from `decide`: every variable but the open one stands for member 0.
+use Prim.Native.Nat.{ℕ, _/_, _%_, _<_}
+use mathlib.Core.Path.{_≡_, refl, sym, ap, ap₂, _∙_, subst}
+use mathlib.Core.Bool.{Bool, true, false, _&&_, _||_}
+use mathlib.Core.List.{List}
+use native.Mathlib.Omega.{arith}
+use lib.Dec.{eqb, ltb}
+use lib.ListN.{length, getD, replicate}
+use borrow.Author.Tests.{lt-ltb, ltb-true, eqb-true, eq-eqb}
+use Rattle.sets.specs.Sets.{bit}
+use Rattle.monitor.specs.Formula.{firstOperand, secondOperand, number, isPast, column}
+use Rattle.monitor.specs.Formula.Operand.{entry}
+use Rattle.monitor.specs.Meaning.{Assignment, assign, standing}
+use Rattle.monitor.specs.Terms.{Terms, formula}
+use Rattle.monitor.specs.Layout.{termsOf}
+use Rattle.monitor.specs.Rows.{tableBit, assigned, opened, nowAt, cell, Rows, Ready, Asked, Table, nextPrev, nextSince, Has, inRow, Added, kept}
+use Rattle.monitor.proofs.Spelled.{number-lt}
+use Rattle.monitor.proofs.Good.{Good, GoodEntry, good, first-lower, second-lower}
+use Rattle.monitor.proofs.Loops.{zeros}
+use Rattle.monitor.proofs.Assignments.{opened-zeros}
+
+-- every variable stands for member 0
+abbrev fresh : Assignment
+fresh = assigned (replicate 16 0)
+
+fresh-asked : (T : Terms) (i w : ℕ) → Good T → i < T .entries → ((m : ℕ) → bit w m ≡ true → m < T .members) → Asked T fresh i w
+fresh-asked T i w h l q = record {
+  exists = l;
+  wanted = q;
+  vars-in = λ x k. subst (λ (y : ℕ). y < T .members) (sym (zeros 16 x)) (h .some-member);
+}
+
+-- ---- a request, at u alone
+
+pub request-asked : {terms plan rel past : List ℕ} (i u w : ℕ) → Ready terms plan rel past → i < termsOf terms .entries → u < termsOf terms .members
+    → Has w (λ m. eqb m u) → Asked (termsOf terms) fresh i w
+request-asked {terms} i u w ready l k h =
+    fresh-asked (termsOf terms) i w (good terms (ready .good)) l
+    (λ m e. subst (λ (y : ℕ). y < termsOf terms .members) (sym (eqb-true m u (sym (h m) ∙ e))) k)
+
+pub request-answer : (T : Terms) (rel past : List ℕ) (i u v w : ℕ) {f : List ℕ} → v < T .members → Has w (λ m. eqb m u)
+    → Rows w (cell T rel past fresh 0 i) f → inRow f u v ≡ nowAt T rel past (assign (λ x. 0) 0 v) i u
+unfolding cell
+request-answer T rel past i u v w l h d =
+    d .bits u v
+    ∙ ap₂ (λ (s t : Bool). s && (t && nowAt T rel past (opened fresh 0 v) i u)) (h u ∙ eq-eqb u u refl) (lt-ltb v (T .members) l)
+    ∙ ap (λ (k : Assignment). nowAt T rel past k i u) (opened-zeros 0 v (omega arith))
+
+-- ---- the next table of past-time entry i, whose operator is o and whose plan word is p
+module _ {terms plan rel past : List ℕ} {i o : ℕ} (ready : Ready terms plan rel past) (l : i < termsOf terms .entries)
+    (op : termsOf terms .entry i .op ≡ o) (past-op : isPast o ≡ true) where
+  abbrev T : Terms
+  T = termsOf terms
+
+  terms-good : Good T
+  terms-good = good terms (ready .good)
+
+  entry-past : isPast (T .entry i .op) ≡ true
+  entry-past = ap isPast op ∙ past-op
+
+  plan-is : (getD plan i 0 / 16 ≡ number (T .entry) i) × (getD plan i 0 % 16 ≡ column (formula T i))
+  plan-is = ready .planned .table i l entry-past
+
+  pub table-small : (p : ℕ) → p ≡ getD plan i 0 → p / 16 < 32
+  table-small p e = subst (λ (y : ℕ). y < 32) (sym (ap (λ (y : ℕ). y / 16) e ∙ plan-is .0))
+      (let j = number-lt (T .entry) i (T .entries) l entry-past in let k = terms-good .few-tables in omega arith)
+
+  pub table-first : (k all : ℕ) → k ≡ T .entry i .a → firstOperand o ≡ entry → Has all (λ m. ltb m (T .members)) → Asked T fresh k all
+  table-first k all e q h =
+      let low : T .entry i .a < i = first-lower (terms-good .entry i l) (ap firstOperand op ∙ q) in
+      fresh-asked T k all terms-good (omega arith) (λ m t. ltb-true m (T .members) (sym (h m) ∙ t))
+
+  pub table-second : (k all : ℕ) → k ≡ T .entry i .b → secondOperand o ≡ entry → Has all (λ m. ltb m (T .members)) → Asked T fresh k all
+  table-second k all e q h =
+      let low : T .entry i .b < i = second-lower (terms-good .entry i l) (ap secondOperand op ∙ q) in
+      fresh-asked T k all terms-good (omega arith) (λ m t. ltb-true m (T .members) (sym (h m) ∙ t))
+
+  table-row : (p k k' all : ℕ) {r : List ℕ} → p ≡ getD plan i 0 → k ≡ k' → Has all (λ m. ltb m (T .members)) → Rows all (cell T rel past fresh (p % 16) k) r
+      → (a b : ℕ) → inRow r a b ≡ (ltb a (T .members) && (ltb b (T .members) && nowAt T rel past (standing (formula T i) b) k' a))
+  unfolding cell
+  table-row p k k' all e q h d a b =
+      d .bits a b
+      ∙ ap₂ (λ (t : Bool) (g : Assignment). t && (ltb b (T .members) && nowAt T rel past g k a)) (h a)
+      (opened-zeros (p % 16) b (omega arith) ∙ ap (λ (y : ℕ). assign (λ z. 0) y b) (ap (λ (y : ℕ). y % 16) e ∙ plan-is .1))
+      ∙ ap (λ (j : ℕ). ltb a (T .members) && (ltb b (T .members) && nowAt T rel past (standing (formula T i) b) j a)) q
+
+  pub prev-table : (p k all : ℕ) {r : List ℕ} → p ≡ getD plan i 0 → k ≡ T .entry i .a → Has all (λ m. ltb m (T .members))
+      → Rows all (cell T rel past fresh (p % 16) k) r → Table (T .members) (nextPrev T rel past i) r
+  unfolding nextPrev
+  prev-table p k all e q h d = record { long = d .long; bits = table-row p k (T .entry i .a) all e q h d }
+
+  since-bool : (s t u v w : Bool) → ((s && (t && u)) || ((s && (t && v)) && w)) ≡ (s && (t && (u || (v && w))))
+  since-bool true true u v w = refl
+  since-bool true false u v w = refl
+  since-bool false t u v w = refl
+
+  pub since-table : (p k j all : ℕ) {r q s : List ℕ} → p ≡ getD plan i 0 → k ≡ T .entry i .b → j ≡ T .entry i .a → Has all (λ m. ltb m (T .members))
+      → Rows all (cell T rel past fresh (p % 16) k) r → Rows all (cell T rel past fresh (p % 16) j) q
+      → length s ≡ length r → Added r (kept q past (p / 16)) s → Table (T .members) (nextSince T rel past i) s
+  unfolding nextSince
+  since-table p k j all e eb ea h dr dq n w = record {
+    long = n ∙ dr .long;
+    bits = λ a b.
+        w a b
+        ∙ ap₂ _||_ (table-row p k (T .entry i .b) all e eb h dr a b)
+        (ap₂ (λ (t : Bool) (m : ℕ). t && tableBit past m a b) (table-row p j (T .entry i .a) all e ea h dq a b) (ap (λ (y : ℕ). y / 16) e ∙ plan-is .0))
+        ∙ since-bool (ltb a (T .members)) (ltb b (T .members)) (nowAt T rel past (standing (formula T i) b) (T .entry i .b) a)
+        (nowAt T rel past (standing (formula T i) b) (T .entry i .a) a) (tableBit past (number (T .entry) i) a b);
+  }

@@ -1,0 +1,535 @@
+-- `decide` meets its contract: it calls itself on operands, and the measure is the number of the entry.
+use borrow.Author.Needs.{needs}
+use Prim.Native.Nat.{ℕ, _<_}
+use native.Mathlib.Omega.{arith}
+use mathlib.Core.Path.{_≡_, refl, sym, ap, _∙_}
+use mathlib.Core.Bool.{_&&_}
+use lib.Dec.{eqb, ltb}
+use lib.ListN.{length}
+use Rattle.monitor.specs.Layout.{termsOf}
+use Rattle.monitor.specs.Rows.{assigned, cell}
+use Rattle.monitor.proofs.Loops as loops
+use Rattle.monitor.proofs.EdgeLaws as edges
+use Rattle.monitor.proofs.Operators as ops
+use Prim.Native.Nat.{ℕ, _<_}
+use borrow.Fn.Kinds.{In}
+use borrow.Fn.PlainCycle.{Measures, is, falls, and}
+use Rattle.monitor.proofs.decide.decide.Reads as decide
+use Rattle.monitor.proofs.decide.decide.Kinds as decide-kinds
+use Rattle.monitor.proofs.decide.+decide.Lts-decide as decide-lts
+use Rattle.monitor.proofs.decide.member_of.Reads as member-of-reads
+use Rattle.monitor.proofs.decide.open_under.Reads as open-under-reads
+use Rattle.monitor.proofs.decide.rebind.Reads as rebind-reads
+use Rattle.monitor.proofs.decide.recollect.Reads as recollect-reads
+use Rattle.monitor.proofs.edges.ahead.Reads as ahead-reads
+use Rattle.monitor.proofs.edges.behind.Reads as behind-reads
+use Rattle.monitor.proofs.edges.senders.Reads as senders-reads
+use Rattle.monitor.proofs.layout.first_of.Reads as first-of-reads
+use Rattle.monitor.proofs.layout.members.Reads as members-reads
+use Rattle.monitor.proofs.layout.op_of.Reads as op-of-reads
+use Rattle.monitor.proofs.layout.relations.Reads as relations-reads
+use Rattle.monitor.proofs.layout.second_of.Reads as second-of-reads
+use Rattle.monitor.proofs.rows.clear.Reads as clear-reads
+use Rattle.monitor.proofs.rows.diagonal.Reads as diagonal-reads
+use Rattle.monitor.proofs.rows.flip.Reads as flip-reads
+use Rattle.monitor.proofs.rows.gather.Reads as gather-reads
+use Rattle.monitor.proofs.rows.join.Reads as join-reads
+use Rattle.monitor.proofs.rows.own_bits.Reads as own-bits-reads
+use Rattle.monitor.proofs.rows.scatter.Reads as scatter-reads
+use Rattle.monitor.proofs.rows.spread.Reads as spread-reads
+use Rattle.sets.proofs.least_of.Reads as least-of-reads
+use Rattle.sets.proofs.mask.Reads as mask-reads
+use Rattle.sets.proofs.rest_of.Reads as rest-of-reads
+use Rattle.sets.proofs.single.Reads as single-reads
+use Rattle.monitor.proofs.decide.+decide.{statement}
+use Rattle.monitor.proofs.decide.+decide.Tie.{close}
+
+abbrev μ-decide : Measures 5 decide-kinds.ps ℕ
+μ-decide κs a = a .1 .1 .1 .1 .1 .1 .0
+
+abbrev decide-at : ℕ → In 5 decide-kinds.ps
+decide-at t = and 5 decide-kinds.ps (is 5 decide-kinds.ps μ-decide t) decide.Pre
+
+abbrev decide-below : ℕ → In 5 decide-kinds.ps
+decide-below t = and 5 decide-kinds.ps (falls 5 decide-kinds.ps _<_ μ-decide t) decide.Pre
+
+abbrev decide-Inv-loop : decide-lts.InvT-loop
+decide-Inv-loop terms plan relations past vars x entry want out₀ op a b r all event f₀ y rest₀ out f rest =
+    loops.Filling want (cell (termsOf terms) relations past (assigned vars) x entry) rest out × (length f ≡ 64)
+
+abbrev decide-μ-loop : decide-lts.MeasureT-loop
+decide-μ-loop terms plan relations past vars x entry want out₀ op a b r all event f₀ y rest₀ out f rest =
+    rest
+
+abbrev callees : ℕ → decide-lts.Claims
+callees t = (
+  clear-reads.Asked,
+  clear-reads.Learnt,
+  op-of-reads.Asked,
+  op-of-reads.Learnt,
+  first-of-reads.Asked,
+  first-of-reads.Learnt,
+  second-of-reads.Asked,
+  second-of-reads.Learnt,
+  relations-reads.Asked,
+  relations-reads.Learnt,
+  members-reads.Asked,
+  members-reads.Learnt,
+  mask-reads.Asked,
+  mask-reads.Learnt,
+  spread-reads.Asked,
+  spread-reads.Learnt,
+  diagonal-reads.Asked,
+  diagonal-reads.Learnt,
+  member-of-reads.Asked,
+  member-of-reads.Learnt,
+  single-reads.Asked,
+  single-reads.Learnt,
+  recollect-reads.Asked,
+  recollect-reads.Learnt,
+  decide-below t,
+  decide.Post,
+  flip-reads.Asked,
+  flip-reads.Learnt,
+  join-reads.Asked,
+  join-reads.Learnt,
+  senders-reads.Asked,
+  senders-reads.Learnt,
+  ahead-reads.Asked,
+  ahead-reads.Learnt,
+  gather-reads.Asked,
+  gather-reads.Learnt,
+  behind-reads.Asked,
+  behind-reads.Learnt,
+  scatter-reads.Asked,
+  scatter-reads.Learnt,
+  open-under-reads.Asked,
+  open-under-reads.Learnt,
+  least-of-reads.Asked,
+  least-of-reads.Learnt,
+  rebind-reads.Asked,
+  rebind-reads.Learnt,
+  rest-of-reads.Asked,
+  rest-of-reads.Learnt,
+  own-bits-reads.Asked,
+  own-bits-reads.Learnt,
+)
+
+-- the function's entry, and the place from which every arm starts
+abbrev start : (t : ℕ) → decide-lts.After-mask (callees t) (decide-at t) decide.Post decide-Inv-loop decide-μ-loop → decide-lts.Start (callees t) (decide-at t) decide.Post decide-Inv-loop decide-μ-loop
+start t c = c .before .before .before .before .before .before .before .before .before .before .before .before
+
+site : (t : ℕ) (c : decide-lts.After-mask (callees t) (decide-at t) decide.Post decide-Inv-loop decide-μ-loop)
+    → ops.Site (start t c .args .terms .now) (start t c .args .plan .now) (start t c .args .relations .now) (start t c .args .past .now)
+    (assigned (start t c .args .vars)) (start t c .args .x) (start t c .args .entry) (start t c .args .want)
+    (c .before .before .before .before .before .op-of .result) (c .before .before .before .before .first-of .result) (c .before .before .before .second-of .result) (c .before .before .relations .result) (c .mask .result)
+site t c = record {
+  ready = start t c .pre .1 .0;
+  asked = start t c .pre .1 .1 .0;
+  o-is = c .before .before .before .before .before .op-of .ensures .0;
+  a-is = c .before .before .before .before .first-of .ensures .0;
+  b-is = c .before .before .before .second-of .ensures .0;
+  r-is = c .before .before .relations .ensures .0;
+  all-is = ops.mask-is (start t c .pre .1 .0) (c .mask .result) (c .before .members .result) (c .mask .ensures) (c .before .members .ensures .0);
+}
+
+lower : (f entry t : ℕ) → entry ≡ t → f < entry → f < t
+lower f entry t e l = omega arith
+
+decide-clear-requires : (t : ℕ) → decide-lts.Need-clear-requires (callees t) (decide-at t) decide.Post decide-Inv-loop decide-μ-loop
+decide-clear-requires t c κs = (c .before .before .before .before .before .before .before .pre .1 .1 .1)
+
+decide-same-length : (t : ℕ) → decide-lts.Need-same-length (callees t) (decide-at t) decide.Post decide-Inv-loop decide-μ-loop
+decide-same-length t c = search needs
+
+decide-returns : (t : ℕ) → decide-lts.Need-returns (callees t) (decide-at t) decide.Post decide-Inv-loop decide-μ-loop
+decide-returns t c = loops.no-rows _ (c .before .before .before .before .if1 .taken) (c .before .before .clear .ensures)
+
+decide-op-of-requires : (t : ℕ) → decide-lts.Need-op-of-requires (callees t) (decide-at t) decide.Post decide-Inv-loop decide-μ-loop
+decide-op-of-requires t c κs =
+    ops.entry-short (c .before .before .before .before .before .before .pre .1 .0) _ (c .before .before .before .before .before .before .pre .1 .1 .0 .exists)
+
+decide-first-of-requires : (t : ℕ) → decide-lts.Need-first-of-requires (callees t) (decide-at t) decide.Post decide-Inv-loop decide-μ-loop
+decide-first-of-requires t c κs =
+    ops.entry-short (c .before .before .before .before .before .before .before .pre .1 .0) _ (c .before .before .before .before .before .before .before .pre .1 .1 .0 .exists)
+
+decide-second-of-requires : (t : ℕ) → decide-lts.Need-second-of-requires (callees t) (decide-at t) decide.Post decide-Inv-loop decide-μ-loop
+decide-second-of-requires t c κs =
+    ops.entry-short (c .before .before .before .before .before .before .before .before .pre .1 .0) _ (c .before .before .before .before .before .before .before .before .pre .1 .1 .0 .exists)
+
+decide-relations-requires : (t : ℕ) → decide-lts.Need-relations-requires (callees t) (decide-at t) decide.Post decide-Inv-loop decide-μ-loop
+decide-relations-requires t c κs = tt
+
+decide-members-requires : (t : ℕ) → decide-lts.Need-members-requires (callees t) (decide-at t) decide.Post decide-Inv-loop decide-μ-loop
+decide-members-requires t c κs = tt
+
+decide-mask-requires : (t : ℕ) → decide-lts.Need-mask-requires (callees t) (decide-at t) decide.Post decide-Inv-loop decide-μ-loop
+decide-mask-requires t c κs = tt
+
+decide-spread-requires : (t : ℕ) → decide-lts.Need-spread-requires (callees t) (decide-at t) decide.Post decide-Inv-loop decide-μ-loop
+decide-spread-requires t c κs =
+    (c .before .before .before .before .before .before .before .before .before .before .before .before .before .before .pre .1 .1 .1)
+
+decide-same-length-2 : (t : ℕ) → decide-lts.Need-same-length-2 (callees t) (decide-at t) decide.Post decide-Inv-loop decide-μ-loop
+decide-same-length-2 t c = search needs
+
+decide-returns-2 : (t : ℕ) → decide-lts.Need-returns-2 (callees t) (decide-at t) decide.Post decide-Inv-loop decide-μ-loop
+decide-returns-2 t c =
+    ops.decide-top (site t (c .before .before .before .before .before)) (c .before .before .before .before .if2 .taken) (c .before .before .spread .ensures)
+
+decide-diagonal-requires : (t : ℕ) → decide-lts.Need-diagonal-requires (callees t) (decide-at t) decide.Post decide-Inv-loop decide-μ-loop
+decide-diagonal-requires t c κs =
+    (c .before .before .before .before .before .before .before .before .before .before .before .before .before .before .before .before .pre .1 .1 .1)
+
+decide-member-of-requires : (t : ℕ) → decide-lts.Need-member-of-requires (callees t) (decide-at t) decide.Post decide-Inv-loop decide-μ-loop
+decide-member-of-requires t c κs = ops.a-variable (site t (c .before .before .before .before)) 1 (c .before .before .if3 .taken) refl
+
+decide-single-requires : (t : ℕ) → decide-lts.Need-single-requires (callees t) (decide-at t) decide.Post decide-Inv-loop decide-μ-loop
+decide-single-requires t c κs = tt
+
+decide-spread-requires-2 : (t : ℕ) → decide-lts.Need-spread-requires-2 (callees t) (decide-at t) decide.Post decide-Inv-loop decide-μ-loop
+decide-spread-requires-2 t c κs =
+    (c .before .before .before .before .before .before .before .before .before .before .before .before .before .before .before .before .before .before .pre .1 .1 .1)
+
+decide-same-length-3 : (t : ℕ) → decide-lts.Need-same-length-3 (callees t) (decide-at t) decide.Post decide-Inv-loop decide-μ-loop
+decide-same-length-3 t c = search needs
+
+decide-returns-3 : (t : ℕ) → decide-lts.Need-returns-3 (callees t) (decide-at t) decide.Post decide-Inv-loop decide-μ-loop
+decide-returns-3 t c =
+    ops.decide-var-open (site t (c .before .before .before .before .before .before .before)) (c .before .before .before .before .before .if3 .taken) (c .before .before .before .before .if4 .taken) (c .before .before .diagonal .ensures)
+
+decide-same-length-4 : (t : ℕ) → decide-lts.Need-same-length-4 (callees t) (decide-at t) decide.Post decide-Inv-loop decide-μ-loop
+decide-same-length-4 t c = search needs
+
+decide-returns-4 : (t : ℕ) → decide-lts.Need-returns-4 (callees t) (decide-at t) decide.Post decide-Inv-loop decide-μ-loop
+decide-returns-4 t c =
+    ops.decide-var (site t (c .before .before .before .before .before .before .before .before .before)) (c .before .before .before .single .result) (c .before .before .before .before .before .before .before .if3 .taken) (c .before .before .before .before .before .before .if4 .left) (edges.single-is (c .before .before .before .single .result) _ (λ m. c .before .before .before .single .ensures m ∙ ap (λ (y : ℕ). ltb m 64 && eqb m y) (c .before .before .before .before .member-of .ensures)) (ops.var-below (site t (c .before .before .before .before .before .before .before .before .before)) _ (ops.a-variable (site t (c .before .before .before .before .before .before .before .before .before)) 1 (c .before .before .before .before .before .before .before .if3 .taken) refl))) (c .before .before .spread2 .ensures)
+
+decide-recollect-requires : (t : ℕ) → decide-lts.Need-recollect-requires (callees t) (decide-at t) decide.Post decide-Inv-loop decide-μ-loop
+decide-recollect-requires t c κs =
+    (ops.recalled (site t (c .before .before .before .before)) (c .before .if5 .taken), (c .before .before .before .before .before .before .before .before .before .before .before .before .before .before .before .before .pre .1 .1 .1))
+
+decide-same-length-5 : (t : ℕ) → decide-lts.Need-same-length-5 (callees t) (decide-at t) decide.Post decide-Inv-loop decide-μ-loop
+decide-same-length-5 t c = search needs
+
+decide-returns-5 : (t : ℕ) → decide-lts.Need-returns-5 (callees t) (decide-at t) decide.Post decide-Inv-loop decide-μ-loop
+decide-returns-5 t c =
+    ops.decide-past (site t (c .before .before .before .before .before .before .before)) (c .before .before .before .before .if5 .taken) (c .before .before .recollect .ensures)
+
+decide-shared-slice-read-event : (t : ℕ) → decide-lts.Need-shared-slice-read-event (callees t) (decide-at t) decide.Post decide-Inv-loop decide-μ-loop
+decide-shared-slice-read-event t c =
+    omega (arith, c .before .before .before .before .before .before .before .before .before .before .before .before .before .before .before .before .pre .1 .0 .long-past)
+
+decide-slice-aggregate-decide : (t : ℕ) → decide-lts.Need-slice-aggregate-decide (callees t) (decide-at t) decide.Post decide-Inv-loop decide-μ-loop
+decide-slice-aggregate-decide t c = search needs
+
+decide-decide-requires : (t : ℕ) → decide-lts.Need-decide-requires (callees t) (decide-at t) decide.Post decide-Inv-loop decide-μ-loop
+decide-decide-requires t c κs =
+    (lower _ _ t (c .before .before .before .before .before .before .before .before .before .before .before .before .before .before .before .before .before .before .pre .0) (ops.a-lower (site t (c .before .before .before .before .before .before)) 2 (c .before .match .keys1) refl), (c .before .before .before .before .before .before .before .before .before .before .before .before .before .before .before .before .before .before .pre .1 .0, (ops.operand-same (site t (c .before .before .before .before .before .before)) _ (ops.a-lower (site t (c .before .before .before .before .before .before)) 2 (c .before .match .keys1) refl), refl)))
+
+decide-slice-aggregate-flip : (t : ℕ) → decide-lts.Need-slice-aggregate-flip (callees t) (decide-at t) decide.Post decide-Inv-loop decide-μ-loop
+decide-slice-aggregate-flip t c = sym (c .before .before .before .decide .ensures .long)
+
+decide-flip-requires : (t : ℕ) → decide-lts.Need-flip-requires (callees t) (decide-at t) decide.Post decide-Inv-loop decide-μ-loop
+decide-flip-requires t c κs =
+    ((c .before .before .before .before .before .before .before .before .before .before .before .before .before .before .before .before .before .before .before .before .before .before .pre .1 .1 .1), c .before .before .before .decide .ensures .long)
+
+decide-decide-requires-2 : (t : ℕ) → decide-lts.Need-decide-requires-2 (callees t) (decide-at t) decide.Post decide-Inv-loop decide-μ-loop
+decide-decide-requires-2 t c κs =
+    (lower _ _ t (c .before .before .before .before .before .before .before .before .before .before .before .before .before .before .before .before .before .before .pre .0) (ops.a-lower (site t (c .before .before .before .before .before .before)) 3 (c .before .match .keys2) refl), (c .before .before .before .before .before .before .before .before .before .before .before .before .before .before .before .before .before .before .pre .1 .0, (ops.operand-same (site t (c .before .before .before .before .before .before)) _ (ops.a-lower (site t (c .before .before .before .before .before .before)) 3 (c .before .match .keys2) refl), (c .before .before .before .before .before .before .before .before .before .before .before .before .before .before .before .before .before .before .pre .1 .1 .1))))
+
+decide-slice-aggregate-decide-2 : (t : ℕ) → decide-lts.Need-slice-aggregate-decide-2 (callees t) (decide-at t) decide.Post decide-Inv-loop decide-μ-loop
+decide-slice-aggregate-decide-2 t c = search needs
+
+decide-decide-requires-3 : (t : ℕ) → decide-lts.Need-decide-requires-3 (callees t) (decide-at t) decide.Post decide-Inv-loop decide-μ-loop
+decide-decide-requires-3 t c κs =
+    (lower _ _ t (c .before .before .before .before .before .before .before .before .before .before .before .before .before .before .before .before .before .before .before .before .before .before .pre .0) (ops.b-lower (site t (c .before .before .before .before .before .before .before .before .before .before)) 3 (c .before .before .before .before .before .match .keys2) refl), (c .before .before .before .before .before .before .before .before .before .before .before .before .before .before .before .before .before .before .before .before .before .before .pre .1 .0, (ops.operand-same (site t (c .before .before .before .before .before .before .before .before .before .before)) _ (ops.b-lower (site t (c .before .before .before .before .before .before .before .before .before .before)) 3 (c .before .before .before .before .before .match .keys2) refl), refl)))
+
+decide-slice-aggregate-join : (t : ℕ) → decide-lts.Need-slice-aggregate-join (callees t) (decide-at t) decide.Post decide-Inv-loop decide-μ-loop
+decide-slice-aggregate-join t c = sym (c .before .before .before .decide3 .ensures .long)
+
+decide-join-requires : (t : ℕ) → decide-lts.Need-join-requires (callees t) (decide-at t) decide.Post decide-Inv-loop decide-μ-loop
+decide-join-requires t c κs =
+    (c .before .before .before .before .before .before .before .decide2 .ensures .long, c .before .before .before .decide3 .ensures .long)
+
+decide-senders-requires : (t : ℕ) → decide-lts.Need-senders-requires (callees t) (decide-at t) decide.Post decide-Inv-loop decide-μ-loop
+decide-senders-requires t c κs = tt
+
+decide-ahead-requires : (t : ℕ) → decide-lts.Need-ahead-requires (callees t) (decide-at t) decide.Post decide-Inv-loop decide-μ-loop
+decide-ahead-requires t c κs =
+    (ops.few-relations (site t (c .before .before .before .before .before .before)), c .before .before .before .before .before .before .before .before .before .before .before .before .before .before .before .before .before .before .pre .1 .0 .long-rel)
+
+decide-slice-aggregate-decide-3 : (t : ℕ) → decide-lts.Need-slice-aggregate-decide-3 (callees t) (decide-at t) decide.Post decide-Inv-loop decide-μ-loop
+decide-slice-aggregate-decide-3 t c = search needs
+
+decide-decide-requires-4 : (t : ℕ) → decide-lts.Need-decide-requires-4 (callees t) (decide-at t) decide.Post decide-Inv-loop decide-μ-loop
+decide-decide-requires-4 t c κs =
+    (lower _ _ t (c .before .before .before .before .before .before .before .before .before .before .before .before .before .before .before .before .before .before .before .before .pre .0) (ops.b-lower (site t (c .before .before .before .before .before .before .before .before)) 4 (c .before .before .before .match .keys3) refl), (c .before .before .before .before .before .before .before .before .before .before .before .before .before .before .before .before .before .before .before .before .pre .1 .0, (ops.operand-ahead (site t (c .before .before .before .before .before .before .before .before)) _ _ (c .before .before .before .match .keys3) (c .before .ahead .ensures), refl)))
+
+decide-slice-aggregate-gather : (t : ℕ) → decide-lts.Need-slice-aggregate-gather (callees t) (decide-at t) decide.Post decide-Inv-loop decide-μ-loop
+decide-slice-aggregate-gather t c = sym (c .before .before .before .decide4 .ensures .long)
+
+decide-gather-requires : (t : ℕ) → decide-lts.Need-gather-requires (callees t) (decide-at t) decide.Post decide-Inv-loop decide-μ-loop
+decide-gather-requires t c κs =
+    ((c .before .before .before .before .before .before .before .before .before .before .before .before .before .before .before .before .before .before .before .before .before .before .before .before .pre .1 .1 .1), c .before .before .before .decide4 .ensures .long, ops.few-relations (site t (c .before .before .before .before .before .before .before .before .before .before .before .before)), c .before .before .before .before .before .before .before .before .before .before .before .before .before .before .before .before .before .before .before .before .before .before .before .before .pre .1 .0 .long-rel)
+
+decide-senders-requires-2 : (t : ℕ) → decide-lts.Need-senders-requires-2 (callees t) (decide-at t) decide.Post decide-Inv-loop decide-μ-loop
+decide-senders-requires-2 t c κs = tt
+
+decide-behind-requires : (t : ℕ) → decide-lts.Need-behind-requires (callees t) (decide-at t) decide.Post decide-Inv-loop decide-μ-loop
+decide-behind-requires t c κs =
+    (ops.few-relations (site t (c .before .before .before .before .before .before)), c .before .before .before .before .before .before .before .before .before .before .before .before .before .before .before .before .before .before .pre .1 .0 .long-rel)
+
+decide-slice-aggregate-decide-4 : (t : ℕ) → decide-lts.Need-slice-aggregate-decide-4 (callees t) (decide-at t) decide.Post decide-Inv-loop decide-μ-loop
+decide-slice-aggregate-decide-4 t c = search needs
+
+decide-decide-requires-5 : (t : ℕ) → decide-lts.Need-decide-requires-5 (callees t) (decide-at t) decide.Post decide-Inv-loop decide-μ-loop
+decide-decide-requires-5 t c κs =
+    (lower _ _ t (c .before .before .before .before .before .before .before .before .before .before .before .before .before .before .before .before .before .before .before .before .pre .0) (ops.b-lower (site t (c .before .before .before .before .before .before .before .before)) 5 (c .before .before .before .match .keys4) refl), (c .before .before .before .before .before .before .before .before .before .before .before .before .before .before .before .before .before .before .before .before .pre .1 .0, (ops.operand-behind (site t (c .before .before .before .before .before .before .before .before)) _ _ (c .before .before .before .match .keys4) (c .before .before .senders2 .ensures) (c .before .behind .ensures), refl)))
+
+decide-slice-aggregate-scatter : (t : ℕ) → decide-lts.Need-slice-aggregate-scatter (callees t) (decide-at t) decide.Post decide-Inv-loop decide-μ-loop
+decide-slice-aggregate-scatter t c = sym (c .before .before .before .decide5 .ensures .long)
+
+decide-scatter-requires : (t : ℕ) → decide-lts.Need-scatter-requires (callees t) (decide-at t) decide.Post decide-Inv-loop decide-μ-loop
+decide-scatter-requires t c κs =
+    ((c .before .before .before .before .before .before .before .before .before .before .before .before .before .before .before .before .before .before .before .before .before .before .before .before .pre .1 .1 .1), c .before .before .before .decide5 .ensures .long, ops.few-relations (site t (c .before .before .before .before .before .before .before .before .before .before .before .before)), c .before .before .before .before .before .before .before .before .before .before .before .before .before .before .before .before .before .before .before .before .before .before .before .before .pre .1 .0 .long-rel)
+
+decide-open-under-requires : (t : ℕ) → decide-lts.Need-open-under-requires (callees t) (decide-at t) decide.Post decide-Inv-loop decide-μ-loop
+decide-open-under-requires t c κs = tt
+
+decide-clear-requires-2 : (t : ℕ) → decide-lts.Need-clear-requires-2 (callees t) (decide-at t) decide.Post decide-Inv-loop decide-μ-loop
+decide-clear-requires-2 t c κs =
+    (c .before .before .before .before .before .before .before .before .before .before .before .before .before .before .before .before .before .before .before .pre .1 .1 .1)
+
+decide-loop-holds : (t : ℕ) → decide-lts.Need-loop-holds (callees t) (decide-at t) decide.Post decide-Inv-loop decide-μ-loop
+decide-loop-holds t c =
+    (loops.filling _ (omega (arith, c .before .before .before .before .before .before .before .before .before .before .before .before .before .before .before .before .before .before .before .before .before .before .fits .want)) (c .before .before .clear2 .ensures), refl)
+
+decide-least-of-requires : (t : ℕ) → decide-lts.Need-least-of-requires (callees t) (decide-at t) decide.Post decide-Inv-loop decide-μ-loop
+decide-least-of-requires t c κs = tt
+
+decide-rebind-requires : (t : ℕ) → decide-lts.Need-rebind-requires (callees t) (decide-at t) decide.Post decide-Inv-loop decide-μ-loop
+decide-rebind-requires t c κs =
+    (ops.a-binder (site t (c .before .before .before .before .before .before .before .before .before .before .before .before .before)) (c .before .before .before .before .before .before .before .before .match .keys5), loops.least-small (c .before .before .loop .inv .0 .upon) (c .before .loop-test .taken) (c .least-of .ensures))
+
+decide-single-requires-2 : (t : ℕ) → decide-lts.Need-single-requires-2 (callees t) (decide-at t) decide.Post decide-Inv-loop decide-μ-loop
+decide-single-requires-2 t c κs = tt
+
+decide-slice-aggregate-decide-5 : (t : ℕ) → decide-lts.Need-slice-aggregate-decide-5 (callees t) (decide-at t) decide.Post decide-Inv-loop decide-μ-loop
+decide-slice-aggregate-decide-5 t c = sym (c .before .before .before .before .before .loop .inv .1)
+
+decide-decide-requires-6 : (t : ℕ) → decide-lts.Need-decide-requires-6 (callees t) (decide-at t) decide.Post decide-Inv-loop decide-μ-loop
+decide-decide-requires-6 t c κs =
+    (lower _ _ t (c .before .before .before .before .before .before .before .before .before .before .before .before .before .before .before .before .before .before .before .before .before .before .before .before .before .before .before .before .pre .0) (ops.b-lower (site t (c .before .before .before .before .before .before .before .before .before .before .before .before .before .before .before .before)) 8 (c .before .before .before .before .before .before .before .before .before .before .before .match .keys5) refl), (c .before .before .before .before .before .before .before .before .before .before .before .before .before .before .before .before .before .before .before .before .before .before .before .before .before .before .before .before .pre .1 .0, (ops.operand-bound (site t (c .before .before .before .before .before .before .before .before .before .before .before .before .before .before .before .before)) _ _ _ (c .before .before .before .before .before .before .before .before .before .before .before .match .keys5) (loops.least-wanted (c .before .before .before .before .before .loop .inv .0 .upon) (c .before .before .before .before .loop-test .taken) (c .before .before .before .least-of .ensures)) (c .before .before .rebind .ensures) (edges.single-is (c .before .single2 .result) _ (c .before .single2 .ensures) (loops.least-small (c .before .before .before .before .before .loop .inv .0 .upon) (c .before .before .before .before .loop-test .taken) (c .before .before .before .least-of .ensures))), (c .before .before .before .before .before .loop .inv .1))))
+
+decide-mul-out : (t : ℕ) → decide-lts.Need-mul-out (callees t) (decide-at t) decide.Post decide-Inv-loop decide-μ-loop
+decide-mul-out t c =
+    omega (arith, loops.least-small (c .before .before .before .before .before .before .before .loop .inv .0 .upon) (c .before .before .before .before .before .before .loop-test .taken) (c .before .before .before .before .before .least-of .ensures))
+
+decide-array-read-out : (t : ℕ) → decide-lts.Need-array-read-out (callees t) (decide-at t) decide.Post decide-Inv-loop decide-μ-loop
+decide-array-read-out t c =
+    omega (arith, loops.least-small (c .before .before .before .before .before .before .before .loop .inv .0 .upon) (c .before .before .before .before .before .before .loop-test .taken) (c .before .before .before .before .before .least-of .ensures), c .before .decide6 .ensures .long)
+
+decide-mul-out-2 : (t : ℕ) → decide-lts.Need-mul-out-2 (callees t) (decide-at t) decide.Post decide-Inv-loop decide-μ-loop
+decide-mul-out-2 t c =
+    omega (arith, loops.least-small (c .before .before .before .before .before .before .before .loop .inv .0 .upon) (c .before .before .before .before .before .before .loop-test .taken) (c .before .before .before .before .before .least-of .ensures))
+
+decide-slice-write-out : (t : ℕ) → decide-lts.Need-slice-write-out (callees t) (decide-at t) decide.Post decide-Inv-loop decide-μ-loop
+decide-slice-write-out t c =
+    omega (arith, loops.least-small (c .before .before .before .before .before .before .before .loop .inv .0 .upon) (c .before .before .before .before .before .before .loop-test .taken) (c .before .before .before .before .before .least-of .ensures), c .before .before .before .before .before .before .before .loop .inv .0 .long)
+
+decide-rest-of-requires : (t : ℕ) → decide-lts.Need-rest-of-requires (callees t) (decide-at t) decide.Post decide-Inv-loop decide-μ-loop
+decide-rest-of-requires t c κs = tt
+
+decide-loop-less : (t : ℕ) → decide-lts.Need-loop-less (callees t) (decide-at t) decide.Post decide-Inv-loop decide-μ-loop
+decide-loop-less t c =
+    loops.rest-less (c .before .before .before .before .before .before .before .before .loop .inv .0 .upon) (c .before .before .before .before .before .before .before .loop-test .taken) (c .rest-of .ensures)
+
+decide-loop-again : (t : ℕ) → decide-lts.Need-loop-again (callees t) (decide-at t) decide.Post decide-Inv-loop decide-μ-loop
+decide-loop-again t c =
+    (loops.filling-more _ (c .before .before .before .before .before .before .before .before .loop .inv .0) (loops.turn (c .before .before .before .before .before .before .before .before .loop .inv .0 .upon) (c .before .before .before .before .before .before .before .loop-test .taken) (c .before .before .before .before .before .before .least-of .ensures) (c .rest-of .ensures)) (ops.bound-row (site t (c .before .before .before .before .before .before .before .before .before .before .before .before .before .before .before .before .before .before .before)) _ (c .before .before .before .before .single2 .result) _ _ (c .before .before .before .before .before .before .before .before .before .before .before .before .before .before .match .keys5) (c .before .before .before .before .before .before .before .before .before .before .before .before .before .open-under .ensures) (c .before .before .before .before .before .rebind .ensures) (edges.single-is (c .before .before .before .before .single2 .result) _ (c .before .before .before .before .single2 .ensures) (loops.least-small (c .before .before .before .before .before .before .before .before .loop .inv .0 .upon) (c .before .before .before .before .before .before .before .loop-test .taken) (c .before .before .before .before .before .before .least-of .ensures))) (c .before .before .decide6 .ensures)), c .before .before .decide6 .ensures .long)
+
+decide-slice-aggregate-decide-6 : (t : ℕ) → decide-lts.Need-slice-aggregate-decide-6 (callees t) (decide-at t) decide.Post decide-Inv-loop decide-μ-loop
+decide-slice-aggregate-decide-6 t c = search needs
+
+decide-decide-requires-7 : (t : ℕ) → decide-lts.Need-decide-requires-7 (callees t) (decide-at t) decide.Post decide-Inv-loop decide-μ-loop
+decide-decide-requires-7 t c κs =
+    (lower _ _ t (c .before .before .before .before .before .before .before .before .before .before .before .before .before .before .before .before .before .before .before .pre .0) (ops.b-lower (site t (c .before .before .before .before .before .before .before)) 9 (ops.nine (site t (c .before .before .before .before .before .before .before)) (c .before .before .before .before .before .before .if2 .left) (c .before .before .before .before .before .if3 .left) (c .before .before .before .before .if5 .left) (c .before .before .match .rest .0 .0 .0 .0 .1) (c .before .before .match .rest .0 .0 .0 .1) (c .before .before .match .rest .0 .0 .1) (c .before .before .match .rest .0 .1) (c .before .before .match .rest .1)) refl), (c .before .before .before .before .before .before .before .before .before .before .before .before .before .before .before .before .before .before .before .pre .1 .0, (ops.operand-all (site t (c .before .before .before .before .before .before .before)) _ (ops.b-lower (site t (c .before .before .before .before .before .before .before)) 9 (ops.nine (site t (c .before .before .before .before .before .before .before)) (c .before .before .before .before .before .before .if2 .left) (c .before .before .before .before .before .if3 .left) (c .before .before .before .before .if5 .left) (c .before .before .match .rest .0 .0 .0 .0 .1) (c .before .before .match .rest .0 .0 .0 .1) (c .before .before .match .rest .0 .0 .1) (c .before .before .match .rest .0 .1) (c .before .before .match .rest .1)) refl), refl)))
+
+decide-slice-aggregate-own-bits : (t : ℕ) → decide-lts.Need-slice-aggregate-own-bits (callees t) (decide-at t) decide.Post decide-Inv-loop decide-μ-loop
+decide-slice-aggregate-own-bits t c = sym (c .before .before .before .decide7 .ensures .long)
+
+decide-own-bits-requires : (t : ℕ) → decide-lts.Need-own-bits-requires (callees t) (decide-at t) decide.Post decide-Inv-loop decide-μ-loop
+decide-own-bits-requires t c κs = c .before .before .before .decide7 .ensures .long
+
+decide-spread-requires-3 : (t : ℕ) → decide-lts.Need-spread-requires-3 (callees t) (decide-at t) decide.Post decide-Inv-loop decide-μ-loop
+decide-spread-requires-3 t c κs =
+    (c .before .before .before .before .before .before .before .before .before .before .before .before .before .before .before .before .before .before .before .before .before .before .before .before .pre .1 .1 .1)
+
+decide-member-of-requires-2 : (t : ℕ) → decide-lts.Need-member-of-requires-2 (callees t) (decide-at t) decide.Post decide-Inv-loop decide-μ-loop
+decide-member-of-requires-2 t c κs =
+    ops.a-variable (site t (c .before .before .before .before .before .before)) 9 (ops.nine (site t (c .before .before .before .before .before .before)) (c .before .before .before .before .before .if2 .left) (c .before .before .before .before .if3 .left) (c .before .before .before .if5 .left) (c .before .match .rest .0 .0 .0 .0 .1) (c .before .match .rest .0 .0 .0 .1) (c .before .match .rest .0 .0 .1) (c .before .match .rest .0 .1) (c .before .match .rest .1)) refl
+
+decide-single-requires-3 : (t : ℕ) → decide-lts.Need-single-requires-3 (callees t) (decide-at t) decide.Post decide-Inv-loop decide-μ-loop
+decide-single-requires-3 t c κs = tt
+
+decide-slice-aggregate-decide-7 : (t : ℕ) → decide-lts.Need-slice-aggregate-decide-7 (callees t) (decide-at t) decide.Post decide-Inv-loop decide-μ-loop
+decide-slice-aggregate-decide-7 t c = search needs
+
+decide-decide-requires-8 : (t : ℕ) → decide-lts.Need-decide-requires-8 (callees t) (decide-at t) decide.Post decide-Inv-loop decide-μ-loop
+decide-decide-requires-8 t c κs =
+    (lower _ _ t (c .before .before .before .before .before .before .before .before .before .before .before .before .before .before .before .before .before .before .before .before .before .pre .0) (ops.b-lower (site t (c .before .before .before .before .before .before .before .before .before)) 9 (ops.nine (site t (c .before .before .before .before .before .before .before .before .before)) (c .before .before .before .before .before .before .before .before .if2 .left) (c .before .before .before .before .before .before .before .if3 .left) (c .before .before .before .before .before .before .if5 .left) (c .before .before .before .before .match .rest .0 .0 .0 .0 .1) (c .before .before .before .before .match .rest .0 .0 .0 .1) (c .before .before .before .before .match .rest .0 .0 .1) (c .before .before .before .before .match .rest .0 .1) (c .before .before .before .before .match .rest .1)) refl), (c .before .before .before .before .before .before .before .before .before .before .before .before .before .before .before .before .before .before .before .before .before .pre .1 .0, (ops.operand-one (site t (c .before .before .before .before .before .before .before .before .before)) _ _ _ (ops.b-lower (site t (c .before .before .before .before .before .before .before .before .before)) 9 (ops.nine (site t (c .before .before .before .before .before .before .before .before .before)) (c .before .before .before .before .before .before .before .before .if2 .left) (c .before .before .before .before .before .before .before .if3 .left) (c .before .before .before .before .before .before .if5 .left) (c .before .before .before .before .match .rest .0 .0 .0 .0 .1) (c .before .before .before .before .match .rest .0 .0 .0 .1) (c .before .before .before .before .match .rest .0 .0 .1) (c .before .before .before .before .match .rest .0 .1) (c .before .before .before .before .match .rest .1)) refl) (ops.a-variable (site t (c .before .before .before .before .before .before .before .before .before)) 9 (ops.nine (site t (c .before .before .before .before .before .before .before .before .before)) (c .before .before .before .before .before .before .before .before .if2 .left) (c .before .before .before .before .before .before .before .if3 .left) (c .before .before .before .before .before .before .if5 .left) (c .before .before .before .before .match .rest .0 .0 .0 .0 .1) (c .before .before .before .before .match .rest .0 .0 .0 .1) (c .before .before .before .before .match .rest .0 .0 .1) (c .before .before .before .before .match .rest .0 .1) (c .before .before .before .before .match .rest .1)) refl) (edges.single-is (c .before .single3 .result) _ (λ m. c .before .single3 .ensures m ∙ ap (λ (y : ℕ). ltb m 64 && eqb m y) (c .before .before .member-of2 .ensures)) (ops.var-below (site t (c .before .before .before .before .before .before .before .before .before)) _ (ops.a-variable (site t (c .before .before .before .before .before .before .before .before .before)) 9 (ops.nine (site t (c .before .before .before .before .before .before .before .before .before)) (c .before .before .before .before .before .before .before .before .if2 .left) (c .before .before .before .before .before .before .before .if3 .left) (c .before .before .before .before .before .before .if5 .left) (c .before .before .before .before .match .rest .0 .0 .0 .0 .1) (c .before .before .before .before .match .rest .0 .0 .0 .1) (c .before .before .before .before .match .rest .0 .0 .1) (c .before .before .before .before .match .rest .0 .1) (c .before .before .before .before .match .rest .1)) refl))), refl)))
+
+decide-mul-spread : (t : ℕ) → decide-lts.Need-mul-spread (callees t) (decide-at t) decide.Post decide-Inv-loop decide-μ-loop
+decide-mul-spread t c =
+    omega (arith, ops.var-below (site t (c .before .before .before .before .before .before .before .before .before .before .before .before)) _ (ops.a-variable (site t (c .before .before .before .before .before .before .before .before .before .before .before .before)) 9 (ops.nine (site t (c .before .before .before .before .before .before .before .before .before .before .before .before)) (c .before .before .before .before .before .before .before .before .before .before .before .if2 .left) (c .before .before .before .before .before .before .before .before .before .before .if3 .left) (c .before .before .before .before .before .before .before .before .before .if5 .left) (c .before .before .before .before .before .before .before .match .rest .0 .0 .0 .0 .1) (c .before .before .before .before .before .before .before .match .rest .0 .0 .0 .1) (c .before .before .before .before .before .before .before .match .rest .0 .0 .1) (c .before .before .before .before .before .before .before .match .rest .0 .1) (c .before .before .before .before .before .before .before .match .rest .1)) refl), c .before .before .before .before .before .member-of2 .ensures)
+
+decide-array-read-spread : (t : ℕ) → decide-lts.Need-array-read-spread (callees t) (decide-at t) decide.Post decide-Inv-loop decide-μ-loop
+decide-array-read-spread t c =
+    omega (arith, ops.var-below (site t (c .before .before .before .before .before .before .before .before .before .before .before .before)) _ (ops.a-variable (site t (c .before .before .before .before .before .before .before .before .before .before .before .before)) 9 (ops.nine (site t (c .before .before .before .before .before .before .before .before .before .before .before .before)) (c .before .before .before .before .before .before .before .before .before .before .before .if2 .left) (c .before .before .before .before .before .before .before .before .before .before .if3 .left) (c .before .before .before .before .before .before .before .before .before .if5 .left) (c .before .before .before .before .before .before .before .match .rest .0 .0 .0 .0 .1) (c .before .before .before .before .before .before .before .match .rest .0 .0 .0 .1) (c .before .before .before .before .before .before .before .match .rest .0 .0 .1) (c .before .before .before .before .before .before .before .match .rest .0 .1) (c .before .before .before .before .before .before .before .match .rest .1)) refl), c .before .before .before .before .before .member-of2 .ensures, c .before .before .decide8 .ensures .long)
+
+decide-spread-requires-4 : (t : ℕ) → decide-lts.Need-spread-requires-4 (callees t) (decide-at t) decide.Post decide-Inv-loop decide-μ-loop
+decide-spread-requires-4 t c κs =
+    (c .before .before .before .before .before .before .before .before .before .before .before .before .before .before .before .before .before .before .before .before .before .before .before .before .pre .1 .1 .1)
+
+decide-same-length-6 : (t : ℕ) → decide-lts.Need-same-length-6 (callees t) (decide-at t) decide.Post decide-Inv-loop decide-μ-loop
+decide-same-length-6 t c = search needs
+
+decide-returns-6 : (t : ℕ) → decide-lts.Need-returns-6 (callees t) (decide-at t) decide.Post decide-Inv-loop decide-μ-loop
+decide-returns-6 t c =
+    ops.decide-neg (site t (c .before .before .before .before .before .before .before .before .before .before .before .before .before)) (c .before .before .before .before .before .before .before .before .match .keys1) (c .before .before .before .before .before .before .decide .ensures) (c .before .before .flip .ensures)
+
+decide-same-length-7 : (t : ℕ) → decide-lts.Need-same-length-7 (callees t) (decide-at t) decide.Post decide-Inv-loop decide-μ-loop
+decide-same-length-7 t c = search needs
+
+decide-returns-7 : (t : ℕ) → decide-lts.Need-returns-7 (callees t) (decide-at t) decide.Post decide-Inv-loop decide-μ-loop
+decide-returns-7 t c =
+    ops.decide-or (site t (c .before .before .before .before .before .before .before .before .before .before .before .before .before .before .before .before .before)) (c .before .before .before .before .before .before .before .before .before .before .before .before .match .keys2) (c .before .before .before .before .before .before .before .before .before .before .decide2 .ensures) (c .before .before .before .before .before .before .decide3 .ensures) (c .before .before .join .kept .0) (c .before .before .join .ensures)
+
+decide-same-length-8 : (t : ℕ) → decide-lts.Need-same-length-8 (callees t) (decide-at t) decide.Post decide-Inv-loop decide-μ-loop
+decide-same-length-8 t c = search needs
+
+decide-returns-8 : (t : ℕ) → decide-lts.Need-returns-8 (callees t) (decide-at t) decide.Post decide-Inv-loop decide-μ-loop
+decide-returns-8 t c =
+    ops.decide-out (site t (c .before .before .before .before .before .before .before .before .before .before .before .before .before .before .before)) (c .before .before .before .before .before .before .before .before .before .senders .result) (c .before .before .before .before .before .before .before .before .ahead .result) (c .before .before .before .before .before .before .before .before .before .before .match .keys3) (c .before .before .before .before .before .before .before .before .before .senders .ensures) (c .before .before .before .before .before .before .before .before .ahead .ensures) (c .before .before .before .before .before .before .decide4 .ensures) (c .before .before .gather .ensures)
+
+decide-same-length-9 : (t : ℕ) → decide-lts.Need-same-length-9 (callees t) (decide-at t) decide.Post decide-Inv-loop decide-μ-loop
+decide-same-length-9 t c = search needs
+
+decide-returns-9 : (t : ℕ) → decide-lts.Need-returns-9 (callees t) (decide-at t) decide.Post decide-Inv-loop decide-μ-loop
+decide-returns-9 t c =
+    ops.decide-into (site t (c .before .before .before .before .before .before .before .before .before .before .before .before .before .before .before)) (c .before .before .before .before .before .before .before .before .before .senders2 .result) (c .before .before .before .before .before .before .before .before .behind .result) (c .before .before .before .before .before .before .before .before .before .before .match .keys4) (c .before .before .before .before .before .before .before .before .before .senders2 .ensures) (c .before .before .before .before .before .before .before .before .behind .ensures) (c .before .before .before .before .before .before .decide5 .ensures) (c .before .before .scatter .ensures)
+
+decide-same-length-10 : (t : ℕ) → decide-lts.Need-same-length-10 (callees t) (decide-at t) decide.Post decide-Inv-loop decide-μ-loop
+decide-same-length-10 t c =
+    c .before .loop .inv .0 .long ∙ sym (c .before .before .before .before .before .before .before .before .before .before .before .before .before .before .before .before .before .before .before .before .before .before .before .before .pre .1 .1 .1)
+
+decide-returns-10 : (t : ℕ) → decide-lts.Need-returns-10 (callees t) (decide-at t) decide.Post decide-Inv-loop decide-μ-loop
+decide-returns-10 t c = loops.filling-all (c .before .loop .inv .0) (c .loop-test .left)
+
+decide-same-length-11 : (t : ℕ) → decide-lts.Need-same-length-11 (callees t) (decide-at t) decide.Post decide-Inv-loop decide-μ-loop
+decide-same-length-11 t c = search needs
+
+decide-returns-11 : (t : ℕ) → decide-lts.Need-returns-11 (callees t) (decide-at t) decide.Post decide-Inv-loop decide-μ-loop
+decide-returns-11 t c =
+    ops.decide-at-open (site t (c .before .before .before .before .before .before .before .before .before .before .before .before .before .before .before)) (c .before .before .before .own-bits .result) (ops.nine (site t (c .before .before .before .before .before .before .before .before .before .before .before .before .before .before .before)) (c .before .before .before .before .before .before .before .before .before .before .before .before .before .before .if2 .left) (c .before .before .before .before .before .before .before .before .before .before .before .before .before .if3 .left) (c .before .before .before .before .before .before .before .before .before .before .before .before .if5 .left) (c .before .before .before .before .before .before .before .before .before .before .match .rest .0 .0 .0 .0 .1) (c .before .before .before .before .before .before .before .before .before .before .match .rest .0 .0 .0 .1) (c .before .before .before .before .before .before .before .before .before .before .match .rest .0 .0 .1) (c .before .before .before .before .before .before .before .before .before .before .match .rest .0 .1) (c .before .before .before .before .before .before .before .before .before .before .match .rest .1)) (c .before .before .before .before .before .before .before .before .before .if6 .taken) (c .before .before .before .before .before .before .before .decide7 .ensures) (c .before .before .before .own-bits .ensures) (c .before .before .spread3 .ensures)
+
+decide-same-length-12 : (t : ℕ) → decide-lts.Need-same-length-12 (callees t) (decide-at t) decide.Post decide-Inv-loop decide-μ-loop
+decide-same-length-12 t c = search needs
+
+decide-returns-12 : (t : ℕ) → decide-lts.Need-returns-12 (callees t) (decide-at t) decide.Post decide-Inv-loop decide-μ-loop
+decide-returns-12 t c =
+    ops.decide-at (site t (c .before .before .before .before .before .before .before .before .before .before .before .before .before .before .before)) (c .before .before .before .before .before .before .before .before .member-of2 .result) (c .before .before .before .before .before .before .before .single3 .result) (ops.nine (site t (c .before .before .before .before .before .before .before .before .before .before .before .before .before .before .before)) (c .before .before .before .before .before .before .before .before .before .before .before .before .before .before .if2 .left) (c .before .before .before .before .before .before .before .before .before .before .before .before .before .if3 .left) (c .before .before .before .before .before .before .before .before .before .before .before .before .if5 .left) (c .before .before .before .before .before .before .before .before .before .before .match .rest .0 .0 .0 .0 .1) (c .before .before .before .before .before .before .before .before .before .before .match .rest .0 .0 .0 .1) (c .before .before .before .before .before .before .before .before .before .before .match .rest .0 .0 .1) (c .before .before .before .before .before .before .before .before .before .before .match .rest .0 .1) (c .before .before .before .before .before .before .before .before .before .before .match .rest .1)) (c .before .before .before .before .before .before .before .before .before .if6 .left) (c .before .before .before .before .before .before .before .before .member-of2 .ensures) (edges.single-is (c .before .before .before .before .before .before .before .single3 .result) _ (λ m. c .before .before .before .before .before .before .before .single3 .ensures m ∙ ap (λ (y : ℕ). ltb m 64 && eqb m y) (c .before .before .before .before .before .before .before .before .member-of2 .ensures)) (ops.var-below (site t (c .before .before .before .before .before .before .before .before .before .before .before .before .before .before .before)) _ (ops.a-variable (site t (c .before .before .before .before .before .before .before .before .before .before .before .before .before .before .before)) 9 (ops.nine (site t (c .before .before .before .before .before .before .before .before .before .before .before .before .before .before .before)) (c .before .before .before .before .before .before .before .before .before .before .before .before .before .before .if2 .left) (c .before .before .before .before .before .before .before .before .before .before .before .before .before .if3 .left) (c .before .before .before .before .before .before .before .before .before .before .before .before .if5 .left) (c .before .before .before .before .before .before .before .before .before .before .match .rest .0 .0 .0 .0 .1) (c .before .before .before .before .before .before .before .before .before .before .match .rest .0 .0 .0 .1) (c .before .before .before .before .before .before .before .before .before .before .match .rest .0 .0 .1) (c .before .before .before .before .before .before .before .before .before .before .match .rest .0 .1) (c .before .before .before .before .before .before .before .before .before .before .match .rest .1)) refl))) (c .before .before .before .before .before .decide8 .ensures) (c .before .before .spread4 .ensures)
+
+pub +decide-spec : {M : Type 1} → statement M
++decide-spec = close μ-decide λ t. decide-lts.spec (callees t)
+    (decide-at t)
+    decide.Post
+    decide-Inv-loop
+    decide-μ-loop
+    (decide-clear-requires t)
+    (decide-same-length t)
+    (decide-returns t)
+    (decide-op-of-requires t)
+    (decide-first-of-requires t)
+    (decide-second-of-requires t)
+    (decide-relations-requires t)
+    (decide-members-requires t)
+    (decide-mask-requires t)
+    (decide-spread-requires t)
+    (decide-same-length-2 t)
+    (decide-returns-2 t)
+    (decide-diagonal-requires t)
+    (decide-member-of-requires t)
+    (decide-single-requires t)
+    (decide-spread-requires-2 t)
+    (decide-same-length-3 t)
+    (decide-returns-3 t)
+    (decide-same-length-4 t)
+    (decide-returns-4 t)
+    (decide-recollect-requires t)
+    (decide-same-length-5 t)
+    (decide-returns-5 t)
+    (decide-shared-slice-read-event t)
+    (decide-slice-aggregate-decide t)
+    (decide-decide-requires t)
+    (decide-slice-aggregate-flip t)
+    (decide-flip-requires t)
+    (decide-decide-requires-2 t)
+    (decide-slice-aggregate-decide-2 t)
+    (decide-decide-requires-3 t)
+    (decide-slice-aggregate-join t)
+    (decide-join-requires t)
+    (decide-senders-requires t)
+    (decide-ahead-requires t)
+    (decide-slice-aggregate-decide-3 t)
+    (decide-decide-requires-4 t)
+    (decide-slice-aggregate-gather t)
+    (decide-gather-requires t)
+    (decide-senders-requires-2 t)
+    (decide-behind-requires t)
+    (decide-slice-aggregate-decide-4 t)
+    (decide-decide-requires-5 t)
+    (decide-slice-aggregate-scatter t)
+    (decide-scatter-requires t)
+    (decide-open-under-requires t)
+    (decide-clear-requires-2 t)
+    (decide-loop-holds t)
+    (decide-least-of-requires t)
+    (decide-rebind-requires t)
+    (decide-single-requires-2 t)
+    (decide-slice-aggregate-decide-5 t)
+    (decide-decide-requires-6 t)
+    (decide-mul-out t)
+    (decide-array-read-out t)
+    (decide-mul-out-2 t)
+    (decide-slice-write-out t)
+    (decide-rest-of-requires t)
+    (decide-loop-less t)
+    (decide-loop-again t)
+    (decide-slice-aggregate-decide-6 t)
+    (decide-decide-requires-7 t)
+    (decide-slice-aggregate-own-bits t)
+    (decide-own-bits-requires t)
+    (decide-spread-requires-3 t)
+    (decide-member-of-requires-2 t)
+    (decide-single-requires-3 t)
+    (decide-slice-aggregate-decide-7 t)
+    (decide-decide-requires-8 t)
+    (decide-mul-spread t)
+    (decide-array-read-spread t)
+    (decide-spread-requires-4 t)
+    (decide-same-length-6 t)
+    (decide-returns-6 t)
+    (decide-same-length-7 t)
+    (decide-returns-7 t)
+    (decide-same-length-8 t)
+    (decide-returns-8 t)
+    (decide-same-length-9 t)
+    (decide-returns-9 t)
+    (decide-same-length-10 t)
+    (decide-returns-10 t)
+    (decide-same-length-11 t)
+    (decide-returns-11 t)
+    (decide-same-length-12 t)
+    (decide-returns-12 t)

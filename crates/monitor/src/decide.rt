@@ -1,0 +1,265 @@
+// Deciding an entry at the present moment, at a set of members at once (specs/Rows.antt).
+use crate::edges::ahead;
+use crate::edges::behind;
+use crate::edges::senders;
+use crate::layout;
+use crate::layout::first_of;
+use crate::layout::members;
+use crate::layout::op_of;
+use crate::layout::second_of;
+use crate::layout::word;
+use crate::rows::clear;
+use crate::rows::diagonal;
+use crate::rows::flip;
+use crate::rows::gather;
+use crate::rows::join;
+use crate::rows::join_kept;
+use crate::rows::own_bits;
+use crate::rows::recall;
+use crate::rows::recall_at;
+use crate::rows::scatter;
+use crate::rows::spread;
+use sets::has;
+use sets::least_of;
+use sets::mask;
+use sets::rest_of;
+use sets::single;
+ghost use mathlib.Core.Path.{_≡_};
+ghost use mathlib.Core.Bool.{cond};
+ghost use Prim.Native.Nat.{ℕ, _<_};
+ghost use lib.Dec.{eqb};
+ghost use lib.ListN.{length, getD};
+ghost use Rattle.monitor.specs.Meaning.{assign};
+ghost use Rattle.monitor.specs.Layout.{termsOf};
+ghost use Rattle.monitor.specs.Rows.{assigned, nowAt, opened, cell, remembered, Rows, Ready, Asked, Recalled, Table, nextPrev, nextSince};
+
+// The member that variable x stands for.
+fn member_of(vars: [u8; 16], x: usize) -> usize
+    requires { ⌜ x < 16 ⌝ }
+    ensures { λ r. ⌜ r ≡ assigned vars x ⌝ }
+{
+    vars[x] as usize
+}
+
+// The variables with x standing for m.
+fn rebind(vars: [u8; 16], x: usize, m: usize) -> [u8; 16]
+    requires { ⌜ (x < 16) × (m < 64) ⌝ }
+    ensures { λ r. ⌜ ((y : ℕ) → assigned r y ≡ assign (assigned vars) x m y) ⌝ }
+{
+    let mut v = vars;
+    v[x] = m as u8;
+    v
+}
+
+// The variable that is still open where y is bound: x, or none.
+fn open_under(y: usize, x: usize) -> usize
+    ensures { λ r. ⌜ r ≡ cond (eqb y x) 16 x ⌝ }
+{
+    if y == x { 16 } else { x }
+}
+
+// Leaves the rows of a past-time entry, from its table.
+fn recollect(
+    plan: &[u16],
+    past: &[u64],
+    vars: [u8; 16],
+    x: usize,
+    entry: usize,
+    want: u64,
+    all: u64,
+    out: &mut [u64],
+)
+    requires { ⌜ Recalled (now plan) (now past) (assigned vars) entry ⌝ }
+    requires { ⌜ length (now out) ≡ 64 ⌝ }
+    ensures { λ _. ⌜ Rows want (remembered (now (past .entry)) (assigned vars) x (getD (now (plan .entry)) entry 0) all) (now (out .exit)) ⌝ }
+{
+    let p = word(plan, entry);
+    let y = p % 16;
+    if y == x {
+        recall(out, past, p / 16, want, all);
+    } else {
+        recall_at(out, past, p / 16, member_of(vars, y), want, all);
+    }
+}
+
+// Leaves for each a of want the row of those members b with which, as x, entry holds now at a. There is no open variable where x is 16.
+// It calls itself on the entry's operands, whose numbers are lower.
+fn decide(
+    terms: &[u16],
+    plan: &[u16],
+    relations: &[u64],
+    past: &[u64],
+    vars: [u8; 16],
+    x: usize,
+    entry: usize,
+    want: u64,
+    out: &mut [u64],
+)
+    requires { ⌜ Ready (now terms) (now plan) (now relations) (now past) ⌝ }
+    requires { ⌜ Asked (termsOf (now terms)) (assigned vars) entry want ⌝ }
+    requires { ⌜ length (now out) ≡ 64 ⌝ }
+    ensures { λ _. ⌜ Rows want (cell (termsOf (now (terms .entry))) (now (relations .entry)) (now (past .entry)) (assigned vars) x entry) (now (out .exit)) ⌝ }
+{
+    if want == 0 {
+        clear(out);
+        return;
+    }
+    let op = op_of(terms, entry);
+    let a = first_of(terms, entry);
+    let b = second_of(terms, entry);
+    let r = layout::relations(terms);
+    let all = mask(members(terms));
+    if op == 0 {
+        spread(out, want, all);
+        return;
+    }
+    if op == 1 {
+        if a == x {
+            diagonal(out, want);
+        } else {
+            spread(out, want & single(member_of(vars, a)), all);
+        }
+        return;
+    }
+    if (op == 6) | (op == 7) {
+        recollect(plan, past, vars, x, entry, want, all, out);
+        return;
+    }
+    let event = past[2048];
+    let mut f = [0u64; 64];
+    match op {
+        2 => {
+            decide(terms, plan, relations, past, vars, x, a, want, &mut f);
+            flip(out, &f, want, all);
+        }
+        3 => {
+            decide(terms, plan, relations, past, vars, x, a, want, out);
+            decide(terms, plan, relations, past, vars, x, b, want, &mut f);
+            join(out, &f);
+        }
+        4 => {
+            let from = senders(r, event, a, want);
+            let need = ahead(relations, r, event, a, from);
+            decide(terms, plan, relations, past, vars, x, b, need, &mut f);
+            gather(out, relations, r, event, a, &f, from);
+        }
+        5 => {
+            let from = senders(r, event, a, all);
+            let need = behind(relations, r, event, a, from, want);
+            decide(terms, plan, relations, past, vars, x, b, need, &mut f);
+            scatter(out, relations, r, event, a, &f, need, want);
+        }
+        8 => {
+            let y = open_under(a, x);
+            clear(out);
+            let mut rest = want;
+            while rest != 0 {
+                let m = least_of(rest);
+                decide(
+                    terms,
+                    plan,
+                    relations,
+                    past,
+                    rebind(vars, a, m),
+                    y,
+                    b,
+                    single(m),
+                    &mut f,
+                );
+                out[m] = f[m];
+                rest = rest_of(rest);
+            }
+        }
+        _ => {
+            if a == x {
+                decide(terms, plan, relations, past, vars, x, b, all, &mut f);
+                spread(out, want, own_bits(&f, all));
+            } else {
+                let c = member_of(vars, a);
+                decide(terms, plan, relations, past, vars, x, b, single(c), &mut f);
+                spread(out, want, f[c]);
+            }
+        }
+    }
+}
+
+// Whether entry holds now at u, with variable 0 standing for v and every other one for member 0.
+pub(crate) fn holds_at(
+    terms: &[u16],
+    plan: &[u16],
+    relations: &[u64],
+    past: &[u64],
+    entry: usize,
+    u: usize,
+    v: usize,
+) -> bool
+    requires { ⌜ Ready (now terms) (now plan) (now relations) (now past) ⌝ }
+    requires { ⌜ (entry < termsOf (now terms) .entries) × (u < termsOf (now terms) .members) × (v < termsOf (now terms) .members) ⌝ }
+    ensures { λ r. ⌜ r ≡ nowAt (termsOf (now (terms .entry))) (now (relations .entry)) (now (past .entry)) (assign (λ x. 0) 0 v) entry u ⌝ }
+{
+    let mut f = [0u64; 64];
+    decide(
+        terms,
+        plan,
+        relations,
+        past,
+        [0u8; 16],
+        0,
+        entry,
+        single(u),
+        &mut f,
+    );
+    has(f[u], v)
+}
+
+// Leaves the next table of a prev entry.
+pub(crate) fn prev_rows(
+    terms: &[u16],
+    plan: &[u16],
+    relations: &[u64],
+    past: &[u64],
+    entry: usize,
+    out: &mut [u64],
+)
+    requires { ⌜ Ready (now terms) (now plan) (now relations) (now past) ⌝ }
+    requires { ⌜ (entry < termsOf (now terms) .entries) × (termsOf (now terms) .entry entry .op ≡ 6) × (length (now out) ≡ 64) ⌝ }
+    ensures { λ _. ⌜ Table (termsOf (now (terms .entry)) .members) (nextPrev (termsOf (now (terms .entry))) (now (relations .entry)) (now (past .entry)) entry) (now (out .exit)) ⌝ }
+{
+    let x = word(plan, entry) % 16;
+    let all = mask(members(terms));
+    let a = first_of(terms, entry);
+    decide(terms, plan, relations, past, [0u8; 16], x, a, all, out);
+}
+
+// Leaves the next table of a since entry, from its old one.
+pub(crate) fn since_rows(
+    terms: &[u16],
+    plan: &[u16],
+    relations: &[u64],
+    past: &[u64],
+    entry: usize,
+    out: &mut [u64],
+)
+    requires { ⌜ Ready (now terms) (now plan) (now relations) (now past) ⌝ }
+    requires { ⌜ (entry < termsOf (now terms) .entries) × (termsOf (now terms) .entry entry .op ≡ 7) × (length (now out) ≡ 64) ⌝ }
+    ensures { λ _. ⌜ Table (termsOf (now (terms .entry)) .members) (nextSince (termsOf (now (terms .entry))) (now (relations .entry)) (now (past .entry)) entry) (now (out .exit)) ⌝ }
+{
+    let p = word(plan, entry);
+    let all = mask(members(terms));
+    let a = first_of(terms, entry);
+    let b = second_of(terms, entry);
+    let mut f = [0u64; 64];
+    decide(terms, plan, relations, past, [0u8; 16], p % 16, b, all, out);
+    decide(
+        terms,
+        plan,
+        relations,
+        past,
+        [0u8; 16],
+        p % 16,
+        a,
+        all,
+        &mut f,
+    );
+    join_kept(out, &f, past, p / 16);
+}
