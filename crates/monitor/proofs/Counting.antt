@@ -1,7 +1,7 @@
 -- Loops over the numbers below 64: one that stores a word a turn, and one that puts numbers into a set.
-use Prim.Native.Nat.{ℕ, _+_, _-_, _*_, _^_, _<_, _≤_}
+use Prim.Native.Nat.{ℕ, _+_, _*_, _^_, _<_, _≤_}
 use mathlib.Core.Path.{_≡_, refl, sym, ap, ap₂, _∙_, subst}
-use mathlib.Core.Bool.{Bool, true, false, cond, _&&_, _||_, and-or-distrib-right}
+use mathlib.Core.Bool.{Bool, true, false, cond, _&&_, _||_, and-true, and-false, and-or-distrib-right}
 use mathlib.Core.List.{List}
 use mathlib.Core.Logic.{⊎-elim}
 use native.Mathlib.Omega.{arith}
@@ -9,9 +9,9 @@ use lib.Dec.{eqb, ltb}
 use lib.ListN.{length, getD, set, replicate, length-replicate, length-set, List·getD-eq-default}
 use lib.Seq.{getD-set-same, getD-set-other, ext-getD}
 use lib.Bits.{bitAnd, bitOr, and-le-l}
-use borrow.Author.Tests.{lt-ltb, le-ltb, ltb-true, ltb-false, eqb-true, eqb-false}
+use borrow.Author.Tests.{lt-ltb, le-ltb, ltb-false, eqb-true, eqb-false}
 use Rattle.sets.specs.Sets.{bit}
-use Rattle.sets.proofs.Finite.{and-under, below-suc, true-or-false}
+use Rattle.sets.proofs.Finite.{and-implied, and-under, below-suc, true-or-false}
 use Rattle.sets.proofs.Bits.{bit-zero, bit-and, bit-or, bit-below}
 use Rattle.monitor.specs.Rows.{tableBit, Has, inRow, Added, kept}
 use Rattle.monitor.proofs.Loops.{zeros}
@@ -33,7 +33,8 @@ storing v s = record {
 pub storing-next : {v : ℕ → ℕ} {s₀ s : List ℕ} {a : ℕ} → Storing v s₀ a s → getD s a 0 ≡ getD s₀ a 0
 storing-next {v} {s₀} {s} {a} f = f .words a ∙ ap (λ (t : Bool). cond t (v a) (getD s₀ a 0)) (le-ltb a a (omega arith))
 
-pub storing-more : {v : ℕ → ℕ} {s₀ s : List ℕ} {a : ℕ} (w : ℕ) → Storing v s₀ a s → a < 64 → length s₀ ≡ 64 → w ≡ v a → Storing v s₀ (a + 1) (set s a w)
+pub storing-more : {v : ℕ → ℕ} {s₀ s : List ℕ} {a : ℕ} (w : ℕ) → Storing v s₀ a s → a < 64 → length s₀ ≡ 64 → w ≡ v a
+    → Storing v s₀ (a + 1) (set s a w)
 storing-more {v} {s₀} {s} {a} w f l h e = record {
   upto = omega arith;
   long = length-set s a w ∙ f .long;
@@ -48,7 +49,8 @@ storing-more {v} {s₀} {s} {a} w f l h e = record {
       (true-or-false (eqb k a));
 }
 
-pub storing-all : {v : ℕ → ℕ} {s₀ s : List ℕ} {a : ℕ} → Storing v s₀ a s → 64 ≤ a → length s₀ ≡ 64 → ((k : ℕ) → 64 ≤ k → v k ≡ 0) → (k : ℕ) → getD s k 0 ≡ v k
+pub storing-all : {v : ℕ → ℕ} {s₀ s : List ℕ} {a : ℕ} → Storing v s₀ a s → 64 ≤ a → length s₀ ≡ 64 → ((k : ℕ) → 64 ≤ k → v k ≡ 0) → (k : ℕ)
+    → getD s k 0 ≡ v k
 storing-all {v} {s₀} {s} {a} f l h z k =
     f .words k
     ∙ ⊎-elim
@@ -64,14 +66,16 @@ cleared {s₀} {s} f l h =
     (λ k p. storing-all f l h (λ k q. refl) k ∙ sym (zeros 64 k))
 
 -- rows that are added to: v is the old word with w
-pub added : {s₀ s : List ℕ} {a : ℕ} (w : ℕ → ℕ) → Storing (λ k. bitOr (getD s₀ k 0) (w k)) s₀ a s → 64 ≤ a → length s₀ ≡ 64 → ((k : ℕ) → 64 ≤ k → w k ≡ 0)
+pub added : {s₀ s : List ℕ} {a : ℕ} (w : ℕ → ℕ) → Storing (λ k. bitOr (getD s₀ k 0) (w k)) s₀ a s → 64 ≤ a → length s₀ ≡ 64
+    → ((k : ℕ) → 64 ≤ k → w k ≡ 0)
     → Added s₀ (λ k. bit (w k)) s
 added {s₀} {s} {a} w f l h z k b =
     ap (λ (x : ℕ). bit x b) (storing-all f l h (λ j q. ap₂ bitOr (List·getD-eq-default s₀ 0 (omega arith)) (z j q)) k)
     ∙ bit-or (getD s₀ k 0) (w k) b
 
 -- rows that are added to what f and table t both have
-pub added-kept : (f past : List ℕ) (t : ℕ) {s₀ s : List ℕ} {a : ℕ} → Storing (λ k. bitOr (getD s₀ k 0) (bitAnd (getD f k 0) (getD past (64 * t + k) 0))) s₀ a s
+pub added-kept : (f past : List ℕ) (t : ℕ) {s₀ s : List ℕ} {a : ℕ}
+    → Storing (λ k. bitOr (getD s₀ k 0) (bitAnd (getD f k 0) (getD past (64 * t + k) 0))) s₀ a s
     → 64 ≤ a → length s₀ ≡ 64 → length f ≡ 64 → Added s₀ (kept f past t) s
 unfolding tableBit
 added-kept f past t {s₀} {s} {a} g l h q k b =
@@ -90,7 +94,8 @@ pub record Sweeping (p : ℕ → Bool) (s a : ℕ) : Type 0 where
 pub sweeping : (p : ℕ → Bool) → Sweeping p 0 0
 sweeping p = record { upto = omega arith; bits = λ m. bit-zero m ∙ sym (ap (λ (t : Bool). t && p m) (le-ltb m 0 (omega arith))) }
 
-pub sweeping-more : {p : ℕ → Bool} {s a : ℕ} (w : ℕ) → Sweeping p s a → a < 64 → ((k : ℕ) → bit w k ≡ (eqb k a && p k)) → Sweeping p (bitOr w s) (a + 1)
+pub sweeping-more : {p : ℕ → Bool} {s a : ℕ} (w : ℕ) → Sweeping p s a → a < 64 → ((k : ℕ) → bit w k ≡ (eqb k a && p k))
+    → Sweeping p (bitOr w s) (a + 1)
 sweeping-more {p} {s} {a} w f l h = record {
   upto = omega arith;
   bits = λ m.
@@ -105,3 +110,26 @@ sweeping-all {p} {s} {a} f l m = f .bits m ∙ ap (λ (n : ℕ). ltb m n && p m)
 pub swept-in : (set s : ℕ) (p : ℕ → Bool) → set < 2 ^ 64 → Has s (λ m. ltb m 64 && p m) → Has (bitAnd set s) (λ m. bit set m && p m)
 swept-in set s p h e m =
     bit-and set s m ∙ and-under (bit set m) (bit s m) (p m) (λ t. e m ∙ ap (λ (u : Bool). u && p m) (lt-ltb m 64 (bit-below set 64 m h t)))
+
+-- ---- sets of one
+
+-- a number below 64 alone
+pub single-is : (s b : ℕ) → Has s (λ m. ltb m 64 && eqb m b) → b < 64 → Has s (λ m. eqb m b)
+single-is s b h l m =
+    h m ∙ and-implied (ltb m 64) (eqb m b) (λ e. lt-ltb m 64 (subst (λ (k : ℕ). k < 64) (sym (eqb-true m b e)) l))
+
+-- w where c holds
+pub only-is : (c : Bool) (w : ℕ) → Has (cond c w 0) (λ b. bit w b && c)
+only-is true w b = sym (and-true (bit w b))
+only-is false w b = bit-zero b ∙ sym (and-false (bit w b))
+
+-- ---- what a sweep adds at a
+
+pub swept-only : (a : ℕ) (p : ℕ → Bool) (c : Bool) (r s : ℕ) → r ≡ cond c s 0 → c ≡ p a → Has s (λ m. eqb m a) → Has r (λ m. eqb m a && p m)
+swept-only a p c r s e q h m =
+    ap (λ (x : ℕ). bit x m) e ∙ only-is c s m ∙ ap₂ _&&_ (h m) q ∙ and-under (eqb m a) (p a) (p m) (λ t. ap p (sym (eqb-true m a t)))
+
+pub swept-own : (f : List ℕ) (s a : ℕ) → Has s (λ m. eqb m a) → Has (bitAnd s (getD f a 0)) (λ m. eqb m a && inRow f m m)
+swept-own f s a h m =
+    bit-and s (getD f a 0) m ∙ ap (λ (t : Bool). t && inRow f a m) (h m)
+    ∙ and-under (eqb m a) (inRow f a m) (inRow f m m) (λ t. ap (λ (j : ℕ). inRow f j m) (sym (eqb-true m a t)))

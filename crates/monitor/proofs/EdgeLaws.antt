@@ -1,7 +1,7 @@
 -- The edges of the present graph: a row of it, where a label can lead from, and what leads to a set.
 use Prim.Native.Nat.{ℕ, _+_, _-_, _*_, _/_, _%_, _^_, _<_, _≤_}
-use mathlib.Core.Path.{_≡_, refl, sym, ap, ap₂, _∙_, subst, fun-ext}
-use mathlib.Core.Bool.{Bool, true, false, cond, not, _&&_, _||_, and-false}
+use mathlib.Core.Path.{_≡_, refl, sym, ap, ap₂, _∙_, subst}
+use mathlib.Core.Bool.{Bool, true, false, cond, not, _&&_, and-true, and-false}
 use mathlib.Core.List.{List}
 use mathlib.Core.Logic.{⊎-elim}
 use native.Mathlib.Omega.{arith}
@@ -11,10 +11,10 @@ use lib.Seq.{getD-take, getD-drop}
 use lib.Bits.{bitAnd}
 use borrow.Author.Tests.{lt-ltb, le-ltb, ltb-true, eqb-true, eqb-false, eq-eqb, ne-eqb, not-true}
 use Rattle.sets.specs.Sets.{anyBelow, bit}
-use Rattle.sets.proofs.Finite.{and-left, and-right, and-both, and-implied, and-under, is-false, not-both, any-elim, any-cong, any-and, true-or-false}
-use Rattle.sets.proofs.Bits.{bit-zero, bit-pow, bit-and, shl-one}
+use Rattle.sets.proofs.Finite.{and-left, and-right, and-both, and-under, is-false, not-both, any-elim, any-cong, any-and, true-or-false}
+use Rattle.sets.proofs.Bits.{bit-zero, bit-and}
 use Rattle.monitor.specs.Rows.{fired, edge, Rows, Has, inRow, behind, scattered, Senders}
-use Rattle.monitor.proofs.Counting.{swept-in}
+use Rattle.monitor.proofs.Counting.{swept-in, single-is, only-is}
 
 -- ---- the event's row
 
@@ -30,11 +30,11 @@ pub fired-other-member : (v j a : ℕ) → (v ≡ 0 → ⊥) → (v - 1) / 4096 
 unfolding fired
 fired-other-member v j a h e n b = bit-zero b ∙ sym (rw (ne-eqb v 0 h, eq-eqb _ j e, ne-eqb _ a n))
 
-pub fired-here : (v j a : ℕ) → (v ≡ 0 → ⊥) → (v - 1) / 4096 ≡ j → (v - 1) / 64 % 64 ≡ a → Has (1 * 2 ^ ((v - 1) % 64) % 2 ^ 64) (fired v j a)
+pub fired-here : (v j a s : ℕ) → (v ≡ 0 → ⊥) → (v - 1) / 4096 ≡ j → (v - 1) / 64 % 64 ≡ a → Has s (λ m. ltb m 64 && eqb m ((v - 1) % 64))
+    → Has s (fired v j a)
 unfolding fired
-fired-here v j a h e n b =
-    ap (λ (x : ℕ). bit x b) (shl-one ((v - 1) % 64) (omega arith)) ∙ bit-pow ((v - 1) % 64) b
-    ∙ sym (rw (ne-eqb v 0 h, eq-eqb _ j e, eq-eqb _ a n))
+fired-here v j a s h e n q b =
+    single-is s ((v - 1) % 64) q (omega arith) b ∙ sym (rw (ne-eqb v 0 h, eq-eqb _ j e, eq-eqb _ a n))
 
 -- ---- a row of the graph
 
@@ -62,33 +62,15 @@ senders-none r v l want h z = record {
   enough = λ rel a b w e. absurd (fired-from v (l - r) a b (edge-event r rel v l a b h ∙ e) .0 z);
 }
 
-pub senders-event : (r v l want : ℕ) → r ≤ l → Senders r v l want (bitAnd want (1 * 2 ^ ((v - 1) / 64 % 64) % 2 ^ 64))
-senders-event r v l want h = record {
-  within = λ a e. and-left (bit want a) _ (sym (bit-and want _ a) ∙ e);
+pub senders-event : (r v l want s : ℕ) → r ≤ l → Has s (λ m. ltb m 64 && eqb m ((v - 1) / 64 % 64)) → Senders r v l want (bitAnd want s)
+senders-event r v l want s h q = record {
+  within = λ a e. and-left (bit want a) _ (sym (bit-and want s a) ∙ e);
   enough = λ rel a b w e.
-      bit-and want (1 * 2 ^ ((v - 1) / 64 % 64) % 2 ^ 64) a
-      ∙ and-both (bit want a) (bit (1 * 2 ^ ((v - 1) / 64 % 64) % 2 ^ 64) a) w
-      (ap (λ (x : ℕ). bit x a) (shl-one ((v - 1) / 64 % 64) (omega arith)) ∙ bit-pow ((v - 1) / 64 % 64) a
+      bit-and want s a
+      ∙ and-both (bit want a) (bit s a) w
+      (single-is s ((v - 1) / 64 % 64) q (omega arith) a
       ∙ eq-eqb a ((v - 1) / 64 % 64) (sym (fired-from v (l - r) a b (edge-event r rel v l a b h ∙ e) .1)));
 }
-
--- ---- sets of one
-
--- a number below 64 alone
-pub single-is : (s b : ℕ) → Has s (λ m. ltb m 64 && eqb m b) → b < 64 → Has s (λ m. eqb m b)
-single-is s b h l m =
-    h m ∙ and-implied (ltb m 64) (eqb m b) (λ e. lt-ltb m 64 (subst (λ (k : ℕ). k < 64) (sym (eqb-true m b e)) l))
-
-and-turned : (x y : Bool) → (x && y) ≡ (y && x)
-and-turned true true = refl
-and-turned true false = refl
-and-turned false true = refl
-and-turned false false = refl
-
--- w where c holds
-pub only-is : (c : Bool) (w : ℕ) → Has (cond c w 0) (λ b. bit w b && c)
-only-is true w b = and-turned true (bit w b)
-only-is false w b = bit-zero b ∙ and-turned false (bit w b)
 
 -- ---- what leads to a set
 
@@ -98,15 +80,17 @@ behind-none v j from set z k =
     let y : (b : ℕ) × (b < 64) × ((fired v j k b && bit set b) ≡ true) = any-elim 64 (λ b. fired v j k b && bit set b) e in
     fired-from v j k (y .0) (and-left (fired v j k (y .0)) _ (y .2)) .0 z)) ∙ and-false (bit from k))
 
-pub behind-fired : (v j a from set row : ℕ) (c : Bool) (s : ℕ) → a ≡ (v - 1) / 64 % 64 → Has row (fired v j a) → c ≡ anyBelow 64 (λ k. bit row k && bit set k)
+pub behind-fired : (v j a from set row : ℕ) (c : Bool) (s : ℕ) → a ≡ (v - 1) / 64 % 64 → Has row (fired v j a)
+    → c ≡ anyBelow 64 (λ k. bit row k && bit set k)
     → Has s (λ m. ltb m 64 && eqb m a) → Has (cond c (bitAnd from s) 0) (behind (fired v j) from set)
 behind-fired v j a from set row c s q hr hc hs k =
     only-is c (bitAnd from s) k
-    ∙ ap₂ (λ (x y : Bool). x && y) (bit-and from s k ∙ ap (λ (t : Bool). bit from k && t) (single-is s a hs (subst (λ (x : ℕ). x < 64) (sym q) (omega arith)) k))
+    ∙ ap₂ (λ (x y : Bool). x && y)
+    (bit-and from s k ∙ ap (λ (t : Bool). bit from k && t) (single-is s a hs (subst (λ (x : ℕ). x < 64) (sym q) (omega arith)) k))
     (hc ∙ any-cong 64 (λ b l. ap (λ (t : Bool). t && bit set b) (hr b)))
     ∙ ⊎-elim
     (λ e. ap (λ (t : Bool). (bit from k && t) && anyBelow 64 (λ b. fired v j a b && bit set b)) e
-    ∙ ap₂ (λ (x : Bool) (m : ℕ). x && anyBelow 64 (λ b. fired v j m b && bit set b)) (and-turned (bit from k) true) (sym (eqb-true k a e)))
+    ∙ ap₂ (λ (x : Bool) (m : ℕ). x && anyBelow 64 (λ b. fired v j m b && bit set b)) (and-true (bit from k)) (sym (eqb-true k a e)))
     (λ e. ap (λ (t : Bool). (bit from k && t) && anyBelow 64 (λ b. fired v j a b && bit set b)) e
     ∙ ap (λ (t : Bool). t && anyBelow 64 (λ b. fired v j a b && bit set b)) (and-false (bit from k))
     ∙ sym (ap (λ (t : Bool). bit from k && t) (is-false _ (λ u.
@@ -114,7 +98,8 @@ behind-fired v j a from set row c s q hr hc hs k =
     eqb-false k a e (sym (fired-from v j k (y .0) (and-left (fired v j k (y .0)) _ (y .2)) .1) ∙ sym q))) ∙ and-false (bit from k)))
     (true-or-false (eqb k a))
 
-pub behind-edge : (r : ℕ) (rel : List ℕ) (v l from set : ℕ) → r ≤ l → (a : ℕ) → behind (fired v (l - r)) from set a ≡ behind (edge r rel v l) from set a
+pub behind-edge : (r : ℕ) (rel : List ℕ) (v l from set : ℕ) → r ≤ l → (a : ℕ)
+    → behind (fired v (l - r)) from set a ≡ behind (edge r rel v l) from set a
 behind-edge r rel v l from set h a =
     ap (λ (t : Bool). bit from a && t) (any-cong 64 (λ b k. ap (λ (t : Bool). t && bit set b) (edge-event r rel v l a b h)))
 
@@ -128,19 +113,10 @@ pub behind-part : (rel : List ℕ) (r v l n from set s : ℕ) → from < 2 ^ 64 
     → Has (bitAnd from s) (behind (edge r rel v l) from set)
 behind-part rel r v l n from set s h lt long e q =
     swept-in from s (λ j. anyBelow 64 (λ b. edge r rel v l j b && bit set b)) h
-    (λ a. q a ∙ and-under (ltb a 64) (anyBelow 64 (λ b. inRow (take n (drop (64 * l) rel)) a b && bit set b)) (anyBelow 64 (λ b. edge r rel v l a b && bit set b))
-    (λ t. any-cong 64 (λ b k. ap (λ (u : Bool). u && bit set b) (ap (λ (m : ℕ). inRow (take m (drop (64 * l) rel)) a b) e ∙ part-rows rel l r v a b lt long (ltb-true a 64 t)))))
-
--- ---- what a sweep adds at a
-
-pub swept-only : (a : ℕ) (p : ℕ → Bool) (c : Bool) (r s : ℕ) → r ≡ cond c s 0 → c ≡ p a → Has s (λ m. eqb m a) → Has r (λ m. eqb m a && p m)
-swept-only a p c r s e q h m =
-    ap (λ (x : ℕ). bit x m) e ∙ only-is c s m ∙ ap₂ _&&_ (h m) q ∙ and-under (eqb m a) (p a) (p m) (λ t. ap p (sym (eqb-true m a t)))
-
-pub swept-own : (f : List ℕ) (s a : ℕ) → Has s (λ m. eqb m a) → Has (bitAnd s (getD f a 0)) (λ m. eqb m a && inRow f m m)
-swept-own f s a h m =
-    bit-and s (getD f a 0) m ∙ ap (λ (t : Bool). t && inRow f a m) (h m)
-    ∙ and-under (eqb m a) (inRow f a m) (inRow f m m) (λ t. ap (λ (j : ℕ). inRow f j m) (sym (eqb-true m a t)))
+    (λ a. q a ∙ and-under (ltb a 64) (anyBelow 64 (λ b. inRow (take n (drop (64 * l) rel)) a b && bit set b))
+    (anyBelow 64 (λ b. edge r rel v l a b && bit set b))
+    (λ t. any-cong 64 (λ b k. ap (λ (u : Bool). u && bit set b)
+    (ap (λ (m : ℕ). inRow (take m (drop (64 * l) rel)) a b) e ∙ part-rows rel l r v a b lt long (ltb-true a 64 t)))))
 
 -- ---- what a turn writes
 

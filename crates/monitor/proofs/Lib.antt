@@ -23,6 +23,7 @@ pub mod Counting
 pub mod EdgeLaws
 pub mod Assignments
 pub mod Unfolded
+pub mod Sites
 pub mod Operators
 pub mod Requests
 pub mod Seen

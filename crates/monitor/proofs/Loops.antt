@@ -1,17 +1,18 @@
 -- Loops over the members of a set, least first, and over the numbers below 64: of each shape its start, one turn and its end.
-use Prim.Native.Nat.{ℕ, zero, suc, _+_, _-_, _^_, _<_, _≤_}
+use Prim.Native.Nat.{ℕ, zero, suc, _-_, _^_, _<_}
 use mathlib.Core.Path.{_≡_, refl, sym, ap, ap₂, _∙_, subst, fun-ext}
-use mathlib.Core.Bool.{Bool, true, false, cond, not, _&&_, _||_, and-true, and-or-distrib-right, true≢false}
+use mathlib.Core.Bool.{Bool, true, false, cond, not, _&&_, _||_, and-true, and-not-self, or-false, or-comm, true≢false}
 use mathlib.Core.List.{List}
 use mathlib.Core.Logic.{⊎-elim}
 use native.Mathlib.Omega.{arith}
-use lib.Dec.{eqb, ltb}
-use lib.ListN.{length, getD, set, replicate, length-replicate, length-set, List·getD-eq-default}
-use lib.Seq.{getD-set-same, getD-set-other, ext-getD}
+use lib.Dec.{eqb}
+use lib.ListN.{length, getD, set, replicate, length-replicate, length-set}
+use lib.Seq.{getD-set-same, getD-set-other}
 use lib.Bits.{bitAnd, bitOr}
-use borrow.Author.Tests.{lt-ltb, le-ltb, ltb-true, ltb-false, eqb-true, eqb-false, eq-eqb}
+use borrow.Author.Tests.{eqb-true, eqb-false, eq-eqb}
 use Rattle.sets.specs.Sets.{anyBelow, bit, least}
-use Rattle.sets.proofs.Finite.{bool-iff, and-left, and-right, and-both, or-left, or-right, or-cases, is-false, not-both, any-intro, any-elim, below-suc, true-or-false}
+use Rattle.sets.proofs.Finite.{bool-iff, and-left, and-right, and-both, and-under, or-left, or-right, or-cases, is-false, not-both}
+use Rattle.sets.proofs.Finite.{any-intro, any-elim, true-or-false}
 use Rattle.sets.proofs.Bits.{bit-zero, bit-or}
 use Rattle.sets.proofs.Least.{Least, Rest, least-law, rest-law}
 use Rattle.monitor.specs.Rows.{Rows, inRow, Added}
@@ -46,10 +47,6 @@ least-wanted {want} {rest} {a} o n l = o .inside a (least-law rest a (let p : 0 
 
 pub rest-less : {want rest rest' : ℕ} → Going want rest → (rest ≡ 0 → ⊥) → rest' ≡ bitAnd rest (rest - 1) → rest' < rest
 rest-less {want} {rest} {rest'} o n r = rest-law rest rest' (let p : 0 < rest = omega arith in p) (o .fits) r .less
-
-done-self : (x : Bool) → (x && not x) ≡ false
-done-self true = refl
-done-self false = refl
 
 done-all : (want rest k : ℕ) → rest ≡ 0 → Done want rest k ≡ bit want k
 done-all want rest k e =
@@ -99,11 +96,7 @@ row-set r a w k b h =
 
 -- rows that say the same of the members of want
 pub rows-map : {want : ℕ} {p q : ℕ → ℕ → Bool} {r : List ℕ} → Rows want p r → ((a b : ℕ) → bit want a ≡ true → p a b ≡ q a b) → Rows want q r
-rows-map {want} {p} {q} f h = record { long = f .long; bits = λ a b. f .bits a b ∙ under (bit want a) (p a b) (q a b) (h a b) }
-  where
-    under : (w x y : Bool) → (w ≡ true → x ≡ y) → (w && x) ≡ (w && y)
-    under true x y h = h refl
-    under false x y h = refl
+rows-map {want} {p} {q} f h = record { long = f .long; bits = λ a b. f .bits a b ∙ and-under (bit want a) (p a b) (q a b) (h a b) }
 
 -- an empty set has no rows
 pub no-rows : {want : ℕ} (p : ℕ → ℕ → Bool) {r : List ℕ} → want ≡ 0 → r ≡ replicate 64 0 → Rows want p r
@@ -122,7 +115,7 @@ pub filling : {want : ℕ} (p : ℕ → ℕ → Bool) {r : List ℕ} → want < 
 filling {want} p h e = record {
   upon = going want h;
   long = zero-long e;
-  bits = λ a b. zero-rows e a b ∙ sym (ap (λ (x : Bool). x && p a b) (done-self (bit want a)));
+  bits = λ a b. zero-rows e a b ∙ sym (ap (λ (x : Bool). x && p a b) (and-not-self (bit want a)));
 }
 
 pub filling-more : {want : ℕ} {p : ℕ → ℕ → Bool} {rest a rest' : ℕ} {r : List ℕ} (w : ℕ) → Filling want p rest r → Turn want rest a rest'
@@ -154,7 +147,7 @@ some-none : (want : ℕ) (p : ℕ → Bool) → Some want want p ≡ false
 some-none want p =
     is-false (Some want want p) (λ e.
     let w : (k : ℕ) × (k < 64) × ((Done want want k && p k) ≡ true) = any-elim 64 (λ c. Done want want c && p c) e in
-    not-both _ (and-left (Done want want (w .0)) (p (w .0)) (w .2)) (done-self (bit want (w .0))))
+    not-both _ (and-left (Done want want (w .0)) (p (w .0)) (w .2)) (and-not-self (bit want (w .0))))
 
 some-more : {want rest a rest' : ℕ} (p : ℕ → Bool) → Turn want rest a rest' → (p a || Some want rest p) ≡ Some want rest' p
 some-more {want} {rest} {a} {rest'} p t =
@@ -196,7 +189,8 @@ adding-more {want} {p} {rest} {a} {rest'} {s} w f t h = record {
   bits = λ b. bit-or w s b ∙ ap₂ _||_ (h b) (f .bits b) ∙ some-more (λ c. p c b) t;
 }
 
-pub adding-all : {want : ℕ} {p : ℕ → ℕ → Bool} {rest s : ℕ} → Adding want p rest s → rest ≡ 0 → (b : ℕ) → bit s b ≡ anyBelow 64 (λ c. bit want c && p c b)
+pub adding-all : {want : ℕ} {p : ℕ → ℕ → Bool} {rest s : ℕ} → Adding want p rest s → rest ≡ 0 → (b : ℕ)
+    → bit s b ≡ anyBelow 64 (λ c. bit want c && p c b)
 adding-all {want} {p} {rest} f e b = f .bits b ∙ some-all want rest (λ c. p c b) e
 
 -- ---- such a loop that adds rows: of each c that is done, those b that have p c a b to the row of a
@@ -212,18 +206,13 @@ scattering {from} p h e = record {
   bits = λ a b. zero-rows e a b ∙ sym (some-none from (λ c. p c a b));
 }
 
-or-turned : (x y : Bool) → (x || y) ≡ (y || x)
-or-turned true true = refl
-or-turned true false = refl
-or-turned false true = refl
-or-turned false false = refl
-
-pub scattering-more : {from : ℕ} {p : ℕ → ℕ → ℕ → Bool} {rest c rest' : ℕ} {r r' : List ℕ} (add : ℕ → ℕ → Bool) → Scattering from p rest r → Turn from rest c rest'
+pub scattering-more : {from : ℕ} {p : ℕ → ℕ → ℕ → Bool} {rest c rest' : ℕ} {r r' : List ℕ} (add : ℕ → ℕ → Bool) → Scattering from p rest r
+    → Turn from rest c rest'
     → length r' ≡ length r → Added r add r' → ((a b : ℕ) → add a b ≡ p c a b) → Scattering from p rest' r'
 scattering-more {from} {p} {rest} {c} {rest'} {r} {r'} add f t e h q = record {
   upon = going-on t;
   long = e ∙ f .long;
-  bits = λ a b. h a b ∙ ap₂ _||_ (f .bits a b) (q a b) ∙ or-turned (Some from rest (λ k. p k a b)) (p c a b) ∙ some-more (λ k. p k a b) t;
+  bits = λ a b. h a b ∙ ap₂ _||_ (f .bits a b) (q a b) ∙ or-comm (Some from rest (λ k. p k a b)) (p c a b) ∙ some-more (λ k. p k a b) t;
 }
 
 pub scattering-all : {from : ℕ} {p : ℕ → ℕ → ℕ → Bool} {rest : ℕ} {r : List ℕ} → Scattering from p rest r → rest ≡ 0
@@ -236,10 +225,6 @@ pub record Joining (set w : ℕ) (t₀ : List ℕ) (rest : ℕ) (t : List ℕ) :
   pub long : length t ≡ length t₀
   pub bits : (a b : ℕ) → inRow t a b ≡ (inRow t₀ a b || (Done set rest a && bit w b))
 
-or-none : (x : Bool) → x ≡ (x || false)
-or-none true = refl
-or-none false = refl
-
 or-again : (x y z : Bool) → ((x || (z && y)) || y) ≡ (x || y)
 or-again true y z = refl
 or-again false true true = refl
@@ -251,7 +236,7 @@ pub joining : (set w : ℕ) (t : List ℕ) → set < 2 ^ 64 → Joining set w t 
 joining set w t h = record {
   upon = going set h;
   long = refl;
-  bits = λ a b. or-none _ ∙ sym (ap (λ (x : Bool). inRow t a b || (x && bit w b)) (done-self (bit set a)));
+  bits = λ a b. sym (or-false (inRow t a b)) ∙ sym (ap (λ (x : Bool). inRow t a b || (x && bit w b)) (and-not-self (bit set a)));
 }
 
 pub joining-more : {want w : ℕ} {t₀ t : List ℕ} {rest a rest' : ℕ} → Joining want w t₀ rest t → Turn want rest a rest' → length t₀ ≡ 64

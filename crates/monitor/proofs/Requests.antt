@@ -15,7 +15,7 @@ use Rattle.monitor.specs.Terms.{Terms, formula}
 use Rattle.monitor.specs.Layout.{termsOf}
 use Rattle.monitor.specs.Rows.{tableBit, assigned, opened, nowAt, cell, Rows, Ready, Asked, Table, nextPrev, nextSince, Has, inRow, Added, kept}
 use Rattle.monitor.proofs.Spelled.{number-lt}
-use Rattle.monitor.proofs.Good.{Good, GoodEntry, good, first-lower, second-lower}
+use Rattle.monitor.proofs.Good.{Good, good, first-lower, second-lower}
 use Rattle.monitor.proofs.Loops.{zeros}
 use Rattle.monitor.proofs.Assignments.{opened-zeros}
 
@@ -75,7 +75,8 @@ module _ {terms plan rel past : List ℕ} {i o : ℕ} (ready : Ready terms plan 
       let low : T .entry i .b < i = second-lower (terms-good .entry i l) (ap secondOperand op ∙ q) in
       fresh-asked T k all terms-good (omega arith) (λ m t. ltb-true m (T .members) (sym (h m) ∙ t))
 
-  table-row : (p k k' all : ℕ) {r : List ℕ} → p ≡ getD plan i 0 → k ≡ k' → Has all (λ m. ltb m (T .members)) → Rows all (cell T rel past fresh (p % 16) k) r
+  table-row : (p k k' all : ℕ) {r : List ℕ} → p ≡ getD plan i 0 → k ≡ k' → Has all (λ m. ltb m (T .members))
+      → Rows all (cell T rel past fresh (p % 16) k) r
       → (a b : ℕ) → inRow r a b ≡ (ltb a (T .members) && (ltb b (T .members) && nowAt T rel past (standing (formula T i) b) k' a))
   unfolding cell
   table-row p k k' all e q h d a b =
@@ -103,7 +104,8 @@ module _ {terms plan rel past : List ℕ} {i o : ℕ} (ready : Ready terms plan 
     bits = λ a b.
         w a b
         ∙ ap₂ _||_ (table-row p k (T .entry i .b) all e eb h dr a b)
-        (ap₂ (λ (t : Bool) (m : ℕ). t && tableBit past m a b) (table-row p j (T .entry i .a) all e ea h dq a b) (ap (λ (y : ℕ). y / 16) e ∙ plan-is .0))
+        (ap₂ (λ (t : Bool) (m : ℕ). t && tableBit past m a b) (table-row p j (T .entry i .a) all e ea h dq a b)
+        (ap (λ (y : ℕ). y / 16) e ∙ plan-is .0))
         ∙ since-bool (ltb a (T .members)) (ltb b (T .members)) (nowAt T rel past (standing (formula T i) b) (T .entry i .b) a)
         (nowAt T rel past (standing (formula T i) b) (T .entry i .a) a) (tableBit past (number (T .entry) i) a b);
   }

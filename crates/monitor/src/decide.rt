@@ -1,29 +1,7 @@
 // Deciding an entry at the present moment, at a set of members at once (specs/Rows.antt).
-use crate::edges::ahead;
-use crate::edges::behind;
-use crate::edges::senders;
+use crate::edges;
 use crate::layout;
-use crate::layout::first_of;
-use crate::layout::members;
-use crate::layout::op_of;
-use crate::layout::second_of;
-use crate::layout::word;
-use crate::rows::clear;
-use crate::rows::diagonal;
-use crate::rows::flip;
-use crate::rows::gather;
-use crate::rows::join;
-use crate::rows::join_kept;
-use crate::rows::own_bits;
-use crate::rows::recall;
-use crate::rows::recall_at;
-use crate::rows::scatter;
-use crate::rows::spread;
-use sets::has;
-use sets::least_of;
-use sets::mask;
-use sets::rest_of;
-use sets::single;
+use crate::rows;
 ghost use mathlib.Core.Path.{_≡_};
 ghost use mathlib.Core.Bool.{cond};
 ghost use Prim.Native.Nat.{ℕ, _<_};
@@ -31,7 +9,10 @@ ghost use lib.Dec.{eqb};
 ghost use lib.ListN.{length, getD};
 ghost use Rattle.monitor.specs.Meaning.{assign};
 ghost use Rattle.monitor.specs.Layout.{termsOf};
-ghost use Rattle.monitor.specs.Rows.{assigned, nowAt, opened, cell, remembered, Rows, Ready, Asked, Recalled, Table, nextPrev, nextSince};
+ghost use Rattle.monitor.specs.Rows.{assigned, nowAt, cell, remembered, Rows, Ready, Asked, Recalled, Table, nextPrev, nextSince};
+
+// The place of the event word in past.
+const EVENT: usize = 2048;
 
 // The member that variable x stands for.
 fn member_of(vars: [u8; 16], x: usize) -> usize
@@ -73,12 +54,12 @@ fn recollect(
     requires { ⌜ length (now out) ≡ 64 ⌝ }
     ensures { λ _. ⌜ Rows want (remembered (now (past .entry)) (assigned vars) x (getD (now (plan .entry)) entry 0) all) (now (out .exit)) ⌝ }
 {
-    let p = word(plan, entry);
+    let p = layout::word(plan, entry);
     let y = p % 16;
     if y == x {
-        recall(out, past, p / 16, want, all);
+        rows::recall(out, past, p / 16, want, all);
     } else {
-        recall_at(out, past, p / 16, member_of(vars, y), want, all);
+        rows::recall_at(out, past, p / 16, member_of(vars, y), want, all);
     }
 }
 
@@ -101,60 +82,68 @@ fn decide(
     ensures { λ _. ⌜ Rows want (cell (termsOf (now (terms .entry))) (now (relations .entry)) (now (past .entry)) (assigned vars) x entry) (now (out .exit)) ⌝ }
 {
     if want == 0 {
-        clear(out);
+        rows::clear(out);
         return;
     }
-    let op = op_of(terms, entry);
-    let a = first_of(terms, entry);
-    let b = second_of(terms, entry);
+    let op = layout::op_of(terms, entry);
+    let a = layout::first_of(terms, entry);
+    let b = layout::second_of(terms, entry);
     let r = layout::relations(terms);
-    let all = mask(members(terms));
+    let all = sets::mask(layout::members(terms));
+    // top
     if op == 0 {
-        spread(out, want, all);
+        rows::spread(out, want, all);
         return;
     }
+    // var
     if op == 1 {
         if a == x {
-            diagonal(out, want);
+            rows::diagonal(out, want);
         } else {
-            spread(out, want & single(member_of(vars, a)), all);
+            rows::spread(out, want & sets::single(member_of(vars, a)), all);
         }
         return;
     }
+    // prev, since
     if (op == 6) | (op == 7) {
         recollect(plan, past, vars, x, entry, want, all, out);
         return;
     }
-    let event = past[2048];
+    let event = past[EVENT];
     let mut f = [0u64; 64];
     match op {
+        // not
         2 => {
             decide(terms, plan, relations, past, vars, x, a, want, &mut f);
-            flip(out, &f, want, all);
+            rows::flip(out, &f, want, all);
         }
+        // or
         3 => {
             decide(terms, plan, relations, past, vars, x, a, want, out);
             decide(terms, plan, relations, past, vars, x, b, want, &mut f);
-            join(out, &f);
+            rows::join(out, &f);
         }
+        // out
         4 => {
-            let from = senders(r, event, a, want);
-            let need = ahead(relations, r, event, a, from);
+            let from = edges::senders(r, event, a, want);
+            let need = edges::ahead(relations, r, event, a, from);
             decide(terms, plan, relations, past, vars, x, b, need, &mut f);
-            gather(out, relations, r, event, a, &f, from);
+            rows::gather(out, relations, r, event, a, &f, from);
         }
+        // in
         5 => {
-            let from = senders(r, event, a, all);
-            let need = behind(relations, r, event, a, from, want);
+            let from = edges::senders(r, event, a, all);
+            let need = edges::behind(relations, r, event, a, from, want);
             decide(terms, plan, relations, past, vars, x, b, need, &mut f);
-            scatter(out, relations, r, event, a, &f, need, want);
+            rows::scatter(out, relations, r, event, a, &f, need, want);
         }
+        // bind
         8 => {
             let y = open_under(a, x);
-            clear(out);
+            rows::clear(out);
             let mut rest = want;
             while rest != 0 {
-                let m = least_of(rest);
+                let m = sets::least_of(rest);
                 decide(
                     terms,
                     plan,
@@ -163,21 +152,32 @@ fn decide(
                     rebind(vars, a, m),
                     y,
                     b,
-                    single(m),
+                    sets::single(m),
                     &mut f,
                 );
                 out[m] = f[m];
-                rest = rest_of(rest);
+                rest = sets::rest_of(rest);
             }
         }
+        // at
         _ => {
             if a == x {
                 decide(terms, plan, relations, past, vars, x, b, all, &mut f);
-                spread(out, want, own_bits(&f, all));
+                rows::spread(out, want, rows::own_bits(&f, all));
             } else {
                 let c = member_of(vars, a);
-                decide(terms, plan, relations, past, vars, x, b, single(c), &mut f);
-                spread(out, want, f[c]);
+                decide(
+                    terms,
+                    plan,
+                    relations,
+                    past,
+                    vars,
+                    x,
+                    b,
+                    sets::single(c),
+                    &mut f,
+                );
+                rows::spread(out, want, f[c]);
             }
         }
     }
@@ -206,10 +206,10 @@ pub(crate) fn holds_at(
         [0u8; 16],
         0,
         entry,
-        single(u),
+        sets::single(u),
         &mut f,
     );
-    has(f[u], v)
+    sets::has(f[u], v)
 }
 
 // Leaves the next table of a prev entry.
@@ -225,9 +225,9 @@ pub(crate) fn prev_rows(
     requires { ⌜ (entry < termsOf (now terms) .entries) × (termsOf (now terms) .entry entry .op ≡ 6) × (length (now out) ≡ 64) ⌝ }
     ensures { λ _. ⌜ Table (termsOf (now (terms .entry)) .members) (nextPrev (termsOf (now (terms .entry))) (now (relations .entry)) (now (past .entry)) entry) (now (out .exit)) ⌝ }
 {
-    let x = word(plan, entry) % 16;
-    let all = mask(members(terms));
-    let a = first_of(terms, entry);
+    let x = layout::word(plan, entry) % 16;
+    let all = sets::mask(layout::members(terms));
+    let a = layout::first_of(terms, entry);
     decide(terms, plan, relations, past, [0u8; 16], x, a, all, out);
 }
 
@@ -244,10 +244,10 @@ pub(crate) fn since_rows(
     requires { ⌜ (entry < termsOf (now terms) .entries) × (termsOf (now terms) .entry entry .op ≡ 7) × (length (now out) ≡ 64) ⌝ }
     ensures { λ _. ⌜ Table (termsOf (now (terms .entry)) .members) (nextSince (termsOf (now (terms .entry))) (now (relations .entry)) (now (past .entry)) entry) (now (out .exit)) ⌝ }
 {
-    let p = word(plan, entry);
-    let all = mask(members(terms));
-    let a = first_of(terms, entry);
-    let b = second_of(terms, entry);
+    let p = layout::word(plan, entry);
+    let all = sets::mask(layout::members(terms));
+    let a = layout::first_of(terms, entry);
+    let b = layout::second_of(terms, entry);
     let mut f = [0u64; 64];
     decide(terms, plan, relations, past, [0u8; 16], p % 16, b, all, out);
     decide(
@@ -261,5 +261,5 @@ pub(crate) fn since_rows(
         all,
         &mut f,
     );
-    join_kept(out, &f, past, p / 16);
+    rows::join_kept(out, &f, past, p / 16);
 }

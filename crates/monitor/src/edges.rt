@@ -1,11 +1,6 @@
 // The edges of the present graph, a set of members at a time. A relation's are words of relations, an event's is in the event word.
-use sets::least_of;
-use sets::meet;
-use sets::only;
-use sets::rest_of;
-use sets::single;
 ghost use mathlib.Core.Bool.{_&&_};
-ghost use Prim.Native.Nat.{ℕ, _<_, _≤_};
+ghost use Prim.Native.Nat.{_<_, _≤_};
 ghost use lib.Dec.{ltb};
 ghost use lib.ListN.{length};
 ghost use Rattle.sets.specs.Sets.{anyBelow, bit};
@@ -21,7 +16,7 @@ fn fired_row(event: u64, j: usize, a: usize) -> u64
     let e = event - 1;
     if e / 4096 == j as u64 {
         if e / 64 % 64 == a as u64 {
-            return 1u64 << (e % 64);
+            return sets::single((e % 64) as usize);
         }
     }
     0
@@ -49,7 +44,7 @@ pub(crate) fn senders(r: usize, event: u64, l: usize, want: u64) -> u64
     if event == 0 {
         return 0;
     }
-    want & (1u64 << ((event - 1) / 64 % 64))
+    want & sets::single(((event - 1) / 64 % 64) as usize)
 }
 
 // The members that label l leads to from some member of set.
@@ -60,8 +55,8 @@ pub(crate) fn ahead(relations: &[u64], r: usize, event: u64, l: usize, set: u64)
     let mut s: u64 = 0;
     let mut rest = set;
     while rest != 0 {
-        s = row(relations, r, event, l, least_of(rest)) | s;
-        rest = rest_of(rest);
+        s = row(relations, r, event, l, sets::least_of(rest)) | s;
+        rest = sets::rest_of(rest);
     }
     s
 }
@@ -74,7 +69,7 @@ fn meeting(rows: &[u64], set: u64) -> u64
     let mut s: u64 = 0;
     let mut a: usize = 0;
     while a < 64 {
-        s = only(meet(rows[a], set), single(a)) | s;
+        s = sets::only(sets::meet(rows[a], set), sets::single(a)) | s;
         a += 1;
     }
     s
@@ -88,7 +83,10 @@ fn behind_event(event: u64, j: usize, from: u64, set: u64) -> u64
         return 0;
     }
     let a = ((event - 1) / 64 % 64) as usize;
-    only(meet(fired_row(event, j, a), set), from & single(a))
+    sets::only(
+        sets::meet(fired_row(event, j, a), set),
+        from & sets::single(a),
+    )
 }
 
 // The members of from from which label l leads to some member of set. A relation's rows are looked at in one sweep.

@@ -1,16 +1,11 @@
 // A row, a set of members, for each of 64 members: 64 words, lent by the caller. What is read stands as it was.
-use crate::edges::row;
-use sets::has;
-use sets::least_of;
-use sets::only;
-use sets::rest_of;
-use sets::single;
+use crate::edges;
 ghost use mathlib.Core.Path.{_≡_};
 ghost use mathlib.Core.Bool.{not, _&&_};
-ghost use Prim.Native.Nat.{ℕ, _<_, _≤_};
+ghost use Prim.Native.Nat.{_<_, _≤_};
 ghost use lib.Dec.{eqb};
 ghost use lib.ListN.{length, replicate};
-ghost use Rattle.sets.specs.Sets.{anyBelow, bit};
+ghost use Rattle.sets.specs.Sets.{bit};
 ghost use Rattle.monitor.specs.Rows.{tableBit, edge, Rows, Has, inRow, Added, kept, ahead, gathered, scattered};
 
 // Leaves every row empty.
@@ -33,8 +28,8 @@ pub(crate) fn spread(out: &mut [u64], want: u64, w: u64)
     clear(out);
     let mut rest = want;
     while rest != 0 {
-        out[least_of(rest)] = w;
-        rest = rest_of(rest);
+        out[sets::least_of(rest)] = w;
+        rest = sets::rest_of(rest);
     }
 }
 
@@ -46,9 +41,9 @@ pub(crate) fn diagonal(out: &mut [u64], want: u64)
     clear(out);
     let mut rest = want;
     while rest != 0 {
-        let a = least_of(rest);
-        out[a] = single(a);
-        rest = rest_of(rest);
+        let a = sets::least_of(rest);
+        out[a] = sets::single(a);
+        rest = sets::rest_of(rest);
     }
 }
 
@@ -60,9 +55,9 @@ pub(crate) fn flip(out: &mut [u64], f: &[u64], want: u64, w: u64)
     clear(out);
     let mut rest = want;
     while rest != 0 {
-        let a = least_of(rest);
+        let a = sets::least_of(rest);
         out[a] = w ^ (w & f[a]);
-        rest = rest_of(rest);
+        rest = sets::rest_of(rest);
     }
 }
 
@@ -98,8 +93,8 @@ fn together(f: &[u64], set: u64) -> u64
     let mut s: u64 = 0;
     let mut rest = set;
     while rest != 0 {
-        s = f[least_of(rest)] | s;
-        rest = rest_of(rest);
+        s = f[sets::least_of(rest)] | s;
+        rest = sets::rest_of(rest);
     }
     s
 }
@@ -120,9 +115,9 @@ pub(crate) fn gather(
     clear(out);
     let mut rest = want;
     while rest != 0 {
-        let a = least_of(rest);
-        out[a] = together(f, row(relations, r, event, l, a));
-        rest = rest_of(rest);
+        let a = sets::least_of(rest);
+        out[a] = together(f, edges::row(relations, r, event, l, a));
+        rest = sets::rest_of(rest);
     }
 }
 
@@ -133,9 +128,9 @@ fn add_to(out: &mut [u64], set: u64, w: u64)
 {
     let mut rest = set;
     while rest != 0 {
-        let a = least_of(rest);
+        let a = sets::least_of(rest);
         out[a] = out[a] | w;
-        rest = rest_of(rest);
+        rest = sets::rest_of(rest);
     }
 }
 
@@ -156,9 +151,9 @@ pub(crate) fn scatter(
     clear(out);
     let mut rest = from;
     while rest != 0 {
-        let c = least_of(rest);
-        add_to(out, want & row(relations, r, event, l, c), f[c]);
-        rest = rest_of(rest);
+        let c = sets::least_of(rest);
+        add_to(out, want & edges::row(relations, r, event, l, c), f[c]);
+        rest = sets::rest_of(rest);
     }
 }
 
@@ -170,9 +165,9 @@ pub(crate) fn recall(out: &mut [u64], past: &[u64], t: usize, want: u64, all: u6
     clear(out);
     let mut rest = want;
     while rest != 0 {
-        let a = least_of(rest);
+        let a = sets::least_of(rest);
         out[a] = all & past[64 * t + a];
-        rest = rest_of(rest);
+        rest = sets::rest_of(rest);
     }
 }
 
@@ -184,9 +179,9 @@ pub(crate) fn recall_at(out: &mut [u64], past: &[u64], t: usize, k: usize, want:
     clear(out);
     let mut rest = want;
     while rest != 0 {
-        let a = least_of(rest);
-        out[a] = only(has(past[64 * t + a], k), all);
-        rest = rest_of(rest);
+        let a = sets::least_of(rest);
+        out[a] = sets::only(sets::has(past[64 * t + a], k), all);
+        rest = sets::rest_of(rest);
     }
 }
 
@@ -198,7 +193,7 @@ pub(crate) fn own_bits(f: &[u64], set: u64) -> u64
     let mut s: u64 = 0;
     let mut a: usize = 0;
     while a < 64 {
-        s = (single(a) & f[a]) | s;
+        s = (sets::single(a) & f[a]) | s;
         a += 1;
     }
     set & s

@@ -7,11 +7,11 @@ use mathlib.Core.Bool.{_&&_}
 use lib.Dec.{eqb, ltb}
 use lib.ListN.{length}
 use Rattle.monitor.specs.Layout.{termsOf}
-use Rattle.monitor.specs.Rows.{assigned, cell}
+use Rattle.monitor.specs.Rows.{assigned, cell, ahead, behind}
 use Rattle.monitor.proofs.Loops as loops
-use Rattle.monitor.proofs.EdgeLaws as edges
+use Rattle.monitor.proofs.Counting as counting
+use Rattle.monitor.proofs.Sites as sites
 use Rattle.monitor.proofs.Operators as ops
-use Prim.Native.Nat.{ℕ, _<_}
 use borrow.Fn.Kinds.{In}
 use borrow.Fn.PlainCycle.{Measures, is, falls, and}
 use Rattle.monitor.proofs.decide.decide.Reads as decide
@@ -120,7 +120,7 @@ abbrev start : (t : ℕ) → decide-lts.After-mask (callees t) (decide-at t) dec
 start t c = c .before .before .before .before .before .before .before .before .before .before .before .before
 
 site : (t : ℕ) (c : decide-lts.After-mask (callees t) (decide-at t) decide.Post decide-Inv-loop decide-μ-loop)
-    → ops.Site (start t c .args .terms .now) (start t c .args .plan .now) (start t c .args .relations .now) (start t c .args .past .now)
+    → sites.Site (start t c .args .terms .now) (start t c .args .plan .now) (start t c .args .relations .now) (start t c .args .past .now)
     (assigned (start t c .args .vars)) (start t c .args .x) (start t c .args .entry) (start t c .args .want)
     (c .before .before .before .before .before .op-of .result) (c .before .before .before .before .first-of .result) (c .before .before .before .second-of .result) (c .before .before .relations .result) (c .mask .result)
 site t c = record {
@@ -130,14 +130,14 @@ site t c = record {
   a-is = c .before .before .before .before .first-of .ensures .0;
   b-is = c .before .before .before .second-of .ensures .0;
   r-is = c .before .before .relations .ensures .0;
-  all-is = ops.mask-is (start t c .pre .1 .0) (c .mask .result) (c .before .members .result) (c .mask .ensures) (c .before .members .ensures .0);
+  all-is = sites.mask-is (start t c .pre .1 .0) (c .mask .result) (c .before .members .result) (c .mask .ensures) (c .before .members .ensures .0);
 }
 
 lower : (f entry t : ℕ) → entry ≡ t → f < entry → f < t
 lower f entry t e l = omega arith
 
 decide-clear-requires : (t : ℕ) → decide-lts.Need-clear-requires (callees t) (decide-at t) decide.Post decide-Inv-loop decide-μ-loop
-decide-clear-requires t c κs = (c .before .before .before .before .before .before .before .pre .1 .1 .1)
+decide-clear-requires t c κs = let i = c .before .before .before .before .before .before .before in (i .pre .1 .1 .1)
 
 decide-same-length : (t : ℕ) → decide-lts.Need-same-length (callees t) (decide-at t) decide.Post decide-Inv-loop decide-μ-loop
 decide-same-length t c = search needs
@@ -147,15 +147,18 @@ decide-returns t c = loops.no-rows _ (c .before .before .before .before .if1 .ta
 
 decide-op-of-requires : (t : ℕ) → decide-lts.Need-op-of-requires (callees t) (decide-at t) decide.Post decide-Inv-loop decide-μ-loop
 decide-op-of-requires t c κs =
-    ops.entry-short (c .before .before .before .before .before .before .pre .1 .0) _ (c .before .before .before .before .before .before .pre .1 .1 .0 .exists)
+    let i = c .before .before .before .before .before .before in
+    sites.entry-short (i .pre .1 .0) _ (i .pre .1 .1 .0 .exists)
 
 decide-first-of-requires : (t : ℕ) → decide-lts.Need-first-of-requires (callees t) (decide-at t) decide.Post decide-Inv-loop decide-μ-loop
 decide-first-of-requires t c κs =
-    ops.entry-short (c .before .before .before .before .before .before .before .pre .1 .0) _ (c .before .before .before .before .before .before .before .pre .1 .1 .0 .exists)
+    let i = c .before .before .before .before .before .before .before in
+    sites.entry-short (i .pre .1 .0) _ (i .pre .1 .1 .0 .exists)
 
 decide-second-of-requires : (t : ℕ) → decide-lts.Need-second-of-requires (callees t) (decide-at t) decide.Post decide-Inv-loop decide-μ-loop
 decide-second-of-requires t c κs =
-    ops.entry-short (c .before .before .before .before .before .before .before .before .pre .1 .0) _ (c .before .before .before .before .before .before .before .before .pre .1 .1 .0 .exists)
+    let i = c .before .before .before .before .before .before .before .before in
+    sites.entry-short (i .pre .1 .0) _ (i .pre .1 .1 .0 .exists)
 
 decide-relations-requires : (t : ℕ) → decide-lts.Need-relations-requires (callees t) (decide-at t) decide.Post decide-Inv-loop decide-μ-loop
 decide-relations-requires t c κs = tt
@@ -167,83 +170,101 @@ decide-mask-requires : (t : ℕ) → decide-lts.Need-mask-requires (callees t) (
 decide-mask-requires t c κs = tt
 
 decide-spread-requires : (t : ℕ) → decide-lts.Need-spread-requires (callees t) (decide-at t) decide.Post decide-Inv-loop decide-μ-loop
-decide-spread-requires t c κs =
-    (c .before .before .before .before .before .before .before .before .before .before .before .before .before .before .pre .1 .1 .1)
+decide-spread-requires t c κs = let m = c .before .before in start t m .pre .1 .1 .1
 
 decide-same-length-2 : (t : ℕ) → decide-lts.Need-same-length-2 (callees t) (decide-at t) decide.Post decide-Inv-loop decide-μ-loop
 decide-same-length-2 t c = search needs
 
 decide-returns-2 : (t : ℕ) → decide-lts.Need-returns-2 (callees t) (decide-at t) decide.Post decide-Inv-loop decide-μ-loop
 decide-returns-2 t c =
-    ops.decide-top (site t (c .before .before .before .before .before)) (c .before .before .before .before .if2 .taken) (c .before .before .spread .ensures)
+    let s = site t (c .before .before .before .before .before) in
+    ops.decide-top s (c .before .before .before .before .if2 .taken) (c .before .before .spread .ensures)
 
 decide-diagonal-requires : (t : ℕ) → decide-lts.Need-diagonal-requires (callees t) (decide-at t) decide.Post decide-Inv-loop decide-μ-loop
-decide-diagonal-requires t c κs =
-    (c .before .before .before .before .before .before .before .before .before .before .before .before .before .before .before .before .pre .1 .1 .1)
+decide-diagonal-requires t c κs = let m = c .before .before .before .before in start t m .pre .1 .1 .1
 
 decide-member-of-requires : (t : ℕ) → decide-lts.Need-member-of-requires (callees t) (decide-at t) decide.Post decide-Inv-loop decide-μ-loop
-decide-member-of-requires t c κs = ops.a-variable (site t (c .before .before .before .before)) 1 (c .before .before .if3 .taken) refl
+decide-member-of-requires t c κs = let s = site t (c .before .before .before .before) in sites.a-variable s 1 (c .before .before .if3 .taken) refl
 
 decide-single-requires : (t : ℕ) → decide-lts.Need-single-requires (callees t) (decide-at t) decide.Post decide-Inv-loop decide-μ-loop
 decide-single-requires t c κs = tt
 
 decide-spread-requires-2 : (t : ℕ) → decide-lts.Need-spread-requires-2 (callees t) (decide-at t) decide.Post decide-Inv-loop decide-μ-loop
-decide-spread-requires-2 t c κs =
-    (c .before .before .before .before .before .before .before .before .before .before .before .before .before .before .before .before .before .before .pre .1 .1 .1)
+decide-spread-requires-2 t c κs = let m = c .before .before .before .before .before .before in start t m .pre .1 .1 .1
 
 decide-same-length-3 : (t : ℕ) → decide-lts.Need-same-length-3 (callees t) (decide-at t) decide.Post decide-Inv-loop decide-μ-loop
 decide-same-length-3 t c = search needs
 
 decide-returns-3 : (t : ℕ) → decide-lts.Need-returns-3 (callees t) (decide-at t) decide.Post decide-Inv-loop decide-μ-loop
 decide-returns-3 t c =
-    ops.decide-var-open (site t (c .before .before .before .before .before .before .before)) (c .before .before .before .before .before .if3 .taken) (c .before .before .before .before .if4 .taken) (c .before .before .diagonal .ensures)
+    let s = site t (c .before .before .before .before .before .before .before) in
+    ops.decide-var-open s (c .before .before .before .before .before .if3 .taken) (c .before .before .before .before .if4 .taken)
+    (c .before .before .diagonal .ensures)
 
 decide-same-length-4 : (t : ℕ) → decide-lts.Need-same-length-4 (callees t) (decide-at t) decide.Post decide-Inv-loop decide-μ-loop
 decide-same-length-4 t c = search needs
 
 decide-returns-4 : (t : ℕ) → decide-lts.Need-returns-4 (callees t) (decide-at t) decide.Post decide-Inv-loop decide-μ-loop
 decide-returns-4 t c =
-    ops.decide-var (site t (c .before .before .before .before .before .before .before .before .before)) (c .before .before .before .single .result) (c .before .before .before .before .before .before .before .if3 .taken) (c .before .before .before .before .before .before .if4 .left) (edges.single-is (c .before .before .before .single .result) _ (λ m. c .before .before .before .single .ensures m ∙ ap (λ (y : ℕ). ltb m 64 && eqb m y) (c .before .before .before .before .member-of .ensures)) (ops.var-below (site t (c .before .before .before .before .before .before .before .before .before)) _ (ops.a-variable (site t (c .before .before .before .before .before .before .before .before .before)) 1 (c .before .before .before .before .before .before .before .if3 .taken) refl))) (c .before .before .spread2 .ensures)
+    let if3 = c .before .before .before .before .before .before .before .if3 in
+    let single = c .before .before .before .single in
+    let s = site t (c .before .before .before .before .before .before .before .before .before) in
+    ops.decide-var s (single .result) (if3 .taken) (c .before .before .before .before .before .before .if4 .left)
+    (counting.single-is (single .result) _ (λ m. single .ensures m ∙ ap (λ (y : ℕ). ltb m 64 && eqb m y)
+    (c .before .before .before .before .member-of .ensures)) (sites.var-below s _ (sites.a-variable s 1 (if3 .taken) refl)))
+    (c .before .before .spread2 .ensures)
 
 decide-recollect-requires : (t : ℕ) → decide-lts.Need-recollect-requires (callees t) (decide-at t) decide.Post decide-Inv-loop decide-μ-loop
 decide-recollect-requires t c κs =
-    (ops.recalled (site t (c .before .before .before .before)) (c .before .if5 .taken), (c .before .before .before .before .before .before .before .before .before .before .before .before .before .before .before .before .pre .1 .1 .1))
+    let m = c .before .before .before .before in
+    let s = site t m in
+    (ops.recalled s (c .before .if5 .taken), start t m .pre .1 .1 .1)
 
 decide-same-length-5 : (t : ℕ) → decide-lts.Need-same-length-5 (callees t) (decide-at t) decide.Post decide-Inv-loop decide-μ-loop
 decide-same-length-5 t c = search needs
 
 decide-returns-5 : (t : ℕ) → decide-lts.Need-returns-5 (callees t) (decide-at t) decide.Post decide-Inv-loop decide-μ-loop
 decide-returns-5 t c =
-    ops.decide-past (site t (c .before .before .before .before .before .before .before)) (c .before .before .before .before .if5 .taken) (c .before .before .recollect .ensures)
+    let s = site t (c .before .before .before .before .before .before .before) in
+    ops.decide-past s (c .before .before .before .before .if5 .taken) (c .before .before .recollect .ensures)
 
 decide-shared-slice-read-event : (t : ℕ) → decide-lts.Need-shared-slice-read-event (callees t) (decide-at t) decide.Post decide-Inv-loop decide-μ-loop
-decide-shared-slice-read-event t c =
-    omega (arith, c .before .before .before .before .before .before .before .before .before .before .before .before .before .before .before .before .pre .1 .0 .long-past)
+decide-shared-slice-read-event t c = let s = site t (c .before .before .before .before) in omega (arith, s .ready .long-past)
 
 decide-slice-aggregate-decide : (t : ℕ) → decide-lts.Need-slice-aggregate-decide (callees t) (decide-at t) decide.Post decide-Inv-loop decide-μ-loop
 decide-slice-aggregate-decide t c = search needs
 
 decide-decide-requires : (t : ℕ) → decide-lts.Need-decide-requires (callees t) (decide-at t) decide.Post decide-Inv-loop decide-μ-loop
 decide-decide-requires t c κs =
-    (lower _ _ t (c .before .before .before .before .before .before .before .before .before .before .before .before .before .before .before .before .before .before .pre .0) (ops.a-lower (site t (c .before .before .before .before .before .before)) 2 (c .before .match .keys1) refl), (c .before .before .before .before .before .before .before .before .before .before .before .before .before .before .before .before .before .before .pre .1 .0, (ops.operand-same (site t (c .before .before .before .before .before .before)) _ (ops.a-lower (site t (c .before .before .before .before .before .before)) 2 (c .before .match .keys1) refl), refl)))
+    let m = c .before .before .before .before .before .before in
+    let s = site t m in
+    let q = sites.a-lower s 2 (c .before .match .keys1) refl in
+    (lower _ _ t (start t m .pre .0) q, (s .ready, (sites.operand-same s _ q, refl)))
 
 decide-slice-aggregate-flip : (t : ℕ) → decide-lts.Need-slice-aggregate-flip (callees t) (decide-at t) decide.Post decide-Inv-loop decide-μ-loop
 decide-slice-aggregate-flip t c = sym (c .before .before .before .decide .ensures .long)
 
 decide-flip-requires : (t : ℕ) → decide-lts.Need-flip-requires (callees t) (decide-at t) decide.Post decide-Inv-loop decide-μ-loop
 decide-flip-requires t c κs =
-    ((c .before .before .before .before .before .before .before .before .before .before .before .before .before .before .before .before .before .before .before .before .before .before .pre .1 .1 .1), c .before .before .before .decide .ensures .long)
+    let m = c .before .before .before .before .before .before .before .before .before .before in
+    (start t m .pre .1 .1 .1, c .before .before .before .decide .ensures .long)
 
 decide-decide-requires-2 : (t : ℕ) → decide-lts.Need-decide-requires-2 (callees t) (decide-at t) decide.Post decide-Inv-loop decide-μ-loop
 decide-decide-requires-2 t c κs =
-    (lower _ _ t (c .before .before .before .before .before .before .before .before .before .before .before .before .before .before .before .before .before .before .pre .0) (ops.a-lower (site t (c .before .before .before .before .before .before)) 3 (c .before .match .keys2) refl), (c .before .before .before .before .before .before .before .before .before .before .before .before .before .before .before .before .before .before .pre .1 .0, (ops.operand-same (site t (c .before .before .before .before .before .before)) _ (ops.a-lower (site t (c .before .before .before .before .before .before)) 3 (c .before .match .keys2) refl), (c .before .before .before .before .before .before .before .before .before .before .before .before .before .before .before .before .before .before .pre .1 .1 .1))))
+    let m = c .before .before .before .before .before .before in
+    let s = site t m in
+    let q = sites.a-lower s 3 (c .before .match .keys2) refl in
+    (lower _ _ t (start t m .pre .0) q, (s .ready, (sites.operand-same s _ q, start t m .pre .1 .1 .1)))
 
 decide-slice-aggregate-decide-2 : (t : ℕ) → decide-lts.Need-slice-aggregate-decide-2 (callees t) (decide-at t) decide.Post decide-Inv-loop decide-μ-loop
 decide-slice-aggregate-decide-2 t c = search needs
 
 decide-decide-requires-3 : (t : ℕ) → decide-lts.Need-decide-requires-3 (callees t) (decide-at t) decide.Post decide-Inv-loop decide-μ-loop
 decide-decide-requires-3 t c κs =
-    (lower _ _ t (c .before .before .before .before .before .before .before .before .before .before .before .before .before .before .before .before .before .before .before .before .before .before .pre .0) (ops.b-lower (site t (c .before .before .before .before .before .before .before .before .before .before)) 3 (c .before .before .before .before .before .match .keys2) refl), (c .before .before .before .before .before .before .before .before .before .before .before .before .before .before .before .before .before .before .before .before .before .before .pre .1 .0, (ops.operand-same (site t (c .before .before .before .before .before .before .before .before .before .before)) _ (ops.b-lower (site t (c .before .before .before .before .before .before .before .before .before .before)) 3 (c .before .before .before .before .before .match .keys2) refl), refl)))
+    let m = c .before .before .before .before .before .before .before .before .before .before in
+    let s = site t m in
+    let q = sites.b-lower s 3 (c .before .before .before .before .before .match .keys2) refl in
+    (lower _ _ t (start t m .pre .0) q, (s .ready, (sites.operand-same s _ q, refl)))
 
 decide-slice-aggregate-join : (t : ℕ) → decide-lts.Need-slice-aggregate-join (callees t) (decide-at t) decide.Post decide-Inv-loop decide-μ-loop
 decide-slice-aggregate-join t c = sym (c .before .before .before .decide3 .ensures .long)
@@ -256,61 +277,80 @@ decide-senders-requires : (t : ℕ) → decide-lts.Need-senders-requires (callee
 decide-senders-requires t c κs = tt
 
 decide-ahead-requires : (t : ℕ) → decide-lts.Need-ahead-requires (callees t) (decide-at t) decide.Post decide-Inv-loop decide-μ-loop
-decide-ahead-requires t c κs =
-    (ops.few-relations (site t (c .before .before .before .before .before .before)), c .before .before .before .before .before .before .before .before .before .before .before .before .before .before .before .before .before .before .pre .1 .0 .long-rel)
+decide-ahead-requires t c κs = let s = site t (c .before .before .before .before .before .before) in (sites.few-relations s, s .ready .long-rel)
 
 decide-slice-aggregate-decide-3 : (t : ℕ) → decide-lts.Need-slice-aggregate-decide-3 (callees t) (decide-at t) decide.Post decide-Inv-loop decide-μ-loop
 decide-slice-aggregate-decide-3 t c = search needs
 
 decide-decide-requires-4 : (t : ℕ) → decide-lts.Need-decide-requires-4 (callees t) (decide-at t) decide.Post decide-Inv-loop decide-μ-loop
 decide-decide-requires-4 t c κs =
-    (lower _ _ t (c .before .before .before .before .before .before .before .before .before .before .before .before .before .before .before .before .before .before .before .before .pre .0) (ops.b-lower (site t (c .before .before .before .before .before .before .before .before)) 4 (c .before .before .before .match .keys3) refl), (c .before .before .before .before .before .before .before .before .before .before .before .before .before .before .before .before .before .before .before .before .pre .1 .0, (ops.operand-ahead (site t (c .before .before .before .before .before .before .before .before)) _ _ (c .before .before .before .match .keys3) (c .before .ahead .ensures), refl)))
+    let match = c .before .before .before .match in
+    let m = c .before .before .before .before .before .before .before .before in
+    let s = site t m in
+    let q = sites.b-lower s 4 (match .keys3) refl in
+    (lower _ _ t (start t m .pre .0) q, (s .ready, (sites.operand-ahead s _ _ (match .keys3) (c .before .ahead .ensures), refl)))
 
 decide-slice-aggregate-gather : (t : ℕ) → decide-lts.Need-slice-aggregate-gather (callees t) (decide-at t) decide.Post decide-Inv-loop decide-μ-loop
 decide-slice-aggregate-gather t c = sym (c .before .before .before .decide4 .ensures .long)
 
 decide-gather-requires : (t : ℕ) → decide-lts.Need-gather-requires (callees t) (decide-at t) decide.Post decide-Inv-loop decide-μ-loop
 decide-gather-requires t c κs =
-    ((c .before .before .before .before .before .before .before .before .before .before .before .before .before .before .before .before .before .before .before .before .before .before .before .before .pre .1 .1 .1), c .before .before .before .decide4 .ensures .long, ops.few-relations (site t (c .before .before .before .before .before .before .before .before .before .before .before .before)), c .before .before .before .before .before .before .before .before .before .before .before .before .before .before .before .before .before .before .before .before .before .before .before .before .pre .1 .0 .long-rel)
+    let m = c .before .before .before .before .before .before .before .before .before .before .before .before in
+    let s = site t m in
+    (start t m .pre .1 .1 .1, c .before .before .before .decide4 .ensures .long, sites.few-relations s, s .ready .long-rel)
 
 decide-senders-requires-2 : (t : ℕ) → decide-lts.Need-senders-requires-2 (callees t) (decide-at t) decide.Post decide-Inv-loop decide-μ-loop
 decide-senders-requires-2 t c κs = tt
 
 decide-behind-requires : (t : ℕ) → decide-lts.Need-behind-requires (callees t) (decide-at t) decide.Post decide-Inv-loop decide-μ-loop
-decide-behind-requires t c κs =
-    (ops.few-relations (site t (c .before .before .before .before .before .before)), c .before .before .before .before .before .before .before .before .before .before .before .before .before .before .before .before .before .before .pre .1 .0 .long-rel)
+decide-behind-requires t c κs = let s = site t (c .before .before .before .before .before .before) in (sites.few-relations s, s .ready .long-rel)
 
 decide-slice-aggregate-decide-4 : (t : ℕ) → decide-lts.Need-slice-aggregate-decide-4 (callees t) (decide-at t) decide.Post decide-Inv-loop decide-μ-loop
 decide-slice-aggregate-decide-4 t c = search needs
 
 decide-decide-requires-5 : (t : ℕ) → decide-lts.Need-decide-requires-5 (callees t) (decide-at t) decide.Post decide-Inv-loop decide-μ-loop
 decide-decide-requires-5 t c κs =
-    (lower _ _ t (c .before .before .before .before .before .before .before .before .before .before .before .before .before .before .before .before .before .before .before .before .pre .0) (ops.b-lower (site t (c .before .before .before .before .before .before .before .before)) 5 (c .before .before .before .match .keys4) refl), (c .before .before .before .before .before .before .before .before .before .before .before .before .before .before .before .before .before .before .before .before .pre .1 .0, (ops.operand-behind (site t (c .before .before .before .before .before .before .before .before)) _ _ (c .before .before .before .match .keys4) (c .before .before .senders2 .ensures) (c .before .behind .ensures), refl)))
+    let match = c .before .before .before .match in
+    let m = c .before .before .before .before .before .before .before .before in
+    let s = site t m in
+    let q = sites.b-lower s 5 (match .keys4) refl in (
+      lower _ _ t (start t m .pre .0) q,
+      (
+        s .ready,
+        (sites.operand-behind s _ _ (match .keys4) (c .before .before .senders2 .ensures) (c .before .behind .ensures), refl),
+      ),
+    )
 
 decide-slice-aggregate-scatter : (t : ℕ) → decide-lts.Need-slice-aggregate-scatter (callees t) (decide-at t) decide.Post decide-Inv-loop decide-μ-loop
 decide-slice-aggregate-scatter t c = sym (c .before .before .before .decide5 .ensures .long)
 
 decide-scatter-requires : (t : ℕ) → decide-lts.Need-scatter-requires (callees t) (decide-at t) decide.Post decide-Inv-loop decide-μ-loop
 decide-scatter-requires t c κs =
-    ((c .before .before .before .before .before .before .before .before .before .before .before .before .before .before .before .before .before .before .before .before .before .before .before .before .pre .1 .1 .1), c .before .before .before .decide5 .ensures .long, ops.few-relations (site t (c .before .before .before .before .before .before .before .before .before .before .before .before)), c .before .before .before .before .before .before .before .before .before .before .before .before .before .before .before .before .before .before .before .before .before .before .before .before .pre .1 .0 .long-rel)
+    let m = c .before .before .before .before .before .before .before .before .before .before .before .before in
+    let s = site t m in
+    (start t m .pre .1 .1 .1, c .before .before .before .decide5 .ensures .long, sites.few-relations s, s .ready .long-rel)
 
 decide-open-under-requires : (t : ℕ) → decide-lts.Need-open-under-requires (callees t) (decide-at t) decide.Post decide-Inv-loop decide-μ-loop
 decide-open-under-requires t c κs = tt
 
 decide-clear-requires-2 : (t : ℕ) → decide-lts.Need-clear-requires-2 (callees t) (decide-at t) decide.Post decide-Inv-loop decide-μ-loop
-decide-clear-requires-2 t c κs =
-    (c .before .before .before .before .before .before .before .before .before .before .before .before .before .before .before .before .before .before .before .pre .1 .1 .1)
+decide-clear-requires-2 t c κs = let m = c .before .before .before .before .before .before .before in start t m .pre .1 .1 .1
 
 decide-loop-holds : (t : ℕ) → decide-lts.Need-loop-holds (callees t) (decide-at t) decide.Post decide-Inv-loop decide-μ-loop
 decide-loop-holds t c =
-    (loops.filling _ (omega (arith, c .before .before .before .before .before .before .before .before .before .before .before .before .before .before .before .before .before .before .before .before .before .before .fits .want)) (c .before .before .clear2 .ensures), refl)
+    let i = c .before .before .before .before .before .before .before .before .before .before .before .before .before .before .before .before .before .before .before .before .before .before in
+    (loops.filling _ (omega (arith, i .fits .want)) (c .before .before .clear2 .ensures), refl)
 
 decide-least-of-requires : (t : ℕ) → decide-lts.Need-least-of-requires (callees t) (decide-at t) decide.Post decide-Inv-loop decide-μ-loop
 decide-least-of-requires t c κs = tt
 
 decide-rebind-requires : (t : ℕ) → decide-lts.Need-rebind-requires (callees t) (decide-at t) decide.Post decide-Inv-loop decide-μ-loop
 decide-rebind-requires t c κs =
-    (ops.a-binder (site t (c .before .before .before .before .before .before .before .before .before .before .before .before .before)) (c .before .before .before .before .before .before .before .before .match .keys5), loops.least-small (c .before .before .loop .inv .0 .upon) (c .before .loop-test .taken) (c .least-of .ensures))
+    let s = site t (c .before .before .before .before .before .before .before .before .before .before .before .before .before) in (
+      sites.a-binder s (c .before .before .before .before .before .before .before .before .match .keys5),
+      loops.least-small
+          (c .before .before .loop .inv .0 .upon) (c .before .loop-test .taken) (c .least-of .ensures),
+    )
 
 decide-single-requires-2 : (t : ℕ) → decide-lts.Need-single-requires-2 (callees t) (decide-at t) decide.Post decide-Inv-loop decide-μ-loop
 decide-single-requires-2 t c κs = tt
@@ -320,41 +360,99 @@ decide-slice-aggregate-decide-5 t c = sym (c .before .before .before .before .be
 
 decide-decide-requires-6 : (t : ℕ) → decide-lts.Need-decide-requires-6 (callees t) (decide-at t) decide.Post decide-Inv-loop decide-μ-loop
 decide-decide-requires-6 t c κs =
-    (lower _ _ t (c .before .before .before .before .before .before .before .before .before .before .before .before .before .before .before .before .before .before .before .before .before .before .before .before .before .before .before .before .pre .0) (ops.b-lower (site t (c .before .before .before .before .before .before .before .before .before .before .before .before .before .before .before .before)) 8 (c .before .before .before .before .before .before .before .before .before .before .before .match .keys5) refl), (c .before .before .before .before .before .before .before .before .before .before .before .before .before .before .before .before .before .before .before .before .before .before .before .before .before .before .before .before .pre .1 .0, (ops.operand-bound (site t (c .before .before .before .before .before .before .before .before .before .before .before .before .before .before .before .before)) _ _ _ (c .before .before .before .before .before .before .before .before .before .before .before .match .keys5) (loops.least-wanted (c .before .before .before .before .before .loop .inv .0 .upon) (c .before .before .before .before .loop-test .taken) (c .before .before .before .least-of .ensures)) (c .before .before .rebind .ensures) (edges.single-is (c .before .single2 .result) _ (c .before .single2 .ensures) (loops.least-small (c .before .before .before .before .before .loop .inv .0 .upon) (c .before .before .before .before .loop-test .taken) (c .before .before .before .least-of .ensures))), (c .before .before .before .before .before .loop .inv .1))))
+    let match = c .before .before .before .before .before .before .before .before .before .before .before .match in
+    let loop = c .before .before .before .before .before .loop in
+    let loop-test = c .before .before .before .before .loop-test in
+    let least-of = c .before .before .before .least-of in
+    let m = c .before .before .before .before .before .before .before .before .before .before .before .before .before .before .before .before in
+    let s = site t m in
+    let q = sites.b-lower s 8 (match .keys5) refl in (
+      lower _ _ t (start t m .pre .0) q,
+      (
+        s .ready,
+        (
+          sites.operand-bound s _ _ _ (match .keys5) (loops.least-wanted (loop .inv .0 .upon) (loop-test .taken) (least-of .ensures))
+              (c .before .before .rebind .ensures) (counting.single-is (c .before .single2 .result) _ (c .before .single2 .ensures)
+              (loops.least-small (loop .inv .0 .upon) (loop-test .taken) (least-of .ensures))),
+          (loop .inv .1),
+        ),
+      ),
+    )
 
 decide-mul-out : (t : ℕ) → decide-lts.Need-mul-out (callees t) (decide-at t) decide.Post decide-Inv-loop decide-μ-loop
 decide-mul-out t c =
-    omega (arith, loops.least-small (c .before .before .before .before .before .before .before .loop .inv .0 .upon) (c .before .before .before .before .before .before .loop-test .taken) (c .before .before .before .before .before .least-of .ensures))
+    omega (
+      arith,
+      loops.least-small (c .before .before .before .before .before .before .before .loop .inv .0 .upon)
+          (c .before .before .before .before .before .before .loop-test .taken) (c .before .before .before .before .before .least-of .ensures),
+    )
 
 decide-array-read-out : (t : ℕ) → decide-lts.Need-array-read-out (callees t) (decide-at t) decide.Post decide-Inv-loop decide-μ-loop
 decide-array-read-out t c =
-    omega (arith, loops.least-small (c .before .before .before .before .before .before .before .loop .inv .0 .upon) (c .before .before .before .before .before .before .loop-test .taken) (c .before .before .before .before .before .least-of .ensures), c .before .decide6 .ensures .long)
+    omega (
+      arith,
+      loops.least-small (c .before .before .before .before .before .before .before .loop .inv .0 .upon)
+          (c .before .before .before .before .before .before .loop-test .taken)
+          (c .before .before .before .before .before .least-of .ensures),
+      c .before .decide6 .ensures .long,
+    )
 
 decide-mul-out-2 : (t : ℕ) → decide-lts.Need-mul-out-2 (callees t) (decide-at t) decide.Post decide-Inv-loop decide-μ-loop
 decide-mul-out-2 t c =
-    omega (arith, loops.least-small (c .before .before .before .before .before .before .before .loop .inv .0 .upon) (c .before .before .before .before .before .before .loop-test .taken) (c .before .before .before .before .before .least-of .ensures))
+    omega (
+      arith,
+      loops.least-small (c .before .before .before .before .before .before .before .loop .inv .0 .upon)
+          (c .before .before .before .before .before .before .loop-test .taken) (c .before .before .before .before .before .least-of .ensures),
+    )
 
 decide-slice-write-out : (t : ℕ) → decide-lts.Need-slice-write-out (callees t) (decide-at t) decide.Post decide-Inv-loop decide-μ-loop
 decide-slice-write-out t c =
-    omega (arith, loops.least-small (c .before .before .before .before .before .before .before .loop .inv .0 .upon) (c .before .before .before .before .before .before .loop-test .taken) (c .before .before .before .before .before .least-of .ensures), c .before .before .before .before .before .before .before .loop .inv .0 .long)
+    let loop = c .before .before .before .before .before .before .before .loop in
+    omega (
+      arith,
+      loops.least-small (loop .inv .0 .upon) (c .before .before .before .before .before .before .loop-test .taken)
+          (c .before .before .before .before .before .least-of .ensures),
+      loop .inv .0 .long,
+    )
 
 decide-rest-of-requires : (t : ℕ) → decide-lts.Need-rest-of-requires (callees t) (decide-at t) decide.Post decide-Inv-loop decide-μ-loop
 decide-rest-of-requires t c κs = tt
 
 decide-loop-less : (t : ℕ) → decide-lts.Need-loop-less (callees t) (decide-at t) decide.Post decide-Inv-loop decide-μ-loop
 decide-loop-less t c =
-    loops.rest-less (c .before .before .before .before .before .before .before .before .loop .inv .0 .upon) (c .before .before .before .before .before .before .before .loop-test .taken) (c .rest-of .ensures)
+    loops.rest-less (c .before .before .before .before .before .before .before .before .loop .inv .0 .upon)
+    (c .before .before .before .before .before .before .before .loop-test .taken) (c .rest-of .ensures)
 
 decide-loop-again : (t : ℕ) → decide-lts.Need-loop-again (callees t) (decide-at t) decide.Post decide-Inv-loop decide-μ-loop
 decide-loop-again t c =
-    (loops.filling-more _ (c .before .before .before .before .before .before .before .before .loop .inv .0) (loops.turn (c .before .before .before .before .before .before .before .before .loop .inv .0 .upon) (c .before .before .before .before .before .before .before .loop-test .taken) (c .before .before .before .before .before .before .least-of .ensures) (c .rest-of .ensures)) (ops.bound-row (site t (c .before .before .before .before .before .before .before .before .before .before .before .before .before .before .before .before .before .before .before)) _ (c .before .before .before .before .single2 .result) _ _ (c .before .before .before .before .before .before .before .before .before .before .before .before .before .before .match .keys5) (c .before .before .before .before .before .before .before .before .before .before .before .before .before .open-under .ensures) (c .before .before .before .before .before .rebind .ensures) (edges.single-is (c .before .before .before .before .single2 .result) _ (c .before .before .before .before .single2 .ensures) (loops.least-small (c .before .before .before .before .before .before .before .before .loop .inv .0 .upon) (c .before .before .before .before .before .before .before .loop-test .taken) (c .before .before .before .before .before .before .least-of .ensures))) (c .before .before .decide6 .ensures)), c .before .before .decide6 .ensures .long)
+    let loop = c .before .before .before .before .before .before .before .before .loop in
+    let loop-test = c .before .before .before .before .before .before .before .loop-test in
+    let least-of = c .before .before .before .before .before .before .least-of in
+    let single2 = c .before .before .before .before .single2 in
+    let decide6 = c .before .before .decide6 in
+    let s = site t (c .before .before .before .before .before .before .before .before .before .before .before .before .before .before .before .before .before .before .before) in (
+      loops.filling-more _ (loop .inv .0) (loops.turn (loop .inv .0 .upon) (loop-test .taken) (least-of .ensures) (c .rest-of .ensures))
+          (ops.bound-row s _ (single2 .result) _ _
+          (c .before .before .before .before .before .before .before .before .before .before .before .before .before .before .match .keys5)
+          (c .before .before .before .before .before .before .before .before .before .before .before .before .before .open-under .ensures)
+          (c .before .before .before .before .before .rebind .ensures)
+          (counting.single-is (single2 .result) _ (single2 .ensures) (loops.least-small (loop .inv .0 .upon) (loop-test .taken) (least-of .ensures)))
+          (decide6 .ensures)),
+      decide6 .ensures .long,
+    )
 
 decide-slice-aggregate-decide-6 : (t : ℕ) → decide-lts.Need-slice-aggregate-decide-6 (callees t) (decide-at t) decide.Post decide-Inv-loop decide-μ-loop
 decide-slice-aggregate-decide-6 t c = search needs
 
 decide-decide-requires-7 : (t : ℕ) → decide-lts.Need-decide-requires-7 (callees t) (decide-at t) decide.Post decide-Inv-loop decide-μ-loop
 decide-decide-requires-7 t c κs =
-    (lower _ _ t (c .before .before .before .before .before .before .before .before .before .before .before .before .before .before .before .before .before .before .before .pre .0) (ops.b-lower (site t (c .before .before .before .before .before .before .before)) 9 (ops.nine (site t (c .before .before .before .before .before .before .before)) (c .before .before .before .before .before .before .if2 .left) (c .before .before .before .before .before .if3 .left) (c .before .before .before .before .if5 .left) (c .before .before .match .rest .0 .0 .0 .0 .1) (c .before .before .match .rest .0 .0 .0 .1) (c .before .before .match .rest .0 .0 .1) (c .before .before .match .rest .0 .1) (c .before .before .match .rest .1)) refl), (c .before .before .before .before .before .before .before .before .before .before .before .before .before .before .before .before .before .before .before .pre .1 .0, (ops.operand-all (site t (c .before .before .before .before .before .before .before)) _ (ops.b-lower (site t (c .before .before .before .before .before .before .before)) 9 (ops.nine (site t (c .before .before .before .before .before .before .before)) (c .before .before .before .before .before .before .if2 .left) (c .before .before .before .before .before .if3 .left) (c .before .before .before .before .if5 .left) (c .before .before .match .rest .0 .0 .0 .0 .1) (c .before .before .match .rest .0 .0 .0 .1) (c .before .before .match .rest .0 .0 .1) (c .before .before .match .rest .0 .1) (c .before .before .match .rest .1)) refl), refl)))
+    let match = c .before .before .match in
+    let m = c .before .before .before .before .before .before .before in
+    let s = site t m in
+    let q = sites.b-lower s 9 (sites.nine s (c .before .before .before .before .before .before .if2 .left)
+    (c .before .before .before .before .before .if3 .left) (c .before .before .before .before .if5 .left) (match .rest .0 .0 .0 .0 .1)
+    (match .rest .0 .0 .0 .1) (match .rest .0 .0 .1) (match .rest .0 .1) (match .rest .1)) refl in
+    (lower _ _ t (start t m .pre .0) q, (s .ready, (sites.operand-all s _ q, refl)))
 
 decide-slice-aggregate-own-bits : (t : ℕ) → decide-lts.Need-slice-aggregate-own-bits (callees t) (decide-at t) decide.Post decide-Inv-loop decide-μ-loop
 decide-slice-aggregate-own-bits t c = sym (c .before .before .before .decide7 .ensures .long)
@@ -364,11 +462,15 @@ decide-own-bits-requires t c κs = c .before .before .before .decide7 .ensures .
 
 decide-spread-requires-3 : (t : ℕ) → decide-lts.Need-spread-requires-3 (callees t) (decide-at t) decide.Post decide-Inv-loop decide-μ-loop
 decide-spread-requires-3 t c κs =
-    (c .before .before .before .before .before .before .before .before .before .before .before .before .before .before .before .before .before .before .before .before .before .before .before .before .pre .1 .1 .1)
+    let m = c .before .before .before .before .before .before .before .before .before .before .before .before in
+    (start t m .pre .1 .1 .1)
 
 decide-member-of-requires-2 : (t : ℕ) → decide-lts.Need-member-of-requires-2 (callees t) (decide-at t) decide.Post decide-Inv-loop decide-μ-loop
 decide-member-of-requires-2 t c κs =
-    ops.a-variable (site t (c .before .before .before .before .before .before)) 9 (ops.nine (site t (c .before .before .before .before .before .before)) (c .before .before .before .before .before .if2 .left) (c .before .before .before .before .if3 .left) (c .before .before .before .if5 .left) (c .before .match .rest .0 .0 .0 .0 .1) (c .before .match .rest .0 .0 .0 .1) (c .before .match .rest .0 .0 .1) (c .before .match .rest .0 .1) (c .before .match .rest .1)) refl
+    let s = site t (c .before .before .before .before .before .before) in
+    sites.a-variable s 9 (sites.nine s (c .before .before .before .before .before .if2 .left) (c .before .before .before .before .if3 .left)
+    (c .before .before .before .if5 .left) (c .before .match .rest .0 .0 .0 .0 .1) (c .before .match .rest .0 .0 .0 .1)
+    (c .before .match .rest .0 .0 .1) (c .before .match .rest .0 .1) (c .before .match .rest .1)) refl
 
 decide-single-requires-3 : (t : ℕ) → decide-lts.Need-single-requires-3 (callees t) (decide-at t) decide.Post decide-Inv-loop decide-μ-loop
 decide-single-requires-3 t c κs = tt
@@ -378,51 +480,112 @@ decide-slice-aggregate-decide-7 t c = search needs
 
 decide-decide-requires-8 : (t : ℕ) → decide-lts.Need-decide-requires-8 (callees t) (decide-at t) decide.Post decide-Inv-loop decide-μ-loop
 decide-decide-requires-8 t c κs =
-    (lower _ _ t (c .before .before .before .before .before .before .before .before .before .before .before .before .before .before .before .before .before .before .before .before .before .pre .0) (ops.b-lower (site t (c .before .before .before .before .before .before .before .before .before)) 9 (ops.nine (site t (c .before .before .before .before .before .before .before .before .before)) (c .before .before .before .before .before .before .before .before .if2 .left) (c .before .before .before .before .before .before .before .if3 .left) (c .before .before .before .before .before .before .if5 .left) (c .before .before .before .before .match .rest .0 .0 .0 .0 .1) (c .before .before .before .before .match .rest .0 .0 .0 .1) (c .before .before .before .before .match .rest .0 .0 .1) (c .before .before .before .before .match .rest .0 .1) (c .before .before .before .before .match .rest .1)) refl), (c .before .before .before .before .before .before .before .before .before .before .before .before .before .before .before .before .before .before .before .before .before .pre .1 .0, (ops.operand-one (site t (c .before .before .before .before .before .before .before .before .before)) _ _ _ (ops.b-lower (site t (c .before .before .before .before .before .before .before .before .before)) 9 (ops.nine (site t (c .before .before .before .before .before .before .before .before .before)) (c .before .before .before .before .before .before .before .before .if2 .left) (c .before .before .before .before .before .before .before .if3 .left) (c .before .before .before .before .before .before .if5 .left) (c .before .before .before .before .match .rest .0 .0 .0 .0 .1) (c .before .before .before .before .match .rest .0 .0 .0 .1) (c .before .before .before .before .match .rest .0 .0 .1) (c .before .before .before .before .match .rest .0 .1) (c .before .before .before .before .match .rest .1)) refl) (ops.a-variable (site t (c .before .before .before .before .before .before .before .before .before)) 9 (ops.nine (site t (c .before .before .before .before .before .before .before .before .before)) (c .before .before .before .before .before .before .before .before .if2 .left) (c .before .before .before .before .before .before .before .if3 .left) (c .before .before .before .before .before .before .if5 .left) (c .before .before .before .before .match .rest .0 .0 .0 .0 .1) (c .before .before .before .before .match .rest .0 .0 .0 .1) (c .before .before .before .before .match .rest .0 .0 .1) (c .before .before .before .before .match .rest .0 .1) (c .before .before .before .before .match .rest .1)) refl) (edges.single-is (c .before .single3 .result) _ (λ m. c .before .single3 .ensures m ∙ ap (λ (y : ℕ). ltb m 64 && eqb m y) (c .before .before .member-of2 .ensures)) (ops.var-below (site t (c .before .before .before .before .before .before .before .before .before)) _ (ops.a-variable (site t (c .before .before .before .before .before .before .before .before .before)) 9 (ops.nine (site t (c .before .before .before .before .before .before .before .before .before)) (c .before .before .before .before .before .before .before .before .if2 .left) (c .before .before .before .before .before .before .before .if3 .left) (c .before .before .before .before .before .before .if5 .left) (c .before .before .before .before .match .rest .0 .0 .0 .0 .1) (c .before .before .before .before .match .rest .0 .0 .0 .1) (c .before .before .before .before .match .rest .0 .0 .1) (c .before .before .before .before .match .rest .0 .1) (c .before .before .before .before .match .rest .1)) refl))), refl)))
+    let if2 = c .before .before .before .before .before .before .before .before .if2 in
+    let if3 = c .before .before .before .before .before .before .before .if3 in
+    let if5 = c .before .before .before .before .before .before .if5 in
+    let match = c .before .before .before .before .match in
+    let m = c .before .before .before .before .before .before .before .before .before in
+    let s = site t m in
+    let q = sites.b-lower s 9 (sites.nine s (if2 .left) (if3 .left) (if5 .left) (match .rest .0 .0 .0 .0 .1) (match .rest .0 .0 .0 .1)
+    (match .rest .0 .0 .1) (match .rest .0 .1) (match .rest .1)) refl in (
+      lower _ _ t (start t m .pre .0) q,
+      (
+        s .ready,
+        (
+          sites.operand-one s _ _ _ q (sites.a-variable s 9
+              (sites.nine s (if2 .left) (if3 .left) (if5 .left) (match .rest .0 .0 .0 .0 .1) (match .rest .0 .0 .0 .1) (match .rest .0 .0 .1) (match .rest .0 .1)
+              (match .rest .1)) refl) (counting.single-is (c .before .single3 .result) _
+              (λ m. c .before .single3 .ensures m ∙ ap (λ (y : ℕ). ltb m 64 && eqb m y) (c .before .before .member-of2 .ensures))
+              (sites.var-below s _ (sites.a-variable s 9
+              (sites.nine s (if2 .left) (if3 .left) (if5 .left) (match .rest .0 .0 .0 .0 .1) (match .rest .0 .0 .0 .1) (match .rest .0 .0 .1) (match .rest .0 .1)
+              (match .rest .1)) refl))),
+          refl,
+        ),
+      ),
+    )
 
 decide-mul-spread : (t : ℕ) → decide-lts.Need-mul-spread (callees t) (decide-at t) decide.Post decide-Inv-loop decide-μ-loop
 decide-mul-spread t c =
-    omega (arith, ops.var-below (site t (c .before .before .before .before .before .before .before .before .before .before .before .before)) _ (ops.a-variable (site t (c .before .before .before .before .before .before .before .before .before .before .before .before)) 9 (ops.nine (site t (c .before .before .before .before .before .before .before .before .before .before .before .before)) (c .before .before .before .before .before .before .before .before .before .before .before .if2 .left) (c .before .before .before .before .before .before .before .before .before .before .if3 .left) (c .before .before .before .before .before .before .before .before .before .if5 .left) (c .before .before .before .before .before .before .before .match .rest .0 .0 .0 .0 .1) (c .before .before .before .before .before .before .before .match .rest .0 .0 .0 .1) (c .before .before .before .before .before .before .before .match .rest .0 .0 .1) (c .before .before .before .before .before .before .before .match .rest .0 .1) (c .before .before .before .before .before .before .before .match .rest .1)) refl), c .before .before .before .before .before .member-of2 .ensures)
+    let match = c .before .before .before .before .before .before .before .match in
+    let s = site t (c .before .before .before .before .before .before .before .before .before .before .before .before) in
+    omega (
+      arith,
+      sites.var-below s _ (sites.a-variable s 9
+          (sites.nine s (c .before .before .before .before .before .before .before .before .before .before .before .if2 .left)
+          (c .before .before .before .before .before .before .before .before .before .before .if3 .left)
+          (c .before .before .before .before .before .before .before .before .before .if5 .left) (match .rest .0 .0 .0 .0 .1) (match .rest .0 .0 .0 .1)
+          (match .rest .0 .0 .1) (match .rest .0 .1) (match .rest .1)) refl),
+      c .before .before .before .before .before .member-of2 .ensures,
+    )
 
 decide-array-read-spread : (t : ℕ) → decide-lts.Need-array-read-spread (callees t) (decide-at t) decide.Post decide-Inv-loop decide-μ-loop
 decide-array-read-spread t c =
-    omega (arith, ops.var-below (site t (c .before .before .before .before .before .before .before .before .before .before .before .before)) _ (ops.a-variable (site t (c .before .before .before .before .before .before .before .before .before .before .before .before)) 9 (ops.nine (site t (c .before .before .before .before .before .before .before .before .before .before .before .before)) (c .before .before .before .before .before .before .before .before .before .before .before .if2 .left) (c .before .before .before .before .before .before .before .before .before .before .if3 .left) (c .before .before .before .before .before .before .before .before .before .if5 .left) (c .before .before .before .before .before .before .before .match .rest .0 .0 .0 .0 .1) (c .before .before .before .before .before .before .before .match .rest .0 .0 .0 .1) (c .before .before .before .before .before .before .before .match .rest .0 .0 .1) (c .before .before .before .before .before .before .before .match .rest .0 .1) (c .before .before .before .before .before .before .before .match .rest .1)) refl), c .before .before .before .before .before .member-of2 .ensures, c .before .before .decide8 .ensures .long)
+    let match = c .before .before .before .before .before .before .before .match in
+    let s = site t (c .before .before .before .before .before .before .before .before .before .before .before .before) in
+    omega (
+      arith,
+      sites.var-below s _ (sites.a-variable s 9
+          (sites.nine s (c .before .before .before .before .before .before .before .before .before .before .before .if2 .left)
+          (c .before .before .before .before .before .before .before .before .before .before .if3 .left)
+          (c .before .before .before .before .before .before .before .before .before .if5 .left) (match .rest .0 .0 .0 .0 .1) (match .rest .0 .0 .0 .1)
+          (match .rest .0 .0 .1) (match .rest .0 .1)
+          (match .rest .1)) refl),
+      c .before .before .before .before .before .member-of2 .ensures,
+      c .before .before .decide8 .ensures .long,
+    )
 
 decide-spread-requires-4 : (t : ℕ) → decide-lts.Need-spread-requires-4 (callees t) (decide-at t) decide.Post decide-Inv-loop decide-μ-loop
 decide-spread-requires-4 t c κs =
-    (c .before .before .before .before .before .before .before .before .before .before .before .before .before .before .before .before .before .before .before .before .before .before .before .before .pre .1 .1 .1)
+    let m = c .before .before .before .before .before .before .before .before .before .before .before .before in
+    (start t m .pre .1 .1 .1)
 
 decide-same-length-6 : (t : ℕ) → decide-lts.Need-same-length-6 (callees t) (decide-at t) decide.Post decide-Inv-loop decide-μ-loop
 decide-same-length-6 t c = search needs
 
 decide-returns-6 : (t : ℕ) → decide-lts.Need-returns-6 (callees t) (decide-at t) decide.Post decide-Inv-loop decide-μ-loop
 decide-returns-6 t c =
-    ops.decide-neg (site t (c .before .before .before .before .before .before .before .before .before .before .before .before .before)) (c .before .before .before .before .before .before .before .before .match .keys1) (c .before .before .before .before .before .before .decide .ensures) (c .before .before .flip .ensures)
+    let s = site t (c .before .before .before .before .before .before .before .before .before .before .before .before .before) in
+    ops.decide-neg s (c .before .before .before .before .before .before .before .before .match .keys1)
+    (c .before .before .before .before .before .before .decide .ensures) (c .before .before .flip .ensures)
 
 decide-same-length-7 : (t : ℕ) → decide-lts.Need-same-length-7 (callees t) (decide-at t) decide.Post decide-Inv-loop decide-μ-loop
 decide-same-length-7 t c = search needs
 
 decide-returns-7 : (t : ℕ) → decide-lts.Need-returns-7 (callees t) (decide-at t) decide.Post decide-Inv-loop decide-μ-loop
 decide-returns-7 t c =
-    ops.decide-or (site t (c .before .before .before .before .before .before .before .before .before .before .before .before .before .before .before .before .before)) (c .before .before .before .before .before .before .before .before .before .before .before .before .match .keys2) (c .before .before .before .before .before .before .before .before .before .before .decide2 .ensures) (c .before .before .before .before .before .before .decide3 .ensures) (c .before .before .join .kept .0) (c .before .before .join .ensures)
+    let join = c .before .before .join in
+    let s = site t (c .before .before .before .before .before .before .before .before .before .before .before .before .before .before .before .before .before) in
+    ops.decide-or s (c .before .before .before .before .before .before .before .before .before .before .before .before .match .keys2)
+    (c .before .before .before .before .before .before .before .before .before .before .decide2 .ensures)
+    (c .before .before .before .before .before .before .decide3 .ensures) (join .kept .0) (join .ensures)
 
 decide-same-length-8 : (t : ℕ) → decide-lts.Need-same-length-8 (callees t) (decide-at t) decide.Post decide-Inv-loop decide-μ-loop
 decide-same-length-8 t c = search needs
 
 decide-returns-8 : (t : ℕ) → decide-lts.Need-returns-8 (callees t) (decide-at t) decide.Post decide-Inv-loop decide-μ-loop
 decide-returns-8 t c =
-    ops.decide-out (site t (c .before .before .before .before .before .before .before .before .before .before .before .before .before .before .before)) (c .before .before .before .before .before .before .before .before .before .senders .result) (c .before .before .before .before .before .before .before .before .ahead .result) (c .before .before .before .before .before .before .before .before .before .before .match .keys3) (c .before .before .before .before .before .before .before .before .before .senders .ensures) (c .before .before .before .before .before .before .before .before .ahead .ensures) (c .before .before .before .before .before .before .decide4 .ensures) (c .before .before .gather .ensures)
+    let senders = c .before .before .before .before .before .before .before .before .before .senders in
+    let ahead = c .before .before .before .before .before .before .before .before .ahead in
+    let s = site t (c .before .before .before .before .before .before .before .before .before .before .before .before .before .before .before) in
+    ops.decide-out s (senders .result) (ahead .result) (c .before .before .before .before .before .before .before .before .before .before .match .keys3)
+    (senders .ensures) (ahead .ensures) (c .before .before .before .before .before .before .decide4 .ensures) (c .before .before .gather .ensures)
 
 decide-same-length-9 : (t : ℕ) → decide-lts.Need-same-length-9 (callees t) (decide-at t) decide.Post decide-Inv-loop decide-μ-loop
 decide-same-length-9 t c = search needs
 
 decide-returns-9 : (t : ℕ) → decide-lts.Need-returns-9 (callees t) (decide-at t) decide.Post decide-Inv-loop decide-μ-loop
 decide-returns-9 t c =
-    ops.decide-into (site t (c .before .before .before .before .before .before .before .before .before .before .before .before .before .before .before)) (c .before .before .before .before .before .before .before .before .before .senders2 .result) (c .before .before .before .before .before .before .before .before .behind .result) (c .before .before .before .before .before .before .before .before .before .before .match .keys4) (c .before .before .before .before .before .before .before .before .before .senders2 .ensures) (c .before .before .before .before .before .before .before .before .behind .ensures) (c .before .before .before .before .before .before .decide5 .ensures) (c .before .before .scatter .ensures)
+    let senders2 = c .before .before .before .before .before .before .before .before .before .senders2 in
+    let behind = c .before .before .before .before .before .before .before .before .behind in
+    let s = site t (c .before .before .before .before .before .before .before .before .before .before .before .before .before .before .before) in
+    ops.decide-into s (senders2 .result) (behind .result)
+    (c .before .before .before .before .before .before .before .before .before .before .match .keys4) (senders2 .ensures) (behind .ensures)
+    (c .before .before .before .before .before .before .decide5 .ensures) (c .before .before .scatter .ensures)
 
 decide-same-length-10 : (t : ℕ) → decide-lts.Need-same-length-10 (callees t) (decide-at t) decide.Post decide-Inv-loop decide-μ-loop
 decide-same-length-10 t c =
-    c .before .loop .inv .0 .long ∙ sym (c .before .before .before .before .before .before .before .before .before .before .before .before .before .before .before .before .before .before .before .before .before .before .before .before .pre .1 .1 .1)
+    let m = c .before .before .before .before .before .before .before .before .before .before .before .before in
+    c .before .loop .inv .0 .long ∙ sym (start t m .pre .1 .1 .1)
 
 decide-returns-10 : (t : ℕ) → decide-lts.Need-returns-10 (callees t) (decide-at t) decide.Post decide-Inv-loop decide-μ-loop
 decide-returns-10 t c = loops.filling-all (c .before .loop .inv .0) (c .loop-test .left)
@@ -432,14 +595,36 @@ decide-same-length-11 t c = search needs
 
 decide-returns-11 : (t : ℕ) → decide-lts.Need-returns-11 (callees t) (decide-at t) decide.Post decide-Inv-loop decide-μ-loop
 decide-returns-11 t c =
-    ops.decide-at-open (site t (c .before .before .before .before .before .before .before .before .before .before .before .before .before .before .before)) (c .before .before .before .own-bits .result) (ops.nine (site t (c .before .before .before .before .before .before .before .before .before .before .before .before .before .before .before)) (c .before .before .before .before .before .before .before .before .before .before .before .before .before .before .if2 .left) (c .before .before .before .before .before .before .before .before .before .before .before .before .before .if3 .left) (c .before .before .before .before .before .before .before .before .before .before .before .before .if5 .left) (c .before .before .before .before .before .before .before .before .before .before .match .rest .0 .0 .0 .0 .1) (c .before .before .before .before .before .before .before .before .before .before .match .rest .0 .0 .0 .1) (c .before .before .before .before .before .before .before .before .before .before .match .rest .0 .0 .1) (c .before .before .before .before .before .before .before .before .before .before .match .rest .0 .1) (c .before .before .before .before .before .before .before .before .before .before .match .rest .1)) (c .before .before .before .before .before .before .before .before .before .if6 .taken) (c .before .before .before .before .before .before .before .decide7 .ensures) (c .before .before .before .own-bits .ensures) (c .before .before .spread3 .ensures)
+    let match = c .before .before .before .before .before .before .before .before .before .before .match in
+    let own-bits = c .before .before .before .own-bits in
+    let s = site t (c .before .before .before .before .before .before .before .before .before .before .before .before .before .before .before) in
+    ops.decide-at-open s (own-bits .result) (sites.nine s
+    (c .before .before .before .before .before .before .before .before .before .before .before .before .before .before .if2 .left)
+    (c .before .before .before .before .before .before .before .before .before .before .before .before .before .if3 .left)
+    (c .before .before .before .before .before .before .before .before .before .before .before .before .if5 .left) (match .rest .0 .0 .0 .0 .1)
+    (match .rest .0 .0 .0 .1) (match .rest .0 .0 .1) (match .rest .0 .1) (match .rest .1))
+    (c .before .before .before .before .before .before .before .before .before .if6 .taken)
+    (c .before .before .before .before .before .before .before .decide7 .ensures) (own-bits .ensures) (c .before .before .spread3 .ensures)
 
 decide-same-length-12 : (t : ℕ) → decide-lts.Need-same-length-12 (callees t) (decide-at t) decide.Post decide-Inv-loop decide-μ-loop
 decide-same-length-12 t c = search needs
 
 decide-returns-12 : (t : ℕ) → decide-lts.Need-returns-12 (callees t) (decide-at t) decide.Post decide-Inv-loop decide-μ-loop
 decide-returns-12 t c =
-    ops.decide-at (site t (c .before .before .before .before .before .before .before .before .before .before .before .before .before .before .before)) (c .before .before .before .before .before .before .before .before .member-of2 .result) (c .before .before .before .before .before .before .before .single3 .result) (ops.nine (site t (c .before .before .before .before .before .before .before .before .before .before .before .before .before .before .before)) (c .before .before .before .before .before .before .before .before .before .before .before .before .before .before .if2 .left) (c .before .before .before .before .before .before .before .before .before .before .before .before .before .if3 .left) (c .before .before .before .before .before .before .before .before .before .before .before .before .if5 .left) (c .before .before .before .before .before .before .before .before .before .before .match .rest .0 .0 .0 .0 .1) (c .before .before .before .before .before .before .before .before .before .before .match .rest .0 .0 .0 .1) (c .before .before .before .before .before .before .before .before .before .before .match .rest .0 .0 .1) (c .before .before .before .before .before .before .before .before .before .before .match .rest .0 .1) (c .before .before .before .before .before .before .before .before .before .before .match .rest .1)) (c .before .before .before .before .before .before .before .before .before .if6 .left) (c .before .before .before .before .before .before .before .before .member-of2 .ensures) (edges.single-is (c .before .before .before .before .before .before .before .single3 .result) _ (λ m. c .before .before .before .before .before .before .before .single3 .ensures m ∙ ap (λ (y : ℕ). ltb m 64 && eqb m y) (c .before .before .before .before .before .before .before .before .member-of2 .ensures)) (ops.var-below (site t (c .before .before .before .before .before .before .before .before .before .before .before .before .before .before .before)) _ (ops.a-variable (site t (c .before .before .before .before .before .before .before .before .before .before .before .before .before .before .before)) 9 (ops.nine (site t (c .before .before .before .before .before .before .before .before .before .before .before .before .before .before .before)) (c .before .before .before .before .before .before .before .before .before .before .before .before .before .before .if2 .left) (c .before .before .before .before .before .before .before .before .before .before .before .before .before .if3 .left) (c .before .before .before .before .before .before .before .before .before .before .before .before .if5 .left) (c .before .before .before .before .before .before .before .before .before .before .match .rest .0 .0 .0 .0 .1) (c .before .before .before .before .before .before .before .before .before .before .match .rest .0 .0 .0 .1) (c .before .before .before .before .before .before .before .before .before .before .match .rest .0 .0 .1) (c .before .before .before .before .before .before .before .before .before .before .match .rest .0 .1) (c .before .before .before .before .before .before .before .before .before .before .match .rest .1)) refl))) (c .before .before .before .before .before .decide8 .ensures) (c .before .before .spread4 .ensures)
+    let if2 = c .before .before .before .before .before .before .before .before .before .before .before .before .before .before .if2 in
+    let if3 = c .before .before .before .before .before .before .before .before .before .before .before .before .before .if3 in
+    let if5 = c .before .before .before .before .before .before .before .before .before .before .before .before .if5 in
+    let match = c .before .before .before .before .before .before .before .before .before .before .match in
+    let member-of2 = c .before .before .before .before .before .before .before .before .member-of2 in
+    let single3 = c .before .before .before .before .before .before .before .single3 in
+    let s = site t (c .before .before .before .before .before .before .before .before .before .before .before .before .before .before .before) in
+    ops.decide-at s (member-of2 .result) (single3 .result)
+    (sites.nine s (if2 .left) (if3 .left) (if5 .left) (match .rest .0 .0 .0 .0 .1) (match .rest .0 .0 .0 .1) (match .rest .0 .0 .1) (match .rest .0 .1)
+    (match .rest .1)) (c .before .before .before .before .before .before .before .before .before .if6 .left) (member-of2 .ensures)
+    (counting.single-is (single3 .result) _ (λ m. single3 .ensures m ∙ ap (λ (y : ℕ). ltb m 64 && eqb m y) (member-of2 .ensures))
+    (sites.var-below s _ (sites.a-variable s 9
+    (sites.nine s (if2 .left) (if3 .left) (if5 .left) (match .rest .0 .0 .0 .0 .1) (match .rest .0 .0 .0 .1) (match .rest .0 .0 .1) (match .rest .0 .1)
+    (match .rest .1)) refl))) (c .before .before .before .before .before .decide8 .ensures) (c .before .before .spread4 .ensures)
 
 pub +decide-spec : {M : Type 1} → statement M
 +decide-spec = close μ-decide λ t. decide-lts.spec (callees t)

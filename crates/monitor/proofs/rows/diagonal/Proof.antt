@@ -2,7 +2,7 @@ use borrow.Author.Needs.{needs}
 use native.Mathlib.Omega.{arith}
 use lib.Dec.{eqb}
 use Rattle.monitor.proofs.Loops as loops
-use Rattle.monitor.proofs.EdgeLaws as edges
+use Rattle.monitor.proofs.Counting as counting
 use Rattle.monitor.proofs.rows.diagonal.Statement.{statement}
 use Rattle.monitor.proofs.rows.diagonal.Tie as tie
 
@@ -36,12 +36,15 @@ rest-of-requires : tie.Need-rest-of-requires Inv-loop μ-loop
 rest-of-requires c κs = tt
 
 loop-less : tie.Need-loop-less Inv-loop μ-loop
-loop-less c =
-    loops.rest-less (c .before .before .before .before .loop .inv .upon) (c .before .before .before .loop-test .taken) (c .rest-of .ensures)
+loop-less c = loops.rest-less (c .before .before .before .before .loop .inv .upon) (c .before .before .before .loop-test .taken) (c .rest-of .ensures)
 
 loop-again : tie.Need-loop-again Inv-loop μ-loop
 loop-again c =
-    loops.filling-more _ (c .before .before .before .before .loop .inv) (loops.turn (c .before .before .before .before .loop .inv .upon) (c .before .before .before .loop-test .taken) (c .before .before .least-of .ensures) (c .rest-of .ensures)) (edges.single-is _ _ (c .before .single .ensures) (loops.least-small (c .before .before .before .before .loop .inv .upon) (c .before .before .before .loop-test .taken) (c .before .before .least-of .ensures)))
+    let loop = c .before .before .before .before .loop in
+    let loop-test = c .before .before .before .loop-test in
+    let least-of = c .before .before .least-of in
+    loops.filling-more _ (loop .inv) (loops.turn (loop .inv .upon) (loop-test .taken) (least-of .ensures) (c .rest-of .ensures))
+    (counting.single-is _ _ (c .before .single .ensures) (loops.least-small (loop .inv .upon) (loop-test .taken) (least-of .ensures)))
 
 same-length : tie.Need-same-length Inv-loop μ-loop
 same-length c = search needs

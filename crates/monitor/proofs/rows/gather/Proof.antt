@@ -23,8 +23,7 @@ least-of-requires : tie.Need-least-of-requires Inv-loop μ-loop
 least-of-requires c κs = tt
 
 row-requires : tie.Need-row-requires Inv-loop μ-loop
-row-requires c κs =
-    omega (arith, loops.least-small (c .before .before .loop .inv .upon) (c .before .loop-test .taken) (c .least-of .ensures))
+row-requires c κs = omega (arith, loops.least-small (c .before .before .loop .inv .upon) (c .before .loop-test .taken) (c .least-of .ensures))
 
 together-requires : tie.Need-together-requires Inv-loop μ-loop
 together-requires c κs =
@@ -32,22 +31,37 @@ together-requires c κs =
 
 mul-out : tie.Need-mul-out Inv-loop μ-loop
 mul-out c =
-    omega (arith, loops.least-small (c .before .before .before .before .loop .inv .upon) (c .before .before .before .loop-test .taken) (c .before .before .least-of .ensures))
+    omega (
+      arith,
+      loops.least-small (c .before .before .before .before .loop .inv .upon) (c .before .before .before .loop-test .taken)
+          (c .before .before .least-of .ensures),
+    )
 
 slice-write-out : tie.Need-slice-write-out Inv-loop μ-loop
 slice-write-out c =
-    omega (arith, loops.least-small (c .before .before .before .before .loop .inv .upon) (c .before .before .before .loop-test .taken) (c .before .before .least-of .ensures))
+    omega (
+      arith,
+      loops.least-small (c .before .before .before .before .loop .inv .upon) (c .before .before .before .loop-test .taken)
+          (c .before .before .least-of .ensures),
+    )
 
 rest-of-requires : tie.Need-rest-of-requires Inv-loop μ-loop
 rest-of-requires c κs = tt
 
 loop-less : tie.Need-loop-less Inv-loop μ-loop
 loop-less c =
-    loops.rest-less (c .before .before .before .before .before .loop .inv .upon) (c .before .before .before .before .loop-test .taken) (c .rest-of .ensures)
+    loops.rest-less (c .before .before .before .before .before .loop .inv .upon) (c .before .before .before .before .loop-test .taken)
+    (c .rest-of .ensures)
 
 loop-again : tie.Need-loop-again Inv-loop μ-loop
 loop-again c =
-    loops.filling-more _ (c .before .before .before .before .before .loop .inv) (loops.turn (c .before .before .before .before .before .loop .inv .upon) (c .before .before .before .before .loop-test .taken) (c .before .before .before .least-of .ensures) (c .rest-of .ensures)) (λ b. c .before .together .ensures b ∙ edges.gathered-row (c .before .before .row .result) (edge (c .before .before .before .before .before .before .before .before .before .before .before .before .before .args .r) (c .before .before .before .before .before .before .before .before .before .before .before .before .before .args .relations .now) (c .before .before .before .before .before .before .before .before .before .before .before .before .before .args .event) (c .before .before .before .before .before .before .before .before .before .before .before .before .before .args .l) (c .before .before .before .least-of .result)) (λ k. inRow (c .before .before .before .before .before .before .before .before .before .before .before .before .before .args .f .now) k b) (c .before .before .row .ensures))
+    let i = c .before .before .before .before .before .before .before .before .before .before .before .before .before in
+    let loop = c .before .before .before .before .before .loop in
+    let least-of = c .before .before .before .least-of in
+    let row = c .before .before .row in
+    loops.filling-more _ (loop .inv) (loops.turn (loop .inv .upon) (c .before .before .before .before .loop-test .taken) (least-of .ensures)
+    (c .rest-of .ensures)) (λ b. c .before .together .ensures b ∙ edges.gathered-row (row .result)
+    (edge (i .args .r) (i .args .relations .now) (i .args .event) (i .args .l) (least-of .result)) (λ k. inRow (i .args .f .now) k b) (row .ensures))
 
 same-length : tie.Need-same-length Inv-loop μ-loop
 same-length c = search needs

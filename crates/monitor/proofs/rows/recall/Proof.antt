@@ -24,16 +24,13 @@ least-of-requires : tie.Need-least-of-requires Inv-loop μ-loop
 least-of-requires c κs = tt
 
 mul-out : tie.Need-mul-out Inv-loop μ-loop
-mul-out c =
-    omega (arith, loops.least-small (c .before .before .loop .inv .upon) (c .before .loop-test .taken) (c .least-of .ensures))
+mul-out c = omega (arith, loops.least-small (c .before .before .loop .inv .upon) (c .before .loop-test .taken) (c .least-of .ensures))
 
 add-out : tie.Need-add-out Inv-loop μ-loop
-add-out c =
-    omega (arith, loops.least-small (c .before .before .loop .inv .upon) (c .before .loop-test .taken) (c .least-of .ensures))
+add-out c = omega (arith, loops.least-small (c .before .before .loop .inv .upon) (c .before .loop-test .taken) (c .least-of .ensures))
 
 mul-out-2 : tie.Need-mul-out-2 Inv-loop μ-loop
-mul-out-2 c =
-    omega (arith, loops.least-small (c .before .before .loop .inv .upon) (c .before .loop-test .taken) (c .least-of .ensures))
+mul-out-2 c = omega (arith, loops.least-small (c .before .before .loop .inv .upon) (c .before .loop-test .taken) (c .least-of .ensures))
 
 shared-slice-read-out : tie.Need-shared-slice-read-out Inv-loop μ-loop
 shared-slice-read-out c =
@@ -51,13 +48,15 @@ rest-of-requires : tie.Need-rest-of-requires Inv-loop μ-loop
 rest-of-requires c κs = tt
 
 loop-less : tie.Need-loop-less Inv-loop μ-loop
-loop-less c =
-    loops.rest-less (c .before .before .before .before .loop .inv .upon) (c .before .before .before .loop-test .taken) (c .rest-of .ensures)
+loop-less c = loops.rest-less (c .before .before .before .before .loop .inv .upon) (c .before .before .before .loop-test .taken) (c .rest-of .ensures)
 
 loop-again : tie.Need-loop-again Inv-loop μ-loop
 unfolding tableBit
 loop-again c =
-    loops.filling-more _ (c .before .before .before .before .loop .inv) (loops.turn (c .before .before .before .before .loop .inv .upon) (c .before .before .before .loop-test .taken) (c .before .before .least-of .ensures) (c .rest-of .ensures)) (bit-and (c .before .before .before .before .before .before .before .before .before .before .before .args .all) _)
+    let i = c .before .before .before .before .before .before .before .before .before .before .before in
+    let loop = c .before .before .before .before .loop in
+    loops.filling-more _ (loop .inv) (loops.turn (loop .inv .upon) (c .before .before .before .loop-test .taken) (c .before .before .least-of .ensures)
+    (c .rest-of .ensures)) (bit-and (i .args .all) _)
 
 same-length : tie.Need-same-length Inv-loop μ-loop
 same-length c = search needs

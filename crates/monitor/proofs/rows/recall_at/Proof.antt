@@ -6,7 +6,7 @@ use mathlib.Core.Bool.{Bool, cond, _&&_}
 use Rattle.sets.specs.Sets.{bit}
 use Rattle.monitor.specs.Rows.{tableBit}
 use Rattle.monitor.proofs.Loops as loops
-use Rattle.monitor.proofs.EdgeLaws as edges
+use Rattle.monitor.proofs.Counting as counting
 use Rattle.monitor.proofs.rows.recall_at.Statement.{statement}
 use Rattle.monitor.proofs.rows.recall_at.Tie as tie
 
@@ -26,16 +26,13 @@ least-of-requires : tie.Need-least-of-requires Inv-loop μ-loop
 least-of-requires c κs = tt
 
 mul-has : tie.Need-mul-has Inv-loop μ-loop
-mul-has c =
-    omega (arith, loops.least-small (c .before .before .loop .inv .upon) (c .before .loop-test .taken) (c .least-of .ensures))
+mul-has c = omega (arith, loops.least-small (c .before .before .loop .inv .upon) (c .before .loop-test .taken) (c .least-of .ensures))
 
 add-has : tie.Need-add-has Inv-loop μ-loop
-add-has c =
-    omega (arith, loops.least-small (c .before .before .loop .inv .upon) (c .before .loop-test .taken) (c .least-of .ensures))
+add-has c = omega (arith, loops.least-small (c .before .before .loop .inv .upon) (c .before .loop-test .taken) (c .least-of .ensures))
 
 mul-has-2 : tie.Need-mul-has-2 Inv-loop μ-loop
-mul-has-2 c =
-    omega (arith, loops.least-small (c .before .before .loop .inv .upon) (c .before .loop-test .taken) (c .least-of .ensures))
+mul-has-2 c = omega (arith, loops.least-small (c .before .before .loop .inv .upon) (c .before .loop-test .taken) (c .least-of .ensures))
 
 shared-slice-read-has : tie.Need-shared-slice-read-has Inv-loop μ-loop
 shared-slice-read-has c =
@@ -49,23 +46,37 @@ only-requires c κs = tt
 
 mul-out : tie.Need-mul-out Inv-loop μ-loop
 mul-out c =
-    omega (arith, loops.least-small (c .before .before .before .before .before .loop .inv .upon) (c .before .before .before .before .loop-test .taken) (c .before .before .before .least-of .ensures))
+    omega (
+      arith,
+      loops.least-small (c .before .before .before .before .before .loop .inv .upon) (c .before .before .before .before .loop-test .taken)
+          (c .before .before .before .least-of .ensures),
+    )
 
 slice-write-out : tie.Need-slice-write-out Inv-loop μ-loop
 slice-write-out c =
-    omega (arith, loops.least-small (c .before .before .before .before .before .loop .inv .upon) (c .before .before .before .before .loop-test .taken) (c .before .before .before .least-of .ensures))
+    omega (
+      arith,
+      loops.least-small (c .before .before .before .before .before .loop .inv .upon) (c .before .before .before .before .loop-test .taken)
+          (c .before .before .before .least-of .ensures),
+    )
 
 rest-of-requires : tie.Need-rest-of-requires Inv-loop μ-loop
 rest-of-requires c κs = tt
 
 loop-less : tie.Need-loop-less Inv-loop μ-loop
 loop-less c =
-    loops.rest-less (c .before .before .before .before .before .before .loop .inv .upon) (c .before .before .before .before .before .loop-test .taken) (c .rest-of .ensures)
+    loops.rest-less (c .before .before .before .before .before .before .loop .inv .upon) (c .before .before .before .before .before .loop-test .taken)
+    (c .rest-of .ensures)
 
 loop-again : tie.Need-loop-again Inv-loop μ-loop
 unfolding tableBit
 loop-again c =
-    loops.filling-more _ (c .before .before .before .before .before .before .loop .inv) (loops.turn (c .before .before .before .before .before .before .loop .inv .upon) (c .before .before .before .before .before .loop-test .taken) (c .before .before .before .before .least-of .ensures) (c .rest-of .ensures)) (λ b. ap (λ (w : ℕ). bit w b) (c .before .only .ensures ∙ ap (λ (t : Bool). cond t (c .before .before .before .before .before .before .before .before .before .before .before .before .before .args .all) 0) (c .before .before .has .ensures)) ∙ edges.only-is _ (c .before .before .before .before .before .before .before .before .before .before .before .before .before .args .all) b)
+    let i = c .before .before .before .before .before .before .before .before .before .before .before .before .before in
+    let loop = c .before .before .before .before .before .before .loop in
+    loops.filling-more _ (loop .inv) (loops.turn (loop .inv .upon) (c .before .before .before .before .before .loop-test .taken)
+    (c .before .before .before .before .least-of .ensures) (c .rest-of .ensures))
+    (λ b. ap (λ (w : ℕ). bit w b) (c .before .only .ensures ∙ ap (λ (t : Bool). cond t (i .args .all) 0) (c .before .before .has .ensures))
+    ∙ counting.only-is _ (i .args .all) b)
 
 same-length : tie.Need-same-length Inv-loop μ-loop
 same-length c = search needs
