@@ -12,7 +12,7 @@ mod decide;
 mod edges;
 mod layout;
 mod moment;
-mod plan;
+pub mod plan;
 mod rows;
 
 // What a decided request carries.

@@ -15,10 +15,10 @@ ghost use Rattle.monitor.specs.Moving.{Movable, Becomes, put, prevAt, pr
 use crate::decide;
 use crate::layout;
 
-// Where the tables begin, the words of one, and the event word.
+// Where the tables begin, the rows of a relation or a table, and the event word.
 const TABLES: usize = 1024;
 
-const TABLE: usize = 64;
+const ROWS: usize = 64;
 
 const EVENT: usize = 3072;
 
@@ -52,7 +52,7 @@ pub(crate) fn store_table(part: &mut [u64], rows: &[u64])
     ensures { λ _. ⌜ now (part .exit) ≡ now (rows .entry) ⌝ }
 {
     let mut a: usize = 0;
-    while a < TABLE {
+    while a < ROWS {
         part[a] = rows[a];
         a += 1;
     }
@@ -63,8 +63,8 @@ fn put_table(plan: &[u16], state: &mut [u64], rows: &[u64], n: usize)
     requires { ⌜ (1024 + 64 * (getD (now plan) n 0 / 16) + 64 ≤ length (now state)) × (length (now rows) ≡ 64) ⌝ }
     ensures { λ _. ⌜ now (state .exit) ≡ put (1024 + 64 * (getD (now (plan .entry)) n 0 / 16)) (now (rows .entry)) (now (state .entry)) ⌝ }
 {
-    let k = TABLES + TABLE * (layout::word(plan, n) / 16);
-    store_table(&mut state[k..k + TABLE], rows);
+    let k = TABLES + ROWS * (layout::word(plan, n) / 16);
+    store_table(&mut state[k..k + ROWS], rows);
 }
 
 // Moves the table of entry n on, if that is a prev.
@@ -157,7 +157,7 @@ fn make_effect(terms: &[u16], state: &mut [u64], at: usize, from: usize, to: usi
     ensures { λ _. ⌜ Becomes (now (terms .entry)) (affected from to (effectOf (now (terms .entry)) at)) (now (state .entry)) (now (state .exit)) ⌝ }
 {
     let back = layout::word(terms, at + 2) == 1;
-    let i = TABLE * layout::word(terms, at + 1) + end(back, from, to);
+    let i = ROWS * layout::word(terms, at + 1) + end(back, from, to);
     state[i] = changed(state[i], layout::word(terms, at) == 1, end(back, to, from));
 }
 
@@ -236,7 +236,7 @@ pub(crate) fn next_moment(
     ensures { λ _. ⌜ now (state .exit) ≡ wordsOf (termsOf (now (terms .entry))) (advance (termsOf (now (terms .entry))) (stateOf (now (state .entry))) event from to) ++ drop stateWords (now (state .entry)) ⌝ }
     ensures { λ _. ⌜ now (scratch .exit) ≡ replicate scratchWords 0 ++ drop scratchWords (now (scratch .entry)) ⌝ }
 {
-    move_on(terms, plan, state, &mut scratch[0..TABLE], event, from, to);
+    move_on(terms, plan, state, &mut scratch[0..ROWS], event, from, to);
     clear(&mut scratch[0..layout::SCRATCH]);
 }
 
@@ -247,6 +247,6 @@ pub(crate) fn first_moment(terms: &[u16], plan: &[u16], state: &mut [u64])
     ensures { λ _. ⌜ now (state .exit) ≡ wordsOf (termsOf (now (terms .entry))) (opening (termsOf (now (terms .entry))) (stateOf (now (state .entry)) .now .edge)) ++ drop stateWords (now (state .entry)) ⌝ }
 {
     clear(&mut state[TABLES..layout::STATE]);
-    let mut rows = [0u64; TABLE];
+    let mut rows = [0u64; ROWS];
     move_since(terms, plan, state, &mut rows);
 }

@@ -26,7 +26,7 @@ pub(crate) fn set_at(masks: &[u64], i: usize) -> u64
 }
 
 // The free variables of an entry, from the sets f and g of its operands, where they are entries.
-pub(crate) fn free_of(op: usize, a: usize, f: u64, g: u64) -> u64
+pub fn free_of(op: usize, a: usize, f: u64, g: u64) -> u64
     ensures { λ r. ⌜ ((t b x : ℕ) (h : ℕ → Formula) → (firstOperand op ≡ variable → a < 64) → (firstOperand op ≡ entry → bit f x ≡ free (h a) x) → (secondOperand op ≡ entry → bit g x ≡ free (h b) x) → bit r x ≡ free (node t h op a b) x) ⌝ }
 {
     match op {
