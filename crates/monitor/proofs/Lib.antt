@@ -29,3 +29,4 @@ pub mod Requests
 pub mod Seen
 pub mod Stored
 pub mod Moves
+pub mod Reached
