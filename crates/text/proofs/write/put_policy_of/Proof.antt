@@ -1,0 +1,28 @@
+-- `text::write::put_policy_of` meets its contract: the word is the policy of the event.
+use borrow.Author.Needs.{needs}
+use Rattle.monitor.specs.Layout.{termsOf}
+use Rattle.text.proofs.Listing.{put-line}
+use Rattle.text.proofs.write.put_policy_of.Statement.{statement}
+use Rattle.text.proofs.write.put_policy_of.Tie as tie
+
+add-word : tie.Need-add-word
+add-word c = search needs
+
+word-requires : tie.Need-word-requires
+word-requires c κs = search needs
+
+put-policy-requires : tie.Need-put-policy-requires
+put-policy-requires c κs = search needs
+
+same-length : tie.Need-same-length
+same-length c = search needs
+
+returns : tie.Need-returns
+unfolding termsOf
+returns c =
+    let e = c .before .before .put-policy .ensures in
+    (rw (← c .before .before .before .before .word .ensures .0) (put-line _ (e .0)), e .1)
+
+pub put-policy-of-spec : {M : Type 1} → statement M
+put-policy-of-spec =
+    tie.close (tie.spec add-word word-requires put-policy-requires same-length returns)
