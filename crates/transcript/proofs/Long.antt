@@ -30,7 +30,7 @@ use Rattle.transcript.proofs.Served.{answers-asks, answers-malformed}
 -- ---- lines
 
 -- The number of lines, a last one without a line feed too.
-unfoldable pub count : Lines → ℕ
+unfoldable count : Lines → ℕ
 count done = 0
 count (cut l) = 1
 count (line l r) = suc (count r)
@@ -57,6 +57,7 @@ data Near (k : ℕ) : Reading → Type 0 where
   taken : {f : File} → Near k (accepted f)
   refusal : (n l : ℕ) → n < 10 → l ≤ k → Near k (refused n l)
 
+-- Each test has a number of one digit.
 unfoldable single : List Test → Bool
 single [] = true
 single (t ∷ ts) = ltb (t .number) 10 && single ts
