@@ -1,0 +1,93 @@
+//! Prints one table: the monitor's calls, in nanoseconds and as ratios to
+//! other ways to the same answers. All of it is measured in one run.
+//!
+//! * `workload`: the terms and the requests
+//! * `floor`: the checks alone, a plain read of the lent memory
+//! * `matrices`: the algorithm of source 001, appendix C
+//! * `log`: an event log in SQLite with a query for the preset's policy
+//! * `measure`: batches, timed in turn
+//! * `pieces`: where the time of a call goes
+//! * `stack`: the stack that one call takes
+//!
+//! `benchmark pieces` and `benchmark stack` measure that only, `benchmark
+//! loop` makes many requests for a profiler.
+
+mod floor;
+#[cfg_attr(not(sqlite), path = "no_log.rs")]
+mod log;
+mod matrices;
+mod measure;
+mod pieces;
+mod rows;
+mod stack;
+mod workload;
+
+use rows::Row;
+use workload::Workload;
+
+const MEMBERS: [usize; 3] = [3, 16, 64];
+
+fn main() {
+    match std::env::args().nth(1).as_deref() {
+        None => {
+            table();
+            pieces::print();
+            stack::print();
+        }
+        Some("pieces") => pieces::print(),
+        Some("stack") => stack::print(),
+        Some("loop") => repeat(),
+        Some(other) => eprintln!("{other}: not known; pieces, stack, loop or nothing"),
+    }
+}
+
+fn table() {
+    if !cfg!(sqlite) {
+        println!("SQLite's development files are not installed: its column is left out.");
+    }
+    println!("{}", rows::HEAD);
+    let mut all = Vec::new();
+    for make in [Workload::preset, Workload::large, Workload::random] {
+        for members in MEMBERS {
+            for row in rows::measured(&make(members)) {
+                println!("{row}");
+                all.push(row);
+            }
+        }
+    }
+    goals(&all);
+}
+
+/// The goals that the table decides, each by its worst row.
+fn goals(all: &[Row]) {
+    let rows: Vec<&Row> = all.iter().filter(|row| row.on_preset && row.members == 64).collect();
+    let most = |ratio: &dyn Fn(&Row) -> f64| rows.iter().map(|row| ratio(row)).fold(0.0, f64::max);
+    let say =
+        |met: bool, text: String| println!("{} {text}", if met { "met   " } else { "MISSED" });
+    println!("\nat 64 members on the preset, the worst of its rows:");
+    let ratio = most(&|row| row.request.least / row.floor.least);
+    say(ratio <= 1.5, format!("request: {ratio:.2} of the floor, at most 1.5"));
+    let ratio = most(&|row| row.look.least / row.floor.least);
+    say(ratio <= 1.5, format!("look: {ratio:.2} of the floor, at most 1.5"));
+    let ratio = 1.0 / most(&|row| row.request.least / row.matrices.least);
+    say(ratio >= 200.0, format!("001's algorithm takes {ratio:.0} times as long, at least 200"));
+    if rows.iter().all(|row| row.log.is_some()) {
+        let ratio = 1.0 / most(&|row| row.log.map_or(0.0, |log| row.request.least / log.least));
+        say(ratio > 1.0, format!("the SQLite log takes {ratio:.1} times as long, more than 1"));
+    }
+    let at = |moments| rows.iter().find(|row| row.moments == moments).map(|row| row.request.least);
+    if let (Some(short), Some(long)) = (at(100), at(1_000_000)) {
+        let ratio = long / short;
+        let near = (0.95..=1.05).contains(&ratio);
+        say(near, format!("at 10^6 moments {ratio:.3} of the cost at 10^2, within 5 %"));
+    }
+}
+
+/// Requests at 64 members on the preset, for a profiler.
+fn repeat() {
+    let workload = Workload::preset(64);
+    let mut monitor = workload.monitor();
+    for &[event, from, to] in workload.requests(7, 20_000).iter() {
+        std::hint::black_box(monitor.request(event, from, to).is_ok());
+    }
+}

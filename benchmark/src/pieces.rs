@@ -1,0 +1,58 @@
+//! Where the time of a call goes, at 64 members on the preset.
+
+use crate::floor;
+use crate::measure::{in_turn, timed, Batch};
+use crate::workload::Workload;
+use cuckooormolu::{raw, SCRATCH_WORDS};
+use std::hint::black_box;
+use std::time::Duration;
+
+const CALLS: usize = 32;
+const SHARE: usize = 0;
+const LOAD: usize = 2;
+
+/// Repeats a piece.
+fn batch<'a, T>(mut piece: impl FnMut() -> T + 'a) -> Batch<'a> {
+    let mut repeated = move || {
+        for _ in 0..CALLS {
+            black_box(piece());
+        }
+    };
+    (CALLS, Box::new(move || timed(&mut repeated)))
+}
+
+/// Prints the pieces, timed in turn.
+pub fn print() {
+    let workload = Workload::preset(64);
+    let mut monitor = workload.monitor();
+    // Member 1 owns 0 and shares with 7; 8 has no share.
+    let shared = monitor.request(SHARE, 1, 7).is_ok_and(|answer| answer.is_grant());
+    let (granted, denied) = (monitor.look(LOAD, 7, 0), monitor.look(LOAD, 8, 0));
+    assert!(shared && granted.is_ok_and(|answer| answer.is_grant()));
+    assert!(denied.is_ok_and(|answer| !answer.is_grant()));
+    let (terms, state) = (monitor.terms().words(), monitor.state().words());
+    let look = |event: usize, from: usize, to: usize| {
+        batch(move || raw::look(terms, state, &[0; SCRATCH_WORDS], event, from, to))
+    };
+    let request = |event: usize, from: usize, to: usize| {
+        let (mut state, mut scratch) = (state.to_vec(), vec![0; SCRATCH_WORDS]);
+        batch(move || raw::request(terms, &mut state, &mut scratch, event, from, to))
+    };
+    let mut scratch = vec![1u64; SCRATCH_WORDS];
+    let names_and_batches: [(&str, Batch); 8] = [
+        ("the floor", batch(|| floor::passes(black_box(terms), black_box(state)))),
+        ("check", batch(|| raw::check(terms, state))),
+        ("look refused with 9", look(9, 0, 0)),
+        ("look at a share, policy top", look(SHARE, 1, 7)),
+        ("look at a load", look(LOAD, 7, 0)),
+        ("request of a load, denied", request(LOAD, 8, 0)),
+        ("request of a share, granted", request(SHARE, 1, 7)),
+        ("clearing 2,048 words alone", batch(move || black_box(&mut scratch).fill(0))),
+    ];
+    let (names, batches): (Vec<_>, Vec<_>) = names_and_batches.into_iter().unzip();
+    let times = in_turn(Duration::from_millis(1_500), 20, batches);
+    println!("\npieces at 64 members on the preset, least ns:");
+    for (name, time) in names.iter().zip(times) {
+        println!("{name:<28} {:>5.0}", time.least);
+    }
+}

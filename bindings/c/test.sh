@@ -1,0 +1,135 @@
+#!/bin/sh
+# test.sh ARCHIVE: builds the example host over the archive, runs it and
+# compares what it prints; a second time with the sanitizers, where the
+# compiler has them. Needs a C compiler (CC, else cc).
+set -eu
+
+if [ $# -ne 1 ] || [ ! -f "$1" ]; then
+    echo "usage: test.sh ARCHIVE" >&2
+    exit 2
+fi
+archive=$1
+here=$(cd "$(dirname "$0")" && pwd)
+CC=${CC:-cc}
+strict="-std=c11 -Wall -Wextra -Werror -pedantic"
+work=$(mktemp -d)
+trap 'rm -rf "$work"' EXIT
+failed=0
+
+# tabs TEXT: the text with tabs for its spaces.
+tabs() { printf '%s' "$1" | tr ' ' '\t'; }
+
+preset='M 3
+L 1 3
+F 0 var 1 0
+F 1 out 1 0
+F 2 out 2 0
+F 3 not 2 0
+F 4 since 3 1
+F 5 in 0 4
+F 6 at 0 5
+F 7 bind 1 6
+F 8 top 0 0
+P 0 8
+P 1 8
+P 2 7
+G 0 0 2
+'
+
+# expect NAME TERMS REQUESTS OUTPUT: what the built host prints.
+expect() {
+    tabs "$2" >"$work/terms.tsv"
+    tabs "$3" >"$work/requests.tsv"
+    tabs "$4" >"$work/wanted"
+    "$work/$build" "$work/terms.tsv" "$work/requests.tsv" >"$work/got" || true
+    judge "$1"
+}
+
+# judge NAME: compares the files got and wanted.
+judge() {
+    if cmp -s "$work/got" "$work/wanted"; then
+        echo "ok   $build: $1"
+    else
+        echo "FAIL $build: $1"
+        diff "$work/got" "$work/wanted" || true
+        failed=1
+    fi
+}
+
+run_all() {
+    expect "the preset" "$preset" 'R 2 1 2
+R 0 0 1
+R 2 1 2
+R 1 0 1
+R 2 1 2
+R 9 0 0
+' '1 deny
+2 grant
+3 grant
+4 grant
+5 deny
+6 refuse 9
+'
+    expect "malformed requests" "$preset" 'R 0 0 1
+R 00 0 1
+X 0 0 1
+R 0 0
+R 0 0 1 1
+
+R 0 0 100000
+R 0 0 1' '1 grant
+2 refuse 1
+3 refuse 1
+4 refuse 1
+5 refuse 1
+6 refuse 1
+7 refuse 1
+8 refuse 1
+'
+    expect "no requests" "$preset" '' ''
+    expect "refused terms" 'M 3
+L 0 1
+F 0 not 0 0
+' 'R 0 0 0
+' 'terms 3 3
+'
+    expect "empty terms" '' 'R 0 0 0
+' 'terms 1 1
+'
+    rm "$work/terms.tsv"
+    "$work/$build" "$work/terms.tsv" "$work/requests.tsv" >"$work/got"
+    tabs 'terms 1 1
+' >"$work/wanted"
+    judge "terms that can't be opened"
+
+    head -c 65537 /dev/zero >"$work/terms.tsv"
+    "$work/$build" "$work/terms.tsv" "$work/requests.tsv" >"$work/got"
+    tabs 'terms 6 0
+' >"$work/wanted"
+    judge "terms too long"
+
+    tabs "$preset" >"$work/terms.tsv"
+    cp "$work/terms.tsv" "$work/wanted"
+    head -c 65537 /dev/zero >"$work/requests.tsv"
+    "$work/$build" "$work/terms.tsv" /dev/null "$work/got"
+    judge "the preset written again"
+    "$work/$build" "$work/terms.tsv" "$work/requests.tsv" >"$work/got"
+    tabs 'requests 6 0
+' >"$work/wanted"
+    judge "requests too long"
+}
+
+build=plain
+"$CC" $strict -O2 -o "$work/$build" "$here/example.c" "$archive"
+run_all
+
+echo 'int main(void) { return 0; }' >"$work/probe.c"
+sanitize="-fsanitize=address,undefined -fno-sanitize-recover=all"
+if "$CC" $sanitize -o "$work/probe" "$work/probe.c" 2>/dev/null && "$work/probe"; then
+    build=sanitized
+    "$CC" $strict -g $sanitize -o "$work/$build" "$here/example.c" "$archive"
+    run_all
+else
+    echo "skip sanitized: the compiler has no sanitizers"
+fi
+exit $failed

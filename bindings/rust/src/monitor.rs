@@ -1,0 +1,102 @@
+//! The monitor: terms, the present state, and scratch for its calls.
+
+use crate::layout::*;
+use crate::{raw, Answer, Refusal, State, Terms, TextError};
+
+/// A reference monitor that owns all its memory.
+///
+/// Two monitors share nothing, so they may be used on different threads.
+#[derive(Clone, Debug)]
+pub struct Monitor {
+    terms: Terms,
+    state: State,
+    scratch: Box<[u64; SCRATCH_WORDS]>,
+}
+
+impl Monitor {
+    /// Reads a terms text and stands at its moment 0.
+    pub fn read(text: &[u8]) -> Result<Monitor, TextError> {
+        let (mut terms, mut state) = (Terms::blank(), State::blank());
+        raw::read(text, &mut terms.0[..], &mut state.0[..])
+            .map_err(|(refusal, line)| TextError::new(refusal, line, text))?;
+        Ok(Monitor::with(terms, state))
+    }
+
+    /// Goes on from terms and a state kept earlier, once they are checked.
+    ///
+    /// ```
+    /// use cuckooormolu::{Monitor, Refusal, State, Terms};
+    ///
+    /// let text = b"M\t2\nL\t0\t1\nF\t0\ttop\t0\t0\nP\t0\t0\n";
+    /// let mut monitor = Monitor::read(text)?;
+    /// monitor.request(0, 0, 1)?;
+    /// let (terms, state) = monitor.into_parts();
+    /// let later = Monitor::resume(terms.clone(), state)?;
+    /// assert_eq!(later.state().event().map(|edge| edge.to), Some(1));
+    ///
+    /// let broken = State::from_words(&[9; 3_073])?;
+    /// assert_eq!(Monitor::resume(terms, broken).unwrap_err(), Refusal::BadState);
+    /// # Ok::<(), Box<dyn std::error::Error>>(())
+    /// ```
+    pub fn resume(terms: Terms, state: State) -> Result<Monitor, Refusal> {
+        raw::check(terms.words(), state.words())?;
+        Ok(Monitor::with(terms, state))
+    }
+
+    /// Stands at moment 0 of the relations of a state; its tables and event
+    /// edge don't count.
+    pub fn open(terms: Terms, mut relations: State) -> Result<Monitor, Refusal> {
+        raw::open(terms.words(), &mut relations.0[..])?;
+        Ok(Monitor::with(terms, relations))
+    }
+
+    /// Answers a request; a grant makes the next moment. Refused with
+    /// [`Refusal::NoSuchName`] where an event or member doesn't exist.
+    pub fn request(&mut self, event: usize, from: usize, to: usize) -> Result<Answer, Refusal> {
+        raw::request(
+            self.terms.words(),
+            &mut self.state.0[..],
+            &mut self.scratch[..],
+            event,
+            from,
+            to,
+        )
+    }
+
+    /// What [`Monitor::request`] would answer; it makes no moment.
+    pub fn look(&self, event: usize, from: usize, to: usize) -> Result<Answer, Refusal> {
+        raw::look(self.terms.words(), self.state.words(), &self.scratch[..], event, from, to)
+    }
+
+    /// The terms text with the present relations. Reading it gives the same
+    /// terms and relations, at moment 0.
+    ///
+    /// ```
+    /// let text = b"M\t2\nL\t1\t1\nF\t0\ttop\t0\t0\nP\t0\t0\nG\t0\t0\t1\n";
+    /// assert_eq!(cuckooormolu::Monitor::read(text)?.write(), text);
+    /// # Ok::<(), cuckooormolu::TextError>(())
+    /// ```
+    pub fn write(&self) -> Vec<u8> {
+        let mut output = vec![0; LONGEST_HEAD + LONGEST_EDGE * self.state.edges()];
+        let written = raw::write(self.terms.words(), self.state.words(), &mut output);
+        output.truncate(written.expect("checked terms and state fit the longest text"));
+        output
+    }
+
+    pub fn terms(&self) -> &Terms {
+        &self.terms
+    }
+
+    pub fn state(&self) -> &State {
+        &self.state
+    }
+
+    /// Terms and state, to be kept.
+    pub fn into_parts(self) -> (Terms, State) {
+        (self.terms, self.state)
+    }
+
+    fn with(terms: Terms, state: State) -> Monitor {
+        Monitor { terms, state, scratch: Box::new([0; SCRATCH_WORDS]) }
+    }
+}

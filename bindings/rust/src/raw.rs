@@ -1,0 +1,194 @@
+//! The library's functions over slices and numbers.
+//!
+//! Each accepts every input: memory of any length with anything in it, and
+//! any numbers. So all of them are safe to call. A refusal leaves every
+//! memory as lent, and words beyond the named ones are never touched.
+
+use crate::{Answer, Refusal};
+
+mod library {
+    extern "C" {
+        pub fn cuckooormolu_check(
+            terms: *const u16,
+            terms_length: usize,
+            state: *const u64,
+            state_length: usize,
+        ) -> usize;
+
+        pub fn cuckooormolu_open(
+            terms: *const u16,
+            terms_length: usize,
+            state: *mut u64,
+            state_length: usize,
+        ) -> usize;
+
+        pub fn cuckooormolu_look(
+            terms: *const u16,
+            terms_length: usize,
+            state: *const u64,
+            state_length: usize,
+            scratch: *const u64,
+            scratch_length: usize,
+            event: usize,
+            from: usize,
+            to: usize,
+        ) -> usize;
+
+        pub fn cuckooormolu_request(
+            terms: *const u16,
+            terms_length: usize,
+            state: *mut u64,
+            state_length: usize,
+            scratch: *mut u64,
+            scratch_length: usize,
+            event: usize,
+            from: usize,
+            to: usize,
+        ) -> usize;
+
+        pub fn cuckooormolu_read(
+            text: *const u8,
+            text_length: usize,
+            terms: *mut u16,
+            terms_length: usize,
+            state: *mut u64,
+            state_length: usize,
+            line: *mut usize,
+        ) -> usize;
+
+        pub fn cuckooormolu_write(
+            terms: *const u16,
+            terms_length: usize,
+            state: *const u64,
+            state_length: usize,
+            output: *mut u8,
+            output_length: usize,
+            count: *mut usize,
+        ) -> usize;
+    }
+}
+
+const DONE: usize = 0;
+const DENIED: usize = 10;
+
+fn refused(code: usize) -> Refusal {
+    Refusal::of_number(code).unwrap_or_else(|| panic!("the library gave the unknown code {code}"))
+}
+
+fn done(code: usize) -> Result<(), Refusal> {
+    match code {
+        DONE => Ok(()),
+        code => Err(refused(code)),
+    }
+}
+
+fn decided(code: usize) -> Result<Answer, Refusal> {
+    match code {
+        DONE => Ok(Answer::Grant),
+        DENIED => Ok(Answer::Deny),
+        code => Err(refused(code)),
+    }
+}
+
+// Safety, here and below: a slice is valid for its length, a mutable one is
+// no other's, and the library keeps within the lengths it is given.
+
+/// Whether terms and state are ones that a call accepts: 6, 7 or 8 if not.
+pub fn check(terms: &[u16], state: &[u64]) -> Result<(), Refusal> {
+    done(unsafe {
+        library::cuckooormolu_check(terms.as_ptr(), terms.len(), state.as_ptr(), state.len())
+    })
+}
+
+/// Makes the state of moment 0 of the relations that stand in it; whatever
+/// its other words held is lost. Refused with 6, 7 or 8.
+pub fn open(terms: &[u16], state: &mut [u64]) -> Result<(), Refusal> {
+    done(unsafe {
+        library::cuckooormolu_open(terms.as_ptr(), terms.len(), state.as_mut_ptr(), state.len())
+    })
+}
+
+/// What a request would be answered now. It makes no moment.
+pub fn look(
+    terms: &[u16],
+    state: &[u64],
+    scratch: &[u64],
+    event: usize,
+    from: usize,
+    to: usize,
+) -> Result<Answer, Refusal> {
+    decided(unsafe {
+        library::cuckooormolu_look(
+            terms.as_ptr(),
+            terms.len(),
+            state.as_ptr(),
+            state.len(),
+            scratch.as_ptr(),
+            scratch.len(),
+            event,
+            from,
+            to,
+        )
+    })
+}
+
+/// Answers a request. A grant makes the next moment and leaves the named
+/// words of scratch 0; anything else leaves state and scratch as lent.
+pub fn request(
+    terms: &[u16],
+    state: &mut [u64],
+    scratch: &mut [u64],
+    event: usize,
+    from: usize,
+    to: usize,
+) -> Result<Answer, Refusal> {
+    decided(unsafe {
+        library::cuckooormolu_request(
+            terms.as_ptr(),
+            terms.len(),
+            state.as_mut_ptr(),
+            state.len(),
+            scratch.as_mut_ptr(),
+            scratch.len(),
+            event,
+            from,
+            to,
+        )
+    })
+}
+
+/// Reads a terms text and fills the named words of terms and state; or the
+/// refusal with the first faulty line, 0 where none is at fault.
+pub fn read(text: &[u8], terms: &mut [u16], state: &mut [u64]) -> Result<(), (Refusal, usize)> {
+    let mut line = 0;
+    let code = unsafe {
+        library::cuckooormolu_read(
+            text.as_ptr(),
+            text.len(),
+            terms.as_mut_ptr(),
+            terms.len(),
+            state.as_mut_ptr(),
+            state.len(),
+            &mut line,
+        )
+    };
+    done(code).map_err(|refusal| (refusal, line))
+}
+
+/// Writes the terms with the present relations from the output's first byte
+/// on and gives the count of bytes.
+pub fn write(terms: &[u16], state: &[u64], output: &mut [u8]) -> Result<usize, Refusal> {
+    let mut count = 0;
+    let code = unsafe {
+        library::cuckooormolu_write(
+            terms.as_ptr(),
+            terms.len(),
+            state.as_ptr(),
+            state.len(),
+            output.as_mut_ptr(),
+            output.len(),
+            &mut count,
+        )
+    };
+    done(code).map(|()| count)
+}

@@ -1,0 +1,252 @@
+//! One test for each behaviour of the binding.
+
+use cuckooormolu::{raw, Answer, EventEdge, Monitor, Refusal, State, Terms};
+use cuckooormolu::{SCRATCH_WORDS, STATE_WORDS, TERMS_WORDS};
+
+/// Relation 0 is own; events are 0 share, 1 withdraw, 2 load. Spaces for tabs.
+const PRESET: &str = "\
+M 3
+L 1 3
+F 0 var 1 0
+F 1 out 1 0
+F 2 out 2 0
+F 3 not 2 0
+F 4 since 3 1
+F 5 in 0 4
+F 6 at 0 5
+F 7 bind 1 6
+F 8 top 0 0
+P 0 8
+P 1 8
+P 2 7
+G 0 0 2
+";
+
+const SHARE: usize = 0;
+const WITHDRAW: usize = 1;
+const LOAD: usize = 2;
+
+fn tabs(text: &str) -> Vec<u8> {
+    text.replace(' ', "\t").into_bytes()
+}
+
+fn preset() -> Monitor {
+    Monitor::read(&tabs(PRESET)).unwrap()
+}
+
+fn refused(text: &str) -> (usize, usize) {
+    let error = Monitor::read(&tabs(text)).unwrap_err();
+    (error.refusal().number(), error.line())
+}
+
+#[test]
+fn the_preset_answers_as_written() {
+    let mut monitor = preset();
+    assert_eq!(monitor.request(LOAD, 1, 2), Ok(Answer::Deny));
+    assert_eq!(monitor.request(SHARE, 0, 1), Ok(Answer::Grant));
+    assert_eq!(monitor.request(LOAD, 1, 2), Ok(Answer::Grant));
+    assert_eq!(monitor.request(WITHDRAW, 0, 1), Ok(Answer::Grant));
+    assert_eq!(monitor.request(LOAD, 1, 2), Ok(Answer::Deny));
+    assert_eq!(monitor.request(9, 0, 0), Err(Refusal::NoSuchName));
+}
+
+#[test]
+fn a_share_by_somebody_who_owns_nothing_does_not_count() {
+    let mut monitor = preset();
+    monitor.request(SHARE, 2, 1).unwrap();
+    assert_eq!(monitor.look(LOAD, 1, 2), Ok(Answer::Deny));
+}
+
+#[test]
+fn a_look_makes_no_moment() {
+    let monitor = preset();
+    let before = monitor.state().clone();
+    assert_eq!(monitor.look(SHARE, 0, 1), Ok(Answer::Grant));
+    assert_eq!(*monitor.state(), before);
+}
+
+#[test]
+fn a_denied_or_refused_request_changes_nothing() {
+    let mut monitor = preset();
+    let before = monitor.state().clone();
+    assert_eq!(monitor.request(LOAD, 1, 2), Ok(Answer::Deny));
+    assert_eq!(monitor.request(LOAD, 1, 3), Err(Refusal::NoSuchName));
+    assert_eq!(monitor.request(LOAD, usize::MAX, 0), Err(Refusal::NoSuchName));
+    assert_eq!(*monitor.state(), before);
+}
+
+#[test]
+fn terms_and_state_are_shown() {
+    let mut monitor = preset();
+    let terms = monitor.terms();
+    let counts = (terms.members(), terms.relations(), terms.events(), terms.entries());
+    assert_eq!(counts, (3, 1, 3, 9));
+    assert!(monitor.state().has_edge(0, 0, 2));
+    assert!(!monitor.state().has_edge(0, 2, 0));
+    assert!(!monitor.state().has_edge(16, 0, 0) && !monitor.state().has_edge(0, 64, 64));
+    assert_eq!((monitor.state().event(), monitor.state().edges()), (None, 1));
+    assert!(!monitor.state().table_holds(0, 0, 1));
+    monitor.request(SHARE, 0, 1).unwrap();
+    assert!(monitor.state().table_holds(0, 0, 1));
+    assert!(!monitor.state().table_holds(32, 0, 0));
+    assert_eq!(monitor.state().event(), Some(EventEdge { event: SHARE, from: 0, to: 1 }));
+}
+
+#[test]
+fn a_text_comes_back_byte_by_byte() {
+    assert_eq!(preset().write(), tabs(PRESET));
+}
+
+#[test]
+fn the_longest_text_is_written() {
+    let mut text = "M 64\nL 16 16\nF 0 top 0 0\n".to_string();
+    text.extend((1..256).map(|n| match n {
+        1..=32 => format!("F {n} since {} {}\n", n - 1, n - 1),
+        _ => format!("F {n} bind 15 {}\n", n - 1),
+    }));
+    text.extend((0..16).map(|event| format!("P {event} 255\n")));
+    for event in 0..16 {
+        text.push_str(&format!("E {event} add 15 back\n").repeat(4));
+    }
+    for place in 0..16 * 64 * 64 {
+        text.push_str(&format!("G {} {} {}\n", place / 4_096, place / 64 % 64, place % 64));
+    }
+    let monitor = Monitor::read(&tabs(&text)).unwrap();
+    assert_eq!(monitor.state().edges(), 65_536);
+    assert!(monitor.write() == tabs(&text));
+}
+
+#[test]
+fn a_written_text_forgets_the_past() {
+    let mut monitor = preset();
+    monitor.request(SHARE, 0, 1).unwrap();
+    let mut later = Monitor::read(&monitor.write()).unwrap();
+    assert_eq!(later.terms(), monitor.terms());
+    assert_eq!(later.request(LOAD, 1, 2), Ok(Answer::Deny));
+}
+
+#[test]
+fn kept_words_are_resumed() {
+    let mut monitor = preset();
+    monitor.request(SHARE, 0, 1).unwrap();
+    let terms = Terms::from_words(monitor.terms().words()).unwrap();
+    let state = State::from_words(monitor.state().words()).unwrap();
+    let later = Monitor::resume(terms, state).unwrap();
+    assert_eq!(later.look(LOAD, 1, 2), Ok(Answer::Grant));
+}
+
+#[test]
+fn opening_keeps_the_relations_only() {
+    let mut monitor = preset();
+    monitor.request(SHARE, 0, 1).unwrap();
+    let (terms, state) = monitor.into_parts();
+    let fresh = Monitor::open(terms, state).unwrap();
+    assert_eq!(fresh.state(), preset().state());
+}
+
+#[test]
+fn a_state_that_breaks_the_layout_is_not_resumed() {
+    let (terms, state) = preset().into_parts();
+    let mut words = *state.words();
+    words[3] = 1;
+    let state = State::from_words(&words).unwrap();
+    assert_eq!(Monitor::resume(terms.clone(), state.clone()).unwrap_err(), Refusal::BadState);
+    assert_eq!(Monitor::open(terms, state).unwrap_err(), Refusal::BadState);
+}
+
+#[test]
+fn terms_that_no_text_yields_are_refused() {
+    assert_eq!(Terms::from_words(&[1; TERMS_WORDS]), Err(Refusal::BadTerms));
+}
+
+#[test]
+fn short_words_are_refused_and_longer_ones_cut() {
+    let (terms, state) = preset().into_parts();
+    assert_eq!(Terms::from_words(&terms.words()[1..]), Err(Refusal::TooShort));
+    assert_eq!(State::from_words(&state.words()[1..]), Err(Refusal::TooShort));
+    let longer = [&terms.words()[..], &[7; 3]].concat();
+    assert_eq!(Terms::from_words(&longer), Ok(terms));
+}
+
+#[test]
+fn each_refusal_of_a_text_names_its_line() {
+    assert_eq!(refused(""), (1, 1));
+    assert_eq!(refused("M 3\nL 1 3\n"), (1, 3));
+    assert_eq!(refused("M 3\nL 1 3\nF 0 and 0 0\n"), (1, 3));
+    assert_eq!(refused("M 65\n"), (2, 1));
+    assert_eq!(refused("M 0\n"), (2, 1));
+    assert_eq!(refused("M 1\nL 0 1\nF 0 not 0 0\n"), (3, 3));
+    let two = "M 1\nL 0 1\nF 0 var 1 0\nF 1 var 2 0\nF 2 since 0 1\n";
+    assert_eq!(refused(two), (4, 5));
+    assert_eq!(refused("M 1\nL 0 1\nF 0 var 1 0\nP 0 0\n"), (5, 4));
+}
+
+#[test]
+fn an_error_shows_the_offending_line() {
+    let error = Monitor::read(&tabs("M 3\nL 1 x\n")).unwrap_err();
+    assert_eq!(error.shown(), Some("L\\t1\\tx"));
+    assert!(error.to_string().starts_with("line 2: unknown kind or word"));
+    assert!(error.to_string().ends_with("(refusal 1)\n  2 | L\\t1\\tx"));
+    let error = Monitor::read(&tabs("M 3")).unwrap_err();
+    assert_eq!(error.shown(), Some("M\\t3 (no line feed)"));
+    let error = Monitor::read(&tabs("M 3\n")).unwrap_err();
+    assert_eq!(error.shown(), None);
+    assert!(error.to_string().ends_with("\n  2 | (the end of the text)"));
+}
+
+#[test]
+fn refusals_have_numbers_and_words() {
+    for (index, refusal) in Refusal::ALL.into_iter().enumerate() {
+        assert_eq!(refusal.number(), index + 1);
+        assert_eq!(Refusal::of_number(index + 1), Some(refusal));
+        assert!(refusal.to_string().ends_with(&format!("(refusal {})", index + 1)));
+    }
+    assert_eq!((Refusal::of_number(0), Refusal::of_number(10)), (None, None));
+}
+
+#[test]
+fn answers_are_shown_as_words() {
+    assert_eq!(format!("{} {:>6}", Answer::Grant, Answer::Deny), "grant   deny");
+    assert!(Answer::Grant.is_grant() && !Answer::Deny.is_grant());
+}
+
+#[test]
+fn monitors_may_move_between_threads() {
+    let mut monitor = preset();
+    let thread = std::thread::spawn(move || monitor.request(SHARE, 0, 1));
+    assert_eq!(thread.join().unwrap(), Ok(Answer::Grant));
+}
+
+#[test]
+fn raw_calls_take_memory_of_any_length() {
+    let (terms, state) = preset().into_parts();
+    let (terms, mut words) = (terms.words(), state.words().to_vec());
+    let mut scratch = vec![5; SCRATCH_WORDS];
+    assert_eq!(raw::check(&terms[1..], &words), Err(Refusal::TooShort));
+    assert_eq!(raw::look(terms, &words, &scratch[1..], 0, 0, 0), Err(Refusal::TooShort));
+    assert_eq!(raw::request(terms, &mut words, &mut [], 0, 0, 0), Err(Refusal::TooShort));
+    assert_eq!(raw::open(terms, &mut words[1..]), Err(Refusal::TooShort));
+    assert_eq!(words, state.words());
+    words.push(6);
+    scratch.push(7);
+    assert_eq!(raw::request(terms, &mut words, &mut scratch, 0, 0, 1), Ok(Answer::Grant));
+    assert_eq!((words[STATE_WORDS], scratch[SCRATCH_WORDS]), (6, 7));
+    assert_eq!(scratch[..SCRATCH_WORDS], [0; SCRATCH_WORDS]);
+}
+
+#[test]
+fn raw_reading_and_writing_keep_to_their_memory() {
+    let text = tabs(PRESET);
+    let (mut terms, mut state) = (vec![3; TERMS_WORDS + 1], vec![4; STATE_WORDS + 1]);
+    assert_eq!(raw::read(&text, &mut terms[2..], &mut state), Err((Refusal::TooShort, 0)));
+    assert_eq!(raw::read(&text[1..], &mut terms, &mut state), Err((Refusal::Form, 1)));
+    assert_eq!((&terms, &state), (&vec![3; TERMS_WORDS + 1], &vec![4; STATE_WORDS + 1]));
+    assert_eq!(raw::read(&text, &mut terms, &mut state), Ok(()));
+    assert_eq!((terms[TERMS_WORDS], state[STATE_WORDS]), (3, 4));
+    let mut output = vec![9; text.len() + 1];
+    let short = &mut output[2..];
+    assert_eq!(raw::write(&terms, &state, short), Err(Refusal::TooShort));
+    assert_eq!(short, vec![9; text.len() - 1]);
+    assert_eq!(raw::write(&terms, &state, &mut output), Ok(text.len()));
+    assert_eq!((&output[..text.len()], output[text.len()]), (&text[..], 9));
+}

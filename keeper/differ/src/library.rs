@@ -1,0 +1,117 @@
+//! The static library as the keeper's other implementation.
+//!
+//! Every call goes to the lent slices. Where the memory is regular the same
+//! call is made of a `Monitor`, which has to agree in answer and state.
+
+use crate::tally::Tally;
+use cuckooormolu::{raw, Monitor, SCRATCH_WORDS, STATE_WORDS, TERMS_WORDS};
+use keeper::compare::Other;
+use keeper::record::{Answer, Call};
+use keeper::terms::Refusal;
+
+/// The library, and what it and its binding have been seen to do.
+pub struct Library<'a> {
+    monitor: Option<Monitor>,
+    written: Vec<u8>,
+    disagreement: Option<String>,
+    tally: &'a mut Tally,
+}
+
+impl Library<'_> {
+    pub fn new(tally: &mut Tally) -> Library<'_> {
+        Library { monitor: None, written: Vec::new(), disagreement: None, tally }
+    }
+
+    /// The text written last, or what the library and its binding disagreed
+    /// about.
+    pub fn agrees(self) -> Result<Vec<u8>, String> {
+        self.disagreement.map_or(Ok(self.written), Err)
+    }
+
+    fn same<T: PartialEq + std::fmt::Debug>(&mut self, what: &str, bound: T, lent: T) {
+        if bound != lent && self.disagreement.is_none() {
+            let text = format!("{what} by the binding: {bound:?}, over lent memory: {lent:?}");
+            self.disagreement = Some(text);
+        }
+    }
+
+    fn same_words(&mut self, terms: &[u16], state: &[u64]) {
+        if let Some(monitor) = &self.monitor {
+            let right = monitor.terms().words()[..] == terms[..TERMS_WORDS]
+                && monitor.state().words()[..] == state[..STATE_WORDS];
+            self.same("equal words", right, true);
+        }
+    }
+}
+
+fn plain(refusal: cuckooormolu::Refusal) -> Refusal {
+    Refusal::plain(refusal.number() as u16)
+}
+
+fn answer(result: Result<cuckooormolu::Answer, cuckooormolu::Refusal>) -> Answer {
+    match result {
+        Ok(cuckooormolu::Answer::Grant) => Answer::Grant,
+        Ok(cuckooormolu::Answer::Deny) => Answer::Deny,
+        Err(refusal) => Answer::Refused(plain(refusal)),
+    }
+}
+
+impl Other for Library<'_> {
+    fn read(&mut self, text: &[u8], terms: &mut [u16], state: &mut [u64]) -> Result<(), Refusal> {
+        let refused =
+            |(refusal, line): (cuckooormolu::Refusal, _)| Refusal { line, ..plain(refusal) };
+        let got = raw::read(text, terms, state).map_err(refused);
+        self.tally.read(&got);
+        self.monitor = None;
+        if terms.len() >= TERMS_WORDS && state.len() >= STATE_WORDS {
+            match Monitor::read(text) {
+                Ok(monitor) => self.monitor = Some(monitor),
+                Err(error) => {
+                    let bound = refused((error.refusal(), error.line()));
+                    self.same("reading", Err(bound), got);
+                }
+            }
+            self.same("accepting", self.monitor.is_some(), got.is_ok());
+            self.same_words(terms, state);
+        }
+        got
+    }
+
+    fn call(
+        &mut self,
+        call: &Call,
+        terms: &mut [u16],
+        state: &mut [u64],
+        scratch: &mut [u64],
+    ) -> Answer {
+        let Call { event, from, to, .. } = *call;
+        let got = if call.look {
+            raw::look(terms, state, scratch, event, from, to)
+        } else {
+            raw::request(terms, state, scratch, event, from, to)
+        };
+        let got = answer(got);
+        self.tally.call(call, got);
+        if let (Some(monitor), true) = (&mut self.monitor, scratch.len() >= SCRATCH_WORDS) {
+            let bound = answer(match call.look {
+                true => monitor.look(event, from, to),
+                false => monitor.request(event, from, to),
+            });
+            self.same("answer", bound, got);
+            self.same_words(terms, state);
+        }
+        got
+    }
+
+    fn write(&mut self, terms: &[u16], state: &[u64], output: &mut [u8]) -> Result<usize, Refusal> {
+        let got = raw::write(terms, state, output).map_err(plain);
+        self.tally.write(&got);
+        if let Ok(count) = got {
+            self.written = output[..count].to_vec();
+            let bound = self.monitor.as_ref().map(Monitor::write);
+            let right = bound.is_none_or(|text| text == self.written);
+            self.same("equal text", right, true);
+        }
+        got
+    }
+}

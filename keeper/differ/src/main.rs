@@ -1,0 +1,43 @@
+//! `differ [--calls N] [--files N] [--seed S]` holds the static library
+//! against the keeper: N calls over accepted terms, N damaged texts and as
+//! many damaged memories. The first difference is printed with its seed,
+//! made small, and the exit status is 1.
+
+mod library;
+mod options;
+mod rounds;
+mod tally;
+
+use options::Options;
+use std::process::ExitCode;
+use std::time::Instant;
+use tally::Tally;
+
+fn main() -> ExitCode {
+    let options = match Options::parse(std::env::args().skip(1)) {
+        Ok(options) => options,
+        Err(wrong) => {
+            eprintln!("{wrong}\nusage: differ [--calls N] [--files N] [--seed S]");
+            return ExitCode::from(2);
+        }
+    };
+    let begin = Instant::now();
+    let mut tally = Tally::default();
+    let result = rounds::all(&options, &mut tally);
+    print!("{tally}");
+    println!("{:.1} s", begin.elapsed().as_secs_f64());
+    match result {
+        Ok(()) if options.is_long() && !tally.unseen().is_empty() => {
+            println!("no difference, but never seen: {}", tally.unseen().join(", "));
+            ExitCode::FAILURE
+        }
+        Ok(()) => {
+            println!("no difference");
+            ExitCode::SUCCESS
+        }
+        Err(report) => {
+            println!("DIFFERENCE\n{report}");
+            ExitCode::FAILURE
+        }
+    }
+}

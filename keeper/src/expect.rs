@@ -1,0 +1,55 @@
+//! What each call over lent memory must give.
+
+use crate::record::{Call, Record};
+use crate::terms::memory::{self, State, SCRATCH_WORDS, STATE_WORDS, TERMS_WORDS};
+use crate::terms::{self, Refusal, Terms};
+
+/// Reading a text into memories of the given lengths: the named words of
+/// terms and state, or the refusal.
+pub fn reading(
+    text: &[u8],
+    terms_length: usize,
+    state_length: usize,
+) -> Result<(Vec<u16>, Vec<u64>), Refusal> {
+    if terms_length < TERMS_WORDS || state_length < STATE_WORDS {
+        return Err(Refusal::plain(6));
+    }
+    let terms = terms::read(text)?;
+    Ok((memory::terms_words(&terms), Record::new(terms).state_words()))
+}
+
+/// The terms and state in the lent memory, or refusal 6, 7 or 8.
+pub fn lent(terms: &[u16], state: &[u64]) -> Result<(Terms, State), Refusal> {
+    if terms.len() < TERMS_WORDS || state.len() < STATE_WORDS {
+        return Err(Refusal::plain(6));
+    }
+    let terms = memory::terms_of_words(terms).ok_or(Refusal::plain(7))?;
+    let state = memory::state_of_words(&terms, state).ok_or(Refusal::plain(8))?;
+    Ok((terms, state))
+}
+
+/// Writing the lent terms and relations: the text, or the refusal.
+pub fn writing(terms: &[u16], state: &[u64], output_length: usize) -> Result<Vec<u8>, Refusal> {
+    let (terms, state) = lent(terms, state)?;
+    let text = terms::write(&terms, &state.edges);
+    if output_length < text.len() {
+        return Err(Refusal::plain(6));
+    }
+    Ok(text)
+}
+
+/// A request or look over lent memory: the terms and state it is decided by,
+/// or the refusal. The decision itself is the record's.
+pub fn calling(terms: &[u16], state: &[u64], call: &Call) -> Result<(Terms, State), Refusal> {
+    let short = terms.len() < TERMS_WORDS
+        || state.len() < STATE_WORDS
+        || call.scratch_words < SCRATCH_WORDS;
+    if short {
+        return Err(Refusal::plain(6));
+    }
+    let (terms, state) = lent(terms, state)?;
+    if call.event >= terms.events || call.from.max(call.to) >= terms.members {
+        return Err(Refusal::plain(9));
+    }
+    Ok((terms, state))
+}

@@ -1,0 +1,182 @@
+//! Damaged texts: each refusal of reading, at varied lines.
+
+use super::{formulas, lines, Rng, Size};
+use crate::terms::{self, Effect, Entry, Terms, MOST_ENTRIES, MOST_PAST};
+
+/// A text with one damage, now and then two.
+pub fn text(rng: &mut Rng) -> Vec<u8> {
+    let size = if rng.percent(4) { Size::large(rng) } else { Size::small(rng) };
+    let mut terms = formulas::terms(rng, &size);
+    let kind = rng.below(10);
+    if kind < 4 {
+        damage_terms(rng, &mut terms);
+    }
+    let mut text = terms::write(&terms, &terms.edges);
+    if kind >= 4 || rng.percent(20) {
+        match rng.below(4) {
+            0 | 1 => lines::damage_field(rng, &terms, &mut text),
+            2 => lines::damage_line(rng, &mut text),
+            _ => lines::damage_byte(rng, &mut text),
+        }
+    }
+    text
+}
+
+/// Puts new entries in before a place; what stood there moves on.
+fn put_in(terms: &mut Terms, place: usize, new: &[Entry]) {
+    let moved = |entry: usize| if entry >= place { entry + new.len() } else { entry };
+    for entry in &mut terms.entries {
+        *entry = entry.with_operands(moved);
+    }
+    for policy in &mut terms.policies {
+        *policy = moved(*policy);
+    }
+    terms.entries.splice(place..place, new.iter().copied());
+}
+
+/// Breaks a rule of the terms themselves.
+fn damage_terms(rng: &mut Rng, terms: &mut Terms) {
+    let place = rng.below(terms.entries.len() + 1);
+    match rng.below(12) {
+        0 | 1 => operand_not_lower(rng, terms, place),
+        2 | 3 => two_free_variables(rng, terms, place),
+        4 | 5 => free_policy(rng, terms, place),
+        6 => too_many_past(rng, terms),
+        7 => too_many_entries(rng, terms),
+        8 => too_many_effects(rng, terms),
+        9 => head(rng, terms),
+        10 => bad_number(rng, terms, place),
+        _ => bad_place(rng, terms),
+    }
+}
+
+fn operand_not_lower(rng: &mut Rng, terms: &mut Terms, place: usize) {
+    let high = rng.pick(&[place, place, place + 1, place + 7, 255, 256, 65_535, 65_536, 99_999]);
+    let high = high.max(place);
+    let low = rng.below(place.max(1));
+    let entry = match rng.below(9) {
+        0 => Entry::Not(high),
+        1 => Entry::Or(low, high),
+        2 => Entry::Or(high, low),
+        3 => Entry::Out(0, high),
+        4 => Entry::In(0, high),
+        5 => Entry::Prev(high),
+        6 => Entry::Since(low, high),
+        7 => Entry::Bind(rng.between(1, 15), high),
+        _ => Entry::At(rng.below(16), high),
+    };
+    put_in(terms, place, &[entry]);
+}
+
+fn two_free_variables(rng: &mut Rng, terms: &mut Terms, place: usize) {
+    let x = rng.below(16);
+    let y = if rng.percent(80) { (x + rng.between(1, 15)) % 16 } else { x };
+    let (first, second) = (Entry::Var(x), Entry::Var(y));
+    let new = match rng.below(5) {
+        0 => vec![first, second, Entry::Since(place, place + 1)],
+        1 => vec![first, second, Entry::Since(place + 1, place)],
+        2 => vec![first, Entry::At(y, place), Entry::Prev(place + 1)],
+        3 => vec![first, second, Entry::Or(place, place + 1), Entry::Prev(place + 2)],
+        _ => {
+            // Bound, or not, before it is looked back on.
+            let z = rng.between(1, 15);
+            let or = Entry::Or(place, place + 1);
+            vec![first, second, or, Entry::Bind(z, place + 2), Entry::Since(place, place + 3)]
+        }
+    };
+    put_in(terms, place, &new);
+}
+
+fn free_policy(rng: &mut Rng, terms: &mut Terms, place: usize) {
+    let x = rng.between(1, 15);
+    let new = match rng.below(4) {
+        0 => vec![Entry::Var(x)],
+        1 => vec![Entry::Var(0), Entry::At(x, place)],
+        2 => vec![Entry::Var(x), Entry::Prev(place)],
+        _ => vec![Entry::Var(x), Entry::Bind(rng.between(1, 15), place)],
+    };
+    put_in(terms, place, &new);
+    let event = rng.below(terms.policies.len());
+    terms.policies[event] = place + new.len() - 1;
+}
+
+fn too_many_past(rng: &mut Rng, terms: &mut Terms) {
+    let wanted = rng.pick(&[MOST_PAST, MOST_PAST + 1, MOST_PAST + 1, MOST_PAST + 2]);
+    let past = |rng: &mut Rng, f| {
+        if rng.percent(50) {
+            Entry::Prev(f)
+        } else {
+            Entry::Since(f, 0)
+        }
+    };
+    if terms.free()[0].count_ones() > 1 {
+        return;
+    }
+    while terms.past().len() < wanted {
+        let entry = past(rng, 0);
+        terms.entries.push(entry);
+    }
+}
+
+fn too_many_entries(rng: &mut Rng, terms: &mut Terms) {
+    let wanted = rng.pick(&[MOST_ENTRIES, MOST_ENTRIES + 1, MOST_ENTRIES + 1, MOST_ENTRIES + 2]);
+    while terms.entries.len() < wanted {
+        let entry = if rng.percent(50) { Entry::Top } else { Entry::Not(0) };
+        terms.entries.push(entry);
+    }
+}
+
+fn too_many_effects(rng: &mut Rng, terms: &mut Terms) {
+    let event = rng.below(terms.events);
+    let wanted = rng.between(4, 6);
+    while terms.effects[event].len() < wanted {
+        let relation = rng.below(terms.relations);
+        let effect = Effect { add: rng.percent(50), relation, back: rng.percent(50) };
+        terms.effects[event].push(effect);
+    }
+}
+
+fn head(rng: &mut Rng, terms: &mut Terms) {
+    match rng.below(3) {
+        0 => terms.members = rng.pick(&[0, 1, 2, 63, 64, 65, 66, 99_999]),
+        1 => terms.relations = rng.pick(&[0, 1, 15, 16, 17, 18, 99_999]),
+        _ => terms.events = rng.pick(&[0, 1, 2, 15, 16, 17, 99_999]),
+    }
+}
+
+/// An entry with a variable or a label out of range, or at its last value.
+fn bad_number(rng: &mut Rng, terms: &mut Terms, place: usize) {
+    let variable = rng.pick(&[0, 14, 15, 16, 17, 99_999]);
+    let labels = terms.relations + terms.events;
+    let label = rng.pick(&[labels - 1, labels, labels + 1, 31, 32, 33, 99_999]);
+    let f = if rng.percent(70) { place } else { place + 1 };
+    let entry = match rng.below(5) {
+        0 => Entry::Var(variable),
+        1 => Entry::Bind(variable, f),
+        2 => Entry::At(variable, f),
+        3 => Entry::Out(label, f),
+        _ => Entry::In(label, f),
+    };
+    put_in(terms, place, &[Entry::Top, entry]);
+}
+
+/// A policy, effect or edge that names what does not exist.
+fn bad_place(rng: &mut Rng, terms: &mut Terms) {
+    let event = rng.below(terms.events);
+    let far = rng.pick(&[0, 1, 16, 17, 64, 99_999]);
+    let relation = rng.pick(&[terms.relations, terms.relations + 1, far]);
+    let member = rng.pick(&[terms.members - 1, terms.members, terms.members + 1, far]);
+    match rng.below(4) {
+        0 => {
+            let count = terms.entries.len();
+            terms.policies[event] = rng.pick(&[count, count + 1, 255, 256, 99_999]);
+        }
+        1 => terms.effects[event].push(Effect { add: true, relation, back: rng.percent(50) }),
+        2 => {
+            terms.edges.insert((rng.below(terms.relations), member, rng.below(terms.members)));
+        }
+        _ => {
+            terms.edges.insert((relation, rng.below(terms.members), member));
+        }
+    }
+}

@@ -1,0 +1,96 @@
+//! Formulas of several entries that chance alone seldom builds.
+
+use super::formulas::Builder;
+use crate::terms::Entry;
+
+impl Builder<'_> {
+    /// One pattern, as far as the bounds allow.
+    pub fn pattern(&mut self) {
+        match self.rng.below(8) {
+            0 | 1 => self.once_and_not_since(),
+            2 | 3 => self.bind_again(),
+            4 | 5 => self.before_the_past(),
+            6 => self.both(),
+            _ => self.shown(),
+        };
+    }
+
+    /// "Once this, and not that since", seen from the target.
+    fn once_and_not_since(&mut self) -> Option<usize> {
+        let (x, once, ended, from) =
+            (self.rng.between(1, 3), self.label(), self.label(), self.label());
+        let who = self.push(Entry::Var(x))?;
+        let begun = self.push(Entry::Out(once, who))?;
+        let over = self.push(Entry::Out(ended, who))?;
+        let lasting = self.push(Entry::Not(over))?;
+        let since = self.push(Entry::Since(lasting, begun))?;
+        let entered = self.push(Entry::In(from, since))?;
+        let target = self.push(Entry::At(0, entered))?;
+        self.push(Entry::Bind(x, target))
+    }
+
+    /// A variable bound, bound again further in, and used in both places.
+    fn bind_again(&mut self) -> Option<usize> {
+        let (x, outer, inner) = (self.rng.between(1, 3), self.label(), self.label());
+        let who = self.push(Entry::Var(x))?;
+        let near = match self.rng.below(3) {
+            0 => self.push(Entry::In(outer, who))?,
+            1 => self.push(Entry::Out(outer, who))?,
+            _ => self.push(Entry::At(0, who))?,
+        };
+        let deep = match self.rng.below(3) {
+            0 => self.operand(),
+            1 => self.push(Entry::Not(who))?,
+            _ => near,
+        };
+        let again = self.push(Entry::Bind(x, deep))?;
+        let far = match self.rng.below(3) {
+            0 => self.push(Entry::In(inner, again))?,
+            1 => self.push(Entry::Out(inner, again))?,
+            _ => self.push(Entry::At(0, again))?,
+        };
+        let either = match self.rng.below(3) {
+            0 => self.push(Entry::Or(near, far))?,
+            1 => self.push(Entry::Since(near, far))?,
+            _ => self.push(Entry::Or(far, near))?,
+        };
+        let bound = self.push(Entry::Bind(x, either))?;
+        if self.rng.percent(50) {
+            return Some(bound);
+        }
+        self.push(Entry::Since(bound, bound))
+    }
+
+    /// A past-time entry seen one moment later.
+    fn before_the_past(&mut self) -> Option<usize> {
+        let operand = self.past_operand(0);
+        let label = self.label();
+        let seen = self.push(Entry::Out(label, operand))?;
+        let inner = match self.rng.below(4) {
+            0 => self.push(Entry::Prev(seen))?,
+            1 => self.push(Entry::Since(operand, seen))?,
+            2 => self.push(Entry::Since(seen, operand))?,
+            _ => {
+                let top = self.push(Entry::Top)?;
+                self.push(Entry::Since(top, seen))?
+            }
+        };
+        let outer = if self.rng.percent(30) { self.push(Entry::Not(inner))? } else { inner };
+        self.push(Entry::Prev(outer))
+    }
+
+    /// Two entries both holding.
+    fn both(&mut self) -> Option<usize> {
+        let (f, g) = (self.operand(), self.operand());
+        let not_f = self.push(Entry::Not(f))?;
+        let not_g = self.push(Entry::Not(g))?;
+        let either = self.push(Entry::Or(not_f, not_g))?;
+        self.push(Entry::Not(either))
+    }
+
+    /// An entry as its own table: f since f holds just where f holds now.
+    fn shown(&mut self) -> Option<usize> {
+        let f = self.past_operand(0);
+        self.push(Entry::Since(f, f))
+    }
+}

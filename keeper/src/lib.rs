@@ -1,0 +1,22 @@
+//! The keeper of the whole record of the sharing-terms monitor.
+//!
+//! It keeps one graph for each moment and works every answer out from the
+//! start, by the meaning of the formulas. No table is ever carried along.
+//!
+//! * `terms`: the terms file and the lent memory, read and written
+//! * `record`: the list of graphs, and the meaning of a formula over it
+//! * `expect`: what each call over lent memory must give
+//! * `program`: what the program must print
+//! * `cases`: what the program of cases must print
+//! * `generate`: seeded cases, sound and damaged
+//! * `compare`: holds another implementation against all this
+//! * `shrink`: makes a failing case small
+
+pub mod cases;
+pub mod compare;
+pub mod expect;
+pub mod generate;
+pub mod program;
+pub mod record;
+pub mod shrink;
+pub mod terms;

@@ -1,0 +1,164 @@
+//! The keeper of the whole record: one graph for each moment.
+
+pub mod meaning;
+
+use crate::terms::memory::{self, State, SCRATCH_WORDS};
+use crate::terms::{Edge, EventEdge, Refusal, Terms, Variables};
+use meaning::{Assigned, Meaning};
+use std::collections::BTreeSet;
+
+/// The graph of one moment.
+#[derive(Clone, Debug, Default, PartialEq, Eq)]
+pub struct Graph {
+    pub edges: BTreeSet<Edge>,
+    pub event: Option<EventEdge>,
+}
+
+/// One call: a request, or a look.
+#[derive(Clone, Copy, Debug, PartialEq, Eq)]
+pub struct Call {
+    pub look: bool,
+    pub event: usize,
+    pub from: usize,
+    pub to: usize,
+    pub scratch_words: usize,
+}
+
+impl Call {
+    pub fn request(event: usize, from: usize, to: usize) -> Call {
+        Call { look: false, event, from, to, scratch_words: SCRATCH_WORDS }
+    }
+
+    pub fn look(event: usize, from: usize, to: usize) -> Call {
+        Call { look: true, ..Call::request(event, from, to) }
+    }
+}
+
+/// What a call gives.
+#[derive(Clone, Copy, Debug, PartialEq, Eq)]
+pub enum Answer {
+    Grant,
+    Deny,
+    Refused(Refusal),
+}
+
+/// The accepted terms and the list of graphs.
+pub struct Record {
+    terms: Terms,
+    free: Vec<Variables>,
+    graphs: Vec<Graph>,
+}
+
+impl Record {
+    /// The record at moment 0: the first edges, no event edge.
+    pub fn new(terms: Terms) -> Record {
+        let first = Graph { edges: terms.edges.clone(), event: None };
+        Record { free: terms.free(), graphs: vec![first], terms }
+    }
+
+    pub fn terms(&self) -> &Terms {
+        &self.terms
+    }
+
+    pub fn graphs(&self) -> &[Graph] {
+        &self.graphs
+    }
+
+    /// The present moment's graph.
+    pub fn last(&self) -> &Graph {
+        &self.graphs[self.graphs.len() - 1]
+    }
+
+    /// Answers a call by the first rule that fits.
+    pub fn call(
+        &mut self,
+        look: bool,
+        event: usize,
+        from: usize,
+        to: usize,
+        scratch_words: usize,
+    ) -> Answer {
+        if scratch_words < SCRATCH_WORDS {
+            return Answer::Refused(Refusal::plain(6));
+        }
+        if event >= self.terms.events || from.max(to) >= self.terms.members {
+            return Answer::Refused(Refusal::plain(9));
+        }
+        if !self.permits(event, from, to) {
+            return Answer::Deny;
+        }
+        if !look {
+            let edges = after_effects(&self.terms, &self.last().edges, event, from, to);
+            self.graphs.push(Graph { edges, event: Some((event, from, to)) });
+        }
+        Answer::Grant
+    }
+
+    /// The same, from a call kept as one value.
+    pub fn answer(&mut self, call: &Call) -> Answer {
+        self.call(call.look, call.event, call.from, call.to, call.scratch_words)
+    }
+
+    /// Whether the event's policy holds now, at the initiator, with variable 0
+    /// standing for the target.
+    pub fn permits(&self, event: usize, from: usize, to: usize) -> bool {
+        let assigned = Assigned::default().with(0, to);
+        self.holds(self.terms.policies[event], self.graphs.len() - 1, from, assigned)
+    }
+
+    /// Whether an entry holds at a moment, at a member.
+    pub fn holds(&self, entry: usize, moment: usize, member: usize, assigned: Assigned) -> bool {
+        self.meaning().holds(entry, moment, member, assigned)
+    }
+
+    fn meaning(&self) -> Meaning<'_> {
+        Meaning::new(&self.terms, &self.free, &self.graphs)
+    }
+
+    /// The state after the calls so far, worked out from the record.
+    pub fn state(&self) -> State {
+        let mut meaning = self.meaning();
+        let now = self.graphs.len() - 1;
+        let mut tables = Vec::new();
+        for entry in self.terms.past() {
+            let mut table = BTreeSet::new();
+            for (a, b) in memory::pairs(self.terms.members) {
+                let mut assigned = Assigned::default();
+                if self.free[entry] != 0 {
+                    assigned = assigned.with(self.free[entry].trailing_zeros() as usize, b);
+                }
+                if meaning.holds(entry, now, a, assigned) {
+                    table.insert((a, b));
+                }
+            }
+            tables.push(table);
+        }
+        State { edges: self.last().edges.clone(), tables, event: self.last().event }
+    }
+
+    /// The 3,073 words the state must hold after the calls so far.
+    pub fn state_words(&self) -> Vec<u64> {
+        memory::state_words(&self.state())
+    }
+}
+
+/// The edges after an event's effects, in listed order.
+pub fn after_effects(
+    terms: &Terms,
+    edges: &BTreeSet<Edge>,
+    event: usize,
+    from: usize,
+    to: usize,
+) -> BTreeSet<Edge> {
+    let mut edges = edges.clone();
+    for effect in &terms.effects[event] {
+        let (tail, head) = if effect.back { (to, from) } else { (from, to) };
+        let edge = (effect.relation, tail, head);
+        if effect.add {
+            edges.insert(edge);
+        } else {
+            edges.remove(&edge);
+        }
+    }
+    edges
+}

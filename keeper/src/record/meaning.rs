@@ -1,0 +1,128 @@
+//! The meaning of a formula over a list of graphs.
+
+use super::Graph;
+use crate::terms::{Entry, Terms, Variables, VARIABLES};
+use std::collections::HashMap;
+use std::hash::{BuildHasherDefault, Hasher};
+
+/// The members variables 0 to 15 stand for, six bits each. A variable not
+/// named stands for member 0.
+#[derive(Clone, Copy, Debug, Default, PartialEq, Eq)]
+pub struct Assigned(u128);
+
+impl Assigned {
+    pub fn member(self, variable: usize) -> usize {
+        (self.0 >> (6 * variable) & 63) as usize
+    }
+
+    pub fn with(self, variable: usize, member: usize) -> Assigned {
+        let others = self.0 & !(63 << (6 * variable));
+        Assigned(others | (member as u128) << (6 * variable))
+    }
+}
+
+/// One evaluation. What it has found out is remembered as long as it lives,
+/// which is never longer than one call.
+pub struct Meaning<'a> {
+    terms: &'a Terms,
+    graphs: &'a [Graph],
+    /// For each entry, the bits of an assignment that its free variables take.
+    relevant: Vec<u128>,
+    known: Vec<HashMap<u128, bool, BuildHasherDefault<Mix>>>,
+}
+
+impl<'a> Meaning<'a> {
+    pub fn new(terms: &'a Terms, free: &[Variables], graphs: &'a [Graph]) -> Meaning<'a> {
+        let bits = |&set: &Variables| {
+            let chosen = (0..VARIABLES).filter(|x| set >> x & 1 == 1);
+            chosen.fold(0, |bits, x| bits | 63 << (6 * x))
+        };
+        Meaning {
+            terms,
+            graphs,
+            relevant: free.iter().map(bits).collect(),
+            known: vec![HashMap::default(); terms.entries.len()],
+        }
+    }
+
+    /// Whether an entry holds at moment i, at member m, under an assignment.
+    pub fn holds(&mut self, entry: usize, i: usize, m: usize, assigned: Assigned) -> bool {
+        match self.terms.entries[entry] {
+            Entry::Top => return true,
+            Entry::Var(x) => return m == assigned.member(x),
+            _ => {}
+        }
+        let place = (i as u128) << 102 | (m as u128) << 96 | (assigned.0 & self.relevant[entry]);
+        if let Some(&value) = self.known[entry].get(&place) {
+            return value;
+        }
+        let value = self.work_out(entry, i, m, assigned);
+        self.known[entry].insert(place, value);
+        value
+    }
+
+    fn work_out(&mut self, entry: usize, i: usize, m: usize, assigned: Assigned) -> bool {
+        let members = 0..self.terms.members;
+        match self.terms.entries[entry] {
+            Entry::Top => true,
+            Entry::Var(x) => m == assigned.member(x),
+            Entry::Not(f) => !self.holds(f, i, m, assigned),
+            Entry::Or(f, g) => self.holds(f, i, m, assigned) || self.holds(g, i, m, assigned),
+            Entry::Out(l, f) => members
+                .into_iter()
+                .any(|other| self.edge(i, l, m, other) && self.holds(f, i, other, assigned)),
+            Entry::In(l, f) => members
+                .into_iter()
+                .any(|other| self.edge(i, l, other, m) && self.holds(f, i, other, assigned)),
+            Entry::Prev(f) => i > 0 && self.holds(f, i - 1, m, assigned),
+            Entry::Since(f, g) => self.since(f, g, i, m, assigned),
+            Entry::Bind(x, f) => self.holds(f, i, m, assigned.with(x, m)),
+            Entry::At(x, f) => self.holds(f, i, assigned.member(x), assigned),
+        }
+    }
+
+    /// For some j up to i, g holds at j and f holds at every moment after j up
+    /// to i. Going back from i: once f fails at j, no earlier moment will do.
+    fn since(&mut self, f: usize, g: usize, i: usize, m: usize, assigned: Assigned) -> bool {
+        for j in (0..=i).rev() {
+            if self.holds(g, j, m, assigned) {
+                return true;
+            }
+            if !self.holds(f, j, m, assigned) {
+                return false;
+            }
+        }
+        false
+    }
+
+    /// Whether the graph of moment i has an edge under a label.
+    fn edge(&self, i: usize, label: usize, from: usize, to: usize) -> bool {
+        let graph = &self.graphs[i];
+        match label.checked_sub(self.terms.relations) {
+            None => graph.edges.contains(&(label, from, to)),
+            Some(event) => graph.event == Some((event, from, to)),
+        }
+    }
+}
+
+/// A quick hash of one 128-bit number.
+#[derive(Default)]
+pub struct Mix(u64);
+
+impl Hasher for Mix {
+    fn write(&mut self, bytes: &[u8]) {
+        for &byte in bytes {
+            self.0 = (self.0 ^ u64::from(byte)).wrapping_mul(0x0100_0000_01b3);
+        }
+    }
+
+    fn write_u128(&mut self, number: u128) {
+        let high = ((number >> 64) as u64).wrapping_mul(0x9e37_79b9_7f4a_7c15);
+        let mixed = (number as u64 ^ high.rotate_left(32)).wrapping_mul(0xbf58_476d_1ce4_e5b9);
+        self.0 = mixed ^ mixed >> 29;
+    }
+
+    fn finish(&self) -> u64 {
+        self.0
+    }
+}

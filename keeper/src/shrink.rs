@@ -1,0 +1,154 @@
+//! Makes a failing case small.
+
+use crate::record::Call;
+use crate::terms::memory::SCRATCH_WORDS;
+use crate::terms::{self, Entry, Terms};
+
+/// Drops calls and lines, makes readable terms smaller and calls plainer, as
+/// long as `fails` stays true of what is left. The given case must fail.
+pub fn shrink<F>(text: &[u8], calls: &[Call], mut fails: F) -> (Vec<u8>, Vec<Call>)
+where
+    F: FnMut(&[u8], &[Call]) -> bool,
+{
+    let (mut text, mut calls) = (text.to_vec(), calls.to_vec());
+    loop {
+        let fewer_calls = drop_parts(&mut calls, |left| fails(&text, left));
+        let mut lines: Vec<Vec<u8>> =
+            text.split_inclusive(|&byte| byte == b'\n').map(<[u8]>::to_vec).collect();
+        let fewer_lines = drop_parts(&mut lines, |left| fails(&left.concat(), &calls));
+        text = lines.concat();
+        let smaller_terms = smaller_terms(&mut text, |left| fails(left, &calls));
+        let plainer_calls = plainer_calls(&mut calls, |left| fails(&text, left));
+        if !fewer_calls && !fewer_lines && !smaller_terms && !plainer_calls {
+            return (text, calls);
+        }
+    }
+}
+
+/// Drops runs of items, long runs first, as long as `fails` stays true. Says
+/// whether any were dropped.
+pub fn drop_parts<T: Clone>(items: &mut Vec<T>, mut fails: impl FnMut(&[T]) -> bool) -> bool {
+    let before = items.len();
+    let mut run = items.len();
+    while run > 0 {
+        let mut start = 0;
+        while start < items.len() {
+            let end = (start + run).min(items.len());
+            let left = [&items[..start], &items[end..]].concat();
+            if fails(&left) {
+                *items = left;
+            } else {
+                start = end;
+            }
+        }
+        run /= 2;
+    }
+    items.len() < before
+}
+
+/// Puts the smallest numbers into calls as long as `fails` stays true. Says
+/// whether any call was changed.
+fn plainer_calls(calls: &mut Vec<Call>, mut fails: impl FnMut(&[Call]) -> bool) -> bool {
+    let mut changed = false;
+    for index in 0..calls.len() {
+        for part in 0..5 {
+            let mut call = calls[index];
+            match part {
+                0 => call.event = 0,
+                1 => call.from = 0,
+                2 => call.to = 0,
+                3 => call.look = false,
+                _ => call.scratch_words = SCRATCH_WORDS,
+            }
+            let mut others = calls.clone();
+            others[index] = call;
+            if call != calls[index] && fails(&others) {
+                *calls = others;
+                changed = true;
+            }
+        }
+    }
+    changed
+}
+
+/// Takes the first smaller readable text that still fails, again and again.
+fn smaller_terms(text: &mut Vec<u8>, mut fails: impl FnMut(&[u8]) -> bool) -> bool {
+    let mut changed = false;
+    'again: while let Ok(terms) = terms::read(text) {
+        for candidate in candidates(&terms) {
+            let smaller = terms::write(&candidate, &candidate.edges);
+            if terms::read(&smaller).is_ok() && fails(&smaller) {
+                *text = smaller;
+                changed = true;
+                continue 'again;
+            }
+        }
+        break;
+    }
+    changed
+}
+
+/// Terms with one thing less; some are not sound.
+fn candidates(terms: &Terms) -> Vec<Terms> {
+    let mut all = Vec::new();
+    for index in (0..terms.entries.len()).rev() {
+        all.push(without_entry(terms, index));
+        if terms.entries[index] != Entry::Top {
+            let mut other = terms.clone();
+            other.entries[index] = Entry::Top;
+            all.push(other);
+        }
+    }
+    let mut fewer_events = terms.clone();
+    fewer_events.events -= 1;
+    fewer_events.policies.pop();
+    fewer_events.effects.pop();
+    all.push(fewer_events);
+    let mut fewer_members = terms.clone();
+    fewer_members.members -= 1;
+    fewer_members.edges.retain(|&(_, from, to)| from.max(to) < fewer_members.members);
+    all.push(fewer_members);
+    if terms.relations > 0 {
+        all.push(without_last_relation(terms));
+    }
+    all
+}
+
+/// The terms without an entry. Who named it names its first operand instead,
+/// or entry 0.
+fn without_entry(terms: &Terms, gone: usize) -> Terms {
+    let instead = terms.entries[gone].operands().first().copied().unwrap_or(0);
+    let renamed = |entry: usize| match entry {
+        entry if entry == gone => instead,
+        entry if entry > gone => entry - 1,
+        entry => entry,
+    };
+    let mut other = terms.clone();
+    other.entries.remove(gone);
+    for entry in &mut other.entries {
+        *entry = entry.with_operands(renamed);
+    }
+    for policy in &mut other.policies {
+        *policy = renamed(*policy);
+    }
+    other
+}
+
+/// The terms without the last relation; event labels move down by one.
+fn without_last_relation(terms: &Terms) -> Terms {
+    let mut other = terms.clone();
+    other.relations -= 1;
+    let last = other.relations;
+    for entry in &mut other.entries {
+        *entry = match *entry {
+            Entry::Out(l, f) if l > last => Entry::Out(l - 1, f),
+            Entry::In(l, f) if l > last => Entry::In(l - 1, f),
+            same => same,
+        };
+    }
+    for effects in &mut other.effects {
+        effects.retain(|effect| effect.relation < last);
+    }
+    other.edges.retain(|&(relation, _, _)| relation < last);
+    other
+}

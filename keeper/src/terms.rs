@@ -1,0 +1,195 @@
+//! Terms as plain values.
+
+pub mod memory;
+pub mod read;
+pub mod write;
+
+use std::collections::BTreeSet;
+
+pub use read::read;
+pub use write::write;
+
+pub const MOST_MEMBERS: usize = 64;
+pub const MOST_RELATIONS: usize = 16;
+pub const MOST_EVENTS: usize = 16;
+pub const MOST_ENTRIES: usize = 256;
+pub const MOST_PAST: usize = 32;
+pub const MOST_EFFECTS: usize = 4;
+pub const VARIABLES: usize = 16;
+
+/// An edge under a relation: relation, from, to.
+pub type Edge = (usize, usize, usize);
+
+/// An event edge: event, from, to.
+pub type EventEdge = (usize, usize, usize);
+
+/// A set of variables: bit x stands for variable x.
+pub type Variables = u16;
+
+/// What is returned when nothing is decided. The line is 0 where no text is read.
+#[derive(Clone, Copy, Debug, PartialEq, Eq)]
+pub struct Refusal {
+    pub number: u16,
+    pub line: usize,
+}
+
+impl Refusal {
+    /// A refusal that names no line.
+    pub fn plain(number: u16) -> Refusal {
+        Refusal { number, line: 0 }
+    }
+}
+
+/// One entry of the formula list.
+#[derive(Clone, Copy, Debug, PartialEq, Eq)]
+pub enum Entry {
+    Top,
+    Var(usize),
+    Not(usize),
+    Or(usize, usize),
+    Out(usize, usize),
+    In(usize, usize),
+    Prev(usize),
+    Since(usize, usize),
+    Bind(usize, usize),
+    At(usize, usize),
+}
+
+/// What a field of an F line stands for.
+#[derive(Clone, Copy, Debug, PartialEq, Eq)]
+pub enum Field {
+    Unused,
+    Variable,
+    BoundVariable,
+    Label,
+    Entry,
+}
+
+/// The ten operators by number: word, first field, second field.
+pub const OPERATORS: [(&str, Field, Field); 10] = [
+    ("top", Field::Unused, Field::Unused),
+    ("var", Field::Variable, Field::Unused),
+    ("not", Field::Entry, Field::Unused),
+    ("or", Field::Entry, Field::Entry),
+    ("out", Field::Label, Field::Entry),
+    ("in", Field::Label, Field::Entry),
+    ("prev", Field::Entry, Field::Unused),
+    ("since", Field::Entry, Field::Entry),
+    ("bind", Field::BoundVariable, Field::Entry),
+    ("at", Field::Variable, Field::Entry),
+];
+
+impl Entry {
+    /// The entry's operator number and its two fields.
+    pub fn parts(self) -> (usize, usize, usize) {
+        match self {
+            Entry::Top => (0, 0, 0),
+            Entry::Var(x) => (1, x, 0),
+            Entry::Not(f) => (2, f, 0),
+            Entry::Or(f, g) => (3, f, g),
+            Entry::Out(l, f) => (4, l, f),
+            Entry::In(l, f) => (5, l, f),
+            Entry::Prev(f) => (6, f, 0),
+            Entry::Since(f, g) => (7, f, g),
+            Entry::Bind(x, f) => (8, x, f),
+            Entry::At(x, f) => (9, x, f),
+        }
+    }
+
+    /// The entry of an operator number and two fields; unused fields are dropped.
+    pub fn of_parts(operator: usize, a: usize, b: usize) -> Option<Entry> {
+        Some(match operator {
+            0 => Entry::Top,
+            1 => Entry::Var(a),
+            2 => Entry::Not(a),
+            3 => Entry::Or(a, b),
+            4 => Entry::Out(a, b),
+            5 => Entry::In(a, b),
+            6 => Entry::Prev(a),
+            7 => Entry::Since(a, b),
+            8 => Entry::Bind(a, b),
+            9 => Entry::At(a, b),
+            _ => return None,
+        })
+    }
+
+    /// Whether the entry looks into the past and so has a table.
+    pub fn is_past(self) -> bool {
+        matches!(self, Entry::Prev(_) | Entry::Since(_, _))
+    }
+
+    /// The entries this one is built from.
+    pub fn operands(self) -> Vec<usize> {
+        let (operator, a, b) = self.parts();
+        let (_, first, second) = OPERATORS[operator];
+        let fields = [(first, a), (second, b)];
+        let chosen = fields.iter().filter(|(field, _)| *field == Field::Entry);
+        chosen.map(|&(_, value)| value).collect()
+    }
+
+    /// The same entry with its operands renamed.
+    pub fn with_operands(self, rename: impl Fn(usize) -> usize) -> Entry {
+        match self {
+            Entry::Top | Entry::Var(_) => self,
+            Entry::Not(f) => Entry::Not(rename(f)),
+            Entry::Or(f, g) => Entry::Or(rename(f), rename(g)),
+            Entry::Out(l, f) => Entry::Out(l, rename(f)),
+            Entry::In(l, f) => Entry::In(l, rename(f)),
+            Entry::Prev(f) => Entry::Prev(rename(f)),
+            Entry::Since(f, g) => Entry::Since(rename(f), rename(g)),
+            Entry::Bind(x, f) => Entry::Bind(x, rename(f)),
+            Entry::At(x, f) => Entry::At(x, rename(f)),
+        }
+    }
+
+    /// The free variables, given those of all lower entries.
+    pub fn free(self, lower: &[Variables]) -> Variables {
+        match self {
+            Entry::Top => 0,
+            Entry::Var(x) => 1 << x,
+            Entry::Not(f) | Entry::Prev(f) => lower[f],
+            Entry::Out(_, f) | Entry::In(_, f) => lower[f],
+            Entry::Or(f, g) | Entry::Since(f, g) => lower[f] | lower[g],
+            Entry::Bind(x, f) => lower[f] & !(1 << x),
+            Entry::At(x, f) => lower[f] | (1 << x),
+        }
+    }
+}
+
+/// One change an event makes to the relations.
+#[derive(Clone, Copy, Debug, PartialEq, Eq)]
+pub struct Effect {
+    pub add: bool,
+    pub relation: usize,
+    /// Target to initiator instead of initiator to target.
+    pub back: bool,
+}
+
+/// The whole terms, with the first edges.
+#[derive(Clone, Debug, Default, PartialEq, Eq)]
+pub struct Terms {
+    pub members: usize,
+    pub relations: usize,
+    pub events: usize,
+    pub entries: Vec<Entry>,
+    pub policies: Vec<usize>,
+    /// One list for each event.
+    pub effects: Vec<Vec<Effect>>,
+    pub edges: BTreeSet<Edge>,
+}
+
+impl Terms {
+    /// The past-time entries in entry order: table t belongs to the t-th.
+    pub fn past(&self) -> Vec<usize> {
+        (0..self.entries.len()).filter(|&entry| self.entries[entry].is_past()).collect()
+    }
+
+    /// The free variables of every entry.
+    pub fn free(&self) -> Vec<Variables> {
+        let mut free = Vec::new();
+        for entry in &self.entries {
+            free.push(entry.free(&free));
+        }
+        free
+    }
+}

@@ -1,0 +1,171 @@
+//! The comparison accepts a faithful implementation and catches impostors.
+
+use keeper::compare::{self, Other};
+use keeper::expect;
+use keeper::generate;
+use keeper::record::{Answer, Call, Record};
+use keeper::shrink::shrink;
+use keeper::terms::{self, Refusal};
+
+#[derive(Clone, Copy, PartialEq, Debug)]
+enum Fault {
+    None,
+    RefusesAll,
+    DeniesAll,
+    GrantsAll,
+    MovesNoTable,
+    MovesTablesOnce,
+    FixedLine,
+    KeepsScratch,
+    TouchesBeyond,
+    LookMakesMoment,
+    WritesTooMuch,
+}
+
+/// An implementation that has the record itself, and perhaps a fault.
+struct Mirror {
+    fault: Fault,
+    record: Option<Record>,
+}
+
+impl Mirror {
+    fn new(fault: Fault) -> Mirror {
+        Mirror { fault, record: None }
+    }
+}
+
+impl Other for Mirror {
+    fn read(&mut self, text: &[u8], terms: &mut [u16], state: &mut [u64]) -> Result<(), Refusal> {
+        if self.fault == Fault::RefusesAll {
+            return Err(Refusal::plain(6));
+        }
+        let line = |refusal: Refusal| match self.fault {
+            Fault::FixedLine => Refusal { line: 1, ..refusal },
+            _ => refusal,
+        };
+        let (front_terms, front_state) =
+            expect::reading(text, terms.len(), state.len()).map_err(line)?;
+        terms[..front_terms.len()].copy_from_slice(&front_terms);
+        state[..front_state.len()].copy_from_slice(&front_state);
+        self.record = terms::read(text).ok().map(Record::new);
+        Ok(())
+    }
+
+    fn call(
+        &mut self,
+        call: &Call,
+        terms: &mut [u16],
+        state: &mut [u64],
+        scratch: &mut [u64],
+    ) -> Answer {
+        if let Err(refusal) = expect::calling(terms, state, call) {
+            return Answer::Refused(refusal);
+        }
+        match self.fault {
+            Fault::DeniesAll => return Answer::Deny,
+            Fault::GrantsAll => return Answer::Grant,
+            _ => {}
+        }
+        let record = self.record.as_mut().expect("a text was read");
+        let look = call.look && self.fault != Fault::LookMakesMoment;
+        let answer = record.answer(&Call { look, ..*call });
+        if answer == Answer::Grant && !look {
+            let words = record.state_words();
+            let tables = match self.fault {
+                Fault::MovesNoTable => false,
+                Fault::MovesTablesOnce => record.graphs().len() < 3,
+                _ => true,
+            };
+            state[..1_024].copy_from_slice(&words[..1_024]);
+            state[3_072] = words[3_072];
+            if tables {
+                state[1_024..3_072].copy_from_slice(&words[1_024..3_072]);
+            }
+            if self.fault != Fault::KeepsScratch {
+                scratch[..2_048].fill(0);
+            }
+            if self.fault == Fault::TouchesBeyond {
+                state[3_073] = 0;
+            }
+        }
+        answer
+    }
+
+    fn write(&mut self, terms: &[u16], state: &[u64], output: &mut [u8]) -> Result<usize, Refusal> {
+        let text = expect::writing(terms, state, output.len())?;
+        if self.fault == Fault::WritesTooMuch {
+            output.fill(0);
+        }
+        output[..text.len()].copy_from_slice(&text);
+        Ok(text.len())
+    }
+}
+
+fn differs(fault: Fault, case: &generate::Case) -> bool {
+    compare::case(&mut Mirror::new(fault), case).is_err()
+}
+
+#[test]
+fn a_faithful_one_passes() {
+    for seed in 0..120 {
+        let case = generate::case(seed, 99_999);
+        let result = compare::case(&mut Mirror::new(Fault::None), &case);
+        assert_eq!(result, Ok(()), "{case}");
+        let text = generate::damaged_text(seed);
+        for (terms, state) in [(980, 3_073), (979, 3_073), (980, 3_072), (2_000, 4_000)] {
+            let result = compare::read(&mut Mirror::new(Fault::None), &text, terms, state);
+            assert_eq!(result, Ok(()), "seed {seed}");
+        }
+    }
+}
+
+#[test]
+fn impostors_are_caught() {
+    use Fault::*;
+    let faults = [
+        RefusesAll,
+        DeniesAll,
+        GrantsAll,
+        MovesNoTable,
+        MovesTablesOnce,
+        KeepsScratch,
+        TouchesBeyond,
+        LookMakesMoment,
+        WritesTooMuch,
+    ];
+    for fault in faults {
+        let caught = (0..30).filter(|&seed| differs(fault, &generate::case(seed, 99_999))).count();
+        assert!(caught > 3, "{fault:?}: {caught}");
+    }
+    let named = |seed| {
+        let text = generate::damaged_text(seed);
+        compare::read(&mut Mirror::new(FixedLine), &text, 980, 3_073).is_err()
+    };
+    assert!((0..60).filter(|&seed| named(seed)).count() > 20);
+}
+
+#[test]
+fn a_difference_shrinks() {
+    let fault = Fault::MovesTablesOnce;
+    let found = (0..).map(|seed| generate::case(seed, 99_999)).find(|case| differs(fault, case));
+    let case = found.unwrap();
+    let fails = |text: &[u8], calls: &[Call]| {
+        let (text, calls) = (text.to_vec(), calls.to_vec());
+        differs(fault, &generate::Case { seed: case.seed, text, calls })
+    };
+    let (text, calls) = shrink(&case.text, &case.calls, fails);
+    assert!(fails(&text, &calls));
+    assert!(calls.len() <= 3, "{}", generate::Case { seed: case.seed, text, calls });
+}
+
+#[test]
+fn damaged_memory_is_compared() {
+    for seed in 0..150 {
+        let (terms, state) = generate::damaged_memory(seed);
+        let other = &mut Mirror::new(Fault::DeniesAll);
+        for call in [Call::request(0, 0, 0), Call::look(0, 0, 0), Call::request(9, 0, 0)] {
+            assert_eq!(compare::call(other, &call, &terms, &state), Ok(()), "seed {seed}");
+        }
+        assert_eq!(compare::write(other, &terms, &state), Ok(()), "seed {seed}");
+    }
+}

@@ -1,0 +1,79 @@
+//! The meaning once more, word for word and without remembering anything.
+
+use crate::help::accepted;
+use keeper::generate;
+use keeper::record::meaning::Assigned;
+use keeper::record::{Graph, Record};
+use keeper::terms::memory::pairs;
+use keeper::terms::{Entry, Terms};
+
+type Members = [usize; 16];
+
+struct Literal<'a> {
+    terms: &'a Terms,
+    graphs: &'a [Graph],
+}
+
+impl Literal<'_> {
+    fn edge(&self, i: usize, l: usize, from: usize, to: usize) -> bool {
+        let (r, graph) = (self.terms.relations, &self.graphs[i]);
+        (l < r && graph.edges.contains(&(l, from, to)))
+            || (l >= r && graph.event == Some((l - r, from, to)))
+    }
+
+    fn holds(&self, entry: usize, i: usize, m: usize, s: Members) -> bool {
+        let n = self.terms.members;
+        match self.terms.entries[entry] {
+            Entry::Top => true,
+            Entry::Var(x) => m == s[x],
+            Entry::Not(f) => !self.holds(f, i, m, s),
+            Entry::Or(f, g) => self.holds(f, i, m, s) || self.holds(g, i, m, s),
+            Entry::Out(l, f) => (0..n).any(|o| self.edge(i, l, m, o) && self.holds(f, i, o, s)),
+            Entry::In(l, f) => (0..n).any(|o| self.edge(i, l, o, m) && self.holds(f, i, o, s)),
+            Entry::Prev(f) => i > 0 && self.holds(f, i - 1, m, s),
+            Entry::Since(f, g) => (0..=i)
+                .any(|j| self.holds(g, j, m, s) && (j + 1..=i).all(|k| self.holds(f, k, m, s))),
+            Entry::Bind(x, f) => {
+                let mut bound = s;
+                bound[x] = m;
+                self.holds(f, i, m, bound)
+            }
+            Entry::At(x, f) => self.holds(f, i, s[x], s),
+        }
+    }
+}
+
+#[test]
+fn remembering_changes_nothing() {
+    let mut compared = 0;
+    for seed in 0..1_500 {
+        let case = generate::case(seed, 99_999);
+        let terms = accepted(&case.text);
+        let nested = terms.past().len();
+        if terms.members > 4 || terms.entries.len() > 16 || nested > 3 {
+            continue;
+        }
+        let mut record = Record::new(terms);
+        for call in &case.calls {
+            if record.graphs().len() < 8 {
+                record.answer(call);
+            }
+        }
+        let now = record.graphs().len() - 1;
+        let literal = Literal { terms: record.terms(), graphs: record.graphs() };
+        for entry in 0..record.terms().entries.len() {
+            for (m, b) in pairs(record.terms().members) {
+                let mut members = [0; 16];
+                let mut assigned = Assigned::default();
+                for (x, member) in members.iter_mut().enumerate() {
+                    *member = (b + x * x) % record.terms().members;
+                    assigned = assigned.with(x, *member);
+                }
+                let wanted = literal.holds(entry, now, m, members);
+                assert_eq!(record.holds(entry, now, m, assigned), wanted, "seed {seed} {entry}");
+                compared += 1;
+            }
+        }
+    }
+    assert!(compared > 20_000, "{compared}");
+}

@@ -1,0 +1,16 @@
+//! The keeper's tests.
+
+mod cases;
+mod compared;
+mod damaged;
+mod generated;
+mod help;
+mod lists;
+mod literal;
+mod memory;
+mod mutants;
+mod program;
+mod refusals;
+mod shrinking;
+mod speed;
+mod traps;

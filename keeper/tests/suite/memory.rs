@@ -1,0 +1,137 @@
+//! The words of terms and state, and the round trips between forms.
+
+use crate::help::*;
+use keeper::expect;
+use keeper::generate;
+use keeper::record::{Call, Record};
+use keeper::terms::memory::*;
+use keeper::terms::{read, write};
+
+const SEEDS: std::ops::Range<u64> = 0..600;
+
+#[test]
+fn words_of_the_preset() {
+    let mut record = preset();
+    let words = terms_words(record.terms());
+    assert_eq!(words.len(), 980);
+    assert_eq!(words[..10], [3, 1, 3, 9, 1, 1, 0, 4, 1, 0]);
+    assert_eq!(words[16..19], [7, 3, 1]);
+    assert_eq!(words[772..776], [8, 8, 7, 0]);
+    assert!(words[776..].iter().all(|&word| word == 0));
+    assert_eq!(record.state_words().iter().filter(|&&word| word != 0).count(), 1);
+    assert_eq!(record.state_words()[0], 0b100);
+
+    request(&mut record, 0, 0, 1);
+    let state = record.state_words();
+    assert_eq!(state.len(), 3_073);
+    assert_eq!(state[1_024..1_027], [0b010, 0, 0]);
+    assert_eq!(state[3_072], 1 + 1);
+    request(&mut record, 2, 1, 2);
+    assert_eq!(record.state_words()[3_072], 1 + 2 * 4_096 + 64 + 2);
+}
+
+#[test]
+fn words_of_effects() {
+    let text = "M 2/L 2 2/F 0 top 0 0/P 0 0/P 1 0/E 0 add 0 back/E 0 del 1 fwd/E 1 del 1 back";
+    let words = terms_words(&accepted(&slashes(text)));
+    assert_eq!(words[788..797], [1, 0, 1, 2, 1, 0, 0, 0, 0]);
+    assert_eq!(words[800..806], [2, 1, 1, 0, 0, 0]);
+}
+
+#[test]
+fn a_table_without_a_free_variable_has_equal_bits() {
+    let mut record = record("M 3/L 0 1/F 0 top 0 0/F 1 out 0 0/F 2 since 0 1/P 0 0");
+    request(&mut record, 0, 1, 2);
+    let words = record.state_words();
+    assert_eq!(words[1_024..1_027], [0, 0b111, 0]);
+    assert!(state_of_words(record.terms(), &words).is_some());
+    let mut uneven = words.clone();
+    uneven[1_025] = 0b101;
+    assert!(state_of_words(record.terms(), &uneven).is_none());
+    uneven[1_025] = 0b1111;
+    assert!(state_of_words(record.terms(), &uneven).is_none());
+}
+
+#[test]
+fn terms_go_to_text_and_words_and_back() {
+    for seed in SEEDS {
+        let case = generate::case(seed, 99_999);
+        let terms = accepted(&case.text);
+        assert_eq!(write(&terms, &terms.edges), case.text, "seed {seed}");
+        let mut bare = terms.clone();
+        bare.edges.clear();
+        assert_eq!(terms_of_words(&terms_words(&terms)), Some(bare), "seed {seed}");
+    }
+}
+
+#[test]
+fn state_goes_to_words_and_back() {
+    for seed in 0..150 {
+        let case = generate::case(seed, 99_999);
+        let mut record = Record::new(accepted(&case.text));
+        case.calls.iter().for_each(|call| {
+            record.answer(call);
+        });
+        let state = record.state();
+        let words = state_words(&state);
+        assert_eq!(state_of_words(record.terms(), &words), Some(state.clone()), "seed {seed}");
+        let terms = terms_words(record.terms());
+        let text = expect::writing(&terms, &words, usize::MAX).unwrap();
+        let again = read(&text).unwrap();
+        assert_eq!(again.edges, state.edges, "seed {seed}");
+        assert_eq!(terms_words(&again), terms, "seed {seed}");
+        assert_eq!(expect::writing(&terms, &words, text.len() - 1).unwrap_err().number, 6);
+    }
+}
+
+#[test]
+fn terms_words_that_no_file_yields() {
+    let sound = terms_words(preset().terms());
+    assert!(terms_of_words(&sound).is_some());
+    let broken = |place: usize, value: u16| {
+        let mut words = sound.clone();
+        words[place] = value;
+        terms_of_words(&words).is_none()
+    };
+    assert!(broken(0, 0) && broken(0, 65) && broken(1, 17) && broken(2, 0) && broken(2, 17));
+    assert!(broken(3, 0) && broken(3, 8) && broken(3, 257) && broken(3, 65_535));
+    assert!(broken(4, 10), "an operator that does not exist");
+    assert!(broken(6, 1), "an unused field");
+    assert!(broken(4 + 3 * 9, 1), "an unused entry");
+    assert!(broken(775, 1), "an unused policy");
+    assert!(broken(774, 6), "a policy with a free variable");
+    assert!(broken(788, 3), "an action that does not exist");
+    assert!(broken(789, 1), "a relation without an action");
+    assert!(broken(791, 1), "effects with a gap");
+    assert!(broken(979, 1), "the last word");
+    assert!(!broken(788, 1), "an effect in the first place");
+    assert!(!broken(0, 4), "a member more");
+    assert!(!broken(3, 10), "one more entry, top");
+}
+
+#[test]
+fn refusals_over_lent_memory_come_in_order() {
+    let record = preset();
+    let (terms, state) = (terms_words(record.terms()), record.state_words());
+    let (mut bad_terms, mut bad_state) = (terms.clone(), state.clone());
+    bad_terms[979] = 1;
+    bad_state[3_072] = 1 + 3 * 4_096;
+    let good = Call::request(0, 0, 0);
+    let far = Call::request(3, 0, 0);
+    let short = Call { scratch_words: 2_047, ..far };
+    let number = |terms: &[u16], state: &[u64], call: &Call| {
+        expect::calling(terms, state, call).map_or_else(|refusal| refusal.number, |_| 0)
+    };
+    assert_eq!(number(&bad_terms, &bad_state, &short), 6);
+    assert_eq!(number(&bad_terms[..979], &bad_state, &far), 6);
+    assert_eq!(number(&bad_terms, &bad_state[..3_072], &far), 6);
+    assert_eq!(number(&bad_terms, &bad_state, &far), 7);
+    assert_eq!(number(&terms, &bad_state, &far), 8);
+    assert_eq!(number(&terms, &state, &far), 9);
+    assert_eq!(number(&terms, &state, &Call::request(0, 3, 0)), 9);
+    assert_eq!(number(&terms, &state, &Call::request(0, 0, 3)), 9);
+    assert_eq!(number(&terms, &state, &good), 0);
+    let write = |terms: &[u16], state: &[u64]| expect::writing(terms, state, 0).unwrap_err().number;
+    assert_eq!([write(&bad_terms, &bad_state), write(&terms, &bad_state)], [7, 8]);
+    assert_eq!(write(&terms, &state), 6);
+}

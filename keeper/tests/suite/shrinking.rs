@@ -1,0 +1,48 @@
+//! Shrinking keeps a case failing and makes it small.
+
+use crate::help::accepted;
+use keeper::generate;
+use keeper::record::{Answer, Call, Record};
+use keeper::shrink::{drop_parts, shrink};
+use keeper::terms::{self, Entry};
+
+#[test]
+fn parts_are_dropped() {
+    let mut items: Vec<u32> = (0..50).collect();
+    assert!(drop_parts(&mut items, |left| left.contains(&7) && left.contains(&31)));
+    assert_eq!(items, [7, 31]);
+}
+
+#[test]
+fn accepted_texts_get_small_and_stay_accepted() {
+    let since = |text: &[u8], calls: &[Call]| {
+        let Ok(terms) = terms::read(text) else { return false };
+        let has_since = terms.entries.iter().any(|entry| matches!(entry, Entry::Since(_, _)));
+        let mut record = Record::new(terms);
+        has_since && calls.iter().any(|call| record.answer(call) == Answer::Grant)
+    };
+    let mut shrunk = 0;
+    for seed in 0..60 {
+        let case = generate::case(seed, 99_999);
+        if since(&case.text, &case.calls) && accepted(&case.text).members <= 8 {
+            let (text, calls) = shrink(&case.text, &case.calls, since);
+            assert!(since(&text, &calls));
+            assert_eq!(calls.len(), 1);
+            let terms = accepted(&text);
+            assert!(terms.entries.len() <= 3, "seed {seed}: {}", text.escape_ascii());
+            assert!(terms.edges.is_empty() && terms.events == 1);
+            shrunk += 1;
+        }
+    }
+    assert!(shrunk > 10);
+}
+
+#[test]
+fn refused_texts_lose_lines() {
+    let refused =
+        |text: &[u8], _: &[Call]| terms::read(text).is_err_and(|refusal| refusal.number == 3);
+    let seed = (0..).find(|&seed| refused(&generate::damaged_text(seed), &[])).unwrap();
+    let (text, _) = shrink(&generate::damaged_text(seed), &[], refused);
+    assert!(refused(&text, &[]));
+    assert!(text.iter().filter(|&&byte| byte == b'\n').count() < 12);
+}
