@@ -1,4 +1,4 @@
--- What the public functions give and leave, for every lent memory. `demand_3` holds these against the keeper.
+-- What the public functions give and leave, for every lent memory. `demand-3` holds these against the keeper.
 use Prim.Native.Nat.{ℕ}
 use mathlib.Core.Bool.{Bool, true, false, cond, not, _&&_, _||_}
 use mathlib.Core.List.{List, [], _∷_, _++_}
