@@ -43,8 +43,9 @@ pub const HEAD: &str = "\
 impl fmt::Display for Row {
     fn fmt(&self, out: &mut fmt::Formatter<'_>) -> fmt::Result {
         let Row { name, members, moments, request, look, check, floor, matrices, .. } = self;
-        let over = |time: Option<Time>| match time {
-            Some(time) => format!("{:.1}", time.least / request.least),
+        let over = |time: Option<Time>| match time.map(|time| time.least / request.least) {
+            Some(ratio) if ratio < 10.0 => format!("{ratio:.2}"),
+            Some(ratio) => format!("{ratio:.0}"),
             None => "".into(),
         };
         let exponent = moments.ilog10();

@@ -1,7 +1,7 @@
 -- What a request and the tables of past-time entries take from `decide`: every variable but the open one stands for member 0.
 use Prim.Native.Nat.{ℕ, _/_, _%_, _<_}
-use mathlib.Core.Path.{_≡_, refl, sym, ap, ap₂, _∙_, subst}
-use mathlib.Core.Bool.{Bool, true, false, _&&_, _||_}
+use mathlib.Core.Path.{_≡_, refl, sym, ap, ap₂, _∙_, subst, fun-ext}
+use mathlib.Core.Bool.{Bool, true, false, cond, _&&_, _||_}
 use mathlib.Core.List.{List}
 use native.Mathlib.Omega.{arith}
 use lib.Dec.{eqb, ltb}
@@ -30,21 +30,38 @@ fresh-asked T i w h l q = record {
   vars-in = λ x k. subst (λ (y : ℕ). y < T .members) (sym (zeros 16 x)) (h .some-member);
 }
 
--- ---- a request, at u alone
+-- ---- a request, at u alone: variable 0 stands for v, and none is open
+module _ (v : ℕ) (g : Assignment) (target : (y : ℕ) → g y ≡ assign fresh 0 v y) where
+  pub request-asked : {terms plan rel past : List ℕ} (i u w : ℕ) → Ready terms plan rel past → i < termsOf terms .entries → u < termsOf terms .members
+      → v < termsOf terms .members → Has w (λ m. eqb m u) → Asked (termsOf terms) g i w
+  request-asked {terms} i u w ready l k vl h = record {
+    exists = l;
+    wanted = λ m e. subst (λ (y : ℕ). y < termsOf terms .members) (sym (eqb-true m u (sym (h m) ∙ e))) k;
+    vars-in = λ x _. subst (λ (y : ℕ). y < termsOf terms .members) (sym (target x)) (member x (eqb x 0));
+  }
+    where
+      member : (x : ℕ) (c : Bool) → cond c v (fresh x) < termsOf terms .members
+      member x true = vl
+      member x false = subst (λ (y : ℕ). y < termsOf terms .members) (sym (zeros 16 x)) (good terms (ready .good) .some-member)
 
-pub request-asked : {terms plan rel past : List ℕ} (i u w : ℕ) → Ready terms plan rel past → i < termsOf terms .entries → u < termsOf terms .members
-    → Has w (λ m. eqb m u) → Asked (termsOf terms) fresh i w
-request-asked {terms} i u w ready l k h =
-    fresh-asked (termsOf terms) i w (good terms (ready .good)) l
-    (λ m e. subst (λ (y : ℕ). y < termsOf terms .members) (sym (eqb-true m u (sym (h m) ∙ e))) k)
+  none-open : (y : ℕ) → (eqb y 16 && ltb y 16) ≡ false
+  none-open y = go (eqb y 16) refl
+    where
+      go : (c : Bool) → eqb y 16 ≡ c → (c && ltb y 16) ≡ false
+      go true e = ap (λ (n : ℕ). ltb n 16) (eqb-true y 16 e)
+      go false e = refl
 
-pub request-answer : (T : Terms) (rel past : List ℕ) (i u v w : ℕ) {f : List ℕ} → v < T .members → Has w (λ m. eqb m u)
-    → Rows w (cell T rel past fresh 0 i) f → inRow f u v ≡ nowAt T rel past (assign (λ x. 0) 0 v) i u
-unfolding cell
-request-answer T rel past i u v w l h d =
-    d .bits u v
-    ∙ ap₂ (λ (s t : Bool). s && (t && nowAt T rel past (opened fresh 0 v) i u)) (h u ∙ eq-eqb u u refl) (lt-ltb v (T .members) l)
-    ∙ ap (λ (k : Assignment). nowAt T rel past k i u) (opened-zeros 0 v (omega arith))
+  opened-none : opened g 16 v ≡ assign (λ x. 0) 0 v
+  opened-none = fun-ext (λ y.
+      ap (λ (t : Bool). cond t v (g y)) (none-open y) ∙ target y ∙ ap (λ (z : ℕ). cond (eqb y 0) v z) (zeros 16 y))
+
+  pub request-answer : (T : Terms) (rel past : List ℕ) (i u w : ℕ) {f : List ℕ} → v < T .members → Has w (λ m. eqb m u)
+      → Rows w (cell T rel past g 16 i) f → inRow f u v ≡ nowAt T rel past (assign (λ x. 0) 0 v) i u
+  unfolding cell
+  request-answer T rel past i u w l h d =
+      d .bits u v
+      ∙ ap₂ (λ (s t : Bool). s && (t && nowAt T rel past (opened g 16 v) i u)) (h u ∙ eq-eqb u u refl) (lt-ltb v (T .members) l)
+      ∙ ap (λ (k : Assignment). nowAt T rel past k i u) opened-none
 
 -- ---- the next table of past-time entry i, whose operator is o and whose plan word is p
 module _ {terms plan rel past : List ℕ} {i o : ℕ} (ready : Ready terms plan rel past) (l : i < termsOf terms .entries)

@@ -198,13 +198,14 @@ pub(crate) fn holds_at(
     ensures { λ r. ⌜ r ≡ nowAt (termsOf (now (terms .entry))) (now (relations .entry)) (now (past .entry)) (assign (λ x. 0) 0 v) entry u ⌝ }
 {
     let mut f = [0u64; 64];
+    let vars = rebind([0u8; 16], 0, v);
     decide(
         terms,
         plan,
         relations,
         past,
-        [0u8; 16],
-        0,
+        vars,
+        16,
         entry,
         sets::single(u),
         &mut f,
