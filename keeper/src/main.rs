@@ -1,5 +1,5 @@
 //! `keeper DIR` prints the answers for DIR/terms.tsv and DIR/requests.tsv;
-//! `keeper cases SRC` prints the lines of the lists of cases in SRC.
+//! `keeper cases FILE` prints the lines for the cases of FILE.
 
 use std::path::PathBuf;
 use std::process::ExitCode;
@@ -8,8 +8,11 @@ fn main() -> ExitCode {
     let mut arguments = std::env::args_os().skip(1);
     let first = arguments.next().unwrap_or_else(|| ".".into());
     let printed = match arguments.next() {
-        Some(source) if first == "cases" => keeper::cases::printed(&PathBuf::from(source)),
-        Some(_) => Err("one folder, or cases and a folder".into()),
+        Some(file) if first == "cases" => match std::fs::read(file) {
+            Ok(bytes) => keeper::cases::printed(&bytes),
+            Err(error) => Err(error.to_string()),
+        },
+        Some(_) => Err("give one folder, or cases and a file".into()),
         None => Ok(keeper::program::run(&PathBuf::from(first))),
     };
     match printed {

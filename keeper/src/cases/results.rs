@@ -1,6 +1,6 @@
 //! What each kind of case must give.
 
-use super::source::{Case, Value};
+use super::source::Case;
 use crate::expect;
 use crate::record::{Answer, Call, Record};
 use crate::terms::memory::{STATE_WORDS, TERMS_WORDS};
@@ -15,86 +15,72 @@ const ROOM: usize = 8_192;
 /// The result of a case; none if its kind or arguments are not known, or if
 /// nothing decides it.
 pub fn result(case: &Case) -> Option<String> {
-    use Value::{Bytes, Call as Asked, Number};
-    let number = |number: &u64| usize::try_from(*number).ok();
-    match (case.kind.as_str(), &case.values[..]) {
-        ("reads", [Bytes(text)]) => Some(reading(text, TERMS_WORDS, STATE_WORDS)),
-        ("reads_into", [Bytes(text), Number(t), Number(s)]) => {
-            let (t, s) = (number(t)?, number(s)?);
-            let lent = t <= TERMS_WORDS + BEYOND && s <= STATE_WORDS + BEYOND;
-            lent.then(|| reading(text, t, s))
+    let head = &case.head;
+    let size = |index| case.size(index);
+    match (case.kind.as_str(), case.count()) {
+        ("reads", 1) => Some(reading(&case.text(0)?, TERMS_WORDS, STATE_WORDS)),
+        ("reads_parts", 1) => {
+            Some(reading(&[&head[..], &case.text(0)?].concat(), TERMS_WORDS, STATE_WORDS))
         }
-        ("reads_parts", [Bytes(head), Bytes(rest)]) => {
-            Some(reading(&[&head[..], rest].concat(), TERMS_WORDS, STATE_WORDS))
-        }
-        (
-            "reads_lines",
-            [Bytes(head), Bytes(before), Number(first), Number(end), Bytes(after), Bytes(tail)],
-        ) => {
+        ("reads_lines", 5) => {
+            let (before, after, tail) = (case.text(0)?, case.text(3)?, case.text(4)?);
             let mut text = head.clone();
-            for index in *first..*end {
-                text.extend([before, index.to_string().as_bytes(), after].concat());
+            for index in size(1)?..size(2)? {
+                text.extend([&before[..], index.to_string().as_bytes(), &after].concat());
             }
             text.extend(tail);
             Some(reading(&text, TERMS_WORDS, STATE_WORDS))
         }
-        ("asks", [Bytes(text), Asked(call)]) => asked(text, &[request(call)]),
-        ("looks", [Bytes(text), Asked(call)]) => asked(text, &[look(call)]),
-        ("asks_after", [Bytes(text), Asked(before), Asked(call)]) => {
-            asked(text, &[request(before), request(call)])
+        ("reads_into", 2) => {
+            let lent = size(0)? <= TERMS_WORDS + BEYOND && size(1)? <= STATE_WORDS + BEYOND;
+            lent.then_some(reading(head, size(0)?, size(1)?))
         }
-        ("asks_after_two", [Bytes(text), Asked(first), Asked(second), Asked(call)]) => {
-            asked(text, &[request(first), request(second), request(call)])
+        ("asks", 3) => asked(head, &[request(case, 0)?]),
+        ("looks", 3) => asked(head, &[look(case, 0)?]),
+        ("asks_after", 6) => asked(head, &[request(case, 0)?, request(case, 3)?]),
+        ("asks_after_two", 9) => {
+            asked(head, &[request(case, 0)?, request(case, 3)?, request(case, 6)?])
         }
-        ("asks_after_look", [Bytes(text), Asked(before), Asked(call)]) => {
-            asked(text, &[look(before), request(call)])
+        ("asks_after_look", 6) => asked(head, &[look(case, 0)?, request(case, 3)?]),
+        ("asks_with", 6) => {
+            let call = Call { scratch_words: size(2)?, ..request(case, 3)? };
+            Some(answer(Lent::read(head).call(size(0)?, size(1)?, &call)?))
         }
-        ("asks_with", [Bytes(text), Number(t), Number(s), Number(c), Asked(call)]) => {
-            let call = Call { scratch_words: number(c)?, ..request(call) };
-            answer(Lent::read(text).call(number(t)?, number(s)?, &call)?)
+        ("looks_with", 6) => {
+            let call = Call { scratch_words: size(2)?, ..look(case, 3)? };
+            Some(answer(Lent::read(head).call(size(0)?, size(1)?, &call)?))
         }
-        ("looks_with", [Bytes(text), Number(t), Number(s), Number(c), Asked(call)]) => {
-            let call = Call { scratch_words: number(c)?, ..look(call) };
-            answer(Lent::read(text).call(number(t)?, number(s)?, &call)?)
+        ("asks_damaged_terms", 2) => damaged_terms(case)?.ask(&Call::request(0, 0, 0)),
+        ("asks_damaged_state", 2) => damaged_state(case)?.ask(&Call::request(0, 0, 0)),
+        ("writes", 3) => {
+            let lent = Lent::read(head);
+            let (terms, state) = (lent.terms.get(..size(0)?)?, lent.state.get(..size(1)?)?);
+            Some(written(&expect::writing(terms, state, size(2)?)))
         }
-        ("asks_damaged_terms", [Bytes(text), Number(word), Number(value)]) => {
-            Lent::read(text).with_term(number(word)?, *value)?.refused(&[0; 3])
+        ("writes_damaged_terms", 2) => Some(written(&damaged_terms(case)?.write())),
+        ("writes_damaged_state", 2) => Some(written(&damaged_state(case)?.write())),
+        ("writes_back", 0) => Some(same(&Lent::read(head).write(), head)),
+        ("writes_after", 4) => {
+            let mut lent = Lent::read(head);
+            lent.ask(&request(case, 0)?)?;
+            Some(same(&lent.write(), &case.text(3)?))
         }
-        ("asks_damaged_state", [Bytes(text), Number(word), Number(value)]) => {
-            Lent::read(text).with_word(number(word)?, *value)?.refused(&[0; 3])
-        }
-        ("writes", [Bytes(text), Number(t), Number(s), Number(bytes)]) => {
-            let lent = Lent::read(text);
-            let (terms, state) = (lent.terms.get(..number(t)?)?, lent.state.get(..number(s)?)?);
-            Some(written(&expect::writing(terms, state, number(bytes)?)))
-        }
-        ("writes_damaged_terms", [Bytes(text), Number(word), Number(value)]) => {
-            Some(written(&Lent::read(text).with_term(number(word)?, *value)?.write()))
-        }
-        ("writes_damaged_state", [Bytes(text), Number(word), Number(value)]) => {
-            Some(written(&Lent::read(text).with_word(number(word)?, *value)?.write()))
-        }
-        ("writes_back", [Bytes(text)]) => Some(same(&Lent::read(text).write(), text)),
-        ("writes_after", [Bytes(text), Asked(call), Bytes(wanted)]) => {
-            let mut lent = Lent::read(text);
-            lent.call(TERMS_WORDS, STATE_WORDS, &request(call))?;
-            Some(same(&lent.write(), wanted))
-        }
-        ("asks_rewritten", [Bytes(text), Asked(before), Asked(call)]) => {
-            let mut lent = Lent::read(text);
-            lent.call(TERMS_WORDS, STATE_WORDS, &request(before))?;
-            asked(&lent.write().ok()?, &[request(call)])
+        ("asks_rewritten", 6) => {
+            let mut lent = Lent::read(head);
+            lent.ask(&request(case, 0)?)?;
+            asked(&lent.write().ok()?, &[request(case, 3)?])
         }
         _ => None,
     }
 }
 
-fn request(&[event, from, to]: &[u64; 3]) -> Call {
-    Call::request(event as usize, from as usize, to as usize)
+/// A request of three arguments: event, from, to.
+fn request(case: &Case, first: usize) -> Option<Call> {
+    Some(Call::request(case.size(first)?, case.size(first + 1)?, case.size(first + 2)?))
 }
 
-fn look(call: &[u64; 3]) -> Call {
-    Call { look: true, ..request(call) }
+fn look(case: &Case, first: usize) -> Option<Call> {
+    Some(Call { look: true, ..request(case, first)? })
 }
 
 fn refused(refusal: &Refusal) -> String {
@@ -108,12 +94,12 @@ fn reading(text: &[u8], terms_words: usize, state_words: usize) -> String {
     }
 }
 
-fn answer(answer: Answer) -> Option<String> {
-    Some(match answer {
+fn answer(answer: Answer) -> String {
+    match answer {
         Answer::Grant => "grant".into(),
         Answer::Deny => "deny".into(),
         Answer::Refused(refusal) => format!("refuse\t{}", refusal.number),
-    })
+    }
 }
 
 fn written(written: &Result<Vec<u8>, Refusal>) -> String {
@@ -136,9 +122,23 @@ fn asked(text: &[u8], calls: &[Call]) -> Option<String> {
     let mut lent = Lent::read(text);
     let mut last = None;
     for call in calls {
-        last = Some(lent.call(TERMS_WORDS, STATE_WORDS, call)?);
+        last = Some(lent.ask(call)?);
     }
-    answer(last?)
+    last
+}
+
+/// Memory after reading the head and putting a value into a word of terms.
+fn damaged_terms(case: &Case) -> Option<Lent> {
+    let mut lent = Lent::read(&case.head);
+    *lent.terms[..TERMS_WORDS].get_mut(case.size(0)?)? = u16::try_from(case.number(1)?).ok()?;
+    Some(Lent { record: None, ..lent })
+}
+
+/// Memory after reading the head and putting a value into a word of state.
+fn damaged_state(case: &Case) -> Option<Lent> {
+    let mut lent = Lent::read(&case.head);
+    *lent.state[..STATE_WORDS].get_mut(case.size(0)?)? = case.number(1)?;
+    Some(Lent { record: None, ..lent })
 }
 
 /// Lent memory after reading a text. It was lent as zeros, which a refused
@@ -158,16 +158,6 @@ impl Lent {
         Lent { terms, state, record: terms::read(text).ok().map(Record::new) }
     }
 
-    fn with_term(mut self, word: usize, value: u64) -> Option<Lent> {
-        *self.terms[..TERMS_WORDS].get_mut(word)? = u16::try_from(value).ok()?;
-        Some(Lent { record: None, ..self })
-    }
-
-    fn with_word(mut self, word: usize, value: u64) -> Option<Lent> {
-        *self.state[..STATE_WORDS].get_mut(word)? = value;
-        Some(Lent { record: None, ..self })
-    }
-
     /// Answers a call with so many words of terms and state. None if it is
     /// not refused and there is no record to decide it by.
     fn call(&mut self, terms_words: usize, state_words: usize, call: &Call) -> Option<Answer> {
@@ -181,9 +171,9 @@ impl Lent {
         Some(answer)
     }
 
-    /// The refusal of a request.
-    fn refused(mut self, call: &[u64; 3]) -> Option<String> {
-        answer(self.call(TERMS_WORDS, STATE_WORDS, &request(call))?)
+    /// The same with the named words, as it is shown.
+    fn ask(&mut self, call: &Call) -> Option<String> {
+        self.call(TERMS_WORDS, STATE_WORDS, call).map(answer)
     }
 
     fn write(&self) -> Result<Vec<u8>, Refusal> {

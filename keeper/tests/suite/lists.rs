@@ -1,88 +1,51 @@
-//! The lists of cases, taken out of a source.
+//! The file of cases, and what its cases give.
 
-use keeper::cases::results::result;
-use keeper::cases::source::{cases, Case, Value};
+use keeper::cases::printed;
+use keeper::cases::source::cases;
 
-const MAIN: &str =
-    "// The lists.\nmod few;\n\nfn main() {\n    few::first();\n    few::second();\n}\n";
-const FEW: &str = r#"
-// A helper with parameters is no list.
-fn helper(label: &[u8], words: usize) {
-    let mut terms = [0u16; 980 + 10];
-    show(label, &terms[0..words]);
-}
+const TEXT: &str = "head\tM 2/L 0 1/F 0 top 0 0/P 0 0/\n";
 
-pub(crate) fn second() {
-    asks(
-        b"with a \x00 byte",
-        b"M\t3\r\n", // a comment, with a "quote"
-        Call(0, 0, 1),
-    );
-}
-
-pub(crate) fn first() {
-    let text =
-        b"M\t3\n";
-    reads(b"a label", text);
-    damages(b"other", text, 0x_ff, 1_000);
-}
-"#;
-
-fn taken(main: &str, few: &str) -> Result<Vec<Case>, String> {
-    cases(&[("few".into(), few.into()), ("main".into(), main.into())])
+/// The result of one case after a head.
+fn result(case: &str) -> Option<String> {
+    let printed = printed(format!("{TEXT}{case}\n").as_bytes()).ok()?;
+    Some(printed.strip_prefix("label\t")?.strip_suffix('\n')?.to_string())
 }
 
 #[test]
-fn lists_in_the_order_of_main() {
-    let case = |kind: &str, label: &str, values: &[Value]| Case {
-        kind: kind.into(),
-        label: label.into(),
-        values: values.to_vec(),
-    };
-    let text = Value::Bytes(b"M\t3\n".to_vec());
-    let wanted = [
-        case("reads", "a label", std::slice::from_ref(&text)),
-        case("damages", "other", &[text, Value::Number(255), Value::Number(1_000)]),
-        case(
-            "asks",
-            "with a \0 byte",
-            &[Value::Bytes(b"M\t3\r\n".to_vec()), Value::Call([0, 0, 1])],
-        ),
-    ];
-    assert_eq!(taken(MAIN, FEW).unwrap(), wanted);
-}
-
-#[test]
-fn faulty_lists() {
-    let refused = |main: &str, few: &str| taken(main, few).unwrap_err();
-    assert!(refused("fn other() {}", FEW).contains("no main"));
-    assert!(refused("fn main() { few::third(); }", FEW).contains("few::third"));
-    assert!(refused("fn main() { first(); }", FEW).contains("names no list"));
-    let main = "fn main() { few::list(); }";
-    assert!(refused(main, "fn list() { reads(b\"x\", text); }").contains("text is not named"));
-    assert!(refused(main, "fn list() { reads(3); }").contains("no label"));
-    assert!(refused(main, "fn list() { reads(b\"x\" 3); }").contains("after an argument"));
-    assert!(refused(main, "fn list() { let text = 3; }").contains("is no case"));
-    assert!(refused(main, "fn list() { reads(b\"\\q\"); }").contains("byte string"));
+fn lines_of_the_file() {
+    let file = b"# a comment\n\nreads\tfirst\tM_3~/^|%\nhead\tM 3/\nasks\tsecond\t0\t1\t2\n";
+    let cases = cases(file);
+    assert_eq!(cases.len(), 2);
+    assert_eq!((&cases[0].kind[..], &cases[0].label[..]), ("reads", "first"));
+    assert_eq!((&cases[0].head[..], cases[0].count()), (&b""[..], 1));
+    assert_eq!(cases[0].text(0).unwrap(), b"M 3\r\n\0/\xff");
+    assert_eq!((&cases[1].head[..], cases[1].count()), (&b"M\t3\n"[..], 3));
+    assert_eq!((cases[1].size(2), cases[1].size(3)), (Some(2), None));
 }
 
 #[test]
 fn results_of_cases() {
-    let text = b"M\t2\nL\t0\t1\nF\t0\ttop\t0\t0\nP\t0\t0\n";
-    let shown = |kind: &str, values: &[Value]| {
-        result(&Case { kind: kind.into(), label: String::new(), values: values.to_vec() })
-    };
-    let lent = |values: &[Value]| [&[Value::Bytes(text.to_vec())], values].concat();
-    let number = Value::Number;
-    assert_eq!(shown("reads", &lent(&[])).unwrap(), "accepted");
-    assert_eq!(shown("reads_into", &lent(&[number(979), number(3_073)])).unwrap(), "6\t0");
-    assert_eq!(shown("asks", &lent(&[Value::Call([0, 0, 1])])).unwrap(), "grant");
-    assert_eq!(shown("asks", &lent(&[Value::Call([1, 0, 1])])).unwrap(), "refuse\t9");
-    assert_eq!(shown("asks_damaged_terms", &lent(&[number(0), number(0)])).unwrap(), "refuse\t7");
-    assert_eq!(shown("asks_damaged_state", &lent(&[number(0), number(1)])).unwrap(), "refuse\t8");
-    assert_eq!(shown("writes_back", &lent(&[])).unwrap(), "bytes\t28");
+    assert_eq!(result("reads\tlabel\tM 65/").unwrap(), "2\t1");
+    assert_eq!(result("reads_parts\tlabel\tP 1 0/").unwrap(), "1\t5");
+    assert_eq!(result("reads_lines\tlabel\tP \t1\t2\t 0/\t").unwrap(), "1\t5");
+    assert_eq!(result("reads_into\tlabel\t979\t3073").unwrap(), "6\t0");
+    assert_eq!(result("asks\tlabel\t0\t0\t1").unwrap(), "grant");
+    assert_eq!(result("looks\tlabel\t1\t0\t1").unwrap(), "refuse\t9");
+    assert_eq!(result("asks_with\tlabel\t980\t3073\t2047\t1\t0\t1").unwrap(), "refuse\t6");
+    assert_eq!(result("asks_damaged_terms\tlabel\t0\t0").unwrap(), "refuse\t7");
+    assert_eq!(result("asks_damaged_state\tlabel\t0\t1").unwrap(), "refuse\t8");
+    assert_eq!(result("writes\tlabel\t980\t3073\t27").unwrap(), "6\t0");
+    assert_eq!(result("writes_back\tlabel").unwrap(), "bytes\t28");
+    assert_eq!(result("writes_after\tlabel\t0\t0\t1\tM 2/").unwrap(), "different");
+}
+
+#[test]
+fn cases_without_a_result() {
     // Nothing decides a request over words that were changed within the layout.
-    assert_eq!(shown("asks_damaged_terms", &lent(&[number(0), number(3)])), None);
-    assert_eq!(shown("reads_backwards", &lent(&[])), None);
-    assert_eq!(shown("reads", &[]), None);
+    assert_eq!(result("asks_damaged_terms\tlabel\t0\t3"), None);
+    assert_eq!(result("writes_damaged_terms\tlabel\t980\t3"), None);
+    assert_eq!(result("reads_backwards\tlabel\tM 65/"), None);
+    assert_eq!(result("reads\tlabel"), None);
+    assert_eq!(result("asks\tlabel\t0\t0\tx"), None);
+    assert!(printed(b"reads\tone\tM 0/\nreads\tone\tM 0/\n").unwrap_err().contains("one"));
 }

@@ -1,0 +1,150 @@
+// The calls over the front of lent memory. Memory that does not reach so far gives a refusal by 0, which no call gives.
+use crate::fields::Call;
+use crate::fields::put_text;
+use monitor::Answer;
+use monitor::Outcome;
+use monitor::look;
+use monitor::request;
+use text::Written;
+use text::read::read;
+use text::write::write;
+
+// Words of terms, state and scratch (document 01, "Memory").
+pub(crate) const TERMS: usize = 980;
+
+pub(crate) const STATE: usize = 3073;
+
+pub(crate) const SCRATCH: usize = 2048;
+
+// Bytes of a text, enough for those of the cases.
+pub(crate) const ROOM: usize = 8192;
+
+// Reads into the first t words of terms and s of state.
+fn reading_into(text: &[u8], terms: &mut [u16], t: usize, state: &mut [u64], s: usize) -> Outcome {
+    if terms.len() < t {
+        return Outcome::Refused(0, 0);
+    }
+    if state.len() < s {
+        return Outcome::Refused(0, 0);
+    }
+    read(text, &mut terms[0..t], &mut state[0..s])
+}
+
+// Reads the first n bytes of a text.
+pub(crate) fn reading_front(
+    text: &[u8],
+    n: usize,
+    terms: &mut [u16],
+    t: usize,
+    state: &mut [u64],
+    s: usize,
+) -> Outcome {
+    if text.len() < n {
+        return Outcome::Refused(0, 0);
+    }
+    reading_into(&text[0..n], terms, t, state, s)
+}
+
+// Reads the text that a head stands for.
+pub(crate) fn reading(
+    head: &[u8],
+    terms: &mut [u16],
+    t: usize,
+    state: &mut [u64],
+    s: usize,
+) -> Outcome {
+    let mut text = [0u8; ROOM];
+    let n = put_text(&mut text, 0, head);
+    reading_front(&text, n, terms, t, state, s)
+}
+
+// Requests with the first t words of terms and s of state.
+fn requesting_with(
+    terms: &[u16],
+    t: usize,
+    state: &mut [u64],
+    s: usize,
+    scratch: &mut [u64],
+    call: Call,
+) -> Answer {
+    if terms.len() < t {
+        return Answer::Refused(0, 0);
+    }
+    if state.len() < s {
+        return Answer::Refused(0, 0);
+    }
+    request(
+        &terms[0..t],
+        &mut state[0..s],
+        scratch,
+        call.0,
+        call.1,
+        call.2,
+    )
+}
+
+// Requests with the first t words of terms, s of state and c of scratch.
+pub(crate) fn requesting(
+    terms: &[u16],
+    t: usize,
+    state: &mut [u64],
+    s: usize,
+    c: usize,
+    call: Call,
+) -> Answer {
+    let mut scratch = [0u64; SCRATCH + 10];
+    if scratch.len() < c {
+        return Answer::Refused(0, 0);
+    }
+    requesting_with(terms, t, state, s, &mut scratch[0..c], call)
+}
+
+// Looks with the first t words of terms, s of state and c of scratch.
+pub(crate) fn looking(
+    terms: &[u16],
+    t: usize,
+    state: &[u64],
+    s: usize,
+    c: usize,
+    call: Call,
+) -> Answer {
+    let scratch = [0u64; SCRATCH + 10];
+    if terms.len() < t {
+        return Answer::Refused(0, 0);
+    }
+    if state.len() < s {
+        return Answer::Refused(0, 0);
+    }
+    if scratch.len() < c {
+        return Answer::Refused(0, 0);
+    }
+    look(
+        &terms[0..t],
+        &state[0..s],
+        &scratch[0..c],
+        call.0,
+        call.1,
+        call.2,
+    )
+}
+
+// Writes the first t words of terms and s of state into the first n bytes of out.
+pub(crate) fn writing(
+    terms: &[u16],
+    t: usize,
+    state: &[u64],
+    s: usize,
+    out: &mut [u8],
+    n: usize,
+) -> Written {
+    if terms.len() < t {
+        return Written::Refused(0, 0);
+    }
+    if state.len() < s {
+        return Written::Refused(0, 0);
+    }
+    if out.len() < n {
+        return Written::Refused(0, 0);
+    }
+    write(&terms[0..t], &state[0..s], &mut out[0..n])
+}

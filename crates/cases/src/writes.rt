@@ -1,0 +1,170 @@
+// Cases that read the head and write the memory out again.
+use crate::calls::put_term;
+use crate::calls::put_word;
+use crate::fields::call_at;
+use crate::fields::label;
+use crate::fields::number_at;
+use crate::fields::put_text;
+use crate::fields::term_at;
+use crate::fields::word_at;
+use crate::lent::ROOM;
+use crate::lent::SCRATCH;
+use crate::lent::STATE;
+use crate::lent::TERMS;
+use crate::lent::reading;
+use crate::lent::reading_front;
+use crate::lent::requesting;
+use crate::lent::writing;
+use crate::show::show_answer;
+use crate::show::show_word;
+use crate::show::show_written;
+use monitor::Outcome;
+use text::Written;
+use text::field::piece;
+use text::word::same;
+
+// `writes` terms state bytes: so many words of terms and of state into so many bytes.
+fn writes(l: &[u8], head: &[u8]) {
+    let mut terms = [0u16; TERMS + 10];
+    let mut state = [0u64; STATE + 10];
+    let mut out = [0u8; ROOM];
+    reading(head, &mut terms, TERMS, &mut state, STATE);
+    let t = number_at(l, 2);
+    let s = number_at(l, 3);
+    let written = writing(&terms, t, &state, s, &mut out, number_at(l, 4));
+    show_written(label(l), written);
+}
+
+// `writes_damaged_terms` word value: after the value is put into the word of terms.
+fn writes_damaged_terms(l: &[u8], head: &[u8]) {
+    let mut terms = [0u16; TERMS];
+    let mut state = [0u64; STATE];
+    let mut out = [0u8; ROOM];
+    reading(head, &mut terms, TERMS, &mut state, STATE);
+    put_term(&mut terms, number_at(l, 2), term_at(l, 3));
+    let written = writing(&terms, TERMS, &state, STATE, &mut out, ROOM);
+    show_written(label(l), written);
+}
+
+// `writes_damaged_state` word value: after the value is put into the word of state.
+fn writes_damaged_state(l: &[u8], head: &[u8]) {
+    let mut terms = [0u16; TERMS];
+    let mut state = [0u64; STATE];
+    let mut out = [0u8; ROOM];
+    reading(head, &mut terms, TERMS, &mut state, STATE);
+    put_word(&mut state, number_at(l, 2), word_at(l, 3));
+    let written = writing(&terms, TERMS, &state, STATE, &mut out, ROOM);
+    show_written(label(l), written);
+}
+
+// Whether the first n bytes of two texts are all of the second and the same.
+fn is_front(out: &[u8], n: usize, wanted: &[u8], w: usize) -> bool {
+    if out.len() < n {
+        return false;
+    }
+    if wanted.len() < w {
+        return false;
+    }
+    same(&out[0..n], &wanted[0..w])
+}
+
+// Shows what was written if it is the w bytes of the wanted text.
+fn show_front(l: &[u8], out: &[u8], written: Written, wanted: &[u8], w: usize) {
+    match written {
+        Written::Bytes(n) => {
+            if is_front(out, n, wanted, w) {
+                show_written(label(l), written);
+                return;
+            }
+            show_word(label(l), b"different");
+        }
+        Written::Refused(_, _) => show_word(label(l), b"different"),
+    }
+}
+
+// Shows what was written if it is the text that the wanted one stands for.
+fn show_same(l: &[u8], out: &[u8], written: Written, wanted: &[u8]) {
+    let mut text = [0u8; ROOM];
+    let w = put_text(&mut text, 0, wanted);
+    show_front(l, out, written, &text, w);
+}
+
+// `writes_back`: the head is read and written, which must give the same text.
+fn writes_back(l: &[u8], head: &[u8]) {
+    let mut terms = [0u16; TERMS];
+    let mut state = [0u64; STATE];
+    let mut out = [0u8; ROOM];
+    reading(head, &mut terms, TERMS, &mut state, STATE);
+    let written = writing(&terms, TERMS, &state, STATE, &mut out, ROOM);
+    show_same(l, &out, written, head);
+}
+
+// `writes_after` call wanted: one request, and what is written must be the wanted text.
+fn writes_after(l: &[u8], head: &[u8]) {
+    let mut terms = [0u16; TERMS];
+    let mut state = [0u64; STATE];
+    let mut out = [0u8; ROOM];
+    reading(head, &mut terms, TERMS, &mut state, STATE);
+    requesting(&terms, TERMS, &mut state, STATE, SCRATCH, call_at(l, 2));
+    let written = writing(&terms, TERMS, &state, STATE, &mut out, ROOM);
+    show_same(l, &out, written, piece(l, 9, 5));
+}
+
+// Reads what was written. A refusal reads nothing.
+fn reading_back(out: &[u8], written: Written, terms: &mut [u16], state: &mut [u64]) -> Outcome {
+    match written {
+        Written::Bytes(n) => reading_front(out, n, terms, TERMS, state, STATE),
+        Written::Refused(_, _) => Outcome::Refused(0, 0),
+    }
+}
+
+// `asks_rewritten` before call: one request, a writing, which is read into other memory, and a request there, which is shown.
+fn asks_rewritten(l: &[u8], head: &[u8]) {
+    let mut terms = [0u16; TERMS];
+    let mut state = [0u64; STATE];
+    let mut out = [0u8; ROOM];
+    reading(head, &mut terms, TERMS, &mut state, STATE);
+    requesting(&terms, TERMS, &mut state, STATE, SCRATCH, call_at(l, 2));
+    let written = writing(&terms, TERMS, &state, STATE, &mut out, ROOM);
+    let mut terms_back = [0u16; TERMS];
+    let mut state_back = [0u64; STATE];
+    reading_back(&out, written, &mut terms_back, &mut state_back);
+    let answer = requesting(
+        &terms_back,
+        TERMS,
+        &mut state_back,
+        STATE,
+        SCRATCH,
+        call_at(l, 5),
+    );
+    show_answer(label(l), answer);
+}
+
+// Runs a case of these kinds, and says whether it is one.
+pub(crate) fn run(kind: &[u8], l: &[u8], head: &[u8]) -> bool {
+    if same(kind, b"writes") {
+        writes(l, head);
+        return true;
+    }
+    if same(kind, b"writes_damaged_terms") {
+        writes_damaged_terms(l, head);
+        return true;
+    }
+    if same(kind, b"writes_damaged_state") {
+        writes_damaged_state(l, head);
+        return true;
+    }
+    if same(kind, b"writes_back") {
+        writes_back(l, head);
+        return true;
+    }
+    if same(kind, b"writes_after") {
+        writes_after(l, head);
+        return true;
+    }
+    if same(kind, b"asks_rewritten") {
+        asks_rewritten(l, head);
+        return true;
+    }
+    false
+}
