@@ -67,7 +67,7 @@ module _ (f : File) (g : Going f) where
   small-entries : (n : ℕ) → n ≤ f .terms .entries → (k x : ℕ) → free (below (f .terms .entry) n k) x ≡ true → x < 16
   small-entries n l = small-below (f .terms .entry) n (λ k m. first-small k (omega arith))
 
-  pub small-policy : (n : ℕ) → n < f .terms .entries → (x : ℕ) → free (formula (f .terms) n) x ≡ true → x < 16
+  small-policy : (n : ℕ) → n < f .terms .entries → (x : ℕ) → free (formula (f .terms) n) x ≡ true → x < 16
   unfolding spelled
   small-policy n l x e =
       small-node (number (f .terms .entry) n) (below (f .terms .entry) n) (f .terms .entry n .op) (f .terms .entry n .a) (f .terms .entry n .b)
@@ -145,7 +145,7 @@ module _ (f : File) (o a b : ℕ) where
 -- ---- effects
 
 module _ (f : File) (g : Going f) (j : ℕ) (l : f .event ≤ j) where
-  pub slot-is : slot (contextOf f) j ≡ length (f .terms .effects j)
+  slot-is : slot (contextOf f) j ≡ length (f .terms .effects j)
   slot-is =
       ⊎-elim
       (λ e. ap (λ (b : Bool). cond b (length (f .terms .effects (f .event))) 0) e

@@ -33,7 +33,7 @@ tabulate-cong zero g h e = refl
 tabulate-cong (suc n) g h e =
     ap₂ {C = List ℕ} (λ x l. x ∷ l) (e 0 (omega arith)) (tabulate-cong n (λ i. g (suc i)) (λ i. h (suc i)) (λ i l. e (suc i) (omega arith)))
 
-pub set-tabulate : (n : ℕ) (g : ℕ → ℕ) (at v : ℕ) → set (tabulate n g) at v ≡ tabulate n (update g at v)
+set-tabulate : (n : ℕ) (g : ℕ → ℕ) (at v : ℕ) → set (tabulate n g) at v ≡ tabulate n (update g at v)
 set-tabulate n g at v =
     ext-getD 0 (set (tabulate n g) at v) (tabulate n (update g at v))
     (length-set (tabulate n g) at v ∙ length-tabulate n g ∙ sym (length-tabulate n (update g at v)))
