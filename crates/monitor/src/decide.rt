@@ -82,7 +82,6 @@ fn decide(
     ensures { λ _. ⌜ Rows want (cell (termsOf (now (terms .entry))) (now (relations .entry)) (now (past .entry)) (assigned vars) x entry) (now (out .exit)) ⌝ }
 {
     if want == 0 {
-        rows::clear(out);
         return;
     }
     let op = layout::op_of(terms, entry);
@@ -100,7 +99,7 @@ fn decide(
         if a == x {
             rows::diagonal(out, want);
         } else {
-            rows::spread(out, want & sets::single(member_of(vars, a)), all);
+            rows::alone(out, member_of(vars, a), all);
         }
         return;
     }
@@ -109,14 +108,20 @@ fn decide(
         recollect(plan, past, vars, x, entry, want, all, out);
         return;
     }
+    // not
+    if op == 2 {
+        decide(terms, plan, relations, past, vars, x, a, want, out);
+        rows::flip(out, all);
+        return;
+    }
     let event = past[EVENT];
+    // out, in: along no edge
+    if ((op == 4) | (op == 5)) & edges::is_absent(r, event, a) {
+        rows::clear(out);
+        return;
+    }
     let mut f = [0u64; 64];
     match op {
-        // not
-        2 => {
-            decide(terms, plan, relations, past, vars, x, a, want, &mut f);
-            rows::flip(out, &f, want, all);
-        }
         // or
         3 => {
             decide(terms, plan, relations, past, vars, x, a, want, out);
@@ -140,7 +145,6 @@ fn decide(
         // bind
         8 => {
             let y = open_under(a, x);
-            rows::clear(out);
             let mut rest = want;
             while rest != 0 {
                 let m = sets::least_of(rest);
@@ -227,9 +231,11 @@ pub(crate) fn prev_rows(
     ensures { λ _. ⌜ Table (termsOf (now (terms .entry)) .members) (nextPrev (termsOf (now (terms .entry))) (now (relations .entry)) (now (past .entry)) entry) (now (out .exit)) ⌝ }
 {
     let x = layout::word(plan, entry) % 16;
-    let all = sets::mask(layout::members(terms));
+    let n = layout::members(terms);
+    let all = sets::mask(n);
     let a = layout::first_of(terms, entry);
     decide(terms, plan, relations, past, [0u8; 16], x, a, all, out);
+    rows::clear_from(out, n);
 }
 
 // Leaves the next table of a since entry, from its old one.
@@ -246,7 +252,8 @@ pub(crate) fn since_rows(
     ensures { λ _. ⌜ Table (termsOf (now (terms .entry)) .members) (nextSince (termsOf (now (terms .entry))) (now (relations .entry)) (now (past .entry)) entry) (now (out .exit)) ⌝ }
 {
     let p = layout::word(plan, entry);
-    let all = sets::mask(layout::members(terms));
+    let n = layout::members(terms);
+    let all = sets::mask(n);
     let a = layout::first_of(terms, entry);
     let b = layout::second_of(terms, entry);
     let mut f = [0u64; 64];
@@ -263,4 +270,5 @@ pub(crate) fn since_rows(
         &mut f,
     );
     rows::join_kept(out, &f, past, p / 16);
+    rows::clear_from(out, n);
 }

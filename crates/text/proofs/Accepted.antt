@@ -9,7 +9,7 @@ use borrow.Author.Tests.{lt-ltb}
 use Rattle.monitor.specs.Terms.{Terms}
 use Rattle.monitor.specs.Moment.{Relations}
 use Rattle.monitor.specs.Formula.{isPast}
-use Rattle.monitor.specs.Checks.{every, entryTests, policyTests}
+use Rattle.monitor.specs.Checks.{every, entryTests}
 use Rattle.monitor.proofs.Good.{Good, GoodEntry, implies}
 use Rattle.text.specs.File.{File, complete, reading}
 use Rattle.text.specs.File.Reading.{accepted}
@@ -33,17 +33,12 @@ pub record Accepted (f : File) : Type 0 where
   pub tidy : Tidy (f .terms)
   pub inside : Inside (f .terms) (f .edges)
   pub entry-tests : (n : ℕ) → n < f .terms .entries → every (entryTests (f .terms) n) ≡ true
-  pub policy-tests : (j : ℕ) → j < f .terms .events → every (policyTests (f .terms) j) ≡ true
 
 -- good terms pass the tests of the lent memory
 entry-passes : {T : Terms} {n : ℕ} → GoodEntry T n → every (entryTests T n) ≡ true
 unfolding every
 entry-passes {T} {n} g =
     rw (lt-ltb (T .entry n .op) 10 (g .known), g .first, g .second, implies (isPast (T .entry n .op)) (g .one-free)) refl
-
-policy-passes : {T : Terms} → Good T → (j : ℕ) → j < T .events → every (policyTests T j) ≡ true
-unfolding every
-policy-passes {T} g j l = rw (lt-ltb (T .policy j) (T .entries) (g .policy-exists j l), g .policy-free j l) refl
 
 going-good : (f : File) → complete f ≡ true → Going f → Good (f .terms) × Tidy (f .terms)
 going-good f c g =
@@ -83,5 +78,4 @@ accepted-good text f e =
       tidy = h .1;
       inside = record { within = g .edges .inside };
       entry-tests = λ n l. entry-passes (h .0 .entry n l);
-      policy-tests = policy-passes (h .0);
     }

@@ -198,10 +198,6 @@ module _ (fs : List (List ℕ)) where
   unfolding parsed
   formed = said (kindOf (field 0)) refl
 
-  -- the fields of what fields say are these, each number in its normal form
-  pub printed-parsed : (parsed fs ≡ Malformed → ⊥) → fieldsOf (parsed fs) ≡ map normalField fs
-  printed-parsed h = ⊎-elim (λ e. absurd (h e)) (λ p. p .fields) formed
-
 -- numbers are not padded, so each field is its own normal form
 pub normal-same : (fs : List (List ℕ)) → map normalField fs ≡ fs
 normal-same [] = refl
@@ -209,6 +205,3 @@ normal-same (f ∷ fs) =
     ap₂ {C = List (List ℕ)} (λ g gs. g ∷ gs)
     (⊎-elim (λ e. rw e (digits-valueOf f e (number-unpadded f e))) (λ e. rw e refl) (true-or-false (isNumber f)))
     (normal-same fs)
-
-pub printed-parsed-same : (fs : List (List ℕ)) → (parsed fs ≡ Malformed → ⊥) → fieldsOf (parsed fs) ≡ fs
-printed-parsed-same fs h = printed-parsed fs h ∙ normal-same fs

@@ -1,7 +1,7 @@
 -- A line of a terms file and what it says (document 01, "The terms file"): each kind's fields, read and written.
 use Prim.Native.Nat.{ℕ, zero, suc}
 use mathlib.Core.Bool.{Bool, cond}
-use mathlib.Core.List.{List, [], _∷_, _++_}
+use mathlib.Core.List.{List, [], _∷_}
 use lib.Dec.{eqb, ltb}
 use lib.ListN.{length, getD}
 use Rattle.monitor.specs.Checks.{every}

@@ -8,7 +8,7 @@ use Rattle.monitor.specs.Layout.{termsWords, stateWords, termsOf, stateOf, word
 use Rattle.monitor.specs.Tables.{opening}
 use Rattle.monitor.specs.Monitor.{Outcome, checks}
 use Rattle.monitor.specs.Monitor.Outcome.{passed, failed}
-use Rattle.text.specs.File.{File, Reading, reading}
+use Rattle.text.specs.File.{Reading, reading}
 use Rattle.text.specs.File.Reading.{accepted, refused}
 use Rattle.text.specs.Writing.{written}
 use Rattle.text.specs.Memory.{memoryOf}

@@ -1,6 +1,6 @@
 -- The terms with given relations as a text (document 01, "The terms file").
 use Prim.Native.Nat.{ℕ, zero, suc, _/_, _%_}
-use mathlib.Core.Bool.{Bool, cond}
+use mathlib.Core.Bool.{cond}
 use mathlib.Core.List.{List, [], _∷_, _++_}
 use Rattle.monitor.specs.Terms.{Terms}
 use Rattle.monitor.specs.Terms as terms
