@@ -7,10 +7,11 @@
 //! * `log`: an event log in SQLite with a query for the preset's policy
 //! * `measure`: batches, timed in turn
 //! * `pieces`: where the time of a call goes
+//! * `texts`: reading and writing
 //! * `stack`: the stack that one call takes
 //!
-//! `benchmark pieces` and `benchmark stack` measure that only, `benchmark
-//! loop` makes many requests for a profiler.
+//! `benchmark pieces`, `benchmark texts` and `benchmark stack` measure that
+//! only, `benchmark loop` makes many requests for a profiler.
 
 mod floor;
 #[cfg_attr(not(sqlite), path = "no_log.rs")]
@@ -20,6 +21,7 @@ mod measure;
 mod pieces;
 mod rows;
 mod stack;
+mod texts;
 mod workload;
 
 use rows::Row;
@@ -32,12 +34,14 @@ fn main() {
         None => {
             table();
             pieces::print();
+            texts::print();
             stack::print();
         }
         Some("pieces") => pieces::print(),
+        Some("texts") => texts::print(),
         Some("stack") => stack::print(),
         Some("loop") => repeat(),
-        Some(other) => eprintln!("{other}: not known; pieces, stack, loop or nothing"),
+        Some(other) => eprintln!("{other}: not known; pieces, texts, stack, loop or nothing"),
     }
 }
 

@@ -39,7 +39,7 @@ pub fn print() {
         batch(move || raw::request(terms, &mut state, &mut scratch, event, from, to))
     };
     let mut scratch = vec![1u64; SCRATCH_WORDS];
-    let names_and_batches: [(&str, Batch); 8] = [
+    let names_and_batches: [(&str, Batch); 9] = [
         ("the floor", batch(|| floor::passes(black_box(terms), black_box(state)))),
         ("check", batch(|| raw::check(terms, state))),
         ("look refused with 9", look(9, 0, 0)),
@@ -47,6 +47,7 @@ pub fn print() {
         ("look at a load", look(LOAD, 7, 0)),
         ("request of a load, denied", request(LOAD, 8, 0)),
         ("request of a share, granted", request(SHARE, 1, 7)),
+        ("request of a load, granted", request(LOAD, 7, 0)),
         ("clearing 2,048 words alone", batch(move || black_box(&mut scratch).fill(0))),
     ];
     let (names, batches): (Vec<_>, Vec<_>) = names_and_batches.into_iter().unzip();

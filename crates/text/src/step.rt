@@ -1,5 +1,6 @@
 // The step of the reader: counters in place of what the lines have said, the tests of a line against them, and the counters after it.
 use crate::line::Line;
+use monitor::plan::is_past;
 use sets::rest_of;
 ghost use mathlib.Core.Path.{_≡_};
 ghost use Prim.Native.Nat.{ℕ, _+_, _<_};
@@ -63,13 +64,6 @@ fn first(k: usize, number: usize, passes: bool) -> usize
     } else {
         k
     }
-}
-
-// Whether an operator is prev or since.
-fn is_past(o: usize) -> bool
-    ensures { λ r. ⌜ r ≡ isPast o ⌝ }
-{
-    (o == 6) | (o == 7)
 }
 
 // Whether a test passes that is made of prev and since entries only.
