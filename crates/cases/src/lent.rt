@@ -1,8 +1,8 @@
 // The calls over the front of lent memory. Memory that does not reach so far gives a refusal by 0, which no call gives.
 use crate::fields::Call;
 use crate::fields::put_text;
+use memory::Outcome;
 use monitor::Answer;
-use monitor::Outcome;
 use monitor::look;
 use monitor::request;
 use text::Written;

@@ -1,7 +1,7 @@
 // The line of a case: its label, a tab, the result.
 use libc::STDOUT_FILENO;
+use memory::Outcome;
 use monitor::Answer;
-use monitor::Outcome;
 use monitor::Verdict;
 use text::Written;
 

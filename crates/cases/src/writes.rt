@@ -18,7 +18,7 @@ use crate::lent::writing;
 use crate::show::show_answer;
 use crate::show::show_word;
 use crate::show::show_written;
-use monitor::Outcome;
+use memory::Outcome;
 use text::Written;
 use text::field::piece;
 use text::word::same;
