@@ -5,7 +5,7 @@ use mathlib.Core.List.{List, [], _∷_, _++_}
 use native.Mathlib.Omega.{arith}
 use native.Mathlib.Nat.{add-zero, add-suc, suc-add}
 use native.Mathlib.Numerals.{add-one}
-use lib.ListN.{length, getD, take, set, length-append, List·getD-eq-default}
+use lib.ListN.{length, getD, take, set, length-append}
 use lib.Seq.{sets, length-sets, set-out, take-suc, take-all}
 use Rattle.fields.specs.Put.{Put}
 
@@ -40,10 +40,3 @@ put-more w i h f g = rw (add-one i, take-suc w i 0 h) (put-then f g)
 
 pub put-whole : {o p : List ℕ} {at j : ℕ} (w : List ℕ) (i : ℕ) → length w ≤ i → Put o p at j (take i w) → Put o p at j w
 put-whole w i h f = rw (take-all i w h) at f
-
--- the word of number k of a table, and none past its end
-pub put-at : {o p : List ℕ} {at m : ℕ} (ws : List (List ℕ)) (k n : ℕ) → n ≡ k → Put o p at m (getD ws k []) → Put o p at m (getD ws n [])
-put-at ws k n e f = rw e f
-
-pub put-past : (o : List ℕ) (at : ℕ) (ws : List (List ℕ)) (n : ℕ) → length ws ≤ n → Put o o at at (getD ws n [])
-put-past o at ws n h = rw (List·getD-eq-default ws [] h) (put-none o at)

@@ -7,6 +7,7 @@ use fields::field::piece;
 use fields::field::pieces;
 use fields::number::Number;
 use fields::number::read_number;
+use theory::operators::OPERATORS;
 ghost use mathlib.Core.Path.{_≡_};
 ghost use mathlib.Core.List.{[]};
 ghost use lib.ListN.{getD};
@@ -72,7 +73,7 @@ fn entry_line(l: &[u8]) -> Line
         return Line::Malformed;
     };
     let o = read_operator(piece(l, 9, 2));
-    if 10 <= o {
+    if OPERATORS <= o {
         return Line::Malformed;
     }
     let Number::Value(a) = number_at(l, 3) else {

@@ -1,22 +1,33 @@
 // Word fields: operators, actions, directions and the kinds of lines, each a place in its table of words.
 use fields::word::pick;
+use theory::operators::AT;
+use theory::operators::BIND;
+use theory::operators::IN;
+use theory::operators::NOT;
+use theory::operators::OPERATORS;
+use theory::operators::OR;
+use theory::operators::OUT;
+use theory::operators::PREV;
+use theory::operators::SINCE;
+use theory::operators::TOP;
+use theory::operators::VAR;
 ghost use mathlib.Core.Path.{_≡_};
 ghost use Rattle.file.specs.Words.{operatorOf, actionOf, directionOf, kindOf};
 
-// The number of the operator whose word f is; 10 where there is none.
+// The number of the operator whose word f is; OPERATORS where there is none.
 pub fn read_operator(f: &[u8]) -> usize
     ensures { λ r. ⌜ r ≡ operatorOf (now (f .entry)) ⌝ }
 {
-    let at = pick(f, b"at", 9, 10);
-    let bind = pick(f, b"bind", 8, at);
-    let since = pick(f, b"since", 7, bind);
-    let prev = pick(f, b"prev", 6, since);
-    let inn = pick(f, b"in", 5, prev);
-    let out = pick(f, b"out", 4, inn);
-    let or = pick(f, b"or", 3, out);
-    let not = pick(f, b"not", 2, or);
-    let var = pick(f, b"var", 1, not);
-    pick(f, b"top", 0, var)
+    let at = pick(f, b"at", AT, OPERATORS);
+    let bind = pick(f, b"bind", BIND, at);
+    let since = pick(f, b"since", SINCE, bind);
+    let prev = pick(f, b"prev", PREV, since);
+    let inn = pick(f, b"in", IN, prev);
+    let out = pick(f, b"out", OUT, inn);
+    let or = pick(f, b"or", OR, out);
+    let not = pick(f, b"not", NOT, or);
+    let var = pick(f, b"var", VAR, not);
+    pick(f, b"top", TOP, var)
 }
 
 // 1 for add, 2 for del, 0 for any other field.

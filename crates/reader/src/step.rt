@@ -1,11 +1,18 @@
 // The step of the reader: counters in place of what the lines have said, the tests of a line against them, and the counters after it.
 use file::line::Line;
+use memory::limits::EFFECTS;
+use memory::limits::ENTRIES;
+use memory::limits::TABLES;
+use memory::limits::VARIABLES;
+use memory::operands::Kind;
+use memory::operands::operands_of;
 use memory::plan::is_past;
 use sets::rest_of;
 ghost use mathlib.Core.Path.{_≡_};
-ghost use Prim.Native.Nat.{ℕ, _+_, _<_};
+ghost use Prim.Native.Nat.{_+_, _<_};
 ghost use lib.Dec.{ltb};
-ghost use Rattle.theory.specs.Formula.{firstOperand, secondOperand, isPast};
+ghost use Rattle.theory.specs.Formula.{isPast};
+ghost use Rattle.memory.specs.Operands.{kindOf};
 ghost use Rattle.theory.specs.Fit.{_⇒_};
 ghost use Rattle.file.specs.File.{test, inRange, isLower};
 ghost use Rattle.reader.specs.Stepping.{refusedBy, numberFrom, begun, isComplete, slot, rising, checks, Ranges, stepped};
@@ -80,51 +87,29 @@ fn is_label(r: usize, e: usize, v: usize) -> bool
     if v < r { true } else { v - r < e }
 }
 
-// Whether the first operand is in its range, if it is no entry.
-fn first_in_range(o: usize, r: usize, e: usize, v: usize) -> bool
-    ensures { λ s. ⌜ s ≡ inRange (firstOperand o) (r + e) v ⌝ }
+// Whether an operand is in its range, if it is no entry.
+fn in_range(kind: Kind, r: usize, e: usize, v: usize) -> bool
+    ensures { λ s. ⌜ s ≡ inRange (kindOf kind) (r + e) v ⌝ }
 {
-    match o {
-        1 | 9 => v < 16,
-        4 => is_label(r, e, v),
-        5 => is_label(r, e, v),
-        8 => (0 < v) & (v < 16),
-        2 | 6 => true,
-        3 | 7 => true,
-        _ => v == 0,
+    match kind {
+        Kind::Unused => v == 0,
+        Kind::Variable => v < VARIABLES,
+        Kind::Binder => (0 < v) & (v < VARIABLES),
+        Kind::Label => is_label(r, e, v),
+        Kind::Entry => true,
     }
 }
 
-// Whether the second operand is in its range, if it is no entry.
-fn second_in_range(o: usize, v: usize) -> bool
-    ensures { λ r. ⌜ ((labels : ℕ) → r ≡ inRange (secondOperand o) labels v) ⌝ }
+// Whether an operand, if it is an entry, is lower than entry n.
+fn is_lower(kind: Kind, n: usize, v: usize) -> bool
+    ensures { λ r. ⌜ r ≡ isLower (kindOf kind) n v ⌝ }
 {
-    match o {
-        3 | 5 | 7 | 9 => true,
-        4 | 8 => true,
-        _ => v == 0,
-    }
-}
-
-// Whether the first operand, if it is an entry, is lower than entry n.
-fn first_is_lower(o: usize, n: usize, v: usize) -> bool
-    ensures { λ r. ⌜ r ≡ isLower (firstOperand o) n v ⌝ }
-{
-    match o {
-        2 | 6 => v < n,
-        3 | 7 => v < n,
-        _ => true,
-    }
-}
-
-// Whether the second operand, if it is an entry, is lower than entry n.
-fn second_is_lower(o: usize, n: usize, v: usize) -> bool
-    ensures { λ r. ⌜ r ≡ isLower (secondOperand o) n v ⌝ }
-{
-    match o {
-        3 | 5 | 7 | 9 => v < n,
-        4 | 8 => v < n,
-        _ => true,
+    match kind {
+        Kind::Entry => v < n,
+        Kind::Unused => true,
+        Kind::Variable => true,
+        Kind::Binder => true,
+        Kind::Label => true,
     }
 }
 
@@ -158,14 +143,17 @@ fn labels_number(c: Context, r: usize, e: usize, m: u64) -> usize
 fn entry_number(c: Context, n: usize, o: usize, a: usize, b: usize, m: u64) -> usize
     ensures { λ r. ⌜ r ≡ numberFrom 0 (checks c m (Entry n o a b)) ⌝ }
 {
+    let kinds = operands_of(o);
+    let one = kinds.first;
+    let two = kinds.second;
     let k = first(0, 1, (c.phase == 2) | (c.phase == 3));
     let k = first(k, 1, n == c.entries);
-    let k = first(k, 2, n < 256);
-    let k = first(k, 2, first_in_range(o, c.relations, c.events, a));
-    let k = first(k, 2, second_in_range(o, b));
-    let k = first(k, 2, if_past(o, c.tables < 32));
-    let k = first(k, 3, first_is_lower(o, n, a));
-    let k = first(k, 3, second_is_lower(o, n, b));
+    let k = first(k, 2, n < ENTRIES);
+    let k = first(k, 2, in_range(one, c.relations, c.events, a));
+    let k = first(k, 2, in_range(two, c.relations, c.events, b));
+    let k = first(k, 2, if_past(o, c.tables < TABLES));
+    let k = first(k, 3, is_lower(one, n, a));
+    let k = first(k, 3, is_lower(two, n, b));
     first(k, 4, if_past(o, rest_of(m) == 0))
 }
 
@@ -188,7 +176,7 @@ fn effect_number(c: Context, j: usize, a: usize, k: usize, d: usize, m: u64) -> 
     let p = first(p, 1, c.phase <= 5);
     let p = first(p, 1, c.event <= j);
     let p = first(p, 2, j < c.events);
-    let p = first(p, 2, slot_of(c, j) < 4);
+    let p = first(p, 2, slot_of(c, j) < EFFECTS);
     first(p, 2, k < c.relations)
 }
 

@@ -1,12 +1,12 @@
 -- Laws of lines as they are put: how long a word is, and one field more.
-use Prim.Native.Nat.{ℕ, zero, suc, _≤_}
+use Prim.Native.Nat.{ℕ, zero, suc, _+_, _^_, _≤_, _<_}
 use mathlib.Core.Path.{_≡_, refl, ap, subst, _∙_}
 use mathlib.Core.List.{List, [], _∷_, _++_, append-assoc}
 use native.Mathlib.Omega.{arith}
 use lib.ListN.{length, getD}
 use Rattle.fields.specs.Split.{join}
 use Rattle.file.specs.Words.{operatorWords, actionWords, directionWords, kindWords}
-use Rattle.fields.specs.Put.{Put}
+use Rattle.fields.specs.Put.{Put, PutIf}
 use Rattle.fields.proofs.Output.{put-then}
 
 -- ---- words are short
@@ -47,6 +47,14 @@ kind-short (suc (suc (suc zero))) = omega arith
 kind-short (suc (suc (suc (suc zero)))) = omega arith
 kind-short (suc (suc (suc (suc (suc zero))))) = omega arith
 kind-short (suc (suc (suc (suc (suc (suc k)))))) = omega arith
+
+-- ---- the word of a number: field k of a text whose fields are the table
+
+pub put-word : {o p : List ℕ} {at m : ℕ} (ws vs : List (List ℕ)) (k : ℕ) (w : List ℕ) → w ≡ getD ws k [] → ws ≡ vs → length (getD vs k []) ≤ 5 →
+    at < 2 ^ 61 → PutIf (at + length w < 2 ^ 62) o p at m w → Put o p at m (getD vs k [])
+put-word ws vs k w e d h l f =
+    let q : w ≡ getD vs k [] = e ∙ ap (λ (x : List (List ℕ)). getD x k []) d in
+    subst (Put _ _ _ _) q (f .all (omega (arith, ap length q)))
 
 -- ---- one field more
 

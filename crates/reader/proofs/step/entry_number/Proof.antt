@@ -1,9 +1,11 @@
 -- `reader::step::entry_number` meets its contract: the tests are taken one after the other.
-use Prim.Native.Nat.{_+_}
 use Rattle.reader.specs.Stepping.{numberFrom, checks}
 use borrow.Author.Needs.{needs}
 use Rattle.reader.proofs.step.entry_number.Statement.{statement}
 use Rattle.reader.proofs.step.entry_number.Tie as tie
+
+operands-of-requires : tie.Need-operands-of-requires
+operands-of-requires c κs = search needs
 
 first-requires : tie.Need-first-requires
 first-requires c κs = search needs
@@ -14,14 +16,14 @@ first-requires-2 c κs = search needs
 first-requires-3 : tie.Need-first-requires-3
 first-requires-3 c κs = search needs
 
-first-in-range-requires : tie.Need-first-in-range-requires
-first-in-range-requires c κs = search needs
+in-range-requires : tie.Need-in-range-requires
+in-range-requires c κs = search needs
 
 first-requires-4 : tie.Need-first-requires-4
 first-requires-4 c κs = search needs
 
-second-in-range-requires : tie.Need-second-in-range-requires
-second-in-range-requires c κs = search needs
+in-range-requires-2 : tie.Need-in-range-requires-2
+in-range-requires-2 c κs = search needs
 
 first-requires-5 : tie.Need-first-requires-5
 first-requires-5 c κs = search needs
@@ -32,14 +34,14 @@ if-past-requires c κs = search needs
 first-requires-6 : tie.Need-first-requires-6
 first-requires-6 c κs = search needs
 
-first-is-lower-requires : tie.Need-first-is-lower-requires
-first-is-lower-requires c κs = search needs
+is-lower-requires : tie.Need-is-lower-requires
+is-lower-requires c κs = search needs
 
 first-requires-7 : tie.Need-first-requires-7
 first-requires-7 c κs = search needs
 
-second-is-lower-requires : tie.Need-second-is-lower-requires
-second-is-lower-requires c κs = search needs
+is-lower-requires-2 : tie.Need-is-lower-requires-2
+is-lower-requires-2 c κs = search needs
 
 first-requires-8 : tie.Need-first-requires-8
 first-requires-8 c κs = search needs
@@ -82,10 +84,12 @@ returns c =
       k13 .first3 .ensures,
       k14 .first2 .ensures,
       k15 .first .ensures,
-      k12 .first-in-range .ensures,
-      k10 .second-in-range .ensures (k16 .args .c .relations + k16 .args .c .events),
-      k6 .first-is-lower .ensures,
-      k4 .second-is-lower .ensures,
+      k12 .in-range .ensures,
+      k10 .in-range2 .ensures,
+      k6 .is-lower .ensures,
+      k4 .is-lower2 .ensures,
+      k16 .operands-of .ensures .0,
+      k16 .operands-of .ensures .1,
       k8 .if-past .ensures,
       k1 .if-past2 .ensures,
       k2 .rest-of .ensures,
@@ -95,18 +99,19 @@ pub entry-number-spec : {M : Type 1} → statement M
 entry-number-spec =
     tie.close
     (tie.spec
+    operands-of-requires
     first-requires
     first-requires-2
     first-requires-3
-    first-in-range-requires
+    in-range-requires
     first-requires-4
-    second-in-range-requires
+    in-range-requires-2
     first-requires-5
     if-past-requires
     first-requires-6
-    first-is-lower-requires
+    is-lower-requires
     first-requires-7
-    second-is-lower-requires
+    is-lower-requires-2
     first-requires-8
     rest-of-requires
     if-past-requires-2

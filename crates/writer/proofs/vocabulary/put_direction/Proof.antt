@@ -1,53 +1,35 @@
--- `writer::vocabulary::put_direction` meets its contract: each arm puts the word of its number.
+-- `writer::vocabulary::put_direction` meets its contract: the fields of the text are the words of the table.
 use native.Mathlib.Omega.{arith}
+use mathlib.Core.Path.{_≡_, refl}
+use mathlib.Core.List.{[], _∷_}
 use borrow.Author.Needs.{needs}
+use Rattle.fields.specs.Split.{split}
 use Rattle.file.specs.Words.{directionWords}
-use Rattle.fields.proofs.Output.{put-at, put-past}
+use Rattle.writer.proofs.Placed.{direction-short, put-word}
 use Rattle.writer.proofs.vocabulary.put_direction.Statement.{statement}
 use Rattle.writer.proofs.vocabulary.put_direction.Tie as tie
 
-slice-aggregate-put-bytes : tie.Need-slice-aggregate-put-bytes
-slice-aggregate-put-bytes c = search needs
+words : split 9 (102 ∷ 119 ∷ 100 ∷ 9 ∷ 98 ∷ 97 ∷ 99 ∷ 107 ∷ []) ≡ directionWords
+unfolding split directionWords
+words = refl
+
+slice-aggregate-piece : tie.Need-slice-aggregate-piece
+slice-aggregate-piece c = search needs
+
+piece-requires : tie.Need-piece-requires
+piece-requires c κs = search needs
 
 put-bytes-requires : tie.Need-put-bytes-requires
 put-bytes-requires c κs = search needs
-
-slice-aggregate-put-bytes-2 : tie.Need-slice-aggregate-put-bytes-2
-slice-aggregate-put-bytes-2 c = search needs
-
-put-bytes-requires-2 : tie.Need-put-bytes-requires-2
-put-bytes-requires-2 c κs = search needs
 
 same-length : tie.Need-same-length
 same-length c = search needs
 
 returns : tie.Need-returns
-unfolding directionWords
 returns c =
-    put-at directionWords 0 _ (c .before .before .before .before .before .match .keys1) (c .before .before .put-bytes .ensures .all (omega arith))
-
-same-length-2 : tie.Need-same-length-2
-same-length-2 c = search needs
-
-returns-2 : tie.Need-returns-2
-unfolding directionWords
-returns-2 c =
-    put-at directionWords 1 _ (c .before .before .before .before .before .match .keys2) (c .before .before .put-bytes2 .ensures .all (omega arith))
-
-returns-3 : tie.Need-returns-3
-unfolding directionWords
-returns-3 c = put-past _ _ directionWords (c .before .before .args .direction) (omega arith)
+    let p = c .before .before .before in
+    let a = p .before .before .before .before in
+    put-word _ _ (a .args .direction) _ (p .piece .ensures) words (direction-short (a .args .direction)) (omega arith) (c .before .before .put-bytes .ensures)
 
 pub put-direction-spec : {M : Type 1} → statement M
-put-direction-spec =
-    tie.close
-    (tie.spec
-    slice-aggregate-put-bytes
-    put-bytes-requires
-    slice-aggregate-put-bytes-2
-    put-bytes-requires-2
-    same-length
-    returns
-    same-length-2
-    returns-2
-    returns-3)
+put-direction-spec = tie.close (tie.spec slice-aggregate-piece piece-requires put-bytes-requires same-length returns)
