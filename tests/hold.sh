@@ -1,3 +1,4 @@
+# shellcheck shell=sh disable=SC2034
 # Sourced by the tests beside it, each of which is called with the program and the keeper. `hold` runs both in the folder "$work/case" and compares what each prints with the file
 # "$work/wanted"; `finish` ends the test.
 set -eu
