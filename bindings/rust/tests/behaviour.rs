@@ -148,8 +148,8 @@ fn a_state_is_shown() {
 
 #[test]
 fn numbers_that_name_nothing_are_no_names() {
-    assert_eq!(Event::try_from(255), Ok(Event(255)));
-    assert_eq!(Event::try_from(256), Err(Refusal::NoSuchName));
+    assert_eq!(Event::try_from(255usize), Ok(Event(255)));
+    assert_eq!(Event::try_from(256usize), Err(Refusal::NoSuchName));
     assert_eq!(Member::try_from(usize::MAX), Err(Refusal::NoSuchName));
     assert_eq!((Member::from(7), usize::from(Member(7))), (Member(7), 7));
     assert_eq!(format!("{} {:>3}", Member(7), Relation(8)), "7   8");
@@ -340,7 +340,8 @@ fn the_c_header_has_the_same_numbers() {
     for (name, refusal) in refusals.into_iter().zip(Refusal::ALL) {
         assert_eq!(defined(&format!("CUCKOOORMOLU_REFUSED_{name}")), refusal.number());
     }
-    let header = include_str!("../../c/cuckooormolu.h").replace("\"\n               \"", "");
+    let header: String = include_str!("../../c/cuckooormolu.h").lines().map(str::trim).collect();
+    let header = header.replace("\"\"", "");
     for refusal in Refusal::ALL {
         assert!(header.contains(refusal.words()), "{refusal}");
     }
