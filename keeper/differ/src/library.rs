@@ -3,12 +3,13 @@
 //! Every call goes to the lent slices. Where the memory is regular the same
 //! call is made of a `Monitor`, which has to agree in answer and state.
 
+use crate::shown;
 use crate::tally::Tally;
 use cuckooormolu::{raw, Event, Member, Monitor, Request};
 use cuckooormolu::{SCRATCH_WORDS, STATE_WORDS, TERMS_WORDS};
 use keeper::compare::Other;
 use keeper::record::{Answer, Call};
-use keeper::terms::Refusal;
+use keeper::terms::{memory, Refusal};
 
 /// The library, and what it and its binding have been seen to do.
 pub struct Library<'a> {
@@ -24,8 +25,16 @@ impl Library<'_> {
     }
 
     /// The text written last, or what the library and its binding disagreed
-    /// about.
-    pub fn agrees(self) -> Result<Vec<u8>, String> {
+    /// about. What the binding shows of its terms and state is compared once,
+    /// here.
+    pub fn agrees(mut self) -> Result<Vec<u8>, String> {
+        if let Some(monitor) = self.monitor.take() {
+            let (terms, state) = (monitor.terms().words(), monitor.state().words());
+            let terms = memory::terms_of_words(terms).unwrap_or_default();
+            let state = memory::state_of_words(&terms, state).unwrap_or_default();
+            self.same("terms shown", shown::terms(&monitor), terms);
+            self.same("state shown", shown::state(&monitor), state);
+        }
         self.disagreement.map_or(Ok(self.written), Err)
     }
 
