@@ -4,9 +4,9 @@
  * Machine   x86-64 Linux only: the archive is machine code for it.
  * RAM       terms 1,960 bytes, state 24,584 bytes, scratch 16,384 bytes. The
  *           library allocates nothing and has no state of its own.
- * Stack     measured, not proved: reading takes 181 KiB, a look or request
- *           168 KiB, each and 1.05 KiB more for every level by which entries
- *           nest, at most 447 KiB; the other calls take 4 KiB. Provide
+ * Stack     measured, not proved: reading takes 181 KiB, an opening, look or
+ *           request 169 KiB, and each 1.05 KiB more for every level by which
+ *           entries nest, at most 447 KiB; the other calls take 4 KiB. Provide
  *           CUCKOOORMOLU_STACK_BYTES.
  * Kept      terms and state are plain words: they may be copied, kept and
  *           lent again. In a file they have the machine's byte order,
