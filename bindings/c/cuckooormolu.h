@@ -12,7 +12,7 @@
  *           lent again. In a file they have the machine's byte order,
  *           little-endian. Scratch need not be kept.
  * Threads   calls over distinct memory may run at the same time; calls over
- *           the same memory must not, unless all of them are const.
+ *           the same memory must not, unless none of them may write it.
  *
  * Link target/staticlib/libcuckooormolu.a, which `rt staticlib cuckooormolu`
  * writes. It needs nothing but memcpy and memset.
