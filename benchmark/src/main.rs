@@ -91,7 +91,7 @@ fn goals(all: &[Row]) {
 fn repeat() {
     let workload = Workload::preset(64);
     let mut monitor = workload.monitor();
-    for &[event, from, to] in workload.requests(7, 20_000).iter() {
-        std::hint::black_box(monitor.request(event, from, to).is_ok());
+    for &request in workload.requests(7, 20_000).iter() {
+        std::hint::black_box(monitor.request(workload::named(request)).is_ok());
     }
 }

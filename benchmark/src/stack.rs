@@ -1,6 +1,7 @@
 //! The stack that one call takes: a thread runs it on a painted stack, and
 //! the paint that is left is counted.
 
+use crate::workload::named;
 use cuckooormolu::{raw, Monitor, STATE_WORDS, TERMS_WORDS};
 use std::ffi::{c_int, c_void};
 use std::ptr::{null, null_mut};
@@ -40,7 +41,7 @@ enum Work {
 extern "C" fn run(argument: *mut c_void) -> *mut c_void {
     let done = match unsafe { &mut *argument.cast::<Work>() } {
         Work::Nothing => true,
-        Work::Request(monitor) => monitor.request(0, 1, 2).is_ok(),
+        Work::Request(monitor) => monitor.request(named([0, 1, 2])).is_ok(),
         Work::Read(text, terms, state) => raw::read(text, terms, state).is_ok(),
         Work::Write(monitor, output) => {
             raw::write(monitor.terms().words(), monitor.state().words(), output).is_ok()

@@ -1,12 +1,18 @@
 //! The terms and requests that are timed.
 
-use cuckooormolu::Monitor;
+use cuckooormolu::{Event, Member, Monitor};
 use keeper::generate::size::Size;
 use keeper::generate::{formulas, Rng};
 use keeper::terms::{self, Effect, Entry, Terms};
 
 /// Event, initiator, target.
 pub type Request = [usize; 3];
+
+/// The request, as the library's binding names it.
+pub fn named([event, from, to]: Request) -> cuckooormolu::Request {
+    let [from, to] = [from, to].map(|member| Member(member as u8));
+    cuckooormolu::Request { event: Event(event as u8), from, to }
+}
 
 pub struct Workload {
     pub name: &'static str,
@@ -160,8 +166,8 @@ fn owner(members: usize, owned: usize) -> usize {
 fn grants(workload: &Workload, count: usize) -> usize {
     let mut monitor = workload.monitor();
     let requests = workload.requests(3, count);
-    let granted = |&[event, from, to]: &Request| {
-        monitor.request(event, from, to).is_ok_and(cuckooormolu::Answer::is_grant)
+    let granted = |&request: &Request| {
+        monitor.request(named(request)).is_ok_and(cuckooormolu::Answer::is_grant)
     };
     requests.iter().map(granted).filter(|&granted| granted).count()
 }

@@ -17,8 +17,9 @@ use Rattle.file.specs.Writing.{listed, effectLines}
 use Rattle.file.specs.declared.line.Line.{Line}
 use Rattle.file.specs.declared.line.Line.the-variants as lines
 use Rattle.file.proofs.Printed.{Ranged}
-use Rattle.file.proofs.Taken.{Passed, Reached, reached-then, reached-one, reached-none}
-use Rattle.file.proofs.Taken.Passed.{none, pass}
+use Rattle.file.specs.Refused.{Passed}
+use Rattle.file.proofs.Taken.{Reached, reached-then, reached-one, reached-none}
+use Rattle.file.specs.Refused.Passed.{none, pass}
 use Rattle.file.proofs.Update.{update-same, update-other}
 use Rattle.file.proofs.Going.{Going, going, complete-is}
 use Rattle.file.proofs.Accepted.{Tidy}

@@ -17,12 +17,13 @@ use Rattle.theory.specs.Fit.{lone, targetOnly}
 use Rattle.theory.proofs.Good.{Good, implies}
 use Rattle.theory.proofs.Spelled.{number-lt}
 use Rattle.file.specs.File.{File, nothing, update, after, tests, inRange}
-use Rattle.file.specs.Writing.{listed, entryAt}
+use Rattle.file.specs.Writing.{listed, lineOfEntry}
 use Rattle.file.specs.declared.line.Line.{Line}
 use Rattle.file.specs.declared.line.Line.the-variants.{Members, Labels, Entry, Policy}
 use Rattle.file.proofs.Printed.{Ranged}
-use Rattle.file.proofs.Taken.{Passed, Taken, Reached, reached-then, reached-one, reached-none}
-use Rattle.file.proofs.Taken.Passed.{none, pass}
+use Rattle.file.specs.Refused.{Passed}
+use Rattle.file.proofs.Taken.{Taken, Reached, reached-then, reached-one, reached-none}
+use Rattle.file.specs.Refused.Passed.{none, pass}
 use Rattle.file.proofs.Taken.Taken.{one}
 use Rattle.theory.proofs.Alike.{number-agree, spelled-agree}
 use Rattle.file.proofs.Update.{update-cases}
@@ -115,7 +116,7 @@ module _ (T : Terms) (good : Good T) (tidy : Tidy T) where
         let c = good .few-tables in
         omega arith
 
-    entry-passed : Passed (tests g (entryAt T n))
+    entry-passed : Passed (tests g (lineOfEntry T n))
     unfolding tests
     entry-passed =
         let q = good .entry n l in
@@ -135,7 +136,7 @@ module _ (T : Terms) (good : Good T) (tidy : Tidy T) where
         (sym (spelled-agree (update (g .terms .entry) n v) (T .entry) n (λ k h. agrees k (omega arith)))) (q .one-free p)))
         none))))))))
 
-    entry-ranged : Ranged (entryAt T n)
+    entry-ranged : Ranged (lineOfEntry T n)
     entry-ranged =
         let q = good .entry n l in
         let labels = T .relations + T .events in
@@ -144,7 +145,7 @@ module _ (T : Terms) (good : Good T) (tidy : Tidy T) where
         (operand-small (firstOperand (T .entry n .op)) labels n (T .entry n .a) (omega arith) (omega arith) (q .first))
         (operand-small (secondOperand (T .entry n .op)) labels n (T .entry n .b) (omega arith) (omega arith) (q .second))
 
-    entry-entered : Entered (suc n) (after g (entryAt T n))
+    entry-entered : Entered (suc n) (after g (lineOfEntry T n))
     unfolding after
     entry-entered = record {
       low = omega arith;
@@ -155,7 +156,7 @@ module _ (T : Terms) (good : Good T) (tidy : Tidy T) where
       going-so = going entry-ranged entry-passed (t .going-so);
     }
 
-  entered : (n : ℕ) → n ≤ T .entries → (g : File) → Entered 0 g → Reached g (listed n (λ n. entryAt T n ∷ [])) (Entered n)
+  entered : (n : ℕ) → n ≤ T .entries → (g : File) → Entered 0 g → Reached g (listed n (λ n. lineOfEntry T n ∷ [])) (Entered n)
   unfolding listed
   entered zero h g t = reached-none t
   entered (suc n) h g t =
@@ -232,7 +233,7 @@ module _ (T : Terms) (good : Good T) (tidy : Tidy T) where
 
   -- the lines of members, labels, entries and policies, and those after them
   pub told : {ms : List Line} {Q : File → Type 0} → ((g : File) → Decided (T .events) g → Reached g ms Q)
-      → Reached nothing (Members (T .members) ∷ Labels (T .relations) (T .events) ∷ (listed (T .entries) (λ n. entryAt T n ∷ [])
+      → Reached nothing (Members (T .members) ∷ Labels (T .relations) (T .events) ∷ (listed (T .entries) (λ n. lineOfEntry T n ∷ [])
       ++ (listed (T .events) (λ j. Policy j (T .policy j) ∷ []) ++ ms))) Q
   told k =
       reached-then heads (λ g t. reached-then (entered (T .entries) (omega arith) g t)

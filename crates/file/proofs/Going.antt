@@ -15,7 +15,8 @@ use Rattle.file.specs.File.{File, nothing, after, tests, complete, rises
 use Rattle.file.specs.declared.line.Line.{Line}
 use Rattle.file.proofs.Printed.{Ranged}
 use Rattle.file.proofs.Printed.Ranged.{members, labels, entry, policy, effect, edge}
-use Rattle.file.proofs.Taken.{Passed, passed-at, Taken}
+use Rattle.file.specs.Refused.{Passed}
+use Rattle.file.proofs.Taken.{passed-at, Taken}
 use Rattle.file.proofs.Taken.Taken.{none, one}
 use Rattle.file.proofs.Fit.{EntriesFit, PoliciesFit, EffectsFit, EdgesFit, code, operand-fits, entry-put, entry-more, policies-none, policy-more, effects-none, effect-more, edges-none, edge-more}
 

@@ -1,9 +1,9 @@
--- A text is refused exactly at its first faulty line, with the lowest number of a test that fails there; or where it is cut or ends too soon.
+-- A text is refused exactly where its first faulty line is, or where it is cut or ends too soon, and with the lowest number of a test that fails.
 use Prim.Native.Nat.{ℕ, _+_, _≤_}
 use mathlib.Core.Path.{_≡_, refl, ap, subst, subst₂, _∙_}
 use mathlib.Core.Logic.{_⊎_, _↔_, inl, inr, ⊎-elim}
 use mathlib.Core.List.{List, [], _∷_}
-use mathlib.Core.Bool.{Bool, true, false, _&&_}
+use mathlib.Core.Bool.{true, false}
 use native.Mathlib.Omega.{arith}
 use lib.Dec.{leb}
 use borrow.Author.Tests.{leb-true}
@@ -15,40 +15,16 @@ use Rattle.file.specs.File.{File, Test, tests, after, complete, nothing,
 use Rattle.file.specs.File.Reading.{accepted, refused}
 use Rattle.file.specs.declared.line.Line.{Line}
 use Rattle.file.specs.declared.line.Line.the-variants.{Members, Labels, Entry, Policy, Effect, Edge, Malformed}
-use Rattle.file.proofs.Taken.{Passed, tried-passed}
-use Rattle.file.proofs.Taken.Passed.{none, pass}
-
--- A test with number n fails.
-pub data Fails (n : ℕ) : List Test → Type 0 where
-  this : {t : Test} {ts : List Test} → t .number ≡ n → t .passes ≡ false → Fails n (t ∷ ts)
-  other : {t : Test} {ts : List Test} → Fails n ts → Fails n (t ∷ ts)
-
--- n is the lowest number of a test that fails.
-pub record Lowest (n : ℕ) (ts : List Test) : Type 0 where
-  pub fails : Fails n ts
-  pub least : (m : ℕ) → Fails m ts → n ≤ m
-
--- The line is faulty, and is refused with the number n.
-abbrev pub Faulty : File → Line → ℕ → Type 0
-Faulty f l n = Lowest n (tests f l)
-
--- A text from line `at` on, after what f has said, is refused with a number at a line.
-pub data Refused : (f : File) (at : ℕ) → Lines → (number line : ℕ) → Type 0 where
-  go-on : {f : File} {at : ℕ} {l : List ℕ} {r : Lines} {n k : ℕ}
-      → Passed (tests f (parsed (split 9 l))) → Refused (after f (parsed (split 9 l))) (at + 1) r n k → Refused f at (line l r) n k
-  faulty : {f : File} {at : ℕ} {l : List ℕ} {r : Lines} {n : ℕ} → Faulty f (parsed (split 9 l)) n → Refused f at (line l r) n at
-  cut-off : {f : File} {at : ℕ} {l : List ℕ} → Refused f at (cut l) 1 at
-  ended : {f : File} {at : ℕ} → complete f ≡ false → Refused f at done 1 at
+use Rattle.file.specs.Refused.{Passed, Fails, Lowest, Refused, numbersRise}
+use Rattle.file.proofs.Taken.{tried-passed}
+use Rattle.file.specs.Refused.Passed.{none, pass}
+use Rattle.file.specs.Refused.Fails.{this, other}
+use Rattle.file.specs.Refused.Refused.{go-on, faulty, cut-off, ended}
 
 -- ---- the numbers of a line's tests never fall
 
--- No number of the tests is below the one before it, the first not below m.
-unfoldable pub rising : (m : ℕ) → List Test → Bool
-rising m [] = true
-rising m (t ∷ ts) = leb m (t .number) && rising (t .number) ts
-
-pub tests-rise : (f : File) (l : Line) → rising 1 (tests f l) ≡ true
-unfolding tests rising
+pub tests-rise : (f : File) (l : Line) → numbersRise 1 (tests f l) ≡ true
+unfolding tests numbersRise
 tests-rise f (Members n) = refl
 tests-rise f (Labels r e) = refl
 tests-rise f (Entry n o a b) = refl
@@ -57,41 +33,41 @@ tests-rise f (Effect j c k d) = refl
 tests-rise f (Edge k a b) = refl
 tests-rise f Malformed = refl
 
-rising-rest : (m : ℕ) (t : Test) (ts : List Test) → rising m (t ∷ ts) ≡ true → rising (t .number) ts ≡ true
-unfolding rising
-rising-rest m t ts r = and-right (leb m (t .number)) (rising (t .number) ts) r
+rise-rest : (m : ℕ) (t : Test) (ts : List Test) → numbersRise m (t ∷ ts) ≡ true → numbersRise (t .number) ts ≡ true
+unfolding numbersRise
+rise-rest m t ts r = and-right (leb m (t .number)) (numbersRise (t .number) ts) r
 
 -- so the first test that fails has the lowest number
-fails-above : (m : ℕ) {n : ℕ} (ts : List Test) → rising m ts ≡ true → Fails n ts → m ≤ n
-unfolding rising
+fails-above : (m : ℕ) {n : ℕ} (ts : List Test) → numbersRise m ts ≡ true → Fails n ts → m ≤ n
+unfolding numbersRise
 fails-above m (t ∷ ts) r (this e p) = let l = leb-true m (t .number) (and-left (leb m (t .number)) _ r) in omega arith
 fails-above m (t ∷ ts) r (other p) =
     let l = leb-true m (t .number) (and-left (leb m (t .number)) _ r) in
-    let h = fails-above (t .number) ts (rising-rest m t ts r) p in
+    let h = fails-above (t .number) ts (rise-rest m t ts r) p in
     omega arith
 
 fails-other : {n : ℕ} {t : Test} {ts : List Test} → t .passes ≡ true → Fails n (t ∷ ts) → Fails n ts
 fails-other h (this e p) = absurd (not-both _ h p)
 fails-other h (other p) = p
 
-first-lowest : (m : ℕ) (t : Test) (ts : List Test) → rising m (t ∷ ts) ≡ true → t .passes ≡ false → Lowest (t .number) (t ∷ ts)
+first-lowest : (m : ℕ) (t : Test) (ts : List Test) → numbersRise m (t ∷ ts) ≡ true → t .passes ≡ false → Lowest (t .number) (t ∷ ts)
 first-lowest m t ts r p = record { fails = this refl p; least = least }
   where
     least : (m : ℕ) → Fails m (t ∷ ts) → t .number ≤ m
     least n (this e q) = omega arith
-    least n (other q) = fails-above (t .number) ts (rising-rest m t ts r) q
+    least n (other q) = fails-above (t .number) ts (rise-rest m t ts r) q
 
 lowest-later : {n : ℕ} (t : Test) (ts : List Test) → t .passes ≡ true → Lowest n ts → Lowest n (t ∷ ts)
 lowest-later t ts h l = record { fails = other (l .fails); least = λ m p. l .least m (fails-other h p) }
 
 -- ---- both ways
 
-tried-refused : (m : ℕ) (ts : List Test) → rising m ts ≡ true → (at : ℕ) (r : Reading) (n k : ℕ) → tried ts at r ≡ refused n k
+tried-refused : (m : ℕ) (ts : List Test) → numbersRise m ts ≡ true → (at : ℕ) (r : Reading) (n k : ℕ) → tried ts at r ≡ refused n k
     → (Passed ts × (r ≡ refused n k)) ⊎ (Lowest n ts × (at ≡ k))
 unfolding tried
 tried-refused m [] s at r n k e = inl (none, e)
 tried-refused m (t ∷ ts) s at r n k e =
-    let ih = tried-refused (t .number) ts (rising-rest m t ts s) at r n k in
+    let ih = tried-refused (t .number) ts (rise-rest m t ts s) at r n k in
     ⊎-elim
     (λ p. let q : tried ts at r ≡ refused n k = rw p at e in
     ⊎-elim (λ a. inl (pass p (a .0), a .1)) (λ a. inr (lowest-later t ts p (a .0), a .1)) (ih q))
@@ -104,11 +80,11 @@ tried-refused m (t ∷ ts) s at r n k e =
 nowhere : {n : ℕ} → Fails n [] → ⊥
 nowhere h = elim h [ ]
 
-tried-lowest : (m : ℕ) {n : ℕ} (ts : List Test) → rising m ts ≡ true → Lowest n ts → (at : ℕ) (r : Reading) → tried ts at r ≡ refused n at
+tried-lowest : (m : ℕ) {n : ℕ} (ts : List Test) → numbersRise m ts ≡ true → Lowest n ts → (at : ℕ) (r : Reading) → tried ts at r ≡ refused n at
 unfolding tried
 tried-lowest m [] s l at r = absurd (nowhere (l .fails))
 tried-lowest m (t ∷ ts) s l at r =
-    let ih = tried-lowest (t .number) ts (rising-rest m t ts s) in
+    let ih = tried-lowest (t .number) ts (rise-rest m t ts s) in
     ⊎-elim
     (λ p. rw p (ih (record { fails = fails-other p (l .fails); least = λ m q. l .least m (other q) }) at r))
     (λ p. let f = first-lowest m t ts s p in

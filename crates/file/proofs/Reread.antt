@@ -15,8 +15,9 @@ use Rattle.file.specs.File.Reading.{accepted}
 use Rattle.file.specs.Writing.{listed, edgeAt, allLines, written}
 use Rattle.file.specs.declared.line.Line.the-variants.{Edge}
 use Rattle.file.proofs.Printed.{Ranged}
-use Rattle.file.proofs.Taken.{Passed, Reached, reached-then, reached-one, reached-none, read-printed}
-use Rattle.file.proofs.Taken.Passed.{none, pass}
+use Rattle.file.specs.Refused.{Passed}
+use Rattle.file.proofs.Taken.{Reached, reached-then, reached-one, reached-none, read-printed}
+use Rattle.file.specs.Refused.Passed.{none, pass}
 use Rattle.file.proofs.Fit.{code, withEdge}
 use Rattle.file.proofs.Going.{Going, going, complete-is}
 use Rattle.file.proofs.Accepted.{Tidy, Inside}

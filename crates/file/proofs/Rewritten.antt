@@ -20,7 +20,8 @@ use Rattle.file.specs.declared.line.Line.the-variants.{Entry, Policy, Ef
 use Rattle.fields.proofs.Split.{join-split, unlines-lines}
 use Rattle.file.proofs.Printed.{Ranged, Formed, normal-same}
 use Rattle.file.proofs.Printed.Ranged.{members, labels, entry, policy, effect, edge}
-use Rattle.file.proofs.Taken.{Passed, passed-at, tried-accepted, Taken, passed-formed, reading-accepting}
+use Rattle.file.specs.Refused.{Passed}
+use Rattle.file.proofs.Taken.{passed-at, tried-accepted, Taken, passed-formed, reading-accepting}
 use Rattle.file.proofs.Taken.Taken.{none, one}
 use Rattle.file.proofs.Going.{Going, going-first, going, entry-phase, policy-phase, complete-phase, complete-policies, rises-code}
 use Rattle.file.proofs.Listed.{empty, here, later}

@@ -21,7 +21,8 @@ use Rattle.file.specs.declared.line.Line.{Line}
 use Rattle.file.specs.declared.line.Line.the-variants.{Members, Labels, Entry, Policy, Effect, Edge, Malformed}
 use Rattle.file.proofs.Printed.{Ranged}
 use Rattle.file.proofs.Printed.Ranged.{members, labels, entry, policy, effect, edge}
-use Rattle.file.proofs.Taken.{Passed, passed-at, Taken, reading-accepting}
+use Rattle.file.specs.Refused.{Passed}
+use Rattle.file.proofs.Taken.{passed-at, Taken, reading-accepting}
 use Rattle.file.proofs.Taken.Taken.{none, one}
 use Rattle.file.proofs.Update.{update-other}
 use Rattle.file.proofs.Fit.{noEntry}

@@ -11,6 +11,8 @@ use Rattle.fields.specs.Split.Lines.{done, cut, line}
 use Rattle.file.specs.Line.{parsed}
 use Rattle.file.specs.File.{File, Test, tests, after, complete, nothing, Reading, tried, readOn, reading}
 use Rattle.file.specs.File.Reading.{accepted, refused}
+use Rattle.file.specs.Refused.{Passed}
+use Rattle.file.specs.Refused.Passed.{pass}
 use Rattle.file.specs.Said.{records}
 use Rattle.file.specs.Writing.{printedAll}
 use Rattle.file.specs.declared.line.Line.{Line}
@@ -19,11 +21,6 @@ use Rattle.file.proofs.Printed.{Ranged, parsed-printed, split-ranged, F
 
 -- ---- tests
 
--- Every test of a list passes.
-pub data Passed : List Test → Type 0 where
-  none : Passed []
-  pass : {t : Test} {ts : List Test} → t .passes ≡ true → Passed ts → Passed (t ∷ ts)
-
 abbrev passesAt : List Test → ℕ → Bool
 passesAt [] k = true
 passesAt (t ∷ ts) zero = t .passes
@@ -31,18 +28,18 @@ passesAt (t ∷ ts) (suc k) = passesAt ts k
 
 -- test number k of a list that passes
 pub passed-at : {ts : List Test} → Passed ts → (k : ℕ) → passesAt ts k ≡ true
-passed-at none k = refl
+passed-at Passed.none k = refl
 passed-at (pass p ps) zero = p
 passed-at (pass p ps) (suc k) = passed-at ps k
 
 pub tried-passed : {ts : List Test} → Passed ts → (n : ℕ) (r : Reading) → tried ts n r ≡ r
 unfolding tried
-tried-passed none n r = refl
+tried-passed Passed.none n r = refl
 tried-passed (pass p ps) n r = rw p (tried-passed ps n r)
 
 pub tried-accepted : (ts : List Test) (n : ℕ) (r : Reading) (g : File) → tried ts n r ≡ accepted g → Passed ts × (r ≡ accepted g)
 unfolding tried
-tried-accepted [] n r g e = (none, e)
+tried-accepted [] n r g e = (Passed.none, e)
 tried-accepted (t ∷ ts) n r g e =
     let ih = tried-accepted ts n r g in
     ⊎-elim

@@ -14,8 +14,8 @@ unfoldable pub listed : ℕ → (ℕ → List Line) → List Line
 listed zero f = []
 listed (suc n) f = listed n f ++ f n
 
-abbrev pub entryAt : Terms → ℕ → Line
-entryAt T n = Entry n (T .entry n .op) (T .entry n .a) (T .entry n .b)
+abbrev pub lineOfEntry : Terms → ℕ → Line
+lineOfEntry T n = Entry n (T .entry n .op) (T .entry n .a) (T .entry n .b)
 
 -- The effects of event j, in listed order.
 unfoldable pub effectLines : ℕ → List terms.Effect → List Line
@@ -31,7 +31,7 @@ unfoldable pub allLines : Terms → Relations → List Line
 allLines T R =
     Members (T .members)
     ∷ Labels (T .relations) (T .events)
-    ∷ (listed (T .entries) (λ n. entryAt T n ∷ [])
+    ∷ (listed (T .entries) (λ n. lineOfEntry T n ∷ [])
     ++ (listed (T .events) (λ j. Policy j (T .policy j) ∷ [])
     ++ (listed (T .events) (λ j. effectLines j (T .effects j))
     ++ listed 65536 (edgeAt R))))

@@ -25,12 +25,13 @@ use Rattle.theory.proofs.Good.{fits-variable}
 use Rattle.memory.proofs.FreeSets.{lone-set, target-set}
 use Rattle.file.specs.File.{File, update, withEntry, after, inRange, isLower, tests}
 use Rattle.reader.specs.Memory.{memoryOf, relationsMemory}
-use Rattle.reader.specs.Stepping.{slot, checks, FreeIn, Ranges, stepped}
+use Rattle.reader.specs.Stepping.{slot, contextTests, FreeIn, Ranges, stepped}
 use Rattle.reader.specs.Storing.{storedTerms, storedEdges, storedSets}
 use Rattle.file.specs.declared.line.Line.{Line}
 use Rattle.file.specs.declared.line.Line.the-variants.{Members, Labels, Entry, Policy, Effect, Edge, Malformed}
 use Rattle.reader.specs.declared.step.Context.{Context}
-use Rattle.file.proofs.Taken.{Passed, passed-at}
+use Rattle.file.specs.Refused.{Passed}
+use Rattle.file.proofs.Taken.{passed-at}
 use Rattle.theory.proofs.Alike.{number-agree, below-agree, spelled-agree}
 use Rattle.file.proofs.Update.{update-same, update-other}
 use Rattle.file.proofs.Fit.{operand-fits}
@@ -159,19 +160,19 @@ module _ (f : File) (g : Going f) (j : ℕ) (l : f .event ≤ j) where
 
 module _ (f : File) (g : Going f) (masks : List ℕ) (masked : Masked (f .terms) masks) (m : ℕ) (fits : m < 2 ^ 64) where
   entry-tests : (o a b : ℕ) → FreeIn masks (Entry (f .terms .entries) o a b) m →
-      Same (drop 2 (checks (contextOf f) m (Entry (f .terms .entries) o a b))) (drop 2 (tests f (Entry (f .terms .entries) o a b)))
-  unfolding checks tests
+      Same (drop 2 (contextTests (contextOf f) m (Entry (f .terms .entries) o a b))) (drop 2 (tests f (Entry (f .terms .entries) o a b)))
+  unfolding contextTests tests
   entry-tests o a b is =
       same-test refl (λ _. same-test refl (λ ra. same-test refl (λ _. same-test refl (λ _. same-test refl (λ la. same-test refl (λ lb.
       same-test (ap (_⇒_ (isPast o)) (lone-new f o a b g masks masked m is ra la lb fits)) (λ _. same-all [])))))))
 
-  pub tests-same : (l : Line) → FreeIn masks l m → Same (checks (contextOf f) m l) (tests f l)
-  unfolding checks tests
+  pub tests-same : (l : Line) → FreeIn masks l m → Same (contextTests (contextOf f) m l) (tests f l)
+  unfolding contextTests tests
   tests-same (Members n) is = same-all _
   tests-same (Labels r e) is = same-all _
   tests-same (Entry n o a b) is =
       same-test refl (λ _. same-test refl (λ p.
-      subst (λ (n : ℕ). Same (drop 2 (checks (contextOf f) m (Entry n o a b))) (drop 2 (tests f (Entry n o a b))))
+      subst (λ (n : ℕ). Same (drop 2 (contextTests (contextOf f) m (Entry n o a b))) (drop 2 (tests f (Entry n o a b))))
       (sym (eqb-true n (f .terms .entries) p)) (entry-tests o a b is)))
   tests-same (Policy j n) is =
       same-test refl (λ _. same-test refl (λ _. same-test refl (λ _. same-test refl (λ p.

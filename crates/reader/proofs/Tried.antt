@@ -11,8 +11,8 @@ use Rattle.sets.proofs.Finite.{true-or-false, and-left, and-right}
 use Rattle.file.specs.File.{Test, test, Reading, tried}
 use Rattle.file.specs.File.Reading.{refused}
 use Rattle.reader.specs.Stepping.{refusedBy, numberFrom}
-use Rattle.file.proofs.Taken.{Passed}
-use Rattle.file.proofs.Taken.Passed.{none, pass}
+use Rattle.file.specs.Refused.{Passed}
+use Rattle.file.specs.Refused.Passed.{none, pass}
 
 -- no test has the number 0
 unfoldable pub positive : List Test → Bool

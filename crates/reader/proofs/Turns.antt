@@ -19,14 +19,15 @@ use Rattle.file.specs.Line.{parsed}
 use Rattle.file.specs.File.{File, nothing, tests, after, complete, Reading, tried, readOn, reading}
 use Rattle.file.specs.File.Reading.{accepted, refused}
 use Rattle.reader.specs.Memory.{effectWord, termsWord, memoryOf, relationsMemory}
-use Rattle.reader.specs.Stepping.{numberFrom, begun, isComplete, checks, FreeIn, Ranges, stepped}
+use Rattle.reader.specs.Stepping.{numberFrom, begun, isComplete, contextTests, FreeIn, Ranges, stepped}
 use Rattle.reader.specs.Storing.{storedTerms, storedEdges, storedSets, Reads}
 use Rattle.file.specs.declared.line.Line.{Line}
 use Rattle.file.specs.declared.line.Line.the-variants.{Members, Labels, Entry, Policy, Effect, Edge, Malformed}
 use Rattle.reader.specs.declared.step.Context.{Context}
 use Rattle.fields.proofs.Split.{place-le, lines-here, lines-cut, part-rest, rest-shorter}
 use Rattle.file.proofs.Printed.{Ranged, formed}
-use Rattle.file.proofs.Taken.{Passed, passed-at, tried-passed}
+use Rattle.file.specs.Refused.{Passed}
+use Rattle.file.proofs.Taken.{passed-at, tried-passed}
 use Rattle.file.proofs.Going.{Going, going-first, going}
 use Rattle.reader.proofs.Tried.{Same, positive, all-pass, tried-fails}
 use Rattle.reader.proofs.Stored.{tabulate-cong}
@@ -137,15 +138,15 @@ module _ (text terms relations masks t : List ℕ) (c : Context) (n : ℕ) (s : 
 
 -- ---- one turn
 
-checks-positive : (c : Context) (m : ℕ) (l : Line) → positive (checks c m l) ≡ true
-unfolding positive checks
-checks-positive c m (Members n) = refl
-checks-positive c m (Labels r e) = refl
-checks-positive c m (Entry n o a b) = refl
-checks-positive c m (Policy j n) = refl
-checks-positive c m (Effect j a k d) = refl
-checks-positive c m (Edge k a b) = refl
-checks-positive c m Malformed = refl
+tests-positive : (c : Context) (m : ℕ) (l : Line) → positive (contextTests c m l) ≡ true
+unfolding positive contextTests
+tests-positive c m (Members n) = refl
+tests-positive c m (Labels r e) = refl
+tests-positive c m (Entry n o a b) = refl
+tests-positive c m (Policy j n) = refl
+tests-positive c m (Effect j a k d) = refl
+tests-positive c m (Edge k a b) = refl
+tests-positive c m Malformed = refl
 
 line-read : (f : File) (t : List ℕ) (n e : ℕ) (l : Line) → e ≡ place 10 t → e < length t → l ≡ parsed (split 9 (take e t)) →
     readOn f n (lines t) ≡ tried (tests f l) n (readOn (after f l) (n + 1) (lines (take (length t - (e + 1)) (drop (e + 1) t))))
@@ -160,7 +161,7 @@ pub record Turn (text terms relations masks t : List ℕ) (c : Context) (n e : �
   pub line : l ≡ parsed (split 9 (take e t))
   pub set : FreeIn masks l m
   pub fits : m < 2 ^ 64
-  pub number : k ≡ numberFrom 0 (checks c m l)
+  pub number : k ≡ numberFrom 0 (contextTests c m l)
 
 module _ {text terms relations masks t : List ℕ} {c : Context} {n e : ℕ} {l : Line} {m k : ℕ}
     (s : Turn text terms relations masks t c n e l m k)
@@ -171,8 +172,8 @@ module _ {text terms relations masks t : List ℕ} {c : Context} {n e : ℕ} {l 
     abbrev rest : List ℕ
     rest = take (length t - (e + 1)) (drop (e + 1) t)
 
-    number-is : k ≡ numberFrom 0 (checks (contextOf f) m l)
-    number-is = s .number ∙ ap (λ (d : Context). numberFrom 0 (checks d m l)) (s .along .context)
+    number-is : k ≡ numberFrom 0 (contextTests (contextOf f) m l)
+    number-is = s .number ∙ ap (λ (d : Context). numberFrom 0 (contextTests d m l)) (s .along .context)
 
     abbrev later : Reading
     later = readOn (after f l) (n + 1) (lines rest)
@@ -180,7 +181,7 @@ module _ {text terms relations masks t : List ℕ} {c : Context} {n e : ℕ} {l 
     read-line : reading text ≡ tried (tests f l) n later
     read-line = sym (s .along .same) ∙ line-read f t n e l (s .ends) (s .inside) (s .line)
 
-    tests-are : Same (checks (contextOf f) m l) (tests f l)
+    tests-are : Same (contextTests (contextOf f) m l) (tests f l)
     tests-are = tests-same f (s .along .going) masks (s .along .masked) m (s .fits) l (s .set)
 
     pub few-tables : c .tables < 33
@@ -191,14 +192,14 @@ module _ {text terms relations masks t : List ℕ} {c : Context} {n e : ℕ} {l 
     turn-refused h =
         refuses text terms relations k n
         (read-line ∙ sym (tests-are .come n later)
-        ∙ tried-fails (checks (contextOf f) m l) n later (checks-positive (contextOf f) m l) (subst (λ (j : ℕ). 0 < j) number-is h)
+        ∙ tried-fails (contextTests (contextOf f) m l) n later (tests-positive (contextOf f) m l) (subst (λ (j : ℕ). 0 < j) number-is h)
         ∙ ap (λ (j : ℕ). refused j n) (sym number-is))
 
     module _ (none : k ≤ 0) where
       passes : Passed (tests f l)
       passes =
           tests-are .passes
-          (all-pass (checks (contextOf f) m l) (checks-positive (contextOf f) m l) (sym number-is ∙ (omega arith)))
+          (all-pass (contextTests (contextOf f) m l) (tests-positive (contextOf f) m l) (sym number-is ∙ (omega arith)))
 
       ranged : Ranged l
       unfolding tests

@@ -59,19 +59,19 @@ rising c k a b =
     || (ltb (c .relation) k || (eqb (c .relation) k && (ltb (c .from) a || (eqb (c .from) a && ltb (c .to) b))))
 
 -- The tests of File, against counters. m is the set of the free variables of an F line's entry, or of a P line's.
-unfoldable pub checks : Context → (m : ℕ) → Line → List Test
-checks c m (Members n) =
+unfoldable pub contextTests : Context → (m : ℕ) → Line → List Test
+contextTests c m (Members n) =
     test 1 (eqb (c .phase) 0)
     ∷ test 2 (ltb 0 n)
     ∷ test 2 (ltb n 65)
     ∷ []
-checks c m (Labels r e) =
+contextTests c m (Labels r e) =
     test 1 (eqb (c .phase) 1)
     ∷ test 2 (ltb r 17)
     ∷ test 2 (ltb 0 e)
     ∷ test 2 (ltb e 17)
     ∷ []
-checks c m (Entry n o a b) =
+contextTests c m (Entry n o a b) =
     test 1 (eqb (c .phase) 2 || eqb (c .phase) 3)
     ∷ test 1 (eqb n (c .entries))
     ∷ test 2 (ltb n 256)
@@ -82,14 +82,14 @@ checks c m (Entry n o a b) =
     ∷ test 3 (isLower (secondOperand o) n b)
     ∷ test 4 (isPast o ⇒ eqb (bitAnd m (m - 1)) 0)
     ∷ []
-checks c m (Policy j n) =
+contextTests c m (Policy j n) =
     test 1 (leb 2 (c .phase) && leb (c .phase) 4)
     ∷ test 1 (eqb j (c .policies))
     ∷ test 1 (ltb j (c .events))
     ∷ test 2 (ltb n (c .entries))
     ∷ test 5 (ltb m 2)
     ∷ []
-checks c m (Effect j a k d) =
+contextTests c m (Effect j a k d) =
     test 1 (isComplete c)
     ∷ test 1 (leb (c .phase) 5)
     ∷ test 1 (leb (c .event) j)
@@ -97,14 +97,14 @@ checks c m (Effect j a k d) =
     ∷ test 2 (ltb (slot c j) 4)
     ∷ test 2 (ltb k (c .relations))
     ∷ []
-checks c m (Edge k a b) =
+contextTests c m (Edge k a b) =
     test 1 (isComplete c)
     ∷ test 1 (rising c k a b)
     ∷ test 2 (ltb k (c .relations))
     ∷ test 2 (ltb a (c .members))
     ∷ test 2 (ltb b (c .members))
     ∷ []
-checks c m Malformed = test 1 false ∷ []
+contextTests c m Malformed = test 1 false ∷ []
 
 -- m is that set, where masks has the sets of the entries so far.
 abbrev pub FreeIn : List ℕ → Line → (m : ℕ) → Type 0

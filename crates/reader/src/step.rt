@@ -15,7 +15,7 @@ ghost use Rattle.theory.specs.Formula.{isPast};
 ghost use Rattle.memory.specs.Operands.{kindOf};
 ghost use Rattle.theory.specs.Fit.{_⇒_};
 ghost use Rattle.file.specs.File.{test, inRange, isLower};
-ghost use Rattle.reader.specs.Stepping.{refusedBy, numberFrom, begun, isComplete, slot, rising, checks, Ranges, stepped};
+ghost use Rattle.reader.specs.Stepping.{refusedBy, numberFrom, begun, isComplete, slot, rising, contextTests, Ranges, stepped};
 ghost use Rattle.file.specs.declared.line.Line.the-variants.{Members, Labels, Entry, Policy, Effect, Edge};
 
 // What the lines so far have said, in numbers: tables counts the prev and since entries, effects those of event,
@@ -122,7 +122,7 @@ pub(crate) fn slot_of(c: Context, j: usize) -> usize
 
 // The number that an M line is refused with, or 0.
 fn members_number(c: Context, n: usize, m: u64) -> usize
-    ensures { λ r. ⌜ r ≡ numberFrom 0 (checks c m (Members n)) ⌝ }
+    ensures { λ r. ⌜ r ≡ numberFrom 0 (contextTests c m (Members n)) ⌝ }
 {
     let k = first(0, 1, c.phase == 0);
     let k = first(k, 2, 0 < n);
@@ -131,7 +131,7 @@ fn members_number(c: Context, n: usize, m: u64) -> usize
 
 // The number that an L line is refused with, or 0.
 fn labels_number(c: Context, r: usize, e: usize, m: u64) -> usize
-    ensures { λ s. ⌜ s ≡ numberFrom 0 (checks c m (Labels r e)) ⌝ }
+    ensures { λ s. ⌜ s ≡ numberFrom 0 (contextTests c m (Labels r e)) ⌝ }
 {
     let k = first(0, 1, c.phase == 1);
     let k = first(k, 2, r < 17);
@@ -141,7 +141,7 @@ fn labels_number(c: Context, r: usize, e: usize, m: u64) -> usize
 
 // The number that an F line is refused with, or 0.
 fn entry_number(c: Context, n: usize, o: usize, a: usize, b: usize, m: u64) -> usize
-    ensures { λ r. ⌜ r ≡ numberFrom 0 (checks c m (Entry n o a b)) ⌝ }
+    ensures { λ r. ⌜ r ≡ numberFrom 0 (contextTests c m (Entry n o a b)) ⌝ }
 {
     let kinds = operands_of(o);
     let one = kinds.first;
@@ -159,7 +159,7 @@ fn entry_number(c: Context, n: usize, o: usize, a: usize, b: usize, m: u64) -> u
 
 // The number that a P line is refused with, or 0.
 fn policy_number(c: Context, j: usize, n: usize, m: u64) -> usize
-    ensures { λ r. ⌜ r ≡ numberFrom 0 (checks c m (Policy j n)) ⌝ }
+    ensures { λ r. ⌜ r ≡ numberFrom 0 (contextTests c m (Policy j n)) ⌝ }
 {
     let k = first(0, 1, (2 <= c.phase) & (c.phase <= 4));
     let k = first(k, 1, j == c.policies);
@@ -170,7 +170,7 @@ fn policy_number(c: Context, j: usize, n: usize, m: u64) -> usize
 
 // The number that an E line is refused with, or 0.
 fn effect_number(c: Context, j: usize, a: usize, k: usize, d: usize, m: u64) -> usize
-    ensures { λ r. ⌜ r ≡ numberFrom 0 (checks c m (Effect j a k d)) ⌝ }
+    ensures { λ r. ⌜ r ≡ numberFrom 0 (contextTests c m (Effect j a k d)) ⌝ }
 {
     let p = first(0, 1, is_complete(c));
     let p = first(p, 1, c.phase <= 5);
@@ -190,7 +190,7 @@ fn edge_rises(c: Context, k: usize, a: usize, b: usize) -> bool
 
 // The number that a G line is refused with, or 0.
 fn edge_number(c: Context, k: usize, a: usize, b: usize, m: u64) -> usize
-    ensures { λ r. ⌜ r ≡ numberFrom 0 (checks c m (Edge k a b)) ⌝ }
+    ensures { λ r. ⌜ r ≡ numberFrom 0 (contextTests c m (Edge k a b)) ⌝ }
 {
     let p = first(0, 1, is_complete(c));
     let p = first(p, 1, edge_rises(c, k, a, b));
@@ -201,7 +201,7 @@ fn edge_number(c: Context, k: usize, a: usize, b: usize, m: u64) -> usize
 
 // The number that a line is refused with, the lowest; 0 where it passes.
 pub(crate) fn number_of(c: Context, line: Line, m: u64) -> usize
-    ensures { λ r. ⌜ r ≡ numberFrom 0 (checks c m line) ⌝ }
+    ensures { λ r. ⌜ r ≡ numberFrom 0 (contextTests c m line) ⌝ }
 {
     match line {
         Line::Members(n) => members_number(c, n, m),

@@ -14,7 +14,7 @@ use Rattle.memory.specs.Layout.{effectAt, effectsFrom, stateOf}
 use Rattle.file.specs.Line.{printed}
 use Rattle.fields.specs.Put.{Put}
 use Rattle.file.specs.Writing.{listed, effectLines, edgeAt, printedAll}
-use Rattle.writer.specs.Kinds.{edgeLines, slotOf, bitOf, rowOf}
+use Rattle.writer.specs.Kinds.{edgeLines, tripleOf, bitOf, rowOf}
 use Rattle.file.specs.declared.line.Line.{Line}
 use Rattle.file.specs.declared.line.Line.the-variants.{Edge}
 use Rattle.fields.proofs.Output.{put-none, put-then}
@@ -162,13 +162,13 @@ slots-stop w j from zero e = refl
 slots-stop w j from (suc n) e = rw e refl
 
 slots-first : (w : List ℕ) (j from n : ℕ) → (getD w from 0 ≡ 0 → ⊥)
-    → slots w j from (suc n) ≡ printedAll (slotOf w j from) ++ slots w j (from + 3) n
+    → slots w j from (suc n) ≡ printedAll (tripleOf w j from) ++ slots w j (from + 3) n
 unfolding effectsFrom effectLines printedAll
 slots-first w j from n h =
-    rw (ne-eqb (getD w from 0) 0 h) (sym (printed-append (slotOf w j from) (effectLines j (effectsFrom w (from + 3) n))))
+    rw (ne-eqb (getD w from 0) 0 h) (sym (printed-append (tripleOf w j from) (effectLines j (effectsFrom w (from + 3) n))))
 
 pub slots-more : (w : List ℕ) (j i : ℕ) → i < 4 → (getD w (effectAt j i) 0 ≡ 0 → ⊥)
-    → slots w j (effectAt j i) (4 - i) ≡ printedAll (slotOf w j (effectAt j i)) ++ slots w j (effectAt j (i + 1)) (4 - (i + 1))
+    → slots w j (effectAt j i) (4 - i) ≡ printedAll (tripleOf w j (effectAt j i)) ++ slots w j (effectAt j (i + 1)) (4 - (i + 1))
 slots-more w j i l h =
     let n : 4 - i ≡ suc (4 - (i + 1)) = omega arith in
     let e : effectAt j (i + 1) ≡ effectAt j i + 3 = omega arith in

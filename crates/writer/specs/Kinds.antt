@@ -7,7 +7,7 @@ use lib.ListN.{getD}
 use Rattle.sets.specs.Sets.{bit}
 use Rattle.theory.specs.Terms.{Terms}
 use Rattle.theory.specs.Moment.{Relations}
-use Rattle.file.specs.Writing.{listed, entryAt, effectLines, edgeAt}
+use Rattle.file.specs.Writing.{listed, lineOfEntry, effectLines, edgeAt}
 use Rattle.file.specs.declared.line.Line.{Line}
 use Rattle.file.specs.declared.line.Line.the-variants.{Members, Labels, Policy, Effect}
 
@@ -16,7 +16,7 @@ frontLines T = Members (T .members) ∷ Labels (T .relations) (T .events) ∷ []
 
 -- The line of entry n, and all of them; so for policies and effects.
 abbrev pub entryOf : Terms → ℕ → List Line
-entryOf T n = entryAt T n ∷ []
+entryOf T n = lineOfEntry T n ∷ []
 
 abbrev pub entryLines : Terms → List Line
 entryLines T = listed (T .entries) (entryOf T)
@@ -39,8 +39,8 @@ edgeLines R = listed 65536 (edgeAt R)
 -- ---- as memory holds them
 
 -- The effect of event j in the three words from a word on.
-abbrev pub slotOf : List ℕ → (j from : ℕ) → List Line
-slotOf w j from = Effect j (cond (eqb (getD w from 0) 1) 1 2) (getD w (from + 1) 0) (cond (eqb (getD w (from + 2) 0) 1) 1 0) ∷ []
+abbrev pub tripleOf : List ℕ → (j from : ℕ) → List Line
+tripleOf w j from = Effect j (cond (eqb (getD w from 0) 1) 1 2) (getD w (from + 1) 0) (cond (eqb (getD w (from + 2) 0) 1) 1 0) ∷ []
 
 -- The edge of bit b of relation word i, which is w, and the edges of all its bits.
 abbrev pub bitOf : (w i b : ℕ) → List Line

@@ -1,6 +1,6 @@
 -- What `write` gives and leaves, for all lent memory: lengths (6), terms (7), state (8), and last an output too short for the whole text (6).
 use Prim.Native.Nat.{ℕ}
-use mathlib.Core.Bool.{Bool, cond}
+use mathlib.Core.Bool.{Bool, false, cond}
 use mathlib.Core.List.{List, _++_}
 use lib.Dec.{ltb}
 use lib.ListN.{length, drop}
@@ -27,6 +27,10 @@ writtenText terms state = written (termsOf terms) (stateOf state .now .edge)
 abbrev pub fitted : Bool → ℕ → Outcome → Writing
 fitted short n (failed k l) = unwritten k l
 fitted short n passed = cond short (unwritten 6 0) (bytes n)
+
+-- What writing gives where the output is long enough.
+unfoldable pub sizeGives : (terms state : List ℕ) → Writing
+sizeGives terms state = fitted false (length (writtenText terms state)) (checks terms state)
 
 unfoldable pub writeGives : (terms state out : List ℕ) → Writing
 writeGives terms state out =

@@ -35,10 +35,10 @@ ghost use Rattle.memory.specs.Layout.{relationWords, termsOf, stateOf};
 ghost use Rattle.memory.specs.Outcome.{checks};
 ghost use Rattle.memory.specs.Outcome.Outcome.{passed};
 ghost use Rattle.fields.specs.Put.{Put};
-ghost use Rattle.writer.specs.Write.{writtenText, writingOf, writeGives, writeLeaves};
+ghost use Rattle.writer.specs.Write.{writtenText, writingOf, sizeGives, writeGives, writeLeaves};
 ghost use Rattle.file.specs.Writing.{printedAll};
 ghost use Rattle.writer.specs.Kinds.{frontLines, entryOf, entryLines, policyOf, policyLines, effectsOf, eventLines, edgeLines};
-ghost use Rattle.writer.specs.Kinds.{slotOf, bitOf, rowOf};
+ghost use Rattle.writer.specs.Kinds.{tripleOf, bitOf, rowOf};
 
 // Puts the F line of entry n.
 fn put_entry_of(terms: &[u16], out: &mut [u8], at: usize, n: usize) -> usize
@@ -104,7 +104,7 @@ fn one_or(w: usize, other: usize) -> usize
 // Puts the E line of the effect of event j in three words.
 fn put_slot(terms: &[u16], out: &mut [u8], at: usize, j: usize, from: usize) -> usize
     requires { ⌜ (j < 65536) × (from < 2 ^ 58) × (at < 2 ^ 58) ⌝ }
-    ensures { λ r. ⌜ Put (now (out .entry)) (now (out .exit)) at r (printedAll (slotOf (now (terms .entry)) j from)) ⌝ }
+    ensures { λ r. ⌜ Put (now (out .entry)) (now (out .exit)) at r (printedAll (tripleOf (now (terms .entry)) j from)) ⌝ }
     ensures { λ r. ⌜ r ≤ at + 31 ⌝ }
 {
     let action = one_or(word(terms, from), 2);
@@ -223,19 +223,37 @@ fn put_text(terms: &[u16], state: &[u64], out: &mut [u8], at: usize) -> usize
     put_edges(state, out, edges)
 }
 
-// Writes the text of checked terms and state, if the output has room for all of it. The text is first put into one byte, to count it.
+// The count of bytes of the text, found by putting it into one byte.
+fn count(terms: &[u16], state: &[u64]) -> usize
+    requires { ⌜ relationWords ≤ length (now state) ⌝ }
+    ensures { λ r. ⌜ r ≡ length (writtenText (now (terms .entry)) (now (state .entry))) ⌝ }
+{
+    let mut one = [0u8; 1];
+    put_text(terms, state, &mut one, 0)
+}
+
+// Writes the text of checked terms and state, if the output has room for all of it.
 fn write_checked(terms: &[u16], state: &[u64], out: &mut [u8]) -> Written
     requires { ⌜ passed ≡ checks (now terms) (now state) ⌝ }
     ensures { λ r. ⌜ writingOf r ≡ writeGives (now (terms .entry)) (now (state .entry)) (now (out .entry)) ⌝ }
     ensures { λ r. ⌜ now (out .exit) ≡ writeLeaves (now (terms .entry)) (now (state .entry)) (now (out .entry)) ⌝ }
 {
-    let mut one = [0u8; 1];
-    let count = put_text(terms, state, &mut one, 0);
-    if out.len() < count {
+    let n = count(terms, state);
+    if out.len() < n {
         return Written::Refused(6, 0);
     }
     put_text(terms, state, out, 0);
-    Written::Bytes(count)
+    Written::Bytes(n)
+}
+
+// How many bytes `write` would write, or its refusal of terms and state: 6, 7 or 8.
+pub fn size(terms: &[u16], state: &[u64]) -> Written
+    ensures { λ r. ⌜ writingOf r ≡ sizeGives (now (terms .entry)) (now (state .entry)) ⌝ }
+{
+    match check(terms, state) {
+        Outcome::Done => Written::Bytes(count(terms, state)),
+        Outcome::Refused(n, l) => Written::Refused(n, l),
+    }
 }
 
 // Writes the terms with the present relations. The count of bytes, or a refusal, which leaves the output untouched:

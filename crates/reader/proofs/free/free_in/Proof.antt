@@ -3,6 +3,7 @@ use Prim.Native.Nat.{ℕ}
 use mathlib.Core.List.{List, [], _∷_}
 use denote.Enum.Declared.{tagOf}
 use types.Run.{OneOf, miss}
+use Rattle.memory.proofs.FreeSets.{free-entry}
 use Rattle.reader.specs.Stepping.{FreeIn}
 use Rattle.file.specs.declared.line.Line.{Line}
 use Rattle.file.specs.declared.line.Line.the-variants.{Members, Labels, Entry, Policy, Effect, Edge, Malformed}
@@ -44,7 +45,7 @@ returns c =
     rw (c .before .before .before .before .line .given .1) (rw (
       c .before .before .set-at .ensures,
       c .before .set-at2 .ensures,
-    ) at (c .free-of .ensures))
+    ) at (free-entry _ _ _ _ _ (c .free-of .ensures)))
 
 returns-2 : tie.Need-returns-2
 returns-2 c = rw (c .before .before .line2 .given .1) (c .set-at3 .ensures)

@@ -1,5 +1,5 @@
 -- `reader::step::effect_number` meets its contract: the tests are taken one after the other.
-use Rattle.reader.specs.Stepping.{numberFrom, checks}
+use Rattle.reader.specs.Stepping.{numberFrom, contextTests}
 use borrow.Author.Needs.{needs}
 use Rattle.reader.proofs.step.effect_number.Statement.{statement}
 use Rattle.reader.proofs.step.effect_number.Tie as tie
@@ -29,7 +29,7 @@ first-requires-6 : tie.Need-first-requires-6
 first-requires-6 c κs = search needs
 
 returns : tie.Need-returns
-unfolding numberFrom checks
+unfolding numberFrom contextTests
 returns c =
     let k1 = c .before .before in
     let k2 = k1 .before in

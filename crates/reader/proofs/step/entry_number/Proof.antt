@@ -1,5 +1,5 @@
 -- `reader::step::entry_number` meets its contract: the tests are taken one after the other.
-use Rattle.reader.specs.Stepping.{numberFrom, checks}
+use Rattle.reader.specs.Stepping.{numberFrom, contextTests}
 use borrow.Author.Needs.{needs}
 use Rattle.reader.proofs.step.entry_number.Statement.{statement}
 use Rattle.reader.proofs.step.entry_number.Tie as tie
@@ -56,7 +56,7 @@ first-requires-9 : tie.Need-first-requires-9
 first-requires-9 c κs = search needs
 
 returns : tie.Need-returns
-unfolding numberFrom checks
+unfolding numberFrom contextTests
 returns c =
     let k1 = c .before in
     let k2 = k1 .before in

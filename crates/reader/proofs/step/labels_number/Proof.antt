@@ -1,5 +1,5 @@
 -- `reader::step::labels_number` meets its contract: the tests are taken one after the other.
-use Rattle.reader.specs.Stepping.{numberFrom, checks}
+use Rattle.reader.specs.Stepping.{numberFrom, contextTests}
 use borrow.Author.Needs.{needs}
 use Rattle.reader.proofs.step.labels_number.Statement.{statement}
 use Rattle.reader.proofs.step.labels_number.Tie as tie
@@ -17,7 +17,7 @@ first-requires-4 : tie.Need-first-requires-4
 first-requires-4 c κs = search needs
 
 returns : tie.Need-returns
-unfolding numberFrom checks
+unfolding numberFrom contextTests
 returns c = rw (c .first4 .ensures, c .before .first3 .ensures, c .before .before .first2 .ensures, c .before .before .before .first .ensures)
 
 pub labels-number-spec : {M : Type 1} → statement M

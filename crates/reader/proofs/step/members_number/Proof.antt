@@ -1,5 +1,5 @@
 -- `reader::step::members_number` meets its contract: the tests are taken one after the other.
-use Rattle.reader.specs.Stepping.{numberFrom, checks}
+use Rattle.reader.specs.Stepping.{numberFrom, contextTests}
 use borrow.Author.Needs.{needs}
 use Rattle.reader.proofs.step.members_number.Statement.{statement}
 use Rattle.reader.proofs.step.members_number.Tie as tie
@@ -14,7 +14,7 @@ first-requires-3 : tie.Need-first-requires-3
 first-requires-3 c κs = search needs
 
 returns : tie.Need-returns
-unfolding numberFrom checks
+unfolding numberFrom contextTests
 returns c = rw (c .first3 .ensures, c .before .first2 .ensures, c .before .before .first .ensures)
 
 pub members-number-spec : {M : Type 1} → statement M

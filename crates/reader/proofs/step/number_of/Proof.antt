@@ -1,5 +1,5 @@
 -- `reader::step::number_of` meets its contract, kind by kind.
-use Rattle.reader.specs.Stepping.{refusedBy, numberFrom, checks}
+use Rattle.reader.specs.Stepping.{refusedBy, numberFrom, contextTests}
 use borrow.Author.Needs.{needs}
 use Rattle.reader.proofs.step.number_of.Statement.{statement}
 use Rattle.reader.proofs.step.number_of.Tie as tie
@@ -62,7 +62,7 @@ returns-6 : tie.Need-returns-6
 returns-6 c = rw (c .before .before .line6 .given .1) (c .edge-number .ensures)
 
 returns-7 : tie.Need-returns-7
-unfolding numberFrom checks refusedBy
+unfolding numberFrom contextTests refusedBy
 returns-7 c = rw (c .enum-told .given .1)
 
 pub number-of-spec : {M : Type 1} → statement M

@@ -1,5 +1,5 @@
 -- `reader::step::policy_number` meets its contract: the tests are taken one after the other.
-use Rattle.reader.specs.Stepping.{numberFrom, checks}
+use Rattle.reader.specs.Stepping.{numberFrom, contextTests}
 use borrow.Author.Needs.{needs}
 use Rattle.reader.proofs.step.policy_number.Statement.{statement}
 use Rattle.reader.proofs.step.policy_number.Tie as tie
@@ -20,7 +20,7 @@ first-requires-5 : tie.Need-first-requires-5
 first-requires-5 c κs = search needs
 
 returns : tie.Need-returns
-unfolding numberFrom checks
+unfolding numberFrom contextTests
 returns c =
     let k1 = c .before in
     let k2 = k1 .before .before in

@@ -11,38 +11,26 @@ use Rattle.writer.proofs.write.write_checked.Tie as tie
 long-enough : (c : tie.Start) → (1024 ≤ length (c .args .state .now)) × (0 < 2 ^ 55)
 long-enough c = (omega (arith, passed-checked _ _ (c .pre) .long-state), omega arith)
 
-slice-aggregate-put-text : tie.Need-slice-aggregate-put-text
-slice-aggregate-put-text c = search needs
-
-put-text-requires : tie.Need-put-text-requires
-put-text-requires c κs = long-enough (c .before .before .before .before)
+count-requires : tie.Need-count-requires
+count-requires c κs = long-enough (c .before .before .before) .0
 
 returns : tie.Need-returns
 returns c =
-    let p = c .before .before in
-    ends-short _ _ _ (p .before .before .before .before .before .pre) _ (p .put-text .ensures .0 .next) (c .if1 .taken)
+    let k = c .before in ends-short _ _ _ (k .before .before .before .before .pre) _ (k .count .ensures) (c .if1 .taken)
 
-put-text-requires-2 : tie.Need-put-text-requires-2
-put-text-requires-2 c κs = long-enough (c .before .before .before .before .before .before .before .before)
+put-text-requires : tie.Need-put-text-requires
+put-text-requires c κs = long-enough (c .before .before .before .before .before .before)
 
 same-length : tie.Need-same-length
 same-length c = search needs
 
 returns-2 : tie.Need-returns-2
 returns-2 c =
-    let q = c .before .before in
-    let i = q .before .before in
-    let p = i .before .before in
-    ends-whole _ _ _ (p .before .before .before .before .before .pre) _ (p .put-text .ensures .0 .next) (i .if1 .left) _ _
-    (q .put-text2 .ensures .0)
+    let p = c .before .before in
+    let i = p .before .before in
+    let k = i .before in
+    ends-whole _ _ _ (k .before .before .before .before .pre) _ (k .count .ensures) (i .if1 .left) _ _ (p .put-text .ensures .0)
 
 pub write-checked-spec : {M : Type 1} → statement M
 write-checked-spec =
-    tie.close
-    (tie.spec
-    slice-aggregate-put-text
-    put-text-requires
-    returns
-    put-text-requires-2
-    same-length
-    returns-2)
+    tie.close (tie.spec count-requires returns put-text-requires same-length returns-2)
