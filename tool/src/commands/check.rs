@@ -1,0 +1,10 @@
+//! `cuckooormolu check`.
+
+use crate::stop::Stop;
+use std::io::Write;
+
+pub const HELP: &str = "usage: cuckooormolu check ...";
+
+pub fn main(_arguments: &[String], _out: &mut dyn Write) -> Result<i32, Stop> {
+    Err(Stop::Failed("not there yet".into()))
+}

@@ -1,0 +1,17 @@
+//! The tool for people: terms written with names, read aloud, checked, run,
+//! explained and drawn.
+//!
+//! * `both`: every acceptance and verdict, from the proved library and from the
+//!   keeper of the whole record
+//! * `names`, `folder`: the names of members, relations and events; a folder's files
+//! * `source`: the source language, compiled and written back
+//! * `commands`: one file for each sub-command
+//! * `arguments`, `json`, `stop`: what the sub-commands share
+
+pub mod arguments;
+pub mod both;
+pub mod commands;
+pub mod folder;
+pub mod json;
+pub mod names;
+pub mod stop;
