@@ -5,6 +5,10 @@
 //!   keeper of the whole record
 //! * `names`, `folder`: the names of members, relations and events; a folder's files
 //! * `source`: the source language, compiled and written back
+//! * `replay`, `words`, `matrix`: the requests made one by one; words for them; who may do what
+//! * `why`: why a request is granted or denied
+//! * `report`: a folder's story as one page
+//! * `trial`: requests made and taken back at a prompt
 //! * `commands`: one file for each sub-command
 //! * `arguments`, `json`, `stop`: what the sub-commands share
 
@@ -13,5 +17,9 @@ pub mod both;
 pub mod commands;
 pub mod folder;
 pub mod json;
+pub mod matrix;
 pub mod names;
+pub mod replay;
 pub mod stop;
+pub mod why;
+pub mod words;

@@ -151,9 +151,7 @@ impl<'a> Reasons<'a> {
             }
             Entry::Out(_, f) | Entry::In(_, f) => self.near(place, f),
             Entry::Prev(_) if place.moment == 0 => Reason::NoMomentBefore,
-            Entry::Prev(f) => {
-                Reason::Before(self.claim(place.entry(f).moment(place.moment - 1)))
-            }
+            Entry::Prev(f) => Reason::Before(self.claim(place.entry(f).moment(place.moment - 1))),
             Entry::Since(f, g) => self.since(place, f, g),
             Entry::Bind(x, f) => {
                 let assigned = place.assigned.with(x, place.member);
