@@ -63,16 +63,18 @@ pub fn because(
 ) -> Because {
     let claim = reasons.claim(Place::policy(words.terms, event, from, to, moment));
     let stories = story::stories(reasons, claim);
-    let shown = if all { stories.len() } else { stories.len().min(MOST_LINES) };
+    let telling = stories.iter().filter(|story| !story.is_slight()).count();
+    let count = if all || telling == 0 { stories.len() } else { telling };
+    let shown = if all { count } else { count.min(MOST_LINES) };
     let always = if claim.holds { "it is always allowed" } else { "it is never allowed" };
     let tell = |story: &Story| match story.facts[..] {
-        [(_, Fact::Always)] => always.to_string(),
+        [Fact::Always] => always.to_string(),
         _ => line(story, words, reasons, moment, all),
     };
     Because {
         granted: claim.holds,
         lines: stories[..shown].iter().map(tell).collect(),
-        more: stories.len() - shown,
+        more: count - shown,
     }
 }
 
@@ -84,17 +86,17 @@ fn line(story: &Story, words: &Words, reasons: &Reasons, now: usize, all: bool) 
         false => MOST_FACTS - 2..count - 2,
     };
     let mut text = String::new();
-    for (index, (but, fact)) in story.facts.iter().enumerate() {
+    for (index, fact) in story.facts.iter().enumerate() {
         if left_out.contains(&index) {
             if index == left_out.start {
                 text.push_str(&format!(", {} facts more", left_out.len()));
             }
             continue;
         }
-        text.push_str(match (index, but) {
-            (0, _) => "",
-            (_, true) => ", but ",
-            (_, false) => ", ",
+        text.push_str(match index {
+            0 => "",
+            _ if story.turn == Some(index) => ", but ",
+            _ => ", ",
         });
         text.push_str(&fact.told(words, reasons.graphs(), now));
     }

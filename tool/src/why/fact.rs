@@ -65,10 +65,13 @@ impl Fact {
             Fact::Never(place) => never(phrase(words, place, true)) + &up_to(place.moment),
             Fact::Since { place, .. } => {
                 let Phrase { text, .. } = phrase(words, place, true);
-                let until = up_to(place.moment);
+                let until = match place.moment == now {
+                    true => "since".to_string(),
+                    false => format!("from then to moment {}", place.moment),
+                };
                 match text.starts_with("no ") {
-                    true => format!("{text} since{until}"),
-                    false => format!("ever since{until}: {text}"),
+                    true => format!("{text} {until}"),
+                    false => format!("always {until}: {text}"),
                 }
             }
             Fact::Always => "always".to_string(),
@@ -78,6 +81,11 @@ impl Fact {
                 format!("entry {} {verb} at {member}{}", place.entry, at(place.moment))
             }
         }
+    }
+
+    /// Whether it says only who is whom, or nothing.
+    pub fn is_plain(self) -> bool {
+        matches!(self, Fact::Always | Fact::Same { .. } | Fact::Differ { .. })
     }
 
     /// How much of a possibility it shows to be there: the more, the nearer

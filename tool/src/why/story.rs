@@ -8,75 +8,93 @@ use keeper::terms::Entry;
 /// numbers.
 const LONGEST: usize = 4_000;
 
-/// Facts that belong together. `but` marks the one that turns the story.
-#[derive(Clone, Debug, PartialEq, Eq)]
+/// Facts that belong together.
+#[derive(Clone, Debug, Default, PartialEq, Eq)]
 pub struct Story {
-    pub facts: Vec<(bool, Fact)>,
+    pub facts: Vec<Fact>,
+    /// The fact that turns the story: `but` stands before it.
+    pub turn: Option<usize>,
 }
 
 impl Story {
     fn of(fact: Fact) -> Story {
-        Story { facts: vec![(false, fact)] }
+        Story { facts: vec![fact], turn: None }
     }
 
     /// This story, and then others.
-    fn and(mut self, others: Vec<Story>, but: bool) -> Story {
-        let from = self.facts.len();
-        self.facts.extend(others.into_iter().flat_map(|story| story.facts));
-        if let Some((mark, _)) = self.facts.get_mut(from) {
-            *mark |= but && from > 0;
+    fn then(mut self, others: Vec<Story>) -> Story {
+        for story in others {
+            let from = self.facts.len();
+            self.turn = story.turn.map(|turn| from + turn).or(self.turn);
+            self.facts.extend(story.facts);
         }
         self
     }
 
-    pub fn weight(&self) -> usize {
-        self.facts.iter().map(|(_, fact)| fact.weight()).sum()
+    /// This story, and then others that go against it.
+    fn but(self, others: Vec<Story>) -> Story {
+        let here = self.facts.len();
+        let mut story = self.then(others);
+        if here > 0 && story.turn.is_none_or(|turn| turn < here) {
+            story.turn = Some(here);
+        }
+        story
     }
 
-    /// Leaves out what goes without saying, if anything else is left.
-    fn tidied(mut self, granted: bool) -> Story {
-        let plain = |fact: &Fact| match fact {
-            Fact::Always | Fact::Same { .. } => true,
-            Fact::Differ { .. } => granted,
-            _ => false,
-        };
-        if self.facts.iter().any(|(_, fact)| !plain(fact)) {
-            self.facts.retain(|(_, fact)| !plain(fact));
-        } else {
-            self.facts.truncate(1);
-        }
-        let mut seen: Vec<Fact> = Vec::new();
-        self.facts.retain(|(but, fact)| {
-            let again = seen.contains(fact);
-            seen.push(*fact);
-            *but || !again
-        });
-        if let Some((but, _)) = self.facts.first_mut() {
-            *but = false;
-        }
-        self
+    /// How near it came to a grant.
+    fn weight(&self) -> usize {
+        self.facts.iter().map(|fact| fact.weight()).sum()
+    }
+
+    /// Whether it says only who is whom.
+    fn is_plain(&self) -> bool {
+        self.facts.iter().all(|fact| fact.is_plain())
+    }
+
+    /// Whether it comes down to who is whom.
+    pub fn is_slight(&self) -> bool {
+        self.facts.last().is_none_or(|fact| fact.is_plain())
+    }
+
+    /// Whether an event of its own moment is in it.
+    fn has_event(&self, relations: usize) -> bool {
+        let event = |fact: &Fact| matches!(fact, Fact::Edge { label, .. } if *label >= relations);
+        self.facts.iter().any(event)
     }
 }
 
-/// The stories of a claim. All of them are needed. For a denial the ones that
-/// came nearest to a grant stand first.
+/// The stories of a claim. All of them are needed. Those of a denial that came
+/// nearest to a grant stand first, those that only say who is whom last.
 pub fn stories(reasons: &mut Reasons, claim: Claim) -> Vec<Story> {
     let mut teller = Teller { reasons, granted: claim.holds, left: LONGEST };
-    let told = teller.tell(claim);
+    let mut stories = distinct(teller.tell(claim));
+    if !claim.holds {
+        stories.sort_by_key(|story| std::cmp::Reverse(story.weight()));
+    }
+    stories.sort_by_key(Story::is_slight);
+    let always = Story::of(Fact::Always);
+    if stories.iter().any(|story| *story != always) {
+        stories.retain(|story| *story != always);
+    }
+    stories
+}
+
+fn distinct(told: Vec<Story>) -> Vec<Story> {
     let mut stories: Vec<Story> = Vec::new();
-    for story in told.into_iter().map(|story| story.tidied(claim.holds)) {
+    for story in told {
         if !stories.contains(&story) {
             stories.push(story);
         }
     }
-    let always = |story: &Story| story.facts.iter().all(|(_, fact)| *fact == Fact::Always);
-    if !stories.iter().all(always) {
-        stories.retain(|story| !always(story));
-    }
-    if !claim.holds {
-        stories.sort_by_key(|story| std::cmp::Reverse(story.weight()));
-    }
     stories
+}
+
+/// The stories without those that say only who is whom, if any other is left.
+fn telling(mut stories: Vec<Story>) -> Vec<Story> {
+    if stories.iter().any(|story| !story.is_plain()) {
+        stories.retain(|story| !story.is_plain());
+    }
+    distinct(stories)
 }
 
 struct Teller<'t, 'r> {
@@ -109,30 +127,47 @@ impl Teller<'_, '_> {
             }
             Reason::Neighbour(inner) => {
                 let edge = Story::of(self.edge(place, inner.place.member));
-                vec![edge.and(self.tell(inner), false)]
+                let mut stories = distinct(self.tell(inner));
+                stories.retain(|story| !story.is_plain());
+                vec![edge.then(stories)]
             }
             Reason::NoNeighbour(failing) => self.no_neighbour(place, failing),
             Reason::NoMomentBefore => vec![Story::of(Fact::NoMomentBefore)],
             Reason::Began { began, after } => vec![self.began(began, after)],
             Reason::Broken { began, broke, .. } => {
-                let story = Story { facts: Vec::new() }.and(self.tell(began), false);
-                vec![story.and(self.tell(broke), true)]
+                let story = Story::default().then(telling(self.tell(began)));
+                vec![story.but(telling(self.tell(broke)))]
             }
-            Reason::Never(failing) => {
-                let place = failing.last().map_or(place, |claim| claim.place);
-                vec![Story::of(Fact::Never(place))]
-            }
+            Reason::Never(failing) => self.never(failing),
         }
     }
 
     fn began(&mut self, began: Claim, after: Vec<Claim>) -> Story {
-        let story = Story { facts: Vec::new() }.and(self.tell(began), false);
+        let story = Story::default().then(telling(self.tell(began)));
         let (Some(first), Some(last)) = (after.first(), after.last()) else { return story };
         if self.reasons.terms().entries[last.place.entry] == Entry::Top {
             return story;
         }
         let since = Fact::Since { place: last.place, first: first.place.moment };
-        story.and(vec![Story::of(since)], false)
+        story.then(vec![Story::of(since)])
+    }
+
+    /// That it never was so; for a denial also the moments whose event came near.
+    fn never(&mut self, failing: Vec<Claim>) -> Vec<Story> {
+        let Some(last) = failing.last() else { return Vec::new() };
+        let mut stories = Vec::new();
+        if !self.granted {
+            for claim in failing.iter().rev() {
+                if self.left < LONGEST / 2 {
+                    break;
+                }
+                let relations = self.reasons.terms().relations;
+                let near = self.tell(*claim).into_iter();
+                stories.extend(near.filter(|story| story.has_event(relations)));
+            }
+        }
+        stories.push(Story::of(Fact::Never(last.place)));
+        stories
     }
 
     /// Every neighbour with its own story. Those who are only not the one that
@@ -157,22 +192,18 @@ impl Teller<'_, '_> {
         let near = neighbours(self.reasons.terms(), self.reasons.graphs(), place);
         let mut stories = Vec::new();
         for claim in failing {
-            let edge = self.edge(place, claim.place.member);
-            for story in self.tell(claim) {
-                if let [(_, Fact::Differ { member, other })] = story.facts[..] {
-                    if member == claim.place.member && near.contains(&other) {
-                        continue;
+            let edge = Story::of(self.edge(place, claim.place.member));
+            for story in distinct(self.tell(claim)) {
+                stories.push(match story.facts[..] {
+                    [Fact::Differ { member, other }]
+                        if member == claim.place.member && !near.contains(&other) =>
+                    {
+                        no_edge(Some(other))
                     }
-                    if member == claim.place.member {
-                        stories.push(no_edge(Some(other)));
-                        continue;
-                    }
-                }
-                stories.push(Story::of(edge).and(vec![story], !self.granted));
+                    _ if self.granted => edge.clone().then(vec![story]),
+                    _ => edge.clone().but(vec![story]),
+                });
             }
-        }
-        if stories.is_empty() {
-            stories.push(no_edge(None));
         }
         stories
     }
