@@ -9,9 +9,11 @@
 //! * `why`: why a request is granted or denied
 //! * `report`: a folder's story as one page
 //! * `trial`: requests made and taken back at a prompt
+//! * `aloud`: every policy and effect as a sentence
 //! * `commands`: one file for each sub-command
 //! * `arguments`, `json`, `stop`: what the sub-commands share
 
+pub mod aloud;
 pub mod arguments;
 pub mod both;
 pub mod commands;
