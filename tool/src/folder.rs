@@ -10,6 +10,8 @@ use std::path::{Path, PathBuf};
 pub const TERMS: &str = "terms.tsv";
 pub const REQUESTS: &str = "requests.tsv";
 pub const NAMES: &str = "names.tsv";
+/// The readable source that the terms are compiled from.
+pub const SOURCE: &str = "terms.say";
 
 /// What a folder holds. A file that isn't there counts as empty.
 #[derive(Clone, Debug, Default)]

@@ -22,6 +22,8 @@ pub mod json;
 pub mod matrix;
 pub mod names;
 pub mod replay;
+pub mod report;
+pub mod source;
 pub mod stop;
 pub mod why;
 pub mod words;
