@@ -37,19 +37,25 @@ impl Matrix {
         self.rows.iter().flatten().filter(|&&may| may).count()
     }
 
-    /// The table for a terminal: targets along the top, read downwards.
+    /// The table for a terminal, with a line that says what it is.
     pub fn table(&self, words: &Words) -> String {
+        let pairs = self.rows.len() * self.rows.len();
+        format!(
+            "{} at moment {}: {} of {pairs} pairs may ({MAY}); rows ask, columns are asked\n\n{}",
+            words.names.event(self.event),
+            self.moment,
+            self.count(),
+            self.cells(words),
+        )
+    }
+
+    /// The rows and columns alone: targets along the top, read downwards.
+    pub fn cells(&self, words: &Words) -> String {
         let members = self.rows.len();
         let gap = if members <= WIDE { " " } else { "" };
         let headers: Vec<Vec<char>> = (0..members).map(|n| header(&words.member(n))).collect();
         let longest = headers.iter().map(Vec::len).max().unwrap_or(0);
-        let event = words.names.event(self.event);
-        let pairs = members * members;
-        let mut text = format!(
-            "{event} at moment {}: {} of {pairs} pairs may ({MAY}); rows ask, columns are asked\n\n",
-            self.moment,
-            self.count(),
-        );
+        let mut text = String::new();
         for line in 0..longest {
             let letter = |name: &Vec<char>| {
                 let top = longest - name.len();

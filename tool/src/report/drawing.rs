@@ -1,0 +1,241 @@
+//! Graphs as SVG. Members and relation edges are drawn once and used by every
+//! moment that has them; the event edge is a moment's own.
+
+use super::html::escaped;
+use super::layout::{Layout, Point};
+use super::palette;
+use crate::words::Words;
+use keeper::record::Graph;
+use keeper::terms::Edge;
+use std::collections::BTreeSet;
+
+/// So many edges are named in a picture's description.
+const NAMED: usize = 40;
+
+/// The pictures of a record.
+pub struct Drawing<'a> {
+    words: &'a Words<'a>,
+    graphs: &'a [Graph],
+    layout: Layout,
+    /// The different sets of relation edges, and which one each moment has.
+    layers: Vec<&'a BTreeSet<Edge>>,
+    layer: Vec<usize>,
+}
+
+/// What an event's effects changed.
+#[derive(Default)]
+pub struct Changes {
+    pub added: Vec<Edge>,
+    pub deleted: Vec<Edge>,
+}
+
+impl<'a> Drawing<'a> {
+    pub fn new(words: &'a Words<'a>, graphs: &'a [Graph]) -> Drawing<'a> {
+        let edges = graphs.iter().flat_map(|graph| graph.edges.iter().chain(&graph.event));
+        let mut looped = vec![false; words.terms.members];
+        edges.filter(|(_, from, to)| from == to).for_each(|&(_, from, _)| looped[from] = true);
+        let (mut layers, mut layer) = (Vec::<&BTreeSet<Edge>>::new(), Vec::new());
+        for graph in graphs {
+            let known = layers.iter().position(|edges| **edges == graph.edges);
+            layer.push(known.unwrap_or(layers.len()));
+            if known.is_none() {
+                layers.push(&graph.edges);
+            }
+        }
+        Drawing { words, graphs, layout: Layout::new(words, looped), layers, layer }
+    }
+
+    /// Whether a picture needs the width of the page.
+    pub fn is_wide(&self) -> bool {
+        self.layout.is_many()
+    }
+
+    /// What all pictures share.
+    pub fn definitions(&self) -> String {
+        let mut text = String::from(
+            "<svg width=\"0\" height=\"0\" aria-hidden=\"true\" class=\"shared\"><defs>\n",
+        );
+        let mut arrow = |name: &str, class: &str, size: f64| {
+            text.push_str(&format!(
+                "<marker id=\"{name}\" class=\"{class}\" viewBox=\"0 -4 8 8\" refX=\"1\" refY=\"0\" \
+                 markerWidth=\"{size}\" markerHeight=\"{size}\" markerUnits=\"userSpaceOnUse\" \
+                 orient=\"auto\"><path d=\"M0-3.5L8 0L0 3.5z\"/></marker>\n",
+            ));
+        };
+        for relation in 0..self.words.terms.relations.min(8) {
+            arrow(&format!("arrow{relation}"), &format!("a{relation}"), self.layout.arrow);
+        }
+        arrow("arrow", "event-arrow", 13.0);
+        text.push_str(&self.members());
+        for (index, edges) in self.layers.iter().enumerate() {
+            let many = if self.layout.is_many() { " class=\"many\"" } else { "" };
+            text.push_str(&format!("<g id=\"edges{index}\"{many}>\n"));
+            for &(relation, from, to) in *edges {
+                text.push_str(&self.relation_edge(relation, from, to, ""));
+            }
+            text.push_str("</g>\n");
+        }
+        text.push_str("</defs></svg>\n");
+        text
+    }
+
+    fn members(&self) -> String {
+        let layout = &self.layout;
+        let mut text = format!("<g id=\"members\" font-size=\"{}\">\n", layout.font);
+        for (member, &(x, y)) in layout.places.iter().enumerate() {
+            text.push_str(&format!(
+                "<circle class=\"member\" cx=\"{x:.1}\" cy=\"{y:.1}\" r=\"{:.1}\"/>",
+                layout.dot
+            ));
+            let (nx, ny) = layout.name_place(member);
+            let (ox, oy) = layout.outward(member);
+            let turn = match (layout.is_many(), ox < -0.3) {
+                (false, _) => String::new(),
+                (true, flipped) => {
+                    let angle = oy.atan2(ox).to_degrees() + if flipped { 180.0 } else { 0.0 };
+                    format!(" transform=\"rotate({angle:.1} {nx:.1} {ny:.1})\"")
+                }
+            };
+            text.push_str(&format!(
+                "<text x=\"{nx:.1}\" y=\"{ny:.1}\" dy=\"{}em\" text-anchor=\"{}\"{turn}>{}</text>\n",
+                if layout.is_many() { 0.35 } else { 0.35 + 0.3 * oy },
+                layout.anchor(member),
+                escaped(&layout.names[member]),
+            ));
+        }
+        text.push_str("</g>\n");
+        text
+    }
+
+    fn relation_edge(&self, relation: usize, from: usize, to: usize, more: &str) -> String {
+        let title = escaped(&self.words.edge(relation, from, to));
+        let classes = palette::classes(relation);
+        let path = if from == to {
+            self.loop_path(from, relation)
+        } else {
+            let bend = 0.1 + 0.04 * (relation % 8) as f64;
+            let (path, _) = self.path(from, to, bend, self.layout.arrow);
+            let arrow = palette::colour(relation);
+            format!("{path}\" marker-end=\"url(#arrow{arrow})")
+        };
+        format!("<path class=\"{classes}{more}\" d=\"{path}\"><title>{title}</title></path>\n")
+    }
+
+    /// A bent line between two dots that leaves room for an arrow, and its middle.
+    fn path(&self, from: usize, to: usize, bend: f64, arrow: f64) -> (String, Point) {
+        let (a, b) = (self.layout.places[from], self.layout.places[to]);
+        let (dx, dy) = (b.0 - a.0, b.1 - a.1);
+        let near = (1.0 - self.layout.pull(dx.hypot(dy))) / 2.0;
+        let c = ((a.0 + b.0) * near + dy * bend, (a.1 + b.1) * near - dx * bend);
+        let toward = |end: Point, far: f64| {
+            let (x, y) = (c.0 - end.0, c.1 - end.1);
+            let length = x.hypot(y).max(1e-6);
+            let far = far.min(length * 0.8);
+            (end.0 + x / length * far, end.1 + y / length * far)
+        };
+        let start = toward(a, self.layout.dot + 1.5);
+        let end = toward(b, self.layout.dot + 1.5 + arrow);
+        let middle = ((start.0 + 2.0 * c.0 + end.0) / 4.0, (start.1 + 2.0 * c.1 + end.1) / 4.0);
+        let path = format!(
+            "M{:.1} {:.1}Q{:.1} {:.1} {:.1} {:.1}",
+            start.0, start.1, c.0, c.1, end.0, end.1
+        );
+        (path, middle)
+    }
+
+    /// A loop on the far side of a dot.
+    fn loop_path(&self, member: usize, order: usize) -> String {
+        let (x, y) = self.layout.places[member];
+        let (ox, oy) = self.layout.outward(member);
+        let turned = |angle: f64, far: f64| {
+            let (sin, cos) = angle.sin_cos();
+            (x + (ox * cos - oy * sin) * far, y + (ox * sin + oy * cos) * far)
+        };
+        let reach = (self.layout.dot + self.layout.loops) * (1.2 + 0.1 * (order % 4) as f64);
+        let (a, d) = (turned(-0.6, self.layout.dot), turned(0.6, self.layout.dot));
+        let (b, c) = (turned(-0.75, reach), turned(0.75, reach));
+        format!(
+            "M{:.1} {:.1}C{:.1} {:.1} {:.1} {:.1} {:.1} {:.1}",
+            a.0, a.1, b.0, b.1, c.0, c.1, d.0, d.1
+        )
+    }
+
+    /// The picture of one moment.
+    pub fn picture(&self, moment: usize) -> String {
+        let graph = &self.graphs[moment];
+        let (left, top, wide, high) = self.layout.bounds();
+        let mut text = format!(
+            "<svg class=\"graph\" viewBox=\"{left:.0} {top:.0} {wide:.0} {high:.0}\" width=\"{wide:.0}\" \
+             height=\"{high:.0}\" role=\"img\" aria-labelledby=\"title{moment} desc{moment}\">\
+             <title id=\"title{moment}\">{}</title><desc id=\"desc{moment}\">{}</desc>\n",
+            escaped(&self.title(moment)),
+            escaped(&self.description(graph)),
+        );
+        text.push_str(&format!("<use href=\"#edges{}\"/>\n", self.layer[moment]));
+        for &(relation, from, to) in &self.changes(moment).added {
+            text.push_str(&self.relation_edge(relation, from, to, " added"));
+        }
+        if let Some((event, from, to)) = graph.event {
+            text.push_str(&self.event_edge(event, from, to));
+        }
+        text.push_str("<use href=\"#members\"/></svg>\n");
+        text
+    }
+
+    /// The relation edges that a moment has and the one before has not, and the
+    /// other way round.
+    pub fn changes(&self, moment: usize) -> Changes {
+        let Some(before) = moment.checked_sub(1) else { return Changes::default() };
+        let (old, new) = (&self.graphs[before].edges, &self.graphs[moment].edges);
+        Changes {
+            added: new.difference(old).copied().collect(),
+            deleted: old.difference(new).copied().collect(),
+        }
+    }
+
+    /// `Moment 1: share dora → pete`.
+    pub fn title(&self, moment: usize) -> String {
+        match self.graphs[moment].event {
+            None => format!("Moment {moment}: the first edges"),
+            Some((event, from, to)) => {
+                format!("Moment {moment}: {}", self.words.event(event, from, to))
+            }
+        }
+    }
+
+    fn description(&self, graph: &Graph) -> String {
+        let count = graph.edges.len();
+        if count == 0 {
+            return "No relation edges.".to_string();
+        }
+        if count > NAMED {
+            return format!("{count} relation edges.");
+        }
+        let edge = |&(relation, from, to): &Edge| self.words.edge(relation, from, to);
+        let edges: Vec<String> = graph.edges.iter().map(edge).collect();
+        format!("Relation edges: {}.", edges.join(", "))
+    }
+
+    fn event_edge(&self, event: usize, from: usize, to: usize) -> String {
+        let mut text = String::new();
+        for member in [from, to] {
+            let (x, y) = self.layout.places[member];
+            let radius = self.layout.dot + 3.0;
+            text.push_str(&format!(
+                "<circle class=\"taking-part\" cx=\"{x:.1}\" cy=\"{y:.1}\" r=\"{radius:.1}\"/>"
+            ));
+        }
+        if from == to {
+            let path = self.loop_path(from, 0);
+            return text + &format!("<path class=\"event-edge\" d=\"{path}\"/>\n");
+        }
+        let (path, (x, y)) = self.path(from, to, 0.0, 13.0);
+        let name = escaped(&self.words.names.event(event));
+        text + &format!(
+            "<path class=\"event-edge\" d=\"{path}\" marker-end=\"url(#arrow)\"/>\
+             <text class=\"event-name\" x=\"{x:.1}\" y=\"{y:.1}\" dy=\"-0.5em\" \
+             text-anchor=\"middle\" font-size=\"{}\">{name}</text>\n",
+            self.layout.font
+        )
+    }
+}
