@@ -5,11 +5,12 @@
 //! * `tree`: at which member each part is said
 //! * `entries`: variables numbered, equal parts made one entry
 //! * `compile`: all of it, with what is declared
-//! * `print`: a source, written
+//! * `print`: a source, written; `decompile`: the way back from terms
 //! * `mistake`: what is wrong, shown at its place
 
 pub mod ast;
 pub mod compile;
+pub mod decompile;
 mod entries;
 pub mod mistake;
 pub mod parse;

@@ -22,7 +22,7 @@ pub fn print(source: &Source) -> String {
         if event.policy.kind == Kind::True {
             text.push_str(&format!("{head} by anyone\n"));
         } else {
-            text.push_str(&after(&format!("{head} when"), &event.policy));
+            text.push_str(&format!("{head}\n  when {}\n", laid(&event.policy, 7)));
         }
         let effects: Vec<String> = event.effects.iter().map(effect).collect();
         if !effects.is_empty() {
@@ -32,9 +32,11 @@ pub fn print(source: &Source) -> String {
     if !source.first.is_empty() {
         text.push('\n');
     }
-    for fact in &source.first {
-        let (from, relation, to) = (&fact.from.text, &fact.relation.text, &fact.to.text);
-        text.push_str(&format!("first {from} {relation} {to}\n"));
+    let alike = |one: &Fact, other: &Fact| one.from == other.from && one.relation == other.relation;
+    for facts in source.first.chunk_by(alike) {
+        let ends: Vec<&str> = facts.iter().map(|fact| &fact.to.text[..]).collect();
+        let (from, relation) = (&facts[0].from.text, &facts[0].relation.text);
+        text.push_str(&format!("first {from} {relation} {}\n", ends.join(" and ")));
     }
     text
 }
