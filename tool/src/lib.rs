@@ -10,12 +10,14 @@
 //! * `report`: a folder's story as one page
 //! * `trial`: requests made and taken back at a prompt
 //! * `aloud`: every policy and effect as a sentence
+//! * `check`: what is wrong with a terms file, and what may be
 //! * `commands`: one file for each sub-command
 //! * `arguments`, `json`, `stop`: what the sub-commands share
 
 pub mod aloud;
 pub mod arguments;
 pub mod both;
+pub mod check;
 pub mod commands;
 pub mod folder;
 pub mod json;
