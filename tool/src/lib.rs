@@ -27,5 +27,6 @@ pub mod replay;
 pub mod report;
 pub mod source;
 pub mod stop;
+pub mod trial;
 pub mod why;
 pub mod words;

@@ -59,6 +59,13 @@ impl Replay {
         self.both.record().graphs().len() - 1
     }
 
+    /// The requests made at a moment. They stand together.
+    pub fn at(&self, moment: usize) -> &[Step] {
+        let first = self.steps.partition_point(|step| step.moment < moment);
+        let end = self.steps.partition_point(|step| step.moment <= moment);
+        &self.steps[first..end]
+    }
+
     /// Whether every request was granted.
     pub fn all_granted(&self) -> bool {
         self.steps.iter().all(|step| step.verdict == Verdict::Grant)

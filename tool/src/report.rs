@@ -38,7 +38,7 @@ pub fn page(title: &str, replay: &Replay, names: &Names) -> Result<String, Stop>
         drawing.definitions(),
         summary(replay),
         policies::section(&words),
-        moments::section(replay, &words, &drawing),
+        moments::section(replay, &words, &drawing)?,
         tables::section(replay, &words)?,
     ))
 }

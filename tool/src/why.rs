@@ -9,6 +9,10 @@ pub mod phrase;
 pub mod reason;
 pub mod story;
 
+use crate::both::Verdict;
+use crate::folder::Request;
+use crate::replay::Step;
+use crate::stop::Stop;
 use crate::words::Words;
 use fact::Fact;
 use reason::{Place, Reasons};
@@ -53,8 +57,25 @@ impl Because {
     }
 }
 
+impl Reasons<'_> {
+    /// Why a step was answered so; nothing for a refusal, which says why itself.
+    /// That the reason is one for another answer is an error.
+    pub fn of(&mut self, words: &Words, step: &Step, all: bool) -> Result<Option<Because>, Stop> {
+        let Request::Ask { event, from, to } = step.request else { return Ok(None) };
+        if matches!(step.verdict, Verdict::Refused(_)) {
+            return Ok(None);
+        }
+        let because = because(self, words, (event, from, to), step.moment, all);
+        if because.granted == (step.verdict == Verdict::Grant) {
+            return Ok(Some(because));
+        }
+        let asked = words.request(step.request);
+        Err(Stop::Differ(format!("{asked}: {}, with a reason for the opposite", step.verdict)))
+    }
+}
+
 /// Why an event is granted or denied at a moment.
-pub fn because(
+fn because(
     reasons: &mut Reasons,
     words: &Words,
     (event, from, to): (usize, usize, usize),

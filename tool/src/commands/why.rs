@@ -3,12 +3,11 @@
 use super::run;
 use crate::arguments::Arguments;
 use crate::both::Verdict;
-use crate::folder::{Folder, Request};
+use crate::folder::Folder;
 use crate::json::Json;
 use crate::replay::{Replay, Step};
 use crate::stop::{Stop, FAILING, WELL};
 use crate::why::reason::Reasons;
-use crate::why::{because, Because};
 use crate::words::Words;
 use std::io::Write;
 use std::path::Path;
@@ -45,7 +44,7 @@ pub fn main(arguments: &[String], out: &mut dyn Write) -> Result<i32, Stop> {
     let mut reasons = Reasons::new(replay.both.record());
     let widths = run::Widths::of(chosen, &words);
     for step in chosen {
-        let because = reason(&mut reasons, &words, step, arguments.has("--all"));
+        let because = reasons.of(&words, step, arguments.has("--all"))?;
         if arguments.has("--json") {
             let mut fields = run::fields(step, &words);
             fields.push(("moment", step.moment.into()));
@@ -58,23 +57,16 @@ pub fn main(arguments: &[String], out: &mut dyn Write) -> Result<i32, Stop> {
         }
         writeln!(out, "{}", widths.line(step, &words))?;
         if let Some(because) = because {
-            for line in because.lines.iter().chain(&because.rest()) {
+            for line in &because.lines {
                 writeln!(out, "{}{line}", widths.indent())?;
+            }
+            if let Some(rest) = because.rest() {
+                writeln!(out, "{}{rest} (--all)", widths.indent())?;
             }
         }
     }
     let granted = chosen.iter().all(|step| step.verdict == Verdict::Grant);
     Ok(if granted { WELL } else { FAILING })
-}
-
-/// Why a step was answered so; nothing for a refusal, which says why itself.
-pub fn reason(reasons: &mut Reasons, words: &Words, step: &Step, all: bool) -> Option<Because> {
-    match (step.verdict, step.request) {
-        (Verdict::Grant | Verdict::Deny, Request::Ask { event, from, to }) => {
-            Some(because(reasons, words, (event, from, to), step.moment, all))
-        }
-        _ => None,
-    }
 }
 
 /// The step at a line.

@@ -12,12 +12,16 @@ use std::collections::BTreeSet;
 /// So many edges are named in a picture's description.
 const NAMED: usize = 40;
 
+/// So many moments have a picture, with so many edges drawn in all of them.
+const MOST_PICTURES: usize = 200;
+const MOST_EDGES: usize = 20_000;
+
 /// The pictures of a record.
 pub struct Drawing<'a> {
     words: &'a Words<'a>,
     graphs: &'a [Graph],
     layout: Layout,
-    /// The different sets of relation edges, and which one each moment has.
+    /// The different sets of relation edges, and which one each picture has.
     layers: Vec<&'a BTreeSet<Edge>>,
     layer: Vec<usize>,
 }
@@ -35,14 +39,23 @@ impl<'a> Drawing<'a> {
         let mut looped = vec![false; words.terms.members];
         edges.filter(|(_, from, to)| from == to).for_each(|&(_, from, _)| looped[from] = true);
         let (mut layers, mut layer) = (Vec::<&BTreeSet<Edge>>::new(), Vec::new());
-        for graph in graphs {
+        let mut left = MOST_EDGES;
+        for graph in graphs.iter().take(MOST_PICTURES) {
             let known = layers.iter().position(|edges| **edges == graph.edges);
-            layer.push(known.unwrap_or(layers.len()));
             if known.is_none() {
+                let Some(rest) = left.checked_sub(graph.edges.len()) else { break };
+                left = rest;
                 layers.push(&graph.edges);
             }
+            layer.push(known.unwrap_or(layers.len() - 1));
         }
         Drawing { words, graphs, layout: Layout::new(words, looped), layers, layer }
+    }
+
+    /// How many moments have a picture: the first ones, as far as the page
+    /// stays light.
+    pub fn count(&self) -> usize {
+        self.layer.len()
     }
 
     /// Whether a picture needs the width of the page.

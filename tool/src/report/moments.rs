@@ -4,17 +4,14 @@ use super::drawing::Drawing;
 use super::html::{counted, escaped};
 use super::palette;
 use crate::both::Verdict;
-use crate::commands::why::reason;
 use crate::replay::{Replay, Step};
+use crate::stop::Stop;
 use crate::why::reason::Reasons;
 use crate::words::{answered, Words};
 use keeper::record::Graph;
 use keeper::terms::Edge;
 
-/// So many moments are drawn; the others have their table of edges only.
-const DRAWN: usize = 200;
-
-pub fn section(replay: &Replay, words: &Words, drawing: &Drawing) -> String {
+pub fn section(replay: &Replay, words: &Words, drawing: &Drawing) -> Result<String, Stop> {
     let graphs = replay.both.record().graphs();
     let mut reasons = Reasons::new(replay.both.record());
     let wide = if drawing.is_wide() { " wide" } else { "" };
@@ -22,7 +19,7 @@ pub fn section(replay: &Replay, words: &Words, drawing: &Drawing) -> String {
         "<section aria-labelledby=\"story\">\n<h2 id=\"story\">What happened</h2>\n{}{}\
          <ol class=\"moments{wide}\" start=\"0\">\n",
         strip(replay, words),
-        legend(words),
+        legend(words, drawing.count(), graphs.len()),
     );
     for (moment, graph) in graphs.iter().enumerate() {
         let heading = match graph.event {
@@ -34,21 +31,17 @@ pub fn section(replay: &Replay, words: &Words, drawing: &Drawing) -> String {
              <h3><span class=\"number\"><span class=\"away\">Moment </span>{moment}</span> {}</h3>\n",
             escaped(&heading)
         ));
-        text.push_str("<div class=\"scene\">\n<figure>\n");
-        if moment < DRAWN {
-            text.push_str(&drawing.picture(moment));
+        let pictured = moment < drawing.count();
+        let class = if pictured { "scene" } else { "scene bare" };
+        text.push_str(&format!("<div class=\"{class}\">\n"));
+        if pictured {
+            text.push_str(&figure(graph, moment, words, drawing));
         }
-        let changes = drawing.changes(moment);
-        text.push_str("<figcaption>\n");
-        text.push_str(&changed("adds", &changes.added, words));
-        text.push_str(&changed("deletes", &changes.deleted, words));
-        text.push_str(&edges(graph, words));
-        text.push_str("</figcaption>\n</figure>\n");
-        text.push_str(&asked(replay, moment, words, &mut reasons));
+        text.push_str(&asked(replay, moment, words, &mut reasons)?);
         text.push_str("</div>\n</li>\n");
     }
     text.push_str("</ol>\n</section>\n");
-    text
+    Ok(text)
 }
 
 /// Every moment and every answer in order, each a link to where it is told.
@@ -84,8 +77,8 @@ fn sign(verdict: Verdict) -> &'static str {
     }
 }
 
-/// Which line stands for what.
-fn legend(words: &Words) -> String {
+/// Which line stands for what, and how many moments are drawn.
+fn legend(words: &Words, pictures: usize, moments: usize) -> String {
     let mut text = String::from("<ul class=\"legend\" aria-label=\"Lines in the pictures\">\n");
     for relation in 0..words.terms.relations {
         text.push_str(&format!(
@@ -101,7 +94,24 @@ fn legend(words: &Words) -> String {
          <path class=\"event-edge\" d=\"M1 7H24\" marker-end=\"url(#arrow)\"/></svg>\
          the event that made the moment</li>\n</ul>\n",
     );
+    if pictures < moments {
+        text.push_str(&format!(
+            "<p class=\"quiet\">The first {pictures} of {moments} moments are drawn.</p>\n"
+        ));
+    }
     text
+}
+
+/// A moment's picture, what changed, and its edges.
+fn figure(graph: &Graph, moment: usize, words: &Words, drawing: &Drawing) -> String {
+    let changes = drawing.changes(moment);
+    format!(
+        "<figure>\n{}<figcaption>\n{}{}{}</figcaption>\n</figure>\n",
+        drawing.picture(moment),
+        changed("adds", &changes.added, words),
+        changed("deletes", &changes.deleted, words),
+        edges(graph, words),
+    )
 }
 
 /// What the event's effects did to the relations.
@@ -135,12 +145,17 @@ fn edges(graph: &Graph, words: &Words) -> String {
 }
 
 /// The requests made at a moment, with answers and reasons.
-fn asked(replay: &Replay, moment: usize, words: &Words, reasons: &mut Reasons) -> String {
-    let steps: Vec<&Step> = replay.steps.iter().filter(|step| step.moment == moment).collect();
-    if steps.is_empty() {
-        return "<p class=\"quiet\">nothing more was asked</p>\n".to_string();
-    }
-    let mut text = format!("<ol class=\"asked\" start=\"{}\">\n", steps[0].line);
+fn asked(
+    replay: &Replay,
+    moment: usize,
+    words: &Words,
+    reasons: &mut Reasons,
+) -> Result<String, Stop> {
+    let steps = replay.at(moment);
+    let Some(first) = steps.first() else {
+        return Ok("<p class=\"quiet\">nothing more was asked</p>\n".to_string());
+    };
+    let mut text = format!("<ol class=\"asked\" start=\"{}\">\n", first.line);
     for step in steps {
         let answer = answered(step.verdict);
         text.push_str(&format!(
@@ -150,26 +165,26 @@ fn asked(replay: &Replay, moment: usize, words: &Words, reasons: &mut Reasons) -
             escaped(&words.request(step.request)),
             sign(step.verdict),
         ));
-        text.push_str(&told(step, words, reasons));
+        text.push_str(&told(step, words, reasons)?);
         text.push_str("</li>\n");
     }
     text.push_str("</ol>\n");
-    text
+    Ok(text)
 }
 
-fn told(step: &Step, words: &Words, reasons: &mut Reasons) -> String {
+fn told(step: &Step, words: &Words, reasons: &mut Reasons) -> Result<String, Stop> {
     let paragraph = |line: &String| format!("<p class=\"because\">{}</p>\n", escaped(line));
     if let Verdict::Refused(number) = step.verdict {
-        return paragraph(&words.refusal(step.request, number));
+        return Ok(paragraph(&words.refusal(step.request, number)));
     }
-    let Some(because) = reason(reasons, words, step, false) else { return String::new() };
+    let Some(because) = reasons.of(words, step, false)? else { return Ok(String::new()) };
     let mut text: String = because.lines.iter().map(paragraph).collect();
-    if let (Some(rest), Some(all)) = (because.rest(), reason(reasons, words, step, true)) {
-        let items: String =
-            all.lines.iter().map(|line| format!("<li>{}</li>\n", escaped(line))).collect();
+    if let (Some(rest), Some(all)) = (because.rest(), reasons.of(words, step, true)?) {
+        let item = |line: &String| format!("<li>{}</li>\n", escaped(line));
+        let items: String = all.lines.iter().map(item).collect();
         text.push_str(&format!(
             "<details><summary>{rest}</summary>\n<ul>\n{items}</ul></details>\n"
         ));
     }
-    text
+    Ok(text)
 }
