@@ -90,6 +90,7 @@ fn declared(source: &Source, text: &str) -> Result<Names, Mistake> {
     // Relations, events and definitions are called in the same place.
     let mut words: Vec<&Name> = source.relations.iter().chain(&events).collect();
     words.extend(source.definitions.iter().map(|definition| &definition.name));
+    words.sort_by_key(|name| name.span.start);
     for (index, name) in words.iter().enumerate() {
         if words[..index].iter().any(|other| other.text == name.text) {
             let message =

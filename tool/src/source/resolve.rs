@@ -1,8 +1,9 @@
 //! Finds what every name stands for and unfolds definitions and derived forms.
 
 mod find;
+mod walk;
 
-use super::ast::{Formula, Kind, Name, Person, Quantifier, Source, Span, Walk, Who as Written};
+use super::ast::{Formula, Kind, Name, Person, Quantifier, Source, Span, Who as Written};
 use super::mistake::Mistake;
 use super::said::{conjunction, negated, once, said, Form, Id, Said, Who, ME};
 use keeper::terms::VARIABLES;
@@ -223,85 +224,6 @@ impl<'a> Resolver<'a> {
         self.inside.pop();
         self.unfolded.insert(key, unfolded.clone());
         Ok(unfolded)
-    }
-
-    fn walk(&mut self, walk: &Walk, scope: &mut Scope) -> Result<Said, Mistake> {
-        if self.find_definition(&walk.label.text).is_some() {
-            let word = &walk.label.text;
-            let message = format!("`{word}` is a definition: nobody can be sought along it");
-            let advice =
-                "seek along a relation or an event, and ask for the definition after the `:`";
-            return Err(Mistake::new(walk.label.span, message).advise(advice));
-        }
-        let label = self.label(&walk.label)?;
-        let from = self.person(&walk.person, scope)?;
-        match walk.quantifier {
-            Quantifier::Some => self.some(walk, label, from, &[], 1, scope),
-            Quantifier::Every => {
-                let (name, body) = self.neighbour(walk, scope)?;
-                let (outwards, body) = (walk.outwards, negated(body));
-                Ok(negated(said(Form::Some { from, label, outwards, name, body })))
-            }
-            Quantifier::AtLeast(count) if count < VARIABLES => {
-                if from != Who::Here {
-                    return self.some(walk, label, from, &[], count, scope);
-                }
-                // Every one of them is sought from here.
-                let name = self.fresh("here");
-                let body = self.some(walk, label, Who::Other(name), &[], count, scope)?;
-                Ok(said(Form::As { name, wanted: false, body }))
-            }
-            Quantifier::AtLeast(count) => {
-                let message = format!("at least {count} take {count} names at once");
-                let advice = format!("there are at most {} names at once", VARIABLES - 1);
-                Err(Mistake::new(walk.label.span, message).advise(advice))
-            }
-        }
-    }
-
-    /// Some neighbour other than those before of whom the body holds, and,
-    /// where more are sought, a next one.
-    fn some(
-        &mut self,
-        walk: &Walk,
-        label: usize,
-        from: Who,
-        before: &[Id],
-        count: usize,
-        scope: &mut Scope,
-    ) -> Result<Said, Mistake> {
-        let (name, mut body) = self.neighbour(walk, scope)?;
-        if count + before.len() > 1 {
-            // Names of their own, so that they can be told apart.
-            for other in before.iter().rev() {
-                let same = said(Form::Is(Who::Here, Who::Other(*other)));
-                body = conjunction(negated(same), body);
-            }
-        }
-        if count > 1 {
-            let known: Vec<Id> = before.iter().copied().chain([name]).collect();
-            let next = self.some(walk, label, from, &known, count - 1, scope)?;
-            body = conjunction(body, next);
-        }
-        Ok(said(Form::Some { from, label, outwards: walk.outwards, name, body }))
-    }
-
-    /// The body of a walk, and the number of whom it is said.
-    fn neighbour(&mut self, walk: &Walk, scope: &mut Scope) -> Result<(Id, Said), Mistake> {
-        let counted = matches!(walk.quantifier, Quantifier::AtLeast(_));
-        let id = match &walk.name {
-            Some(name) if !counted => self.bound(&name.text, scope),
-            Some(name) => self.fresh(&name.text),
-            None => self.fresh("somebody"),
-        };
-        if let Some(name) = &walk.name {
-            scope.push((name.text.clone(), Who::Other(id)));
-        }
-        let body = self.formula(&walk.body, scope);
-        if walk.name.is_some() {
-            scope.pop();
-        }
-        Ok((id, body?))
     }
 }
 

@@ -102,20 +102,20 @@ fn token(rest: &str, letter: char, place: usize) -> Result<(Token, usize), Mista
 
 /// Signs of other languages, and what is written here instead.
 const ELSEWHERE: [(&str, &str); 14] = [
-    ("&&", "and"),
-    ("||", "or"),
-    ("&", "and"),
-    ("|", "or"),
-    ("!=", "is not"),
-    ("==", "is"),
-    ("=", "is, or `:` after a definition's head"),
-    ("!", "not"),
-    ("~", "not"),
-    ("//", "# to begin a comment"),
-    ("--", "# to begin a comment"),
-    ("->", "from, relation, to: dora owns saw"),
-    (";", ", between the parts of a list, and nothing at the end of a statement"),
-    (".", "nothing at the end of a statement"),
+    ("&&", "write `and`"),
+    ("||", "write `or`"),
+    ("&", "write `and`"),
+    ("|", "write `or`"),
+    ("!=", "write `is not`"),
+    ("==", "write `is`"),
+    ("=", "write `is`, or `:` after the head of a definition"),
+    ("!", "write `not`"),
+    ("~", "write `not`"),
+    ("//", "a comment begins with `#`"),
+    ("--", "a comment begins with `#`"),
+    ("->", "write from, relation, to: `dora owns saw`"),
+    (";", "parts of a list are parted by `,`; nothing ends a statement"),
+    (".", "nothing ends a statement"),
 ];
 
 fn unknown(rest: &str, letter: char, place: usize) -> Mistake {
@@ -124,7 +124,7 @@ fn unknown(rest: &str, letter: char, place: usize) -> Mistake {
     let span = Span { start: place, end: place + length };
     let mistake = Mistake::new(span, format!("`{}` has no meaning here", &rest[..length]));
     match found {
-        Some((_, instead)) => mistake.advise(format!("write {instead}")),
+        Some((_, instead)) => mistake.advise(*instead),
         None => mistake,
     }
 }

@@ -1,6 +1,9 @@
 //! The source language: what it means, what is wrong with it, and the way back.
 
 mod evaluate;
+mod examples;
+mod forms;
 mod generate;
+mod mistakes;
 mod random;
 mod returned;
