@@ -16,6 +16,10 @@ const COMPILED: [&str; 5] = ["charities", "chinese-wall", "cliques", "consent", 
 
 /// Examples whose policies are the same formulas, listed in another order.
 const REORDERED: [&str; 5] = ["groups", "groups-now", "invitations", "just-shared", "preset"];
+
+/// The example folders that have a source, with what it compiles to.
+fn examples() -> Vec<(PathBuf, String, Compiled)> {
+    let all = Path::new(env!("CARGO_MANIFEST_DIR")).join("../examples");
     let mut found = Vec::new();
     for entry in fs::read_dir(all).unwrap() {
         let path = entry.unwrap().path();

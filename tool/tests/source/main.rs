@@ -4,6 +4,7 @@ mod evaluate;
 mod examples;
 mod forms;
 mod generate;
+mod language;
 mod mistakes;
 mod random;
 mod returned;
