@@ -17,10 +17,10 @@ mod words;
 use crate::names::Names;
 use clause::Clause;
 use form::Forms;
-use keeper::terms::{Effect, Terms};
+use keeper::terms::{Effect, Terms, VARIABLES};
 use labels::{Labels, Manner, Time, Voice};
 use render::Speaker;
-use words::{full, letters, Words};
+use words::{full, letters, listed, Words};
 
 /// Lines of text are broken before this column.
 const WIDTH: usize = 110;
@@ -138,13 +138,15 @@ impl Aloud {
         while let Some(&entry) = speaker.apart.get(clauses.len()) {
             let number = clauses.len() + 1;
             let words = speaker.say(&clause::of_entry(&forms, entry), Time::Now, None);
-            let given: Vec<String> = (1..16)
+            let given: Vec<String> = (1..VARIABLES)
                 .filter(|x| forms.free[entry] >> x & 1 == 1)
                 .map(|x| format!("x{x}"))
                 .collect();
-            let with = if given.is_empty() { "" } else { ", with " };
-            let before =
-                format!("Clause {number} holds of a member M{with}{} if", given.join(", "));
+            let given = match &given[..] {
+                [] => String::new(),
+                given => format!(", given {},", listed(given)),
+            };
+            let before = format!("Clause {number} holds of a member M{given} if");
             clauses.push(Sentence::of(&before, words));
         }
         Aloud { events, clauses }
@@ -172,8 +174,12 @@ fn effects(labels: &Labels, effects: &[Effect]) -> Option<Sentence> {
             if effect.back { ("the target", "you", false) } else { ("you", "the target", true) };
         let link = labels.link(effect.relation, Voice::Active, you, Time::Now, Manner::Plain);
         let link = link.unwrap_or_default();
-        let no_longer = if effect.add { "" } else { "no longer " };
-        format!("{subject} {no_longer}{link} {object}")
+        let link = match (effect.add, link.split_once(' ')) {
+            (true, _) => link.clone(),
+            (false, Some((be @ ("are" | "is"), what))) => format!("{be} no longer {what}"),
+            (false, _) => format!("no longer {link}"),
+        };
+        format!("{subject} {link} {object}")
     };
     let said: Vec<String> = effects.iter().map(said).collect();
     match &said[..] {

@@ -93,7 +93,7 @@ impl Evaluation<'_> {
 
 fn random_record(seed: u64) -> Record {
     let mut rng = Rng::new(seed);
-    let size = if rng.percent(80) { Size::small(&mut rng) } else { Size::middle(&mut rng) };
+    let size = if rng.percent(60) { Size::small(&mut rng) } else { Size::middle(&mut rng) };
     let terms = formulas::terms(&mut rng, &size);
     let calls = calls(&mut rng, &terms, 12, 99);
     let mut record = Record::new(terms);
@@ -178,16 +178,7 @@ fn sayings(terms: &Terms) -> Vec<(String, String)> {
     }
     let numbered: Vec<Clause> =
         apart.iter().map(|&entry| clause::of_entry(&forms, entry)).collect();
-    let renumber = |clause: &Clause| {
-        let mut shown = format!("{clause:?}");
-        for (number, entry) in apart.iter().enumerate() {
-            shown = shown.replace(
-                &format!("Apart {{ entry: {entry},"),
-                &format!("Apart {{ number {number},"),
-            );
-        }
-        shown
-    };
+    let renumber = |clause: &Clause| in_order(clause, &apart);
     let context: Vec<String> = numbered.iter().map(&renumber).collect();
     let spoken = aloud.events.iter().zip(&meanings);
     spoken
@@ -209,6 +200,25 @@ fn sayings(terms: &Terms) -> Vec<(String, String)> {
             (said, meant)
         })
         .collect()
+}
+
+/// A clause shown with guests and numbered clauses counted as they are met.
+fn in_order(clause: &Clause, apart: &[usize]) -> String {
+    let mut shown = format!("{clause:?}");
+    for (number, entry) in apart.iter().enumerate() {
+        let (from, to) =
+            (format!("Apart {{ entry: {entry},"), format!("Apart {{ number {number},"));
+        shown = shown.replace(&from, &to);
+    }
+    let mut met: Vec<String> = Vec::new();
+    for part in shown.split("guest: ").skip(1) {
+        met.push(part.chars().take_while(char::is_ascii_digit).collect());
+    }
+    for (number, guest) in met.iter().enumerate() {
+        shown = shown.replace(&format!("guest: {guest},"), &format!("guest {number},"));
+        shown = shown.replace(&format!("Guest({guest})"), &format!("Guest {number}"));
+    }
+    shown
 }
 
 fn gather_apart(clause: &Clause, apart: &mut Vec<usize>) {

@@ -225,17 +225,18 @@ impl Resolver<'_> {
     }
 }
 
-/// All parts hold; runs of `and` are one.
+/// All parts hold; runs of `and` are one, and what always holds is left out.
 fn all(parts: Vec<Clause>) -> Clause {
-    joined(parts, Clause::All, |part| match part {
+    joined(parts, true, Clause::All, |part| match part {
         Clause::All(parts) => Ok(parts),
         other => Err(other),
     })
 }
 
-/// At least one part holds; runs of `or` are one.
+/// At least one part holds; runs of `or` are one, and what never holds is left
+/// out.
 fn any(parts: Vec<Clause>) -> Clause {
-    joined(parts, Clause::Any, |part| match part {
+    joined(parts, false, Clause::Any, |part| match part {
         Clause::Any(parts) => Ok(parts),
         other => Err(other),
     })
@@ -243,6 +244,7 @@ fn any(parts: Vec<Clause>) -> Clause {
 
 fn joined(
     parts: Vec<Clause>,
+    neutral: bool,
     join: fn(Vec<Clause>) -> Clause,
     same: fn(Clause) -> Result<Vec<Clause>, Clause>,
 ) -> Clause {
@@ -250,10 +252,13 @@ fn joined(
     for part in parts {
         match same(part) {
             Ok(inner) => flat.extend(inner),
+            Err(Clause::Constant(value)) if value == neutral => {}
+            Err(Clause::Constant(value)) => return Clause::Constant(value),
             Err(other) => flat.push(other),
         }
     }
     match flat.len() {
+        0 => Clause::Constant(neutral),
         1 => flat.remove(0),
         _ => join(flat),
     }

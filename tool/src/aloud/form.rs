@@ -44,8 +44,9 @@ pub enum Form {
 
 /// Shared parts larger than this are said once and numbered.
 const SMALL: usize = 16;
-/// Parts that are so deep are said apart and numbered.
-const DEEP: usize = 10;
+/// Parts that are so deep are said apart and numbered. An edge and a look into
+/// the past count twice.
+const DEEP: usize = 20;
 
 /// The forms of all entries of some terms.
 pub struct Forms<'a> {
@@ -167,20 +168,30 @@ impl<'a> Forms<'a> {
         let uses = self.uses();
         let (mut size, mut depth) = (Vec::new(), Vec::new());
         for (index, entry) in self.terms.entries.iter().enumerate() {
-            let (mut own_size, mut below) = (1usize, 0);
+            let (mut own_size, mut own_depth) = (1usize, 0usize);
             for f in entry.operands() {
                 let node = self.node(f, true);
                 let inside = !self.is_apart(node);
                 own_size += if inside { size[node.entry] } else { 1 };
-                below = below.max(if inside { depth[node.entry] } else { 0 });
+                let below = if inside { depth[node.entry] } else { 0 };
+                own_depth = own_depth.max(below + self.step(*entry, node));
             }
-            let step = !matches!(entry, Entry::Not(_) | Entry::Bind(_, _) | Entry::At(_, _));
-            let own_depth = below + usize::from(step);
             size.push(own_size);
             depth.push(own_depth);
             let shared = uses[index] > 1 && own_size > SMALL;
-            let plain = !matches!(entry, Entry::Not(_));
-            self.apart[index] = plain && (shared || (own_depth >= DEEP && step));
+            let named = matches!(entry, Entry::Not(_) | Entry::Bind(_, _) | Entry::At(_, _));
+            self.apart[index] =
+                shared && !matches!(entry, Entry::Not(_)) || own_depth >= DEEP && !named;
+        }
+    }
+
+    /// How much deeper an entry is than one of its operands.
+    fn step(&self, entry: Entry, operand: Node) -> usize {
+        match (entry, self.terms.entries[operand.entry]) {
+            (Entry::Or(_, _), Entry::Or(_, _)) if operand.holds => 0,
+            (Entry::Not(_) | Entry::Bind(_, _) | Entry::At(_, _), _) => 0,
+            (Entry::Or(_, _), _) => 1,
+            _ => 2,
         }
     }
 

@@ -17,15 +17,15 @@ pub struct Verb {
 /// Verbs that are said without a preposition and inflected by rule.
 const PLAIN: &str = "
     accept acknowledge add admit allow answer appoint approve archive assess attend audit
-    authorize ban block borrow call cancel certify change check claim clear close confirm
-    contact contain copy create decline delete deny disable discharge dismiss dominate download
-    edit employ enable endorse enter expel export fetch fire follow forgive greet guard help
-    hire ignore import include inspect install invite join judge kick like list load lock love
-    manage mark mention mentor move mute name nominate notify open order own pass pin play
-    preview print promote prescribe publish query quote rate receive recommend record refer
+    authorize back ban befriend block borrow call cancel certify change check claim clear close
+    confirm contact contain copy create decline delete deny disable discharge dismiss dominate
+    download drop edit employ enable endorse enter expel export fetch fire follow forgive greet
+    guard help hire ignore import include inspect install invite join judge kick like list load
+    lock love manage mark mention mentor move mute name nominate notify open order own pass pin
+    play prescribe preview print promote publish query quote rate receive recommend record refer
     refuse reject release remove rename repair replace report request reserve restore return
     review save scan share sign sponsor star start stop store submit supervise support suspect
-    suspend tag thank touch track trust update upload use verify view visit watch
+    suspend tag thank touch track trust unfriend update upload use verify view visit watch
 ";
 
 /// Verbs that are not inflected by rule: base, past, participle.
@@ -67,7 +67,7 @@ const IRREGULAR: &[(&str, &str, &str)] = &[
 
 /// Verbs whose last letter is doubled before -ed.
 const DOUBLED: &[&str] =
-    &["admit", "ban", "expel", "pin", "scan", "star", "stop", "submit", "tag", "part", "refer"];
+    &["admit", "ban", "drop", "expel", "pin", "scan", "star", "stop", "submit", "tag", "refer"];
 
 /// Verbs that are said with a preposition.
 const PREPOSITIONS: &[(&str, &str)] = &[
@@ -106,8 +106,23 @@ const PREPOSITIONS: &[(&str, &str)] = &[
     ("write", "to"),
 ];
 
-/// The verb that a word is: in its base form, or in the third person.
-pub fn verb(word: &str) -> Option<Verb> {
+/// The verb that a name is: in its base form or in the third person, perhaps
+/// with words before it, as in `weak-view`.
+pub fn verb(name: &str) -> Option<Verb> {
+    let place = name.rfind(['-', '_']).map_or(0, |place| place + 1);
+    let (first, last) = name.split_at(place);
+    let verb = single(last)?;
+    let compound = |form: String| format!("{first}{form}");
+    Some(Verb {
+        base: compound(verb.base),
+        third: compound(verb.third),
+        past: compound(verb.past),
+        participle: compound(verb.participle),
+        preposition: verb.preposition,
+    })
+}
+
+fn single(word: &str) -> Option<Verb> {
     if !word.bytes().all(|byte| byte.is_ascii_lowercase()) {
         return None;
     }
@@ -143,7 +158,7 @@ fn inflected(base: &str) -> Verb {
     let regular = match consonant_y {
         Some(stem) => format!("{stem}ied"),
         None if base.ends_with('e') => format!("{base}d"),
-        None if base != "part" && DOUBLED.contains(&base) => {
+        None if DOUBLED.contains(&base) => {
             format!("{base}{}ed", &base[base.len() - 1..])
         }
         None => format!("{base}ed"),
@@ -185,12 +200,13 @@ mod tests {
         assert_eq!(forms("expel"), "expel expels expelled expelled ");
         assert_eq!(forms("unblock"), "unblock unblocks unblocked unblocked ");
         assert_eq!(forms("teaches"), "teach teaches taught taught ");
+        assert_eq!(forms("weak-view"), "weak-view weak-views weak-viewed weak-viewed ");
         assert_eq!(forms("part"), "part parts parted parted from");
     }
 
     #[test]
     fn words_that_are_no_verbs() {
-        for word in ["friend", "blacklist", "weak_view", "Own", "", "s"] {
+        for word in ["friend", "blacklist", "view_weak", "Own", "", "s", "-"] {
             assert_eq!(verb(word), None, "{word}");
         }
     }

@@ -101,6 +101,15 @@ pub fn name(who: Who) -> String {
     }
 }
 
+/// `A, B and C`.
+pub fn listed(names: &[String]) -> String {
+    match names {
+        [] => String::new(),
+        [single] => single.clone(),
+        [first @ .., last] => format!("{} and {last}", first.join(", ")),
+    }
+}
+
 /// Joins the parts of an `and` or an `or`, in a line if that is clear.
 pub fn join(parts: Vec<Words>, or: bool, held: bool) -> Words {
     if in_line(&parts) {
