@@ -33,7 +33,7 @@ fn tags(page: &str) -> Vec<(String, usize)> {
 fn page(folder: &Folder) -> String {
     let said = run(&["report", folder.path(), "-o", folder.file("page.html").to_str().unwrap()]);
     assert_eq!((said.status, said.err.as_str()), (0, ""));
-    folder.read("page.html")
+    folder.read("page.html").replace('\u{a0}', " ")
 }
 
 #[test]

@@ -170,6 +170,10 @@ fn is_so(terms: &Terms, graphs: &[Graph], meaning: &mut Meaning, fact: Fact) -> 
             };
             ends(from).all(|a| ends(to).all(|b| !has_edge(terms, &graphs[moment], label, a, b)))
         }
+        Fact::Only { label, member, out, others, moment } => (0..terms.members).all(|other| {
+            let (from, to) = if out { (member, other) } else { (other, member) };
+            others >> other & 1 == 1 || !has_edge(terms, &graphs[moment], label, from, to)
+        }),
         Fact::Same { member, .. } => member < terms.members,
         Fact::Differ { member, other } => member != other,
         Fact::NoMomentBefore | Fact::Always => true,

@@ -2,7 +2,7 @@
 //! moment that has them; the event edge is a moment's own.
 
 use super::html::escaped;
-use super::layout::{Layout, Point};
+use super::layout::Layout;
 use super::palette;
 use crate::words::Words;
 use keeper::record::Graph;
@@ -124,53 +124,14 @@ impl<'a> Drawing<'a> {
         let title = escaped(&self.words.edge(relation, from, to));
         let classes = palette::classes(relation);
         let path = if from == to {
-            self.loop_path(from, relation)
+            self.layout.loop_path(from, relation)
         } else {
             let bend = 0.1 + 0.04 * (relation % 8) as f64;
-            let (path, _) = self.path(from, to, bend, self.layout.arrow);
+            let (path, _) = self.layout.path(from, to, bend, self.layout.arrow);
             let arrow = palette::colour(relation);
             format!("{path}\" marker-end=\"url(#arrow{arrow})")
         };
         format!("<path class=\"{classes}{more}\" d=\"{path}\"><title>{title}</title></path>\n")
-    }
-
-    /// A bent line between two dots that leaves room for an arrow, and its middle.
-    fn path(&self, from: usize, to: usize, bend: f64, arrow: f64) -> (String, Point) {
-        let (a, b) = (self.layout.places[from], self.layout.places[to]);
-        let (dx, dy) = (b.0 - a.0, b.1 - a.1);
-        let near = (1.0 - self.layout.pull(dx.hypot(dy))) / 2.0;
-        let c = ((a.0 + b.0) * near + dy * bend, (a.1 + b.1) * near - dx * bend);
-        let toward = |end: Point, far: f64| {
-            let (x, y) = (c.0 - end.0, c.1 - end.1);
-            let length = x.hypot(y).max(1e-6);
-            let far = far.min(length * 0.8);
-            (end.0 + x / length * far, end.1 + y / length * far)
-        };
-        let start = toward(a, self.layout.dot + 1.5);
-        let end = toward(b, self.layout.dot + 1.5 + arrow);
-        let middle = ((start.0 + 2.0 * c.0 + end.0) / 4.0, (start.1 + 2.0 * c.1 + end.1) / 4.0);
-        let path = format!(
-            "M{:.1} {:.1}Q{:.1} {:.1} {:.1} {:.1}",
-            start.0, start.1, c.0, c.1, end.0, end.1
-        );
-        (path, middle)
-    }
-
-    /// A loop on the far side of a dot.
-    fn loop_path(&self, member: usize, order: usize) -> String {
-        let (x, y) = self.layout.places[member];
-        let (ox, oy) = self.layout.outward(member);
-        let turned = |angle: f64, far: f64| {
-            let (sin, cos) = angle.sin_cos();
-            (x + (ox * cos - oy * sin) * far, y + (ox * sin + oy * cos) * far)
-        };
-        let reach = (self.layout.dot + self.layout.loops) * (1.2 + 0.1 * (order % 4) as f64);
-        let (a, d) = (turned(-0.6, self.layout.dot), turned(0.6, self.layout.dot));
-        let (b, c) = (turned(-0.75, reach), turned(0.75, reach));
-        format!(
-            "M{:.1} {:.1}C{:.1} {:.1} {:.1} {:.1} {:.1} {:.1}",
-            a.0, a.1, b.0, b.1, c.0, c.1, d.0, d.1
-        )
     }
 
     /// The picture of one moment.
@@ -239,10 +200,10 @@ impl<'a> Drawing<'a> {
             ));
         }
         if from == to {
-            let path = self.loop_path(from, 0);
+            let path = self.layout.loop_path(from, 0);
             return text + &format!("<path class=\"event-edge\" d=\"{path}\"/>\n");
         }
-        let (path, (x, y)) = self.path(from, to, 0.0, 13.0);
+        let (path, (x, y)) = self.layout.path(from, to, 0.0, 13.0);
         let name = escaped(&self.words.names.event(event));
         text + &format!(
             "<path class=\"event-edge\" d=\"{path}\" marker-end=\"url(#arrow)\"/>\

@@ -17,6 +17,11 @@ pub fn escaped(text: &str) -> String {
     safe
 }
 
+/// The same, with lines broken at no arrow.
+pub fn unbroken(text: &str) -> String {
+    escaped(text).replace(" → ", "\u{a0}→\u{a0}")
+}
+
 /// `1 member`, `2 members`, `no members`.
 pub fn counted(count: usize, word: &str) -> String {
     match count {

@@ -58,13 +58,52 @@ impl Layout {
 
     /// How far a line of a length is drawn to the middle, so that long ones
     /// part and stay inside the circle.
-    pub fn pull(&self, length: f64) -> f64 {
+    fn pull(&self, length: f64) -> f64 {
         let most = match self.places.len() {
             0..=6 => 0.0,
             7..=MANY => 0.25,
             _ => 0.4,
         };
         most * (length / self.radius.max(1.0)).min(1.0)
+    }
+
+    /// A bent line between two dots that leaves room for an arrow, and its middle.
+    pub fn path(&self, from: usize, to: usize, bend: f64, arrow: f64) -> (String, Point) {
+        let (a, b) = (self.places[from], self.places[to]);
+        let (dx, dy) = (b.0 - a.0, b.1 - a.1);
+        let near = (1.0 - self.pull(dx.hypot(dy))) / 2.0;
+        let c = ((a.0 + b.0) * near + dy * bend, (a.1 + b.1) * near - dx * bend);
+        let toward = |end: Point, far: f64| {
+            let (x, y) = (c.0 - end.0, c.1 - end.1);
+            let length = x.hypot(y).max(1e-6);
+            let far = far.min(length * 0.8);
+            (end.0 + x / length * far, end.1 + y / length * far)
+        };
+        let start = toward(a, self.dot + 1.5);
+        let end = toward(b, self.dot + 1.5 + arrow);
+        let middle = ((start.0 + 2.0 * c.0 + end.0) / 4.0, (start.1 + 2.0 * c.1 + end.1) / 4.0);
+        let path = format!(
+            "M{:.1} {:.1}Q{:.1} {:.1} {:.1} {:.1}",
+            start.0, start.1, c.0, c.1, end.0, end.1
+        );
+        (path, middle)
+    }
+
+    /// A loop on the far side of a dot.
+    pub fn loop_path(&self, member: usize, order: usize) -> String {
+        let (x, y) = self.places[member];
+        let (ox, oy) = self.outward(member);
+        let turned = |angle: f64, far: f64| {
+            let (sin, cos) = angle.sin_cos();
+            (x + (ox * cos - oy * sin) * far, y + (ox * sin + oy * cos) * far)
+        };
+        let reach = (self.dot + self.loops) * (1.2 + 0.1 * (order % 4) as f64);
+        let (a, d) = (turned(-0.6, self.dot), turned(0.6, self.dot));
+        let (b, c) = (turned(-0.75, reach), turned(0.75, reach));
+        format!(
+            "M{:.1} {:.1}C{:.1} {:.1} {:.1} {:.1} {:.1} {:.1}",
+            a.0, a.1, b.0, b.1, c.0, c.1, d.0, d.1
+        )
     }
 
     /// Whether names stand along the radius.

@@ -1,7 +1,7 @@
 //! The strip of answers, and each moment with its graph and what was asked at it.
 
 use super::drawing::Drawing;
-use super::html::{counted, escaped};
+use super::html::{counted, escaped, unbroken};
 use super::palette;
 use crate::both::Verdict;
 use crate::replay::{Replay, Step};
@@ -105,8 +105,9 @@ fn legend(words: &Words, pictures: usize, moments: usize) -> String {
 /// A moment's picture, what changed, and its edges.
 fn figure(graph: &Graph, moment: usize, words: &Words, drawing: &Drawing) -> String {
     let changes = drawing.changes(moment);
+    let focus = if drawing.is_wide() { " tabindex=\"0\"" } else { "" };
     format!(
-        "<figure>\n{}<figcaption>\n{}{}{}</figcaption>\n</figure>\n",
+        "<figure{focus}>\n{}<figcaption>\n{}{}{}</figcaption>\n</figure>\n",
         drawing.picture(moment),
         changed("adds", &changes.added, words),
         changed("deletes", &changes.deleted, words),
@@ -162,7 +163,7 @@ fn asked(
             "<li id=\"request-{0}\" class=\"{answer}\"><p class=\"request\"><span class=\"line\">{0}</span> \
              <span class=\"what\">{1}</span> <strong><span aria-hidden=\"true\">{2}</span> {answer}</strong></p>\n",
             step.line,
-            escaped(&words.request(step.request)),
+            unbroken(&words.request(step.request)),
             sign(step.verdict),
         ));
         text.push_str(&told(step, words, reasons)?);
@@ -173,14 +174,14 @@ fn asked(
 }
 
 fn told(step: &Step, words: &Words, reasons: &mut Reasons) -> Result<String, Stop> {
-    let paragraph = |line: &String| format!("<p class=\"because\">{}</p>\n", escaped(line));
+    let paragraph = |line: &String| format!("<p class=\"because\">{}</p>\n", unbroken(line));
     if let Verdict::Refused(number) = step.verdict {
         return Ok(paragraph(&words.refusal(step.request, number)));
     }
     let Some(because) = reasons.of(words, step, false)? else { return Ok(String::new()) };
     let mut text: String = because.lines.iter().map(paragraph).collect();
     if let (Some(rest), Some(all)) = (because.rest(), reasons.of(words, step, true)?) {
-        let item = |line: &String| format!("<li>{}</li>\n", escaped(line));
+        let item = |line: &String| format!("<li>{}</li>\n", unbroken(line));
         let items: String = all.lines.iter().map(item).collect();
         text.push_str(&format!(
             "<details><summary>{rest}</summary>\n<ul>\n{items}</ul></details>\n"

@@ -12,6 +12,9 @@ pub enum Fact {
     Edge { label: usize, from: usize, to: usize, moment: usize },
     /// No edge under a label is there at a moment; `None` is anybody.
     NoEdge { label: usize, from: Option<usize>, to: Option<usize>, moment: usize },
+    /// Edges under a label lead from a member, or to it, only to or from these others: a
+    /// bit for each.
+    Only { label: usize, member: usize, out: bool, others: u64, moment: usize },
     /// The variable stands for the member.
     Same { member: usize, variable: usize },
     /// The two are different members.
@@ -56,15 +59,20 @@ impl Fact {
                     _ => format!("no {edge}{}", at(moment)),
                 }
             }
+            Fact::Only { label, member, out, others, moment } => {
+                let (here, others) = (words.member(member), only(words, others));
+                let (from, to) = if out { (here, others) } else { (others, here) };
+                words.arrow(label, &from, &to) + &at(moment)
+            }
             Fact::Same { member, variable: 0 } => format!("{} is the target", words.member(member)),
             Fact::Same { member, .. } => format!("both are {}", words.member(member)),
             Fact::Differ { member, other } => {
                 format!("{} is not {}", words.member(member), words.member(other))
             }
             Fact::NoMomentBefore => "there is no moment before moment 0".to_string(),
-            Fact::Never(place) => never(phrase(words, place, true)) + &up_to(place.moment),
+            Fact::Never(place) => never(words, place) + &up_to(place.moment),
             Fact::Since { place, .. } => {
-                let Phrase { text, .. } = phrase(words, place, true);
+                let text = phrase(words, place, true).text;
                 let until = match place.moment == now {
                     true => "since".to_string(),
                     false => format!("from then to moment {}", place.moment),
@@ -99,9 +107,22 @@ fn phrase(words: &Words, place: Place, holds: bool) -> Phrase {
     Speaker::new(words, place).say(place.entry, holds)
 }
 
-fn never(phrase: Phrase) -> String {
-    match phrase.is_simple() {
-        true => format!("never {}", phrase.text),
-        false => format!("at no moment: {}", phrase.text),
+/// `never share dora → pete`, or a clause that was right at no moment.
+fn never(words: &Words, place: Place) -> String {
+    let absent = phrase(words, place, false);
+    match absent.text.strip_prefix("no ") {
+        Some(edge) if absent.is_edge() => format!("never {edge}"),
+        _ => format!("at no moment: {}", phrase(words, place, true).text),
+    }
+}
+
+/// `only ada, bea and cem`.
+fn only(words: &Words, others: u64) -> String {
+    let members = (0..words.terms.members).filter(|member| others >> member & 1 == 1);
+    let names: Vec<String> = members.map(|member| words.member(member)).collect();
+    match &names[..] {
+        [] => "nobody".to_string(),
+        [one] => format!("only {one}"),
+        [first @ .., last] => format!("only {} and {last}", first.join(", ")),
     }
 }

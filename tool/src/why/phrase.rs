@@ -36,9 +36,9 @@ impl Phrase {
         Phrase { text, shape }
     }
 
-    /// Whether it is an edge that is there, and so can follow `never`.
-    pub fn is_simple(&self) -> bool {
-        self.shape == Shape::Edge && !self.text.starts_with("no ")
+    /// Whether it speaks of one edge only.
+    pub fn is_edge(&self) -> bool {
+        self.shape == Shape::Edge
     }
 
     /// The clause inside another one.

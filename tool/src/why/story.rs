@@ -3,6 +3,7 @@
 use super::fact::Fact;
 use super::reason::{neighbours, Claim, Place, Reason, Reasons};
 use keeper::terms::Entry;
+use std::collections::HashSet;
 
 /// So many steps are followed for one request; what is beyond is told by entry
 /// numbers.
@@ -79,13 +80,15 @@ pub fn stories(reasons: &mut Reasons, claim: Claim) -> Vec<Story> {
     stories
 }
 
-fn distinct(told: Vec<Story>) -> Vec<Story> {
-    let mut stories: Vec<Story> = Vec::new();
-    for story in told {
-        if !stories.contains(&story) {
-            stories.push(story);
-        }
-    }
+/// The stories without those that have the facts of an earlier one.
+fn distinct(mut stories: Vec<Story>) -> Vec<Story> {
+    let mut known = HashSet::new();
+    stories.retain(|story| {
+        let mut facts: Vec<String> = story.facts.iter().map(|fact| format!("{fact:?}")).collect();
+        facts.sort();
+        facts.dedup();
+        known.insert(facts)
+    });
     stories
 }
 
@@ -170,8 +173,8 @@ impl Teller<'_, '_> {
         stories
     }
 
-    /// Every neighbour with its own story. Those who are only not the one that
-    /// is asked for are told together: there is no edge to that one.
+    /// Every neighbour with its own story. Told together are those who are only
+    /// not the one that is asked for, and those who are all somebody else already.
     fn no_neighbour(&mut self, place: Place, failing: Vec<Claim>) -> Vec<Story> {
         let (label, f, out) = match self.reasons.terms().entries[place.entry] {
             Entry::Out(label, f) => (label, f, true),
@@ -189,14 +192,24 @@ impl Teller<'_, '_> {
         if failing.is_empty() {
             return vec![no_edge(None)];
         }
+        let told: Vec<(usize, Vec<Story>)> = failing
+            .into_iter()
+            .map(|claim| (claim.place.member, distinct(self.tell(claim))))
+            .collect();
+        let named = |story: &Story| matches!(story.facts[..], [Fact::Same { .. }]);
+        if told.iter().all(|(_, stories)| stories.iter().all(named)) {
+            let others = told.iter().fold(0, |others, (member, _)| others | 1 << member);
+            let Place { member, moment, .. } = place;
+            return vec![Story::of(Fact::Only { label, member, out, others, moment })];
+        }
         let near = neighbours(self.reasons.terms(), self.reasons.graphs(), place);
         let mut stories = Vec::new();
-        for claim in failing {
-            let edge = Story::of(self.edge(place, claim.place.member));
-            for story in distinct(self.tell(claim)) {
+        for (neighbour, parts) in told {
+            let edge = Story::of(self.edge(place, neighbour));
+            for story in parts {
                 stories.push(match story.facts[..] {
                     [Fact::Differ { member, other }]
-                        if member == claim.place.member && !near.contains(&other) =>
+                        if member == neighbour && !near.contains(&other) =>
                     {
                         no_edge(Some(other))
                     }
