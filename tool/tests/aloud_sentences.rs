@@ -45,6 +45,15 @@ fn members() {
 }
 
 #[test]
+fn oneself() {
+    assert_eq!(said("var 1 0, out 0 0, bind 1 1"), "you own yourself.");
+    assert_eq!(
+        said("var 1 0, out 1 0, bind 1 1, out 0 2"),
+        "you own some member that has a friend edge to itself."
+    );
+}
+
+#[test]
 fn edges() {
     assert_eq!(said("var 0 0, out 0 0"), "you own the target.");
     assert_eq!(said("var 0 0, out 0 0, not 1 0"), "you do not own the target.");

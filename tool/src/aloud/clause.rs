@@ -225,7 +225,8 @@ impl Resolver<'_> {
     }
 }
 
-/// All parts hold; runs of `and` are one, and what always holds is left out.
+/// All parts hold; runs of `and` are one, and what always holds or is said
+/// twice is left out.
 fn all(parts: Vec<Clause>) -> Clause {
     joined(parts, true, Clause::All, |part| match part {
         Clause::All(parts) => Ok(parts),
@@ -233,8 +234,8 @@ fn all(parts: Vec<Clause>) -> Clause {
     })
 }
 
-/// At least one part holds; runs of `or` are one, and what never holds is left
-/// out.
+/// At least one part holds; runs of `or` are one, and what never holds or is
+/// said twice is left out.
 fn any(parts: Vec<Clause>) -> Clause {
     joined(parts, false, Clause::Any, |part| match part {
         Clause::Any(parts) => Ok(parts),
@@ -257,9 +258,15 @@ fn joined(
             Err(other) => flat.push(other),
         }
     }
-    match flat.len() {
+    let mut apart: Vec<Clause> = Vec::new();
+    for part in flat {
+        if !apart.contains(&part) {
+            apart.push(part);
+        }
+    }
+    match apart.len() {
         0 => Clause::Constant(neutral),
-        1 => flat.remove(0),
-        _ => join(flat),
+        1 => apart.remove(0),
+        _ => join(apart),
     }
 }

@@ -5,7 +5,7 @@ mod past;
 
 use super::clause::{Clause, Who};
 use super::labels::{be, Labels, Manner, Time, Voice};
-use super::words::{join, name, Shape, Words};
+use super::words::{join, name, object, Shape, Words};
 
 /// Puts the clauses of some terms into words.
 pub struct Speaker<'a> {
@@ -27,7 +27,7 @@ impl Speaker<'_> {
             }
             Clause::Same { who, other, holds } => {
                 let not = if *holds { "" } else { " not" };
-                let (is, other) = (be(*who == Who::You, time), name(*other));
+                let (is, other) = (be(*who == Who::You, time), object(*other, *who));
                 Words::of(*who, format!("{is}{not} {other}"))
             }
             Clause::Edge { label, from, to, holds } => {
@@ -68,7 +68,7 @@ impl Speaker<'_> {
             }
         }
         let link = self.active(label, from, time, manner);
-        Words::of(from, format!("{link} {}", name(to)))
+        Words::of(from, format!("{link} {}", object(to, from)))
     }
 
     fn link(

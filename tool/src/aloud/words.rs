@@ -101,6 +101,15 @@ pub fn name(who: Who) -> String {
     }
 }
 
+/// How a member is called as the object of a subject.
+pub fn object(who: Who, subject: Who) -> String {
+    match who == subject {
+        false => name(who),
+        true if who == Who::You => "yourself".to_string(),
+        true => "itself".to_string(),
+    }
+}
+
 /// `A, B and C`.
 pub fn listed(names: &[String]) -> String {
     match names {

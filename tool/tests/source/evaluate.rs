@@ -62,25 +62,21 @@ impl<'a> World<'a> {
         World { source, moments: vec![Moment { edges, event: None }] }
     }
 
-    /// Answers a request, and makes the next moment if it is granted.
-    pub fn request(&mut self, event: usize, from: usize, to: usize) -> bool {
-        let granted = self.permits(event, from, to);
-        if granted {
-            let asked = &self.source.events[event];
-            let mut next = self.moments[self.moments.len() - 1].clone();
-            for effect in &asked.effects {
-                let member = |person: &Person| if person.who == Who::Me { from } else { to };
-                let edge = (effect.relation.text.clone(), member(&effect.from), member(&effect.to));
-                if effect.add {
-                    next.edges.insert(edge);
-                } else {
-                    next.edges.remove(&edge);
-                }
+    /// Makes the next moment by a granted request.
+    pub fn request(&mut self, event: usize, from: usize, to: usize) {
+        let asked = &self.source.events[event];
+        let mut next = self.moments[self.moments.len() - 1].clone();
+        for effect in &asked.effects {
+            let member = |person: &Person| if person.who == Who::Me { from } else { to };
+            let edge = (effect.relation.text.clone(), member(&effect.from), member(&effect.to));
+            if effect.add {
+                next.edges.insert(edge);
+            } else {
+                next.edges.remove(&edge);
             }
-            next.event = Some((asked.name.text.clone(), from, to));
-            self.moments.push(next);
         }
-        granted
+        next.event = Some((asked.name.text.clone(), from, to));
+        self.moments.push(next);
     }
 
     pub fn permits(&self, event: usize, from: usize, to: usize) -> bool {

@@ -43,7 +43,7 @@ struct Maker<'a> {
 /// A source with few members, so that much happens between them.
 pub fn source(dice: &mut Dice) -> Source {
     let (members, relations) = (2 + dice.below(3), dice.below(3));
-    let (events, definitions) = (1 + dice.below(3), dice.below(3));
+    let (events, definitions) = (1 + dice.below(3), dice.below(4));
     let names = |kind: &str, count: usize| {
         (0..count).map(|n| Name::new(&format!("{kind}{n}"))).collect::<Vec<Name>>()
     };
@@ -90,7 +90,7 @@ impl Maker<'_> {
             ["a", "x2", "b"][..count].iter().map(|name| Name::new(name)).collect();
         let mut people = vec![Who::Here, Who::Target];
         people.extend(parameters.iter().map(|name| Who::Named(name.text.clone())));
-        let body = self.formula(2, &Sight { people, past: 1, definitions: number });
+        let body = self.formula(3, &Sight { people, past: 1, definitions: number });
         self.definitions.push((name.clone(), count));
         Definition { name: Name::new(&name), parameters, body }
     }
@@ -110,7 +110,7 @@ impl Maker<'_> {
                 Kind::Is(self.person(sight), Person::new(Who::Named(attribute)))
             }
             2..=4 => self.edge(sight),
-            5 => self.defined(sight),
+            5 | 15 => self.defined(sight),
             6 | 7 => Kind::Not(part(self)),
             8 | 9 => Kind::And(part(self), part(self)),
             10 => Kind::Or(part(self), part(self)),
@@ -180,7 +180,7 @@ impl Maker<'_> {
             5 | 6 => Quantifier::Every,
             _ => Quantifier::AtLeast(1 + self.dice.below(3)),
         };
-        let name = self.dice.pick(&[None, Some("x1"), Some("p"), Some("q"), Some("r")]);
+        let name = self.dice.pick(&[None, Some("x1"), Some("x2"), Some("p"), Some("q")]);
         let person = self.person(sight);
         let mut inner = name.map_or_else(|| sight.clone(), |name| self.seeing(sight, name));
         if !inner.people.contains(&Who::Here) {
