@@ -44,7 +44,7 @@ fn compiled_terms_mean_what_is_written() {
 /// Names that hide others, and definitions used where their own names are taken.
 #[test]
 fn names_are_kept_apart() {
-    let start = "members a, b, c\nrelations r, s\nevents add by anyone then add me r target\n
+    let start = "members a, b, c\nrelations r, s\nevents give by anyone then add me r target\n
         event drop by anyone then remove me r target
         event mark by anyone then add me s target\n";
     let policies = [
@@ -55,9 +55,9 @@ fn names_are_kept_apart() {
         "event go when as x: at target: as x: x r x",
         "event go when me r some x: here is odd\ndefine a is odd: target r some y: y s a and a r y",
         "event go when at target: once (here r some x: previously here r x)",
-        "event go when me r some x: not x add me since (as y: some z add y: z r x)",
+        "event go when me r some x: not x give me since (as y: some z give y: z r x)",
         "event go when me r at least 2: at least 2 s of here as y: y is not me",
-        "event go when some x r target: some y r x: once (x add y or y mark x)",
+        "event go when some x r target: some y r x: once (x give y or y mark x)",
         "event go when me r every x: always (x r target or not x mark target)",
     ];
     for policy in policies {
