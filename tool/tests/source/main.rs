@@ -1,5 +1,6 @@
 //! The source language: what it means, what is wrong with it, and the way back.
 
+mod command;
 mod evaluate;
 mod examples;
 mod forms;
