@@ -72,7 +72,7 @@ impl<'a> Drawing<'a> {
             text.push_str(&format!(
                 "<marker id=\"{name}\" class=\"{class}\" viewBox=\"0 -4 8 8\" refX=\"1\" refY=\"0\" \
                  markerWidth=\"{size}\" markerHeight=\"{size}\" markerUnits=\"userSpaceOnUse\" \
-                 orient=\"auto\"><path d=\"M0-3.5L8 0L0 3.5z\"/></marker>\n",
+                 orient=\"auto-start-reverse\"><path d=\"M0-3.5L8 0L0 3.5z\"/></marker>\n",
             ));
         };
         for relation in 0..self.words.terms.relations.min(8) {
@@ -83,9 +83,7 @@ impl<'a> Drawing<'a> {
         for (index, edges) in self.layers.iter().enumerate() {
             let many = if self.layout.is_many() { " class=\"many\"" } else { "" };
             text.push_str(&format!("<g id=\"edges{index}\"{many}>\n"));
-            for &(relation, from, to) in *edges {
-                text.push_str(&self.relation_edge(relation, from, to, ""));
-            }
+            text.push_str(&self.relation_edges(edges.iter(), edges, ""));
             text.push_str("</g>\n");
         }
         text.push_str("</defs></svg>\n");
@@ -120,16 +118,48 @@ impl<'a> Drawing<'a> {
         text
     }
 
-    fn relation_edge(&self, relation: usize, from: usize, to: usize, more: &str) -> String {
-        let title = escaped(&self.words.edge(relation, from, to));
-        let classes = palette::classes(relation);
+    /// Some edges of a graph. Where it has an edge back as well, one line with
+    /// two arrows stands for both.
+    fn relation_edges<'e>(
+        &self,
+        some: impl Iterator<Item = &'e Edge>,
+        all: &BTreeSet<Edge>,
+        more: &str,
+    ) -> String {
+        let mut lines = BTreeSet::new();
+        for &(relation, from, to) in some {
+            let both = from != to && all.contains(&(relation, to, from));
+            let ends = if both { (from.min(to), from.max(to)) } else { (from, to) };
+            lines.insert((relation, ends, both));
+        }
+        let line = |&(relation, (from, to), both): &(usize, (usize, usize), bool)| {
+            self.relation_line(relation, from, to, both, more)
+        };
+        lines.iter().map(line).collect()
+    }
+
+    fn relation_line(
+        &self,
+        relation: usize,
+        from: usize,
+        to: usize,
+        both: bool,
+        more: &str,
+    ) -> String {
+        let mut title = self.words.edge(relation, from, to);
+        if both {
+            title = format!("{title}, {}", self.words.edge(relation, to, from));
+        }
+        let (title, classes) = (escaped(&title), palette::classes(relation));
         let path = if from == to {
             self.layout.loop_path(from, relation)
         } else {
-            let bend = 0.1 + 0.04 * (relation % 8) as f64;
-            let (path, _) = self.layout.path(from, to, bend, self.layout.arrow);
-            let arrow = palette::colour(relation);
-            format!("{path}\" marker-end=\"url(#arrow{arrow})")
+            let bend = 0.08 + 0.04 * (relation % 8) as f64;
+            let room = self.layout.arrow;
+            let (path, _) = self.layout.path(from, to, bend, [if both { room } else { 0.0 }, room]);
+            let arrow = format!("url(#arrow{})", palette::colour(relation));
+            let start = if both { format!("\" marker-start=\"{arrow}") } else { String::new() };
+            format!("{path}{start}\" marker-end=\"{arrow}")
         };
         format!("<path class=\"{classes}{more}\" d=\"{path}\"><title>{title}</title></path>\n")
     }
@@ -146,9 +176,8 @@ impl<'a> Drawing<'a> {
             escaped(&self.description(graph)),
         );
         text.push_str(&format!("<use href=\"#edges{}\"/>\n", self.layer[moment]));
-        for &(relation, from, to) in &self.changes(moment).added {
-            text.push_str(&self.relation_edge(relation, from, to, " added"));
-        }
+        let added = self.changes(moment).added;
+        text.push_str(&self.relation_edges(added.iter(), &graph.edges, " added"));
         if let Some((event, from, to)) = graph.event {
             text.push_str(&self.event_edge(event, from, to));
         }
@@ -203,7 +232,7 @@ impl<'a> Drawing<'a> {
             let path = self.layout.loop_path(from, 0);
             return text + &format!("<path class=\"event-edge\" d=\"{path}\"/>\n");
         }
-        let (path, (x, y)) = self.layout.path(from, to, 0.0, 13.0);
+        let (path, (x, y)) = self.layout.path(from, to, 0.0, [0.0, 13.0]);
         let name = escaped(&self.words.names.event(event));
         text + &format!(
             "<path class=\"event-edge\" d=\"{path}\" marker-end=\"url(#arrow)\"/>\

@@ -67,8 +67,9 @@ impl Layout {
         most * (length / self.radius.max(1.0)).min(1.0)
     }
 
-    /// A bent line between two dots that leaves room for an arrow, and its middle.
-    pub fn path(&self, from: usize, to: usize, bend: f64, arrow: f64) -> (String, Point) {
+    /// A bent line between two dots that leaves room for arrows at its ends, and
+    /// its middle.
+    pub fn path(&self, from: usize, to: usize, bend: f64, arrows: [f64; 2]) -> (String, Point) {
         let (a, b) = (self.places[from], self.places[to]);
         let (dx, dy) = (b.0 - a.0, b.1 - a.1);
         let near = (1.0 - self.pull(dx.hypot(dy))) / 2.0;
@@ -79,8 +80,8 @@ impl Layout {
             let far = far.min(length * 0.8);
             (end.0 + x / length * far, end.1 + y / length * far)
         };
-        let start = toward(a, self.dot + 1.5);
-        let end = toward(b, self.dot + 1.5 + arrow);
+        let start = toward(a, self.dot + 1.5 + arrows[0]);
+        let end = toward(b, self.dot + 1.5 + arrows[1]);
         let middle = ((start.0 + 2.0 * c.0 + end.0) / 4.0, (start.1 + 2.0 * c.1 + end.1) / 4.0);
         let path = format!(
             "M{:.1} {:.1}Q{:.1} {:.1} {:.1} {:.1}",
