@@ -1,24 +1,28 @@
 //! Every policy and effect as a sentence about past events.
 //!
 //! * `form`: entries as the shapes that people write
-//! * `clause`: the same with everybody named of whom something is said
-//! * `labels`, `verbs`: how relations and events are said
+//! * `clause`, `resolve`: the same with everybody named of whom something is said
+//! * `labels`, `wording`, `verbs`, `grammar`: how relations and events are said
 //! * `render`, `words`: clauses in words, in a line or as an outline
 //! * `quote`: the sentences as a document quotes them
 
 pub mod clause;
 pub mod form;
+mod grammar;
 pub mod labels;
 pub mod quote;
 mod render;
+pub mod resolve;
 mod verbs;
+mod wording;
 mod words;
 
 use crate::names::Names;
-use clause::Clause;
+use clause::{Clause, Who};
 use form::Forms;
+use grammar::Time;
 use keeper::terms::{Effect, Terms, VARIABLES};
-use labels::{Labels, Manner, Time, Voice};
+use labels::{Labels, Manner};
 use render::Speaker;
 use words::{full, letters, listed, Words};
 
@@ -121,7 +125,7 @@ impl Aloud {
         let mut speaker = Speaker { labels: &labels, apart: Vec::new() };
         let mut events = Vec::new();
         for (event, &entry) in terms.policies.iter().enumerate() {
-            let clause = clause::of_policy(&forms, entry);
+            let clause = resolve::of_policy(&forms, entry);
             let done = format!("{} the target", labels.may(terms.relations + event));
             let policy = match clause {
                 Clause::Constant(true) => Sentence::plain(format!("You may always {done}.")),
@@ -131,13 +135,13 @@ impl Aloud {
                     Sentence::of(&format!("You may {done} if"), words)
                 }
             };
-            let effects = effects(&labels, &terms.effects[event]);
+            let effects = effects(&speaker, &terms.effects[event]);
             events.push(Spoken { event, policy, effects });
         }
         let mut clauses = Vec::new();
         while let Some(&entry) = speaker.apart.get(clauses.len()) {
             let number = clauses.len() + 1;
-            let words = speaker.say(&clause::of_entry(&forms, entry), Time::Now, None);
+            let words = speaker.say(&resolve::of_entry(&forms, entry), Time::Now, None);
             let given: Vec<String> = (1..VARIABLES)
                 .filter(|x| forms.free[entry] >> x & 1 == 1)
                 .map(|x| format!("x{x}"))
@@ -168,18 +172,18 @@ impl Aloud {
 }
 
 /// What a grant changes: "From then on you own the target."
-fn effects(labels: &Labels, effects: &[Effect]) -> Option<Sentence> {
+fn effects(speaker: &Speaker, effects: &[Effect]) -> Option<Sentence> {
     let said = |effect: &Effect| {
-        let (subject, object, you) =
-            if effect.back { ("the target", "you", false) } else { ("you", "the target", true) };
-        let link = labels.link(effect.relation, Voice::Active, you, Time::Now, Manner::Plain);
-        let link = link.unwrap_or_default();
-        let link = match (effect.add, link.split_once(' ')) {
-            (true, _) => link.clone(),
+        let ends = (Who::You, Who::Target);
+        let (from, to) = if effect.back { (ends.1, ends.0) } else { ends };
+        let edge = speaker.edge(effect.relation, from, to, Time::Now, Manner::Plain, None);
+        let Words::Line { subject, text, .. } = edge else { return String::new() };
+        let text = match (effect.add, text.split_once(' ')) {
+            (true, _) => text,
             (false, Some((be @ ("are" | "is"), what))) => format!("{be} no longer {what}"),
-            (false, _) => format!("no longer {link}"),
+            (false, _) => format!("no longer {text}"),
         };
-        format!("{subject} {link} {object}")
+        full(subject, &text)
     };
     let said: Vec<String> = effects.iter().map(said).collect();
     match &said[..] {

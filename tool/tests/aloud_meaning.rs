@@ -1,9 +1,9 @@
 //! What is read aloud means what the entries mean: clauses are evaluated over
 //! random records and held against the keeper, and no two of them sound alike.
 
-use cuckooormolu_tool::aloud::clause::{self, Clause, Link, Who};
+use cuckooormolu_tool::aloud::clause::{Clause, Link, Who};
 use cuckooormolu_tool::aloud::form::{Forms, Quantity};
-use cuckooormolu_tool::aloud::Aloud;
+use cuckooormolu_tool::aloud::{resolve, Aloud};
 use cuckooormolu_tool::names::{Kind, Names};
 use keeper::generate::size::Size;
 use keeper::generate::{calls, formulas, Rng};
@@ -112,7 +112,7 @@ fn clauses_mean_what_entries_mean() {
         let forms = Forms::new(terms);
         let now = record.graphs().len() - 1;
         for &entry in &terms.policies {
-            let clause = clause::of_policy(&forms, entry);
+            let clause = resolve::of_policy(&forms, entry);
             for (you, target) in [(0, 0), (0, terms.members - 1), (terms.members - 1, 0)] {
                 let assigned = Assigned::default().with(0, target);
                 let mut evaluation =
@@ -127,7 +127,7 @@ fn clauses_mean_what_entries_mean() {
                 continue;
             }
             let entry = forms.node(entry, true).entry;
-            let clause = clause::of_entry(&forms, entry);
+            let clause = resolve::of_entry(&forms, entry);
             let mut rng = Rng::new(seed);
             let assigned = (0..VARIABLES).fold(Assigned::default(), |assigned, variable| {
                 assigned.with(variable, rng.below(terms.members))
@@ -143,41 +143,44 @@ fn clauses_mean_what_entries_mean() {
     assert!(compared > 10_000 && apart > 40, "{compared} {apart}");
 }
 
-/// Names for two relations and three events: some verbs, some not.
-fn names() -> Names {
+/// Names for two relations and three events: verbs with and without a
+/// preposition, nouns of both directions, and neither.
+const NAMES: [[&str; 5]; 3] = [
+    ["own", "friend", "share", "join", "view-all"],
+    ["member-of", "blacklist", "withdraw", "see3", "invite"],
+    ["friend", "rival", "report", "reply", "album"],
+];
+
+fn names(set: [&str; 5]) -> Names {
     let mut names = Names::default();
-    for (kind, number, name) in [
-        (Kind::Relation, 0, "own"),
-        (Kind::Relation, 1, "friend"),
-        (Kind::Event, 0, "share"),
-        (Kind::Event, 1, "join"),
-        (Kind::Event, 2, "view_all"),
-    ] {
+    let kinds = [(Kind::Relation, 0), (Kind::Relation, 1)].into_iter();
+    let kinds = kinds.chain((0..3).map(|event| (Kind::Event, event)));
+    for ((kind, number), name) in kinds.zip(set) {
         names.set(kind, number, name).unwrap();
     }
     names
 }
 
 /// The policies' clauses with all that their numbered clauses say.
-fn sayings(terms: &Terms) -> Vec<(String, String)> {
-    let aloud = Aloud::of(terms, &names());
+fn sayings(terms: &Terms, names: &Names) -> Vec<(String, String)> {
+    let aloud = Aloud::of(terms, names);
     let forms = Forms::new(terms);
     let clauses: Vec<String> = aloud.clauses.iter().map(|sentence| sentence.text()).collect();
     let mut apart = Vec::new();
     let mut meanings = Vec::new();
     for &entry in &terms.policies {
-        meanings.push(clause::of_policy(&forms, entry));
+        meanings.push(resolve::of_policy(&forms, entry));
     }
     for meaning in &meanings {
         gather_apart(meaning, &mut apart);
     }
     let mut index = 0;
     while index < apart.len() {
-        gather_apart(&clause::of_entry(&forms, apart[index]), &mut apart);
+        gather_apart(&resolve::of_entry(&forms, apart[index]), &mut apart);
         index += 1;
     }
     let numbered: Vec<Clause> =
-        apart.iter().map(|&entry| clause::of_entry(&forms, entry)).collect();
+        apart.iter().map(|&entry| resolve::of_entry(&forms, entry)).collect();
     let renumber = |clause: &Clause| in_order(clause, &apart);
     let context: Vec<String> = numbered.iter().map(&renumber).collect();
     let spoken = aloud.events.iter().zip(&meanings);
@@ -269,7 +272,7 @@ fn changed(terms: &Terms, rng: &mut Rng) -> Option<Terms> {
 
 #[test]
 fn no_two_meanings_sound_alike() {
-    let mut said: HashMap<String, String> = HashMap::new();
+    let mut said: Vec<HashMap<String, String>> = vec![HashMap::new(); NAMES.len()];
     for seed in 0..8_000 {
         let mut rng = Rng::new(seed);
         let size = if rng.percent(90) { Size::small(&mut rng) } else { Size::middle(&mut rng) };
@@ -278,11 +281,13 @@ fn no_two_meanings_sound_alike() {
         let Some(first) = first else { continue };
         let near = (0..4).filter_map(|_| changed(&first, &mut rng)).collect::<Vec<_>>();
         for terms in near.iter().chain([&first]) {
-            for (sentence, meaning) in sayings(terms) {
-                let before = said.entry(sentence.clone()).or_insert_with(|| meaning.clone());
+            let set = rng.below(NAMES.len());
+            for (sentence, meaning) in sayings(terms, &names(NAMES[set])) {
+                let before = said[set].entry(sentence.clone()).or_insert_with(|| meaning.clone());
                 assert_eq!(*before, meaning, "seed {seed}: {sentence}");
             }
         }
     }
-    assert!(said.len() > 10_000, "{}", said.len());
+    let count: usize = said.iter().map(HashMap::len).sum();
+    assert!(count > 10_000, "{count}");
 }

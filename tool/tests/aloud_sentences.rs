@@ -5,11 +5,11 @@ use cuckooormolu_tool::names::{Kind, Names};
 use keeper::generate::case;
 use keeper::terms::read;
 
-fn names() -> Names {
+fn names(relations: [&str; 2]) -> Names {
     let mut names = Names::default();
     for (kind, number, name) in [
-        (Kind::Relation, 0, "own"),
-        (Kind::Relation, 1, "friend"),
+        (Kind::Relation, 0, relations[0]),
+        (Kind::Relation, 1, relations[1]),
         (Kind::Event, 0, "share"),
         (Kind::Event, 1, "withdraw"),
         (Kind::Event, 2, "join"),
@@ -20,15 +20,20 @@ fn names() -> Names {
 }
 
 /// What a formula says: its entries are parted by commas, the last is the
-/// policy of `share`. Labels: 0 own, 1 friend, 2 share, 3 withdraw, 4 join.
+/// policy of `share`. Labels: 0 own, 1 blacklist, 2 share, 3 withdraw, 4 join.
 fn said(formula: &str) -> String {
+    said_with(["own", "blacklist"], formula)
+}
+
+/// The same with other names for the relations.
+fn said_with(relations: [&str; 2], formula: &str) -> String {
     let entries: Vec<&str> = formula.split(", ").collect();
     let last = entries.len() - 1;
     let lines = entries.iter().enumerate().map(|(index, entry)| format!("F {index} {entry}\n"));
     let lines: String = lines.collect();
     let text = format!("M 3\nL 2 3\n{lines}P 0 {last}\nP 1 {last}\nP 2 {last}\n");
     let terms = read(text.replace(' ', "\t").as_bytes()).expect("an accepted formula");
-    let aloud = Aloud::of(&terms, &names());
+    let aloud = Aloud::of(&terms, &names(relations));
     let policy = aloud.events[0].policy.text();
     let clauses = aloud.clauses.iter().map(|clause| format!("\n{}", clause.text()));
     let policy = policy.replace("You may share with the target if ", "");
@@ -49,7 +54,7 @@ fn oneself() {
     assert_eq!(said("var 1 0, out 0 0, bind 1 1"), "you own yourself.");
     assert_eq!(
         said("var 1 0, out 1 0, bind 1 1, out 0 2"),
-        "you own some member that has a friend edge to itself."
+        "you own some member that has a blacklist edge to itself."
     );
 }
 
@@ -58,7 +63,7 @@ fn edges() {
     assert_eq!(said("var 0 0, out 0 0"), "you own the target.");
     assert_eq!(said("var 0 0, out 0 0, not 1 0"), "you do not own the target.");
     assert_eq!(said("var 0 0, in 0 0"), "the target owns you.");
-    assert_eq!(said("var 0 0, in 1 0, not 1 0"), "the target has no friend edge to you.");
+    assert_eq!(said("var 0 0, in 1 0, not 1 0"), "the target has no blacklist edge to you.");
     assert_eq!(said("top 0 0, out 0 0"), "you own some member.");
     assert_eq!(said("top 0 0, in 0 0, not 1 0"), "no member owns you.");
     assert_eq!(said("var 0 0, in 2 0"), "the target has just shared with you.");
@@ -66,23 +71,49 @@ fn edges() {
 
 #[test]
 fn neighbours() {
-    let friend_of_friend = "var 0 0, out 1 0, out 1 1";
     assert_eq!(
-        said(friend_of_friend),
-        "you have a friend edge to some member that has a friend edge to the target."
+        said("var 0 0, out 1 0, out 1 1"),
+        "you have a blacklist edge to some member that has a blacklist edge to the target."
     );
     assert_eq!(
         said("var 0 0, out 1 0, not 1 0, out 0 2, not 3 0"),
-        "every member that you own has a friend edge to the target."
+        "every member that you own has a blacklist edge to the target."
     );
     assert_eq!(
         said("var 0 0, out 1 0, out 0 1, not 2 0"),
-        "you own no member that has a friend edge to the target."
+        "you own no member that has a blacklist edge to the target."
     );
     assert_eq!(
         said("var 0 0, not 0 0, in 0 1, not 2 0"),
         "every member that owns you is the target."
     );
+}
+
+#[test]
+fn nouns() {
+    let said = |formula: &str| said_with(["member_of", "friend"], formula);
+    assert_eq!(said("var 0 0, out 0 0"), "you are a member of the target.");
+    assert_eq!(said("var 0 0, in 0 0, not 1 0"), "the target is not a member of yours.");
+    assert_eq!(said("var 0 0, out 1 0"), "the target is a friend of yours.");
+    assert_eq!(said("var 0 0, in 1 0"), "you are a friend of the target.");
+    let friend_of_friend = "var 0 0, out 1 0, out 1 1";
+    assert_eq!(said(friend_of_friend), "some friend of yours has the target as a friend.");
+    assert_eq!(
+        said(&format!("{friend_of_friend}, out 1 2")),
+        "some friend of some friend of yours has the target as a friend."
+    );
+    assert_eq!(
+        said("var 0 0, out 1 0, not 1 0, out 1 2, not 3 0"),
+        "every friend of yours has the target as a friend."
+    );
+    assert_eq!(said("top 0 0, out 1 0, not 1 0"), "no member is a friend of yours.");
+}
+
+#[test]
+fn names_that_sound_alike() {
+    let said = |formula: &str| said_with(["own", "owns"], formula);
+    assert_eq!(said("var 0 0, out 0 0"), "you have an own edge to the target.");
+    assert_eq!(said("var 0 0, out 1 0"), "you have an owns edge to the target.");
 }
 
 #[test]
@@ -115,7 +146,7 @@ fn the_past() {
     );
     assert_eq!(
         said("var 0 0, out 0 0, out 1 0, since 1 2"),
-        "there was a moment so far at which you had a friend edge to the target and at every one \
+        "there was a moment so far at which you had a blacklist edge to the target and at every one \
          after it until now you owned the target."
     );
 }
@@ -125,17 +156,17 @@ fn and_or() {
     let parts = "var 0 0, out 0 0, out 1 0";
     assert_eq!(
         said(&format!("{parts}, or 1 2")),
-        "you either own the target or have a friend edge to the target."
+        "you either own the target or have a blacklist edge to the target."
     );
     assert_eq!(
         said(&format!("{parts}, not 1 0, not 2 0, or 3 4, not 5 0")),
-        "you own the target and have a friend edge to the target."
+        "you own the target and have a blacklist edge to the target."
     );
     assert_eq!(
         said(&format!("{parts}, not 1 0, not 2 0, or 3 4, not 5 0, or 0 6")),
         "at least one of these holds:\n\
          - you are the target\n\
-         - you own the target and have a friend edge to the target"
+         - you own the target and have a blacklist edge to the target"
     );
 }
 
@@ -143,11 +174,11 @@ fn and_or() {
 fn names_where_they_are_needed() {
     assert_eq!(
         said("var 1 0, var 2 0, in 0 1, not 2 0, at 1 3, bind 2 4, out 1 5, bind 1 6"),
-        "you have a friend edge to some member that does not own you."
+        "you have a blacklist edge to some member that does not own you."
     );
     assert_eq!(
         said("var 2 0, not 0 0, out 1 1, at 0 2, bind 2 3, out 1 4"),
-        "you have a friend edge to some A such that the target has a friend edge to some member \
+        "you have a blacklist edge to some A such that the target has a blacklist edge to some member \
          that is not A."
     );
 }

@@ -1,9 +1,9 @@
 //! All small formulas are read aloud, and those that sound alike are the same
 //! but for the laws by which clauses are made.
 
-use cuckooormolu_tool::aloud::clause;
+use cuckooormolu_tool::aloud::clause::Clause;
 use cuckooormolu_tool::aloud::form::Forms;
-use cuckooormolu_tool::aloud::Aloud;
+use cuckooormolu_tool::aloud::{resolve, Aloud};
 use cuckooormolu_tool::names::{Kind, Names};
 use keeper::terms::{read, write, Entry, Terms};
 use std::collections::HashMap;
@@ -77,13 +77,19 @@ fn small_formulas_that_sound_alike_are_the_same() {
     let third = second.iter().flat_map(unary);
     let all = second.iter().cloned().chain(third);
 
-    let mut names = Names::default();
-    names.set(Kind::Relation, 0, "own").unwrap();
-    names.set(Kind::Event, 0, "join").unwrap();
+    for (relation, event) in [("own", "share"), ("friend", "join"), ("member-of", "album")] {
+        let mut names = Names::default();
+        names.set(Kind::Relation, 0, relation).unwrap();
+        names.set(Kind::Event, 0, event).unwrap();
+        sound_different(all.clone(), &names);
+    }
+}
+
+fn sound_different(all: impl Iterator<Item = Formula>, names: &Names) {
     let mut said: HashMap<String, String> = HashMap::new();
     for terms in all.filter_map(|formula| policy(&formula)) {
-        let clause = clause::of_policy(&Forms::new(&terms), terms.policies[0]);
-        let aloud = Aloud::of(&terms, &names);
+        let clause = resolve::of_policy(&Forms::new(&terms), terms.policies[0]);
+        let aloud = Aloud::of(&terms, names);
         assert!(aloud.clauses.is_empty(), "small formulas have no parts of their own");
         let (sentence, clause) = (aloud.events[0].policy.text(), guests_in_order(&clause));
         let before = said.entry(sentence.clone()).or_insert_with(|| clause.clone());
@@ -93,7 +99,7 @@ fn small_formulas_that_sound_alike_are_the_same() {
 }
 
 /// A clause shown with its guests counted as they are met.
-fn guests_in_order(clause: &clause::Clause) -> String {
+fn guests_in_order(clause: &Clause) -> String {
     let mut shown = format!("{clause:?}");
     let met = shown.split("guest: ").skip(1);
     let met: Vec<String> =

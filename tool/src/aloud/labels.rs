@@ -1,17 +1,11 @@
 //! How relations and events are said: as verbs where their names are verbs,
 //! otherwise by their names.
 
-use super::verbs::{verb, Verb};
+use super::grammar::{article, be, do_, have, with, Linking, Time};
+use super::wording::Wording;
 use crate::names::{Kind, Names};
 use keeper::terms::Terms;
 use std::collections::BTreeMap;
-
-/// The moment that a part speaks of: the present one, or one found before.
-#[derive(Clone, Copy, Debug, PartialEq, Eq)]
-pub enum Time {
-    Now,
-    Then,
-}
 
 /// How a link is asserted. Only events have the last three.
 #[derive(Clone, Copy, Debug, PartialEq, Eq)]
@@ -32,15 +26,6 @@ pub enum Voice {
     Passive,
 }
 
-#[derive(Clone, Debug, PartialEq, Eq)]
-enum Wording {
-    Verb(Verb),
-    /// `friend_of`: is a friend of.
-    Of(String),
-    /// A name that is no verb.
-    Name(String),
-}
-
 /// The wordings of all labels of some terms.
 pub struct Labels {
     relations: usize,
@@ -57,7 +42,7 @@ impl Labels {
         let kinds: Vec<(Kind, usize)> = kinds.collect();
         let wording = |&(kind, number): &(Kind, usize)| match names.given(kind, number) {
             None => Wording::Name(format!("{kind} {number}")),
-            Some(name) => wording_of(kind, name),
+            Some(name) => Wording::of(kind, name),
         };
         let mut labels =
             Labels { relations: terms.relations, wordings: kinds.iter().map(wording).collect() };
@@ -79,7 +64,7 @@ impl Labels {
         for (label, wording) in self.wordings.iter().enumerate() {
             let mut forms = match wording {
                 Wording::Verb(verb) => vec![verb.base.clone(), verb.participle.clone()],
-                Wording::Of(name) => vec![format!("{name} of")],
+                Wording::Of(name) | Wording::Role(name) => vec![format!("{name} of")],
                 Wording::Name(name) => vec![name.clone()],
             };
             forms.dedup();
@@ -94,12 +79,26 @@ impl Labels {
         label >= self.relations
     }
 
+    /// Whether an edge is said from its end to its beginning.
+    pub fn is_reversed(&self, label: usize) -> bool {
+        matches!(self.wordings[label], Wording::Role(_))
+    }
+
+    /// The noun of a label that is said with "of".
+    pub fn noun(&self, label: usize) -> Option<&str> {
+        match &self.wordings[label] {
+            Wording::Of(name) | Wording::Role(name) => Some(name),
+            Wording::Verb(_) | Wording::Name(_) => None,
+        }
+    }
+
     /// What may be done to the target: `share with`.
     pub fn may(&self, label: usize) -> String {
         match &self.wordings[label] {
             Wording::Verb(verb) => with(&verb.base, verb.preposition),
-            Wording::Of(name) => format!("do {name} of"),
-            Wording::Name(name) => format!("do {name} to"),
+            Wording::Of(name) | Wording::Role(name) | Wording::Name(name) => {
+                format!("do {name} to")
+            }
         }
     }
 
@@ -111,9 +110,9 @@ impl Labels {
         you: bool,
         time: Time,
         manner: Manner,
-    ) -> Option<String> {
+    ) -> Option<Linking> {
         if self.is_event(label) {
-            self.event(label, voice, you, time, manner)
+            self.event(label, voice, you, time, manner).map(Linking::from)
         } else {
             self.relation(label, voice, you, time, manner == Manner::Plain)
         }
@@ -126,33 +125,40 @@ impl Labels {
         you: bool,
         time: Time,
         holds: bool,
-    ) -> Option<String> {
+    ) -> Option<Linking> {
         let not = if holds { "" } else { " not" };
-        Some(match (&self.wordings[label], voice) {
+        let said = match (&self.wordings[label], voice) {
             (Wording::Verb(verb), Voice::Active) => {
                 let said = match (time, holds, you) {
                     (Time::Now, true, true) => verb.base.clone(),
                     (Time::Now, true, false) => verb.third.clone(),
-                    (Time::Now, false, true) => format!("do not {}", verb.base),
-                    (Time::Now, false, false) => format!("does not {}", verb.base),
                     (Time::Then, true, _) => verb.past.clone(),
-                    (Time::Then, false, _) => format!("did not {}", verb.base),
+                    (time, false, you) => format!("{} not {}", do_(you, time), verb.base),
                 };
                 with(&said, verb.preposition)
             }
             (Wording::Verb(verb), Voice::Passive) if verb.preposition.is_empty() => {
                 format!("{}{not} {} by", be(you, time), verb.participle)
             }
-            (Wording::Verb(_), Voice::Passive) | (Wording::Of(_), Voice::Passive) => return None,
-            (Wording::Of(name), Voice::Active) => {
+            (Wording::Verb(_), Voice::Passive) => return None,
+            (Wording::Of(name) | Wording::Role(name), Voice::Active) => {
                 format!("{}{not} {} {name} of", be(you, time), article(name))
+            }
+            (Wording::Of(name) | Wording::Role(name), Voice::Passive) => {
+                let after = format!(" as {} {name}", article(name));
+                let before = match holds {
+                    true => have(you, time).to_string(),
+                    false => format!("{} not have", do_(you, time)),
+                };
+                return Some(Linking { before, after });
             }
             (Wording::Name(name), voice) => {
                 let edge = if holds { article(name) } else { "no" };
                 let way = if voice == Voice::Active { "to" } else { "from" };
                 format!("{} {edge} {name} edge {way}", have(you, time))
             }
-        })
+        };
+        Some(said.into())
     }
 
     fn event(
@@ -182,54 +188,10 @@ impl Labels {
                 format!("been {} by", verb.participle)
             }
             (Wording::Verb(_), Voice::Passive) => return None,
-            (Wording::Of(name), Voice::Active) => format!("done {name} of"),
-            (Wording::Of(_), Voice::Passive) => return None,
-            (Wording::Name(name), Voice::Active) => format!("done {name} to"),
-            (Wording::Name(name), Voice::Passive) => format!("had {name} done by"),
+            (Wording::Of(name) | Wording::Role(name) | Wording::Name(name), voice) => match voice {
+                Voice::Active => format!("done {name} to"),
+                Voice::Passive => format!("had {name} done by"),
+            },
         })
-    }
-}
-
-fn wording_of(kind: Kind, name: &str) -> Wording {
-    let of = ["_of", "-of", " of"].into_iter().find_map(|end| name.strip_suffix(end));
-    match (verb(name), of) {
-        (Some(verb), _) => Wording::Verb(verb),
-        (None, Some(noun)) if kind == Kind::Relation && !noun.is_empty() => {
-            Wording::Of(noun.to_string())
-        }
-        _ => Wording::Name(name.to_string()),
-    }
-}
-
-fn with(verb: &str, preposition: &str) -> String {
-    if preposition.is_empty() {
-        verb.to_string()
-    } else {
-        format!("{verb} {preposition}")
-    }
-}
-
-pub fn article(name: &str) -> &'static str {
-    if name.starts_with(['a', 'e', 'i', 'o', 'u', 'A', 'E', 'I', 'O', 'U']) {
-        "an"
-    } else {
-        "a"
-    }
-}
-
-pub fn have(you: bool, time: Time) -> &'static str {
-    match (time, you) {
-        (Time::Now, true) => "have",
-        (Time::Now, false) => "has",
-        (Time::Then, _) => "had",
-    }
-}
-
-pub fn be(you: bool, time: Time) -> &'static str {
-    match (time, you) {
-        (Time::Now, true) => "are",
-        (Time::Now, false) => "is",
-        (Time::Then, true) => "were",
-        (Time::Then, false) => "was",
     }
 }

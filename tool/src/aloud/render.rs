@@ -4,7 +4,8 @@ mod linked;
 mod past;
 
 use super::clause::{Clause, Who};
-use super::labels::{be, Labels, Manner, Time, Voice};
+use super::grammar::{be, Linking, Time};
+use super::labels::{Labels, Manner, Voice};
 use super::words::{join, name, object, Shape, Words};
 
 /// Puts the clauses of some terms into words.
@@ -53,7 +54,7 @@ impl Speaker<'_> {
         }
     }
 
-    fn edge(
+    pub fn edge(
         &self,
         label: usize,
         from: Who,
@@ -62,13 +63,14 @@ impl Speaker<'_> {
         manner: Manner,
         focus: Option<Who>,
     ) -> Words {
+        let (from, to) = if self.labels.is_reversed(label) { (to, from) } else { (from, to) };
         if focus == Some(to) && from != to {
             if let Some(link) = self.link(label, Voice::Passive, to, time, manner) {
-                return Words::of(to, format!("{link} {}", name(from)));
+                return Words::of(to, link.with(&name(from)));
             }
         }
         let link = self.active(label, from, time, manner);
-        Words::of(from, format!("{link} {}", object(to, from)))
+        Words::of(from, link.with(&object(to, from)))
     }
 
     fn link(
@@ -78,13 +80,13 @@ impl Speaker<'_> {
         subject: Who,
         time: Time,
         manner: Manner,
-    ) -> Option<String> {
+    ) -> Option<Linking> {
         self.labels.link(label, voice, subject == Who::You, time, manner)
     }
 
-    /// The words of a link whose subject is the edge's beginning; there always are some.
-    fn active(&self, label: usize, from: Who, time: Time, manner: Manner) -> String {
-        self.link(label, Voice::Active, from, time, manner).unwrap_or_default()
+    /// The words of a link in the active voice, which all have.
+    fn active(&self, label: usize, from: Who, time: Time, manner: Manner) -> Linking {
+        self.link(label, Voice::Active, from, time, manner).unwrap_or_else(|| String::new().into())
     }
 
     fn said_apart(

@@ -16,8 +16,12 @@ pub const HELP: &str = "\
 usage: cuckooormolu aloud DIR|FILE [--json] [--verify DOCUMENT | --quote DOCUMENT]
 
 Reads every policy and every effect of a terms file aloud, as sentences about
-past events. Names are those of names.tsv beside it. \"You\" are the one who
-asks, \"the target\" is whom or what you ask about.
+past events. \"You\" are the one who asks, \"the target\" is whom or what you ask
+about.
+
+Names are those of names.tsv beside it. Known verbs are inflected: own, owns. An
+edge of member-of from A to B says that A is a member of B; one of friend and the
+like, that B is a friend of A. Any other relation's edges are called by its name.
 
   --json             one line for each event: event, name, policy, effects;
                      then one for each numbered clause: clause, text

@@ -3,53 +3,114 @@
 use super::Speaker;
 use crate::aloud::clause::{Clause, Link, Who};
 use crate::aloud::form::Quantity;
-use crate::aloud::labels::{be, Manner, Time, Voice};
+use crate::aloud::grammar::{be, Linking, Time};
+use crate::aloud::labels::{Manner, Voice};
 use crate::aloud::words::{join, listed, name, Shape, Words};
 
 impl Speaker<'_> {
     /// Some, no or every member linked with another, and what holds of them.
     pub(super) fn linked(&mut self, link: &Link, time: Time, focus: Option<Who>) -> Words {
-        let Link { quantity, label, near, out, guest, ref that } = *link;
-        let guest = Who::Guest(guest);
-        // The link said with the near member for its subject, if it can be.
-        let voice = if out { Voice::Active } else { Voice::Passive };
-        let near_first = (out || focus == Some(near)).then_some(voice);
-        let near_first =
-            near_first.and_then(|voice| self.link(label, voice, near, time, Manner::Plain));
-        let near_first = near_first.filter(|_| quantity != Quantity::Every);
+        let (near, guest, quantity) = (link.near, Who::Guest(link.guest), link.quantity);
         let determiner = determiner(quantity);
         if link.is_bare() {
-            return match near_first {
-                Some(linked) => Words::of(near, format!("{linked} {determiner} member")),
+            let some = format!("{determiner} member");
+            return match self.near_first(link, time, focus) {
+                Some(linking) => Words::of(near, linking.with(&some)),
                 None => {
-                    let linked = self.active(label, guest, time, Manner::Plain);
-                    let text = format!("{determiner} member {linked} {}", name(near));
-                    Words::whole(text, Shape::Simple)
+                    let linking = self.active(link.label, guest, time, Manner::Plain);
+                    Words::whole(format!("{some} {}", linking.with(&name(near))), Shape::Simple)
                 }
             };
         }
-        let linked_one = self.linked_one(label, near, out, time);
-        let focused = self.say(that, time, Some(guest));
+        let near_first = self.near_first(link, time, focus);
+        let near_first =
+            near_first.filter(|linking| linking.takes_phrases() && quantity != Quantity::Every);
+        let focused = self.say(&link.that, time, Some(guest));
         if let (Some(predicate), Some(shape)) = (focused.predicate(guest), focused.shape()) {
             return match near_first {
-                Some(linked) => {
-                    let text = format!("{linked} {determiner} member that {predicate}");
+                Some(linking) => {
+                    let text = linking.with(&format!("{determiner} member that {predicate}"));
                     Words::Line { subject: Some(near), text, shape: shape.max(Shape::Open) }
                 }
                 None => {
-                    Words::whole(format!("{determiner} member {linked_one} {predicate}"), shape)
+                    let one = self.one(link, determiner, None, time);
+                    Words::whole(format!("{one} {predicate}"), shape)
                 }
             };
+        }
+        if let Some(words) = self.friend_of_friend(link, &focused, time) {
+            return words;
         }
         if let Some(path) = self.path(link, time) {
             return path;
         }
-        let (called, is) = (name(guest), be(false, time));
+        let called = name(guest);
         let before = match near_first {
-            Some(linked) => format!("{} {linked} {determiner} {called} such that", name(near)),
-            None => format!("{determiner} {called} {linked_one} {is} such that"),
+            Some(linking) => {
+                format!(
+                    "{} {} such that",
+                    name(near),
+                    linking.with(&format!("{determiner} {called}"))
+                )
+            }
+            None => {
+                let one = self.one(link, determiner, Some(&called), time);
+                format!("{one} {} such that", be(false, time))
+            }
         };
-        self.say(that, time, None).after(&before)
+        self.say(&link.that, time, None).after(&before)
+    }
+
+    /// "some friend of some friend of the target": where a member is only
+    /// mentioned as the one whose friend somebody is.
+    fn friend_of_friend(&self, link: &Link, that: &Words, time: Time) -> Option<Words> {
+        let Words::Line { subject: None, text, shape } = that else { return None };
+        let Clause::Linked(next) = &*link.that else { return None };
+        let both_some = link.quantity == Quantity::Some && next.quantity == Quantity::Some;
+        let guest = name(Who::Guest(link.guest));
+        let first = format!("some {} of {guest} ", self.noun(next, time)?);
+        self.noun(link, time).filter(|_| both_some)?;
+        let rest = text.strip_prefix(&first).filter(|rest| !rest.contains(&guest))?;
+        let one = self.one(link, "some", None, time);
+        Some(Words::whole(format!("{} {rest}", first.trim_end().replace(&guest, &one)), *shape))
+    }
+
+    /// The noun by which a link's far member is called, if there is one.
+    fn noun(&self, link: &Link, time: Time) -> Option<&str> {
+        let noun = self.labels.noun(link.label)?;
+        (!self.is_near_first(link) && time == Time::Now).then_some(noun)
+    }
+
+    /// Whether the near member is the one of whom the link is said.
+    fn is_near_first(&self, link: &Link) -> bool {
+        link.out != self.labels.is_reversed(link.label)
+    }
+
+    /// The link with the near member for its subject, if it can be said so.
+    fn near_first(&self, link: &Link, time: Time, focus: Option<Who>) -> Option<Linking> {
+        let voice = match self.is_near_first(link) {
+            true => Voice::Active,
+            false if focus == Some(link.near) => Voice::Passive,
+            false => return None,
+        };
+        self.link(link.label, voice, link.near, time, Manner::Plain)
+    }
+
+    /// "some member that owns the target", "every member that you have just
+    /// shared with", "some friend of the target", "some A that owns you".
+    fn one(&self, link: &Link, determiner: &str, called: Option<&str>, time: Time) -> String {
+        let (near, near_first) = (name(link.near), self.is_near_first(link));
+        if let (Some(noun), None) = (self.noun(link, time), called) {
+            let near = if link.near == Who::You { "yours" } else { &near };
+            return format!("{determiner} {noun} of {near}");
+        }
+        let called = called.unwrap_or("member");
+        let subject = if near_first { link.near } else { Who::Guest(link.guest) };
+        let linking = self.active(link.label, subject, time, Manner::Plain);
+        match near_first {
+            true => format!("{determiner} {called} that {near} {}", linking.before),
+            false => format!("{determiner} {called} that {}", linking.with(&near)),
+        }
     }
 
     /// Several members that have to be named, each linked with one before:
@@ -87,16 +148,6 @@ impl Speaker<'_> {
             && !next.is_bare()
             && self.say(&next.that, time, Some(guest)).predicate(guest).is_none();
         named.then_some(next)
-    }
-
-    /// "that owns the target", "that you have just shared with".
-    fn linked_one(&self, label: usize, near: Who, out: bool, time: Time) -> String {
-        let subject = if out { near } else { Who::Guest(0) };
-        let linked = self.active(label, subject, time, Manner::Plain);
-        match out {
-            true => format!("that {} {linked}", name(near)),
-            false => format!("that {linked} {}", name(near)),
-        }
     }
 }
 

@@ -3,7 +3,8 @@
 use super::Speaker;
 use crate::aloud::clause::{Clause, Link, Who};
 use crate::aloud::form::Quantity;
-use crate::aloud::labels::{have, Manner, Time, Voice};
+use crate::aloud::grammar::{have, Time};
+use crate::aloud::labels::{Manner, Voice};
 use crate::aloud::words::{full, name, Shape, Words};
 
 impl Speaker<'_> {
@@ -78,7 +79,7 @@ impl Speaker<'_> {
         if out || focus == Some(near) {
             if let Some(linked) = self.link(label, voice, near, time, manner) {
                 let whom = if manner == Manner::AtSomeTime { "some member" } else { "any member" };
-                return Some(Words::of(near, format!("{linked} {whom}")));
+                return Some(Words::of(near, linked.with(whom)));
             }
         }
         let (have, done) = (have(false, time), self.labels.done(label, Voice::Active)?);
