@@ -132,10 +132,12 @@ fn told(terms: &Terms, words: &Words, sizes: &[usize], styles: &[Style]) -> Sour
     source
 }
 
-/// The entries that are told once, as definitions: those that policies told
-/// operator by operator use more than once, if they aren't short.
+/// The entries that are told as definitions, where policies are told operator
+/// by operator: those used more than once, if they aren't short, and where
+/// operators would stand too deep in one another.
 fn shared(terms: &Terms, sizes: &[usize], styles: &[Style]) -> Vec<bool> {
     const SHORT: usize = 6;
+    const DEEPEST: usize = 50;
     let mut uses = vec![0usize; terms.entries.len()];
     for (event, style) in styles.iter().enumerate() {
         if *style == Style::Exact {
@@ -149,5 +151,13 @@ fn shared(terms: &Terms, sizes: &[usize], styles: &[Style]) -> Vec<bool> {
             }
         }
     }
-    (0..uses.len()).map(|place| uses[place] > 1 && sizes[place] > SHORT).collect()
+    let mut depths: Vec<usize> = Vec::new();
+    let mut shared = Vec::new();
+    for (place, entry) in terms.entries.iter().enumerate() {
+        let depth = entry.operands().into_iter().map(|f| depths[f]).max().unwrap_or(0) + 1;
+        let cut = uses[place] > 1 && sizes[place] > SHORT || depth > DEEPEST;
+        depths.push(if cut { 0 } else { depth });
+        shared.push(cut);
+    }
+    shared
 }

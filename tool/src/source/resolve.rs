@@ -12,6 +12,9 @@ use std::collections::HashMap;
 /// The most formulas that a file's definitions may unfold to.
 const MOST: usize = 200_000;
 
+/// The deepest that definitions may use one another.
+const DEEPEST: usize = 300;
+
 /// The names of people in sight, the innermost last.
 type Scope = Vec<(String, Who)>;
 
@@ -53,7 +56,8 @@ impl<'a> Resolver<'a> {
     /// A body that nobody uses is still read, so that its mistakes are found.
     pub fn check_definition(&mut self, place: usize) -> Result<(), Mistake> {
         let people = self.source.definitions[place].parameters.clone();
-        let ids = people.iter().map(|name| Who::Other(self.fresh(&name.text))).collect();
+        let scope = Scope::new();
+        let ids = people.iter().map(|name| Who::Other(self.bound(&name.text, &scope))).collect();
         self.unfold(place, ids, people.first().map_or(Span::default(), |name| name.span))?;
         Ok(())
     }
@@ -215,6 +219,10 @@ impl<'a> Resolver<'a> {
         let definition = &self.source.definitions[place];
         if self.inside.contains(&place) {
             let message = format!("`{}` is defined by itself", definition.name.text);
+            return Err(Mistake::new(span, message));
+        }
+        if self.inside.len() == DEEPEST {
+            let message = format!("definitions use one another more than {DEEPEST} deep");
             return Err(Mistake::new(span, message));
         }
         let names = definition.parameters.iter().map(|name| name.text.clone());

@@ -122,7 +122,7 @@ fn limits() {
         .contains("17 relations are declared; 16 is the most"));
     assert!(said(&format!("event {} by anyone", numbered(15, "e")))
         .contains("17 events are declared; 16 is the most"));
-    let effects = vec!["add me owns target"; 5].join(", ");
+    let effects = ["add me owns target"; 5].join(", ");
     assert!(said(&format!("event load by anyone then {effects}"))
         .contains("`load` has more than 4 effects"));
     let past: Vec<String> =
@@ -136,4 +136,64 @@ fn limits() {
     assert!(policy(&deep).contains("more than 200 deep"));
     let empty = compile("").unwrap_err().message;
     assert_eq!(empty, "no member is declared; at least one is due");
+}
+
+/// Whatever is done to a source, it compiles or a place in it is shown.
+#[test]
+fn damaged_sources_are_answered() {
+    let text = include_str!("../../../examples/coauthors/terms.say");
+    let letters: Vec<char> = text.chars().collect();
+    let pieces = [
+        "(",
+        ")",
+        ":",
+        ",",
+        "not ",
+        "some ",
+        "é",
+        "\t",
+        "#",
+        "at least 3 ",
+        "as x: ",
+        "\n",
+        "9",
+        "\u{feff}",
+    ];
+    let mut dice = crate::generate::Dice::new(7);
+    for _ in 0..4_000 {
+        let mut damaged = letters.clone();
+        for _ in 0..1 + dice.below(3) {
+            let place = dice.below(damaged.len());
+            let end = (place + dice.below(12)).min(damaged.len());
+            let piece: Vec<char> = pieces[dice.below(pieces.len())].chars().collect();
+            match dice.below(3) {
+                0 => drop(damaged.drain(place..end)),
+                1 => drop(damaged.splice(place..place, piece)),
+                _ => drop(damaged.splice(place..end, piece)),
+            }
+        }
+        let damaged: String = damaged.into_iter().collect();
+        if let Err(mistake) = compile(&damaged) {
+            let (line, column) = mistake.place(&damaged);
+            let shown = mistake.render("f", &damaged);
+            assert!(shown.starts_with(&format!("f:{line}:{column}: ")), "{shown}");
+        }
+    }
+}
+
+#[test]
+fn definitions_that_use_one_another_without_end() {
+    let chain: Vec<String> = (0..400).map(|n| format!("define d{n}: d{}", n + 1)).collect();
+    let message = said(&format!("{}\ndefine d400: true", chain.join("\n")));
+    assert!(message.contains("more than 300 deep"), "{message}");
+    let double: Vec<String> = (0..60)
+        .map(|n| {
+            format!(
+                "define a is d{n}: some r of a as b: b is d{0} or (some s of b as c: c is d{0})",
+                n + 1
+            )
+        })
+        .collect();
+    let text = format!("{}\ndefine a is d60: true\nrelation r, s", double.join("\n"));
+    assert!(said(&text).contains("unfold to more than"));
 }

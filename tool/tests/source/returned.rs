@@ -67,6 +67,40 @@ fn every_pair_of_operators_comes_back() {
     }
 }
 
+/// Formulas that are huge or deep when they are spelled out.
+#[test]
+fn heavily_shared_and_deep_terms_come_back() {
+    let shapes: [&dyn Fn(usize) -> Entry; 8] = [
+        &|f| Entry::Or(f, f),
+        &|f| Entry::Or(f, f - 1),
+        &Entry::Not,
+        &|f| Entry::Out(0, f),
+        &|f| if f % 2 == 0 { Entry::Not(f) } else { Entry::Or(f, f) },
+        &|f| if f % 2 == 0 { Entry::Bind(1 + f % 7, f) } else { Entry::Or(f, f - 1) },
+        &|f| if f % 3 == 0 { Entry::At(f % 3, f) } else { Entry::In(1, f) },
+        &|f| match f % 4 {
+            0 => Entry::Bind(1 + f % 15, f),
+            1 => Entry::Out(0, f),
+            2 => Entry::Or(f, f - 2),
+            _ => Entry::At(1 + (f - 3) % 15, f),
+        },
+    ];
+    for (number, shape) in shapes.iter().enumerate() {
+        let mut entries = vec![Entry::Top, Entry::Var(0), Entry::Out(1, 1)];
+        while entries.len() < 255 {
+            entries.push(shape(entries.len() - 1));
+        }
+        // The policy is the last entry in which nobody but the target is free.
+        let mut terms = Terms { members: 2, relations: 1, events: 1, ..Terms::default() };
+        terms.effects = vec![Vec::new()];
+        terms.entries = entries;
+        terms.policies = vec![(0..255).rev().find(|f| terms.free()[*f] & !1 == 0).unwrap()];
+        assert!(terms::read(&terms::write(&terms, &terms.edges)).is_ok(), "shape {number}");
+        let source = decompile(&terms, &Names::default());
+        assert!(agrees(&source, &terms), "shape {number}:\n{}", print(&source));
+    }
+}
+
 #[test]
 fn awkward_names_are_made_to_fit() {
     let compiled = compile("members a, b\nrelation r\nevent e when me r target").unwrap();
