@@ -4,7 +4,9 @@ use cuckooormolu_tool::source::tokens::WORDS;
 use cuckooormolu_tool::source::{compile, decompile::differing};
 use keeper::terms;
 use std::fs;
+use std::io::Write;
 use std::path::Path;
+use std::process::{Command, Stdio};
 
 fn document() -> String {
     let path = Path::new(env!("CARGO_MANIFEST_DIR")).join("../docs/LANGUAGE.md");
@@ -33,6 +35,40 @@ fn the_tutorial_compiles_to_the_preset_terms() {
     let preset = terms::read(&fs::read(preset).unwrap()).unwrap();
     assert!(differing(&compiled.terms, &preset).is_empty());
     assert_eq!(compiled.terms.edges, preset.edges);
+}
+
+/// The tutorial's other steps print what it says.
+#[test]
+fn the_tutorial_can_be_followed() {
+    let blocks = blocks(&document(), "Five minutes");
+    let folder = Path::new(env!("CARGO_TARGET_TMPDIR")).join("tutorial");
+    fs::create_dir_all(folder.join("mine")).unwrap();
+    fs::write(folder.join("mine/terms.say"), &blocks[0]).unwrap();
+    let _ = fs::remove_file(folder.join("mine/requests.tsv"));
+    let run = |arguments: &[&str], input: &str| {
+        let mut command = Command::new(env!("CARGO_BIN_EXE_cuckooormolu"));
+        command.args(arguments).current_dir(&folder).stdin(Stdio::piped()).stdout(Stdio::piped());
+        let mut child = command.spawn().unwrap();
+        child.stdin.take().unwrap().write_all(input.as_bytes()).unwrap();
+        String::from_utf8(child.wait_with_output().unwrap().stdout).unwrap()
+    };
+    let typed: Vec<&str> = blocks[2].lines().collect();
+    let typed = &typed[1..typed.iter().position(|line| *line == "quit").unwrap() + 1];
+    for (command, shown) in [("compile", 0), ("aloud", 1)] {
+        let printed = run(&[command, "mine"], "");
+        let part = blocks[1].split("$ ").nth(1 + shown).unwrap();
+        let part = part.split_once('\n').unwrap().1.trim();
+        assert!(printed.contains(part), "{command}:\n{printed}");
+    }
+    run(&["try", "mine"], &format!("{}\n", typed.join("\n")));
+    let answers = run(&["run", "mine", "--json"], "");
+    let granted = |line: &str| !line.contains("den");
+    let answers: Vec<bool> = answers.lines().map(granted).collect();
+    assert_eq!(answers, [false, true, true, true, false]);
+    assert!(run(&["why", "mine"], "").contains("withdraw"));
+    assert!(run(&["who", "mine", "load"], "").contains("pete"));
+    run(&["report", "mine", "-o", "mine.html"], "");
+    assert!(fs::read_to_string(folder.join("mine.html")).unwrap().contains("pete"));
 }
 
 #[test]
