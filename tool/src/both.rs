@@ -181,6 +181,15 @@ mod tests {
     }
 
     #[test]
+    fn a_difference_stops_the_program() {
+        let stop = agreed(Verdict::Grant, Verdict::Deny, 2, 0, 1).unwrap_err();
+        assert_eq!(stop.status(), crate::stop::FAILING);
+        let said = "the proved library and the keeper differ, please report it: \
+                    event 2 from 0 to 1: library grant, keeper deny";
+        assert_eq!(stop.to_string(), said);
+    }
+
+    #[test]
     fn refusals() {
         let refusal = Both::read(b"M\t0\n").unwrap().err();
         assert_eq!(refusal, Some(Refusal { number: 2, line: 1 }));

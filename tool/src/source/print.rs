@@ -8,8 +8,8 @@ const WIDTH: usize = 92;
 /// The whole text. Reading it gives the same source.
 pub fn print(source: &Source) -> String {
     let mut text = String::new();
-    list(&mut text, "members", &source.members);
-    list(&mut text, "relations", &source.relations);
+    list(&mut text, "member", &source.members);
+    list(&mut text, "relation", &source.relations);
     for definition in &source.definitions {
         let names: Vec<&str> = definition.parameters.iter().map(|name| &name.text[..]).collect();
         let people =
@@ -17,8 +17,12 @@ pub fn print(source: &Source) -> String {
         let head = format!("\ndefine {}{people}:", definition.name.text);
         text.push_str(&after(&head, &definition.body));
     }
-    for event in &source.events {
-        let head = format!("\nevent {}", event.name.text);
+    let alike =
+        |one: &Event, other: &Event| one.policy == other.policy && one.effects == other.effects;
+    for events in source.events.chunk_by(alike) {
+        let event = &events[0];
+        let names: Vec<&str> = events.iter().map(|event| &event.name.text[..]).collect();
+        let head = format!("\nevent {}", names.join(", "));
         if event.policy.kind == Kind::True {
             text.push_str(&format!("{head} by anyone\n"));
         } else {
@@ -42,9 +46,10 @@ pub fn print(source: &Source) -> String {
 }
 
 fn list(text: &mut String, word: &str, names: &[Name]) {
+    let plural = if names.len() == 1 { "" } else { "s" };
     if !names.is_empty() {
         let names: Vec<&str> = names.iter().map(|name| &name.text[..]).collect();
-        text.push_str(&format!("{word} {}\n", names.join(", ")));
+        text.push_str(&format!("{word}{plural} {}\n", names.join(", ")));
     }
 }
 

@@ -41,6 +41,9 @@ pub struct Crowd {
 /// said of, and one variable.
 pub const MOST_PEOPLE: usize = 2;
 
+/// The first of the numbers for people that the source doesn't name.
+const UNNAMED: Id = 1 << 30;
+
 #[derive(Default)]
 pub struct Placer {
     /// What is placed already, by formula and the names of the member at
@@ -51,9 +54,6 @@ pub struct Placer {
     /// How many people were named besides those of the source.
     named: Id,
 }
-
-/// The first of the numbers for people that the source doesn't name.
-const UNNAMED: Id = 1 << 30;
 
 impl Placer {
     /// A policy, said of the initiator.
@@ -76,10 +76,7 @@ impl Placer {
     }
 
     fn form(&mut self, f: &Said, names: &[Id]) -> Result<Tree, Crowd> {
-        let here = |who: &Who| match who {
-            Who::Here => true,
-            Who::Other(id) => names.contains(id),
-        };
+        let here = |who: &Who| is_here(who, names);
         Ok(match &f.form {
             Form::True => tree(Node::Top),
             Form::Is(Who::Here, Who::Here) => tree(Node::Top),
@@ -130,10 +127,7 @@ impl Placer {
     }
 
     fn edge(&mut self, from: &Option<Who>, label: usize, to: &Option<Who>, names: &[Id]) -> Tree {
-        let here = |who: &Who| match who {
-            Who::Here => true,
-            Who::Other(id) => names.contains(id),
-        };
+        let here = |who: &Who| is_here(who, names);
         let out = |to: Tree| tree(Node::Out(label, to));
         let into = |from: Tree| tree(Node::In(label, from));
         let top = || tree(Node::Top);
@@ -193,6 +187,14 @@ impl Placer {
         }
         let formula = tree(make(&placed));
         Ok(if stays { formula } else { tree(Node::At(others[0], formula)) })
+    }
+}
+
+/// Whether somebody is the member that has the given names.
+fn is_here(who: &Who, names: &[Id]) -> bool {
+    match who {
+        Who::Here => true,
+        Who::Other(id) => names.contains(id),
     }
 }
 

@@ -75,7 +75,7 @@ fn source_goes_back() {
     assert_eq!(said(&["compile", &path]).0, 0);
     let (status, out, _) = said(&["source", &path]);
     let shown =
-        "members dora, pete\nrelations owns\n\nevent share\n  when me owns target\n".to_string();
+        "members dora, pete\nrelation owns\n\nevent share\n  when me owns target\n".to_string();
     assert_eq!((status, out), (0, shown));
     let broken = Path::new(&path).join("broken.tsv");
     fs::write(&broken, "M\t0\n").unwrap();

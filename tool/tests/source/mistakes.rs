@@ -43,6 +43,7 @@ fn named_precisely() {
         ),
         ("true since true since true", "`since` after `since`"),
         ("dora owns target", "`dora` is a member; a formula can't speak of one member by name"),
+        ("initiator owns target", "who makes the request is `me`"),
         ("me owns target && true", "write `and`"),
         ("me owns target -> true", "dora owns saw"),
         ("me owns", "expected whom"),

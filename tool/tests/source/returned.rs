@@ -110,6 +110,6 @@ fn awkward_names_are_made_to_fit() {
     names.set(Kind::Relation, 0, "p").unwrap();
     names.set(Kind::Event, 0, "3rd!").unwrap();
     let text = print(&decompile(&compiled.terms, &names));
-    let shown = "members Jo-Ann, member-1\nrelations p\n\nevent event-0\n  when me p target\n";
+    let shown = "members Jo-Ann, member-1\nrelation p\n\nevent event-0\n  when me p target\n";
     assert_eq!(text, shown);
 }

@@ -6,6 +6,9 @@ use super::super::said::{Who, ME, TARGET};
 use super::{Resolver, Scope};
 use crate::names::did_you_mean;
 
+/// Other words for `me` that one may try.
+const WHO_ASKS: [&str; 7] = ["i", "you", "self", "initiator", "asker", "requester", "subject"];
+
 impl Resolver<'_> {
     pub(super) fn person(&self, person: &Person, scope: &Scope) -> Result<Who, Mistake> {
         Ok(match &person.who {
@@ -28,6 +31,10 @@ impl Resolver<'_> {
             let advice = "it can speak of me, target and whom it has named; to single a member out, \
                           give it an attribute: `relation chief`, `first dora is chief`, `x is chief`";
             return Mistake::new(name.span, message).advise(advice);
+        }
+        if WHO_ASKS.contains(&text.to_lowercase().as_str()) {
+            let message = format!("nobody is called `{text}` here");
+            return Mistake::new(name.span, message).advise("who makes the request is `me`");
         }
         let mut known: Vec<&str> = scope.iter().map(|(name, _)| name.as_str()).collect();
         known.extend(["me", "target", "here"]);
