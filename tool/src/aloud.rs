@@ -24,7 +24,8 @@ use grammar::Time;
 use keeper::terms::{Effect, Terms, VARIABLES};
 use labels::{Labels, Manner};
 use render::Speaker;
-use words::{full, letters, listed, Words};
+pub(crate) use words::listed;
+use words::{full, letters, Words};
 
 /// Lines of text are broken before this column.
 const WIDTH: usize = 110;

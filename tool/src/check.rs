@@ -53,13 +53,13 @@ pub fn check(folder: &Folder) -> Result<Checked, Stop> {
             let warnings = warnings::warnings(&both, &folder.names, &folder.requests())?;
             Ok(Checked::Accepted(Box::new(both), warnings))
         }
-        Err(refusal) => Ok(Checked::Refused(agreed(text, refusal))),
+        Err(refusal) => Ok(Checked::Refused(agreed(folder, refusal))),
     }
 }
 
 /// The cause that was found, if it is one for this refusal.
-fn agreed(text: &[u8], refusal: Refusal) -> Fault {
-    let found = diagnose(text);
+fn agreed(folder: &Folder, refusal: Refusal) -> Fault {
+    let found = diagnose(&folder.terms, &folder.names);
     let found = found.filter(|fault| (fault.number, fault.line) == (refusal.number, refusal.line));
     found.unwrap_or_else(|| {
         let what = format!("refused with {}", refusal.number);

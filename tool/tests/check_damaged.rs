@@ -2,6 +2,7 @@
 
 use cuckooormolu_tool::both::Both;
 use cuckooormolu_tool::check::{diagnose, Fault};
+use cuckooormolu_tool::names::Names;
 use keeper::generate::{case, damaged_text};
 use keeper::terms::Refusal;
 use std::collections::BTreeMap;
@@ -9,7 +10,7 @@ use std::collections::BTreeMap;
 /// What both say of a text is what the diagnosis says.
 fn held(text: &[u8], seed: u64) -> Option<Fault> {
     let refusal = Both::read(text).expect("library and keeper agree").err();
-    let fault = diagnose(text);
+    let fault = diagnose(text, &Names::default());
     let found = fault.as_ref().map(|fault| Refusal { number: fault.number, line: fault.line });
     assert_eq!(found, refusal, "seed {seed}: {}", text.escape_ascii());
     fault

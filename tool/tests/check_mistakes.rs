@@ -52,7 +52,7 @@ fn for_programs() {
     assert_eq!(
         mistake("10-label-range"),
         "{\"accepted\":false,\"number\":2,\"line\":4,\"from\":8,\"to\":9,\"what\":\"no label 7\",\
-         \"right\":\"labels are 0 to 3: relation 0, events 1 to 3\"}\n"
+         \"right\":\"labels are 0 to 3: 0 for the relation, 1 to 3 for the events\"}\n"
     );
     let lines = mistake("20-since-swapped");
     assert!(lines.starts_with("{\"accepted\":true,\"members\":3,"), "{lines}");

@@ -5,6 +5,8 @@ use super::fault::Fault;
 use super::line::{number, Field as Part, FORM};
 use super::others::{out_of_range, range};
 use super::reader::Reader;
+use crate::aloud::listed;
+use crate::names::{Kind, Names};
 use keeper::terms::{Entry, Field, Variables, MOST_ENTRIES, MOST_PAST, OPERATORS, VARIABLES};
 
 /// The refusal of an operand that isn't below its entry.
@@ -12,7 +14,7 @@ const OPERAND: u16 = 3;
 /// The refusal of a past-time entry with two free variables.
 const PAST_VARIABLES: u16 = 4;
 
-impl Reader {
+impl Reader<'_> {
     pub fn entry(&mut self, i: Part, word: Part, first: Part, second: Part) -> Result<(), Fault> {
         let due = self.terms.entries.len();
         let known = OPERATORS.iter().position(|(name, _, _)| name.as_bytes() == word.bytes);
@@ -66,7 +68,7 @@ impl Reader {
                 format!("variable 0 is always the target; bind 1 to {last}"),
             ),
             Field::Label if value >= relations + events => {
-                (format!("no label {value}"), labels(relations, events))
+                (format!("no label {value}"), labels(relations, events, self.names))
             }
             _ => return Ok(()),
         };
@@ -74,11 +76,11 @@ impl Reader {
     }
 
     fn two_free(&self, name: &str, entry: Entry, free: Variables, word: Part) -> Fault {
-        let what = format!("free here: {}; a {name} may have one free variable", listed(free));
+        let what = format!("free here: {}; a {name} may have one free variable", shown(free));
         let mut parts: Vec<String> = Vec::new();
         for f in entry.operands() {
             if self.free[f] != 0 {
-                parts.push(format!("entry {f} has {} free", listed(self.free[f])));
+                parts.push(format!("entry {f} has {} free", shown(self.free[f])));
             }
         }
         let right = format!(
@@ -107,18 +109,29 @@ fn other_entry_due(field: Part, index: usize, due: usize) -> Fault {
 }
 
 /// `0 and 1`.
-fn listed(variables: Variables) -> String {
+fn shown(variables: Variables) -> String {
     let chosen = (0..VARIABLES).filter(|x| variables >> x & 1 == 1);
-    chosen.map(|x| x.to_string()).collect::<Vec<_>>().join(" and ")
+    listed(&chosen.map(|x| x.to_string()).collect::<Vec<_>>())
 }
 
-/// `labels are 0 to 3: relation 0, events 1 to 3`.
-pub fn labels(relations: usize, events: usize) -> String {
+/// `labels are 0 to 3: 0 for the relation, 1 to 3 for the events`; with names,
+/// `labels are 0 own, 1 share, 2 withdraw and 3 load`.
+pub fn labels(relations: usize, events: usize, names: &Names) -> String {
+    let named = (0..relations).map(|relation| names.given(Kind::Relation, relation));
+    let named = named.chain((0..events).map(|event| names.given(Kind::Event, event)));
+    let named = named.enumerate().map(|(label, name)| Some(format!("{label} {}", name?)));
+    if let Some(named) = named.collect::<Option<Vec<String>>>() {
+        return format!("labels are {}", listed(&named));
+    }
     let run = |thing: &str, first: usize, count: usize| match count {
-        0 => format!("no {thing}s"),
-        1 => format!("{thing} {first}"),
-        count => format!("{thing}s {first} to {}", first + count - 1),
+        1 => format!("{first} for the {thing}"),
+        count => format!("{first} to {} for the {thing}s", first + count - 1),
     };
     let all = range("labels", relations + events);
-    format!("{all}: {}, {}", run("relation", 0, relations), run("event", relations, events))
+    match relations {
+        0 => format!("{all}, for the events; there are no relations"),
+        _ => {
+            format!("{all}: {}, {}", run("relation", 0, relations), run("event", relations, events))
+        }
+    }
 }

@@ -4,6 +4,7 @@ use super::advice::nearest_word;
 use super::fault::Fault;
 use super::line::{number, Field, FORM};
 use super::reader::Reader;
+use crate::aloud::listed;
 use keeper::terms::{
     Effect, Entry, MOST_EFFECTS, MOST_EVENTS, MOST_MEMBERS, MOST_RELATIONS, VARIABLES,
 };
@@ -27,7 +28,7 @@ pub fn range(things: &str, count: usize) -> String {
     }
 }
 
-impl Reader {
+impl Reader<'_> {
     pub fn members(&mut self, n: Field) -> Result<(), Fault> {
         let count = number(n)?;
         self.terms.members = count;
@@ -83,7 +84,7 @@ impl Reader {
     fn free_policy(&self, field: Field, entry: usize, free: u16) -> Fault {
         let variables: Vec<usize> = (1..VARIABLES).filter(|x| free >> x & 1 == 1).collect();
         let shown: Vec<String> = variables.iter().map(usize::to_string).collect();
-        let shown = shown.join(" and ");
+        let shown = listed(&shown);
         let what = format!("entry {entry} leaves {shown} free, and a policy may leave only 0 free");
         let bound = self.terms.entries.iter().position(
             |&above| matches!(above, Entry::Bind(x, f) if f == entry && variables == [x]),

@@ -2,12 +2,13 @@
 
 use super::fault::Fault;
 use super::line::{counted, fields, form, Field, FORM};
-use crate::names::did_you_mean;
+use crate::names::{did_you_mean, Names};
 use keeper::terms::{Terms, Variables};
 
 /// The first cause for which a text is refused; none if it is accepted.
-pub fn diagnose(text: &[u8]) -> Option<Fault> {
-    let mut reader = Reader::default();
+pub fn diagnose(text: &[u8], names: &Names) -> Option<Fault> {
+    let (terms, free, last_effect) = (Terms::default(), Vec::new(), 0);
+    let mut reader = Reader { names, terms, free, last_effect };
     let mut line = 0;
     for bytes in text.split_inclusive(|&byte| byte == b'\n') {
         line += 1;
@@ -37,8 +38,9 @@ fn unended(line: &[u8]) -> Fault {
 
 /// The terms read so far. A zero count of members or events means that the
 /// M or L line has yet to come.
-#[derive(Default)]
-pub struct Reader {
+pub struct Reader<'a> {
+    /// The names that messages may use.
+    pub names: &'a Names,
     pub terms: Terms,
     pub free: Vec<Variables>,
     /// The event of the last E line.
@@ -55,7 +57,7 @@ const KINDS: [(&str, &[&str]); 6] = [
     ("G", &["kind G", "relation", "from", "to"]),
 ];
 
-impl Reader {
+impl Reader<'_> {
     /// Reads one line, or finds what is wrong with it. What has the lowest
     /// number is looked for first.
     fn line(&mut self, line: &[u8], first: bool) -> Result<(), Fault> {

@@ -11,7 +11,7 @@ use keeper::terms::{Entry, Terms};
 const LOOKED_AT: usize = 24;
 /// Requests are tried among so many of them.
 const TRYING: usize = 6;
-/// So many requests are tried.
+/// So many requests are made: of the folder's, and of those tried.
 const REQUESTS: usize = 400;
 /// No more is tried after so many moments.
 const MOMENTS: usize = 40;
@@ -27,13 +27,64 @@ struct Count {
     denied: usize,
 }
 
-/// Warnings for events that were all granted or all denied: to begin with, and
-/// after requests that were tried in turn.
-pub fn one_sided(both: &Both, names: &Names) -> Result<Vec<Warning>, Stop> {
+/// Warnings for events that were all granted or all denied: by the folder's
+/// requests, and by looks to begin with and after requests tried in turn.
+pub fn one_sided(both: &Both, names: &Names, requests: &[Request]) -> Result<Vec<Warning>, Stop> {
+    let terms = both.terms();
+    let asked = asked(both, requests)?;
+    let (seen, moments) = seen(both)?;
+    let mut warnings = Vec::new();
+    for event in 0..terms.events {
+        if is_constant(terms, terms.policies[event]) {
+            continue;
+        }
+        let (asked, seen, name) = (asked[event], seen[event], names.event(event));
+        let s = if moments == 1 { "" } else { "s" };
+        let looks = format!("in {} looks at {moments} moment{s}", seen.granted + seen.denied);
+        let no_proof = "that is no proof, but";
+        let (kind, what, right) = if asked.granted + seen.granted == 0 {
+            let what = format!(
+                "nobody was ever granted {name} {looks}; {no_proof} can its policy be met?"
+            );
+            ("never", what, IN_FOR_OUT)
+        } else if asked.denied + seen.denied == 0 {
+            let what = format!("nobody was ever denied {name} {looks}; {no_proof} does its policy ask for anything?");
+            ("always", what, "`top` says that everybody may")
+        } else if asked.granted == 0 && asked.denied > 1 {
+            let times = asked.denied;
+            let what =
+                format!("requests.tsv asks {times} times for {name} and is denied each time");
+            ("denied", what, IN_FOR_OUT)
+        } else {
+            continue;
+        };
+        let line = policy_line(terms, event);
+        warnings.push(Warning { kind, line, what, right: right.to_string() });
+    }
+    Ok(warnings)
+}
+
+/// How the folder's requests are answered.
+fn asked(both: &Both, requests: &[Request]) -> Result<Vec<Count>, Stop> {
+    let mut counts = vec![Count::default(); both.terms().events];
+    // A record of its own, here and below: the one at hand stays at moment 0.
+    let mut trial = Both::accepted(&both.write()?)?;
+    for request in requests.iter().take(REQUESTS) {
+        let Request::Ask { event, from, to } = *request else { continue };
+        match trial.request(event, from, to)? {
+            Verdict::Grant => counts[event].granted += 1,
+            Verdict::Deny => counts[event].denied += 1,
+            Verdict::Refused(_) => {}
+        }
+    }
+    Ok(counts)
+}
+
+/// How looks are answered while requests are tried, and at how many moments.
+fn seen(both: &Both) -> Result<(Vec<Count>, usize), Stop> {
     let terms = both.terms();
     let mut members = busiest(terms);
     let mut counts = vec![Count::default(); terms.events];
-    // A record of its own: the one at hand stays at moment 0.
     let mut trial = Both::accepted(&both.write()?)?;
     look_around(&trial, &members, &mut counts)?;
     members.truncate(TRYING);
@@ -53,30 +104,7 @@ pub fn one_sided(both: &Both, names: &Names) -> Result<Vec<Warning>, Stop> {
             look_around(&trial, &members, &mut counts)?;
         }
     }
-    let moments = trial.record().graphs().len();
-    let told = counts.iter().enumerate().filter_map(|(event, count)| {
-        let constant = is_constant(terms, terms.policies[event]);
-        let (name, line) = (names.event(event), policy_line(terms, event));
-        let s = if moments == 1 { "" } else { "s" };
-        let tried = format!("in {} looks at {moments} moment{s}", count.granted + count.denied);
-        let warning = |kind, what: String, right: &str| {
-            Some(Warning { kind, line, what, right: right.to_string() })
-        };
-        match (constant, count) {
-            (false, Count { granted: 0, .. }) => warning(
-                "never",
-                format!("nobody was ever granted {name} {tried}; that is no proof, but can its policy be met?"),
-                IN_FOR_OUT,
-            ),
-            (false, Count { denied: 0, .. }) => warning(
-                "always",
-                format!("nobody was ever denied {name} {tried}; that is no proof, but does its policy ask for anything?"),
-                "`top` says that everybody may",
-            ),
-            _ => None,
-        }
-    });
-    Ok(told.collect())
+    Ok((counts, trial.record().graphs().len()))
 }
 
 fn is_mixed(count: &Count) -> bool {
@@ -121,36 +149,4 @@ fn is_constant(terms: &Terms, entry: usize) -> bool {
         Entry::Not(f) => is_constant(terms, f),
         _ => false,
     }
-}
-
-/// Warnings for events that a folder's requests ask for and never get.
-pub fn never_granted(
-    both: &Both,
-    names: &Names,
-    requests: &[Request],
-) -> Result<Vec<Warning>, Stop> {
-    let terms = both.terms();
-    let mut counts = vec![Count::default(); terms.events];
-    let mut trial = Both::accepted(&both.write()?)?;
-    for request in requests {
-        let Request::Ask { event, from, to } = *request else { continue };
-        match trial.request(event, from, to)? {
-            Verdict::Grant => counts[event].granted += 1,
-            Verdict::Deny => counts[event].denied += 1,
-            Verdict::Refused(_) => {}
-        }
-    }
-    let denied = counts.iter().enumerate().filter(|(_, count)| count.granted == 0);
-    let denied = denied.filter(|(_, count)| count.denied > 1);
-    let warning = |(event, count): (usize, &Count)| Warning {
-        kind: "denied",
-        line: policy_line(terms, event),
-        what: format!(
-            "requests.tsv asks {} times for {} and is denied each time",
-            count.denied,
-            names.event(event)
-        ),
-        right: IN_FOR_OUT.to_string(),
-    };
-    Ok(denied.map(warning).collect())
 }

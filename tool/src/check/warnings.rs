@@ -2,6 +2,7 @@
 
 use super::entries::labels;
 use super::{long, tried};
+use crate::aloud::listed;
 use crate::both::Both;
 use crate::folder::Request;
 use crate::names::{Kind, Names};
@@ -43,11 +44,8 @@ pub fn warnings(both: &Both, names: &Names, requests: &[Request]) -> Result<Vec<
     warnings.extend(strangers(terms, names));
     match long::long(terms) {
         Some(warning) => warnings.push(warning),
-        None => warnings.extend(tried::one_sided(both, names)?),
+        None => warnings.extend(tried::one_sided(both, names, requests)?),
     }
-    let known: Vec<usize> = warnings.iter().map(|warning| warning.line).collect();
-    let denied = tried::never_granted(both, names, requests)?;
-    warnings.extend(denied.into_iter().filter(|warning| !known.contains(&warning.line)));
     warnings.sort_by_key(|warning| warning.line);
     Ok(warnings)
 }
@@ -89,19 +87,28 @@ fn edgeless(terms: &Terms, names: &Names, reached: &[bool]) -> Vec<Warning> {
         !terms.edges.iter().any(|edge| edge.0 == relation)
             && !effects().any(|effect| effect.add && effect.relation == relation)
     };
+    let follows = |index: usize, relation: usize| {
+        let entry = terms.entries[index];
+        matches!(entry, Entry::Out(label, _) | Entry::In(label, _) if label == relation)
+    };
     let mut warnings = Vec::new();
-    for (index, entry) in terms.entries.iter().enumerate().filter(|&(index, _)| reached[index]) {
-        let (Entry::Out(label, _) | Entry::In(label, _)) = *entry else { continue };
-        if label >= terms.relations || !empty(label) {
-            continue;
-        }
-        let shown = named("relation", label, names.given(Kind::Relation, label));
+    for relation in (0..terms.relations).filter(|&relation| empty(relation)) {
+        let entries =
+            (0..reached.len()).filter(|&index| reached[index] && follows(index, relation));
+        let entries: Vec<usize> = entries.collect();
+        let Some(&first) = entries.first() else { continue };
+        let shown: Vec<String> = entries.iter().map(usize::to_string).collect();
+        let follow = match entries.len() {
+            1 => format!("entry {first} follows"),
+            _ => format!("entries {} follow", listed(&shown)),
+        };
+        let name = named("relation", relation, names.given(Kind::Relation, relation));
         let what = format!(
-            "entry {index} follows label {label}, {shown}, which never has an edge: no first edge and no effect adds one"
+            "{follow} label {relation}, {name}, which never has an edge: no first edge and no effect adds one"
         );
-        let all = labels(terms.relations, terms.events);
+        let all = labels(terms.relations, terms.events, names);
         let right = format!("{all}; adding a relation shifts the label of every event by one");
-        warnings.push(Warning { kind: "edgeless", line: entry_line(index), what, right });
+        warnings.push(Warning { kind: "edgeless", line: entry_line(first), what, right });
     }
     warnings
 }
