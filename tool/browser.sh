@@ -9,7 +9,7 @@ export CARGO_TARGET_DIR="${CARGO_TARGET_DIR:-$PWD/target/cargo}"
 export CUCKOOORMOLU_LIB="${CUCKOOORMOLU_LIB:-$PWD/target/staticlib}"
 export CARGO_NET_OFFLINE=true
 command -v "$browser" >/dev/null || { echo "browser: no $browser here" >&2; exit 2; }
-cargo build --release --quiet --manifest-path tool/Cargo.toml
+cargo build --release --quiet -p cuckooormolu-tool
 tool="$CARGO_TARGET_DIR/release/cuckooormolu"
 mkdir -p "$out"
 out=$(cd "$out" && pwd)
