@@ -135,7 +135,7 @@ pub fn counted(fields: &[Field], due: &[&str], length: usize) -> Result<(), Faul
     let fields_given = if given == 1 { "1 field".to_string() } else { format!("{given} fields") };
     Err(match due.get(given) {
         Some(missing) => {
-            let what = format!("{fields_given}: the {missing} is missing");
+            let what = format!("{fields_given}: field {}, {missing}, is missing", given + 1);
             Fault::new(FORM, length..length, what).right(right)
         }
         None => {

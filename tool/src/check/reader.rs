@@ -107,7 +107,7 @@ impl Reader<'_> {
             }
             "E" | "G" if !self.complete() => {
                 let what = format!("{kind} where the policy of event {policies} is due");
-                told(&what, &format!("{}, and each needs a P line", events(self.terms.events)))
+                told(&what, &each_needs_one(self.terms.events))
             }
             "E" if !self.terms.edges.is_empty() => told("an E line after a G line", order),
             _ => None,
@@ -125,13 +125,11 @@ impl Reader<'_> {
         } else if self.terms.events == 0 {
             ("the file ends before L".into(), "L has the counts of relations and events".into())
         } else {
-            let missing: Vec<String> =
-                (policies..self.terms.events).map(|event| event.to_string()).collect();
-            let missing = missing.join(", ");
-            (
-                format!("the file ends before the policy of event {missing}"),
-                format!("{}, and each needs a P line", events(self.terms.events)),
-            )
+            let missing = match self.terms.events - 1 {
+                last if last == policies => format!("the policy of event {last}"),
+                last => format!("the policies of events {policies} to {last}"),
+            };
+            (format!("the file ends before {missing}"), each_needs_one(self.terms.events))
         };
         Some(Fault::new(FORM, 0..0, what).right(right))
     }
@@ -143,6 +141,10 @@ fn events(count: usize) -> String {
         1 => "there is 1 event, 0".to_string(),
         count => format!("there are {count} events, 0 to {}", count - 1),
     }
+}
+
+fn each_needs_one(count: usize) -> String {
+    format!("{}; each event needs a P line", events(count))
 }
 
 fn no_kind(kind: Field) -> Fault {

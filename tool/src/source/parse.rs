@@ -11,12 +11,15 @@ use super::tokens::{tokens, Token, WORDS};
 /// The deepest that formulas may stand in one another.
 const DEEPEST: usize = 200;
 
+/// The same with parts counted that stand side by side.
+const TALLEST: usize = 600;
+
 const STATEMENTS: [&str; 8] =
     ["members", "member", "relation", "relations", "event", "events", "define", "first"];
 
 /// Reads a whole source.
 pub fn parse(text: &str) -> Result<Source, Mistake> {
-    let mut parser = Parser { tokens: tokens(text)?, next: 0, depth: 0 };
+    let mut parser = Parser { tokens: tokens(text)?, next: 0, depth: 0, height: 0 };
     let mut source = Source::default();
     while *parser.token() != Token::End {
         parser.statement(&mut source)?;
@@ -29,6 +32,8 @@ struct Parser {
     next: usize,
     /// How many formulas the present one stands in.
     depth: usize,
+    /// How many formulas stand in one another in the one read last.
+    height: usize,
 }
 
 impl Parser {

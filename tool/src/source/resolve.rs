@@ -12,8 +12,8 @@ use std::collections::HashMap;
 /// The most formulas that a file's definitions may unfold to.
 const MOST: usize = 200_000;
 
-/// The deepest that definitions may use one another.
-const DEEPEST: usize = 300;
+/// The deepest that formulas may stand in one another once all is unfolded.
+const DEEPEST: usize = 1_000;
 
 /// The names of people in sight, the innermost last.
 type Scope = Vec<(String, Who)>;
@@ -26,7 +26,10 @@ pub struct Resolver<'a> {
     unfolded: HashMap<(usize, Vec<Who>), Said>,
     /// The definitions being unfolded.
     inside: Vec<usize>,
+    /// How many formulas were unfolded.
     made: usize,
+    /// How many formulas the present one stands in.
+    depth: usize,
 }
 
 impl<'a> Resolver<'a> {
@@ -35,7 +38,7 @@ impl<'a> Resolver<'a> {
         // `x1` to `x15` ask for the variable of their number.
         people.extend((1..VARIABLES).map(|x| (format!("x{x}"), Some(x))));
         let (unfolded, inside) = (HashMap::new(), Vec::new());
-        Resolver { source, people, unfolded, inside, made: 0 }
+        Resolver { source, people, unfolded, inside, made: 0, depth: 0 }
     }
 
     /// What a policy says, of the initiator.
@@ -85,6 +88,17 @@ impl<'a> Resolver<'a> {
             let message = format!("the definitions unfold to more than {MOST} formulas");
             return Err(Mistake::new(formula.span, message));
         }
+        self.depth += 1;
+        let said =
+            if self.depth < DEEPEST { Some(self.unfolded_formula(formula, scope)?) } else { None };
+        self.depth -= 1;
+        said.filter(|said| said.height < DEEPEST).ok_or_else(|| {
+            let message = format!("the definitions unfold more than {DEEPEST} deep");
+            Mistake::new(formula.span, message)
+        })
+    }
+
+    fn unfolded_formula(&mut self, formula: &Formula, scope: &mut Scope) -> Result<Said, Mistake> {
         let span = formula.span;
         Ok(match &formula.kind {
             Kind::True => said(Form::True),
@@ -219,10 +233,6 @@ impl<'a> Resolver<'a> {
         let definition = &self.source.definitions[place];
         if self.inside.contains(&place) {
             let message = format!("`{}` is defined by itself", definition.name.text);
-            return Err(Mistake::new(span, message));
-        }
-        if self.inside.len() == DEEPEST {
-            let message = format!("definitions use one another more than {DEEPEST} deep");
             return Err(Mistake::new(span, message));
         }
         let names = definition.parameters.iter().map(|name| name.text.clone());

@@ -60,6 +60,8 @@ pub struct Fact {
     pub others: Vec<Id>,
     /// Whether `at` or `as` is written in it.
     pub placed: bool,
+    /// How many formulas stand in one another in it.
+    pub height: usize,
 }
 
 pub type Said = Rc<Fact>;
@@ -69,6 +71,12 @@ pub fn said(form: Form) -> Said {
     let mut here = false;
     let mut others: Vec<Id> = Vec::new();
     let mut placed = false;
+    let height = 1 + match &form {
+        Form::True | Form::Is(..) | Form::Edge(..) => 0,
+        Form::Or(f, g) | Form::Since(f, g, _) => f.height.max(g.height),
+        Form::Not(f) | Form::Previously(f, _) | Form::At(_, f) => f.height,
+        Form::Some { body, .. } | Form::As { body, .. } => body.height,
+    };
     let mut meet = |who: Who, others: &mut Vec<Id>| match who {
         Who::Here => here = true,
         Who::Other(id) => add(others, &[id]),
@@ -108,7 +116,7 @@ pub fn said(form: Form) -> Said {
             placed = *wanted || body.placed;
         }
     }
-    Rc::new(Fact { form, here, others, placed })
+    Rc::new(Fact { form, here, others, placed, height })
 }
 
 /// The negation; that of a negation is what was negated.

@@ -4,47 +4,12 @@ use super::ast::Span;
 use super::mistake::Mistake;
 
 /// The words of the language; none of them can be a name.
+#[rustfmt::skip]
 pub const WORDS: [&str; 40] = [
-    "member",
-    "members",
-    "relation",
-    "relations",
-    "event",
-    "events",
-    "define",
-    "first",
-    "when",
-    "by",
-    "anyone",
-    "then",
-    "add",
-    "remove",
-    "me",
-    "target",
-    "here",
-    "someone",
-    "nobody",
-    "is",
-    "of",
-    "as",
-    "at",
-    "least",
-    "some",
-    "every",
-    "not",
-    "and",
-    "or",
-    "since",
-    "once",
-    "always",
-    "never",
-    "previously",
-    "true",
-    "false",
-    "both",
-    "ways",
-    "reach",
-    "many",
+    "member", "members", "relation", "relations", "event", "events", "define", "first", "when", "by",
+    "anyone", "then", "add", "remove", "me", "target", "here", "someone", "nobody", "is", "of", "as",
+    "at", "least", "some", "every", "not", "and", "or", "since", "once", "always", "never",
+    "previously", "true", "false", "both", "ways", "reach", "many",
 ];
 
 #[derive(Clone, Debug, PartialEq, Eq)]
@@ -55,6 +20,9 @@ pub enum Token {
     End,
 }
 
+/// Some editors begin a file with it.
+const BYTE_ORDER_MARK: char = '\u{feff}';
+
 /// Cuts a text; the last token is the end. `#` begins a comment that goes to
 /// the end of its line.
 pub fn tokens(text: &str) -> Result<Vec<(Token, Span)>, Mistake> {
@@ -62,7 +30,7 @@ pub fn tokens(text: &str) -> Result<Vec<(Token, Span)>, Mistake> {
     let mut place = 0;
     while let Some(letter) = text[place..].chars().next() {
         let rest = &text[place..];
-        let length = if letter.is_whitespace() {
+        let length = if letter.is_whitespace() || letter == BYTE_ORDER_MARK {
             letter.len_utf8()
         } else if letter == '#' {
             rest.find('\n').unwrap_or(rest.len())

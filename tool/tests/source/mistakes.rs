@@ -184,17 +184,23 @@ fn damaged_sources_are_answered() {
 
 #[test]
 fn definitions_that_use_one_another_without_end() {
-    let chain: Vec<String> = (0..400).map(|n| format!("define d{n}: d{}", n + 1)).collect();
-    let message = said(&format!("{}\ndefine d400: true", chain.join("\n")));
-    assert!(message.contains("more than 300 deep"), "{message}");
-    let double: Vec<String> = (0..60)
-        .map(|n| {
-            format!(
-                "define a is d{n}: some r of a as b: b is d{0} or (some s of b as c: c is d{0})",
-                n + 1
-            )
-        })
-        .collect();
-    let text = format!("{}\ndefine a is d60: true\nrelation r, s", double.join("\n"));
+    let chain = |order: &mut dyn Iterator<Item = usize>| {
+        let lines: Vec<String> =
+            order.map(|n| format!("define d{n}: not not d{}", n + 1)).collect();
+        said(&format!("{}\ndefine d900: me owns target", lines.join("\n")))
+    };
+    // The first unfolds all the others, or each is unfolded when it is its turn.
+    assert!(chain(&mut (0..900)).contains("unfold more than 1000 deep"));
+    assert!(chain(&mut (0..900).rev()).contains("unfold more than 1000 deep"));
+    let doubled = |n: usize| {
+        format!(
+            "define a is d{n}: some r of a as b: b is d{0} or (some s of b as c: c is d{0})",
+            n + 1
+        )
+    };
+    let lines: Vec<String> = (0..60).map(doubled).collect();
+    let text = format!("{}\ndefine a is d60: true\nrelation r, s", lines.join("\n"));
     assert!(said(&text).contains("unfold to more than"));
+    let wide = vec!["me owns target"; 700].join(" or ");
+    assert!(policy(&wide).contains("more than 600 parts stand side by side"));
 }

@@ -4,26 +4,10 @@ use super::sentence::PEOPLE;
 use super::*;
 
 /// What can begin a formula, for messages.
+#[rustfmt::skip]
 const BEGINNINGS: [&str; 19] = [
-    "not",
-    "once",
-    "always",
-    "never",
-    "previously",
-    "some",
-    "every",
-    "at",
-    "as",
-    "true",
-    "false",
-    "me",
-    "target",
-    "here",
-    "someone",
-    "nobody",
-    "and",
-    "or",
-    "since",
+    "not", "once", "always", "never", "previously", "some", "every", "at", "as", "true", "false", "me",
+    "target", "here", "someone", "nobody", "and", "or", "since",
 ];
 
 /// Makes a formula of the one or two that an operator takes.
@@ -34,12 +18,9 @@ impl Parser {
     /// One formula, as long as it goes. `and`, `or` and `since` don't stand
     /// side by side without parentheses.
     pub(super) fn formula(&mut self) -> Result<Formula, Mistake> {
-        self.depth += 1;
-        if self.depth > DEEPEST {
-            let message = format!("formulas stand more than {DEEPEST} deep in one another");
-            return Err(Mistake::new(self.span(), message).advise("give a part a name: define ..."));
-        }
+        self.enter()?;
         let mut formula = self.part()?;
+        let mut height = self.height;
         let mut before: Option<String> = None;
         while let Some((word, make)) = self.operator() {
             if let Some(first) = before.filter(|first| *first != word || word == "since") {
@@ -50,12 +31,28 @@ impl Parser {
             }
             self.next += 1;
             let other = self.part()?;
+            height = height.max(self.height) + 1;
+            if height > TALLEST {
+                let message = format!("more than {TALLEST} parts stand side by side");
+                return Err(Mistake::new(other.span, message));
+            }
             let span = formula.span.to(other.span);
             formula = Formula { kind: make(Box::new(formula), Box::new(other)), span };
             before = Some(word);
         }
         self.depth -= 1;
+        self.height = height;
         Ok(formula)
+    }
+
+    /// One more formula inside others.
+    fn enter(&mut self) -> Result<(), Mistake> {
+        self.depth += 1;
+        if self.depth > DEEPEST {
+            let message = format!("formulas stand more than {DEEPEST} deep in one another");
+            return Err(Mistake::new(self.span(), message).advise("give a part a name: define ..."));
+        }
+        Ok(())
     }
 
     fn operator(&self) -> Option<(String, Binary)> {
@@ -82,12 +79,10 @@ impl Parser {
         };
         let kind = if let Some(make) = unary {
             self.next += 1;
-            self.depth += 1;
-            if self.depth > DEEPEST {
-                return Err(Mistake::new(self.span(), format!("more than {DEEPEST} deep")));
-            }
+            self.enter()?;
             let part = self.part()?;
             self.depth -= 1;
+            self.height += 1;
             make(Box::new(part))
         } else if self.take_sign('(') {
             let formula = self.formula()?;
@@ -97,7 +92,10 @@ impl Parser {
             }
             formula.kind
         } else {
-            self.sentence()?
+            self.height = 0;
+            let kind = self.sentence()?;
+            self.height += 1;
+            kind
         };
         Ok(Formula { kind, span: start.to(self.last()) })
     }
