@@ -1,4 +1,4 @@
--- The code numbers that a host is given: a refusal's own number, 1 to 99 (document 01), or one of three numbers that no refusal has and that are not 0.
+-- The code numbers that a host is given: a refusal's own number, 1 to 99 (docs/SCOPE.md, Refusals), or one of three numbers that no refusal has and that are not 0.
 use Prim.Native.Nat.{ℕ, _<_}
 use mathlib.Core.Path.{_≡_}
 use mathlib.Core.Logic.{_↔_}

@@ -1,4 +1,4 @@
-// Answers the requests of requests.tsv by the terms of terms.tsv, both in the current folder (document 01, "The preset terms, whole").
+// Answers the requests of requests.tsv by the terms of terms.tsv, both in the current folder (docs/SCOPE.md, The program).
 use libc::STDERR_FILENO;
 use libc::STDOUT_FILENO;
 use writer::Written;

@@ -1,4 +1,4 @@
--- A number field, its value, and the digits of a number (document 01, "The terms file": decimal, 1 to 5 digits, without leading zeros).
+-- A number field, its value, and the digits of a number (docs/SCOPE.md, The terms file: decimal, 1 to 5 digits, without leading zeros).
 use Prim.Native.Nat.{ℕ, zero, suc, _+_, _-_, _*_, _/_, _%_}
 use mathlib.Core.List.{List, [], _∷_, _++_}
 use mathlib.Core.Bool.{Bool, true, false, cond, not, _&&_}

@@ -200,7 +200,7 @@ pub record Test : Type 0 where
 abbrev pub test : ℕ → Bool → Test
 test n b = record { number = n; passes = b }
 
--- The tests of a line, their numbers never falling (document 01, "What is returned when nothing is decided").
+-- The tests of a line, their numbers never falling (docs/SCOPE.md, Refusals).
 unfoldable pub tests : File → Line → List Test
 tests f (Members n) =
     test 1 (eqb (f .phase) 0)

@@ -1,4 +1,4 @@
--- A line of a terms file and what it says (document 01, "The terms file"): each kind's fields, read and written.
+-- A line of a terms file and what it says (docs/SCOPE.md, The terms file): each kind's fields, read and written.
 use Prim.Native.Nat.{ℕ, zero, suc}
 use mathlib.Core.Bool.{Bool, cond}
 use mathlib.Core.List.{List, [], _∷_}

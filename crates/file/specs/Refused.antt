@@ -1,4 +1,4 @@
--- When a text is refused (document 01, "What is returned when nothing is decided"): at its first faulty line, with the lowest number of a test
+-- When a text is refused (docs/SCOPE.md, Refusals): at its first faulty line, with the lowest number of a test
 -- that fails there; or where it is cut or ends too soon.
 use Prim.Native.Nat.{ℕ, _+_, _≤_}
 use mathlib.Core.Path.{_≡_}

@@ -5,7 +5,7 @@ use mathlib.Core.Bool.{Bool, true, cond, not, _&&_}
 use lib.Dec.{ltb}
 use Rattle.fields.specs.Split.{alike}
 
--- Document 01, "Meaning of a formula": the words in the order of their numbers.
+-- docs/SCOPE.md, Meaning: the words in the order of their numbers.
 unfoldable pub operatorWords : List (List ℕ)
 operatorWords =
     (116 ∷ 111 ∷ 112 ∷ [])  -- top
@@ -54,11 +54,11 @@ indexOf ws f = indexFrom 0 ws f
 unfoldable pub operatorOf : List ℕ → ℕ
 operatorOf f = indexOf operatorWords f
 
--- Document 01, "Memory": 0 none, 1 add, 2 del.
+-- docs/SCOPE.md, Memory: 0 none, 1 add, 2 del.
 unfoldable pub actionOf : List ℕ → ℕ
 actionOf f = cond (ltb (indexOf actionWords f) 2) (indexOf actionWords f + 1) 0
 
--- Document 01, "Memory": 0 fwd, 1 back.
+-- docs/SCOPE.md, Memory: 0 fwd, 1 back.
 unfoldable pub directionOf : List ℕ → ℕ
 directionOf f = indexOf directionWords f
 

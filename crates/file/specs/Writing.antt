@@ -1,4 +1,4 @@
--- The terms with given relations as a text (document 01, "The terms file").
+-- The terms with given relations as a text (docs/SCOPE.md, The terms file).
 use Prim.Native.Nat.{ℕ, zero, suc, _/_, _%_}
 use mathlib.Core.Bool.{cond}
 use mathlib.Core.List.{List, [], _∷_, _++_}

@@ -1,4 +1,4 @@
-// What the two operands of an operator are (document 01, "Meaning of a formula"), and which numbers they may be.
+// What the two operands of an operator are (docs/SCOPE.md, Meaning), and which numbers they may be.
 use crate::limits::VARIABLES;
 use theory::operators::AT;
 use theory::operators::BIND;

@@ -1,4 +1,4 @@
--- Document 01's marked cases: one table of calls and the keeper's answers, and what is marked as holding always, or with where it holds.
+-- The marked cases of docs/SCOPE.md: one table of calls and the keeper's answers, and what is marked as holding always, or with where it holds.
 use Prim.Native.Nat.{ℕ, _-_, _<_}
 use mathlib.Core.Path.{_≡_}
 use mathlib.Core.Logic.{_↔_}

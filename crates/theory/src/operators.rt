@@ -1,4 +1,4 @@
-// The operators of entries by their numbers (document 01, "Meaning of a formula").
+// The operators of entries by their numbers (docs/SCOPE.md, Meaning).
 pub const TOP: usize = 0;
 
 pub const VAR: usize = 1;

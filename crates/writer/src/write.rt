@@ -1,4 +1,4 @@
-// The writer: the text of the lent terms and present relations (document 01, "The terms file"), kind by kind.
+// The writer: the text of the lent terms and present relations (docs/SCOPE.md, The terms file), kind by kind.
 // Whatever the words are, the text has at most 2 ^ 24 bytes, so that no count wraps.
 use crate::Written;
 use crate::print::put_edge;
