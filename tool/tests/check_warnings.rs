@@ -77,7 +77,7 @@ fn terms_that_take_long() {
 
 #[test]
 fn any_accepted_terms_are_checked() {
-    for seed in 0..100 {
+    for seed in 0..60 {
         let folder = Folder { terms: case(seed, 99).text, ..Folder::default() };
         assert!(matches!(check(&folder).unwrap(), Checked::Accepted(_, _)), "seed {seed}");
     }

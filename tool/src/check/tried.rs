@@ -13,8 +13,9 @@ const LOOKED_AT: usize = 24;
 const TRYING: usize = 6;
 /// So many requests are made: of the folder's, and of those tried.
 const REQUESTS: usize = 400;
-/// No more is tried after so many moments.
+/// No more is tried after so many moments or looks.
 const MOMENTS: usize = 40;
+const LOOKS: usize = 3_000;
 
 /// What is often wrong with a policy that is never met.
 const IN_FOR_OUT: &str =
@@ -95,7 +96,8 @@ fn seen(both: &Both) -> Result<(Vec<Count>, usize), Stop> {
         (random >> 33) as usize % bound
     };
     for _ in 0..REQUESTS {
-        if trial.record().graphs().len() > MOMENTS || counts.iter().all(is_mixed) {
+        let over = trial.record().graphs().len() > MOMENTS || looks(&counts) >= LOOKS;
+        if over || counts.iter().all(is_mixed) {
             break;
         }
         let (event, from, to) =
@@ -111,13 +113,19 @@ fn is_mixed(count: &Count) -> bool {
     count.granted > 0 && count.denied > 0
 }
 
+/// How many looks there were.
+fn looks(counts: &[Count]) -> usize {
+    counts.iter().map(|count| count.granted + count.denied).sum()
+}
+
 /// Looks at every event between the members that isn't granted here and denied
-/// there already.
+/// there already; each event has its share of the looks.
 fn look_around(both: &Both, members: &[usize], counts: &mut [Count]) -> Result<(), Stop> {
+    let share = LOOKS / counts.len();
     for (event, count) in counts.iter_mut().enumerate() {
         for &from in members {
             for &to in members {
-                if is_mixed(count) {
+                if is_mixed(count) || count.granted + count.denied >= share {
                     break;
                 }
                 match both.look(event, from, to)? {

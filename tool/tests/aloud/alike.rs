@@ -1,147 +1,13 @@
-//! What is read aloud means what the entries mean: clauses are evaluated over
-//! random records and held against the keeper, and no two of them sound alike.
+//! No two random formulas of other meanings sound alike.
 
-use cuckooormolu_tool::aloud::clause::{Clause, Link, Who};
-use cuckooormolu_tool::aloud::form::{Forms, Quantity};
+use cuckooormolu_tool::aloud::clause::Clause;
+use cuckooormolu_tool::aloud::form::Forms;
 use cuckooormolu_tool::aloud::{resolve, Aloud};
 use cuckooormolu_tool::names::{Kind, Names};
 use keeper::generate::size::Size;
-use keeper::generate::{calls, formulas, Rng};
-use keeper::record::meaning::Assigned;
-use keeper::record::Record;
-use keeper::terms::{read, write, Entry, Terms, VARIABLES};
+use keeper::generate::{formulas, Rng};
+use keeper::terms::{read, write, Entry, Terms};
 use std::collections::HashMap;
-
-/// One evaluation of clauses over a record.
-struct Evaluation<'a> {
-    record: &'a Record,
-    you: usize,
-    here: usize,
-    assigned: Assigned,
-    guests: Vec<usize>,
-}
-
-impl Evaluation<'_> {
-    fn member(&self, who: Who) -> usize {
-        match who {
-            Who::You => self.you,
-            Who::Target => self.assigned.member(0),
-            Who::Here => self.here,
-            Who::Given(variable) => self.assigned.member(variable),
-            Who::Guest(guest) => self.guests[guest],
-        }
-    }
-
-    fn has_edge(&self, moment: usize, label: usize, from: usize, to: usize) -> bool {
-        let (graph, relations) = (&self.record.graphs()[moment], self.record.terms().relations);
-        match label.checked_sub(relations) {
-            None => graph.edges.contains(&(label, from, to)),
-            Some(event) => graph.event == Some((event, from, to)),
-        }
-    }
-
-    fn holds(&mut self, clause: &Clause, moment: usize) -> bool {
-        match clause {
-            Clause::Constant(value) => *value,
-            Clause::Same { who, other, holds } => {
-                (self.member(*who) == self.member(*other)) == *holds
-            }
-            Clause::Edge { label, from, to, holds } => {
-                self.has_edge(moment, *label, self.member(*from), self.member(*to)) == *holds
-            }
-            Clause::Linked(link) => self.linked(link, moment),
-            Clause::All(parts) => parts.iter().all(|part| self.holds(part, moment)),
-            Clause::Any(parts) => parts.iter().any(|part| self.holds(part, moment)),
-            Clause::Before { holds, then } => {
-                (moment > 0 && self.holds(then, moment - 1)) == *holds
-            }
-            Clause::Once { holds, then } => (0..=moment).any(|i| self.holds(then, i)) == *holds,
-            Clause::Throughout(then) => (0..=moment).all(|i| self.holds(then, i)),
-            Clause::Since { holds, start, hold } => {
-                let since = (0..=moment)
-                    .any(|i| self.holds(start, i) && (i + 1..=moment).all(|j| self.holds(hold, j)));
-                since == *holds
-            }
-            Clause::Apart { entry, of, given, holds } => {
-                let mut assigned = Assigned::default().with(0, self.member(Who::Target));
-                for (variable, who) in given {
-                    assigned = assigned.with(*variable, self.member(*who));
-                }
-                self.record.holds(*entry, moment, self.member(*of), assigned) == *holds
-            }
-        }
-    }
-
-    fn linked(&mut self, link: &Link, moment: usize) -> bool {
-        let near = self.member(link.near);
-        let mut found = Vec::new();
-        for far in 0..self.record.terms().members {
-            let (from, to) = if link.out { (near, far) } else { (far, near) };
-            if self.has_edge(moment, link.label, from, to) {
-                self.guests.resize(self.guests.len().max(link.guest + 1), 0);
-                self.guests[link.guest] = far;
-                found.push(self.holds(&link.that, moment));
-            }
-        }
-        match link.quantity {
-            Quantity::Some => found.contains(&true),
-            Quantity::No => !found.contains(&true),
-            Quantity::Every => !found.contains(&false),
-        }
-    }
-}
-
-fn random_record(seed: u64) -> Record {
-    let mut rng = Rng::new(seed);
-    let size = if rng.percent(60) { Size::small(&mut rng) } else { Size::middle(&mut rng) };
-    let terms = formulas::terms(&mut rng, &size);
-    let calls = calls(&mut rng, &terms, 12, 99);
-    let mut record = Record::new(terms);
-    for call in &calls {
-        record.answer(call);
-    }
-    record
-}
-
-#[test]
-fn clauses_mean_what_entries_mean() {
-    let (mut compared, mut apart) = (0, 0);
-    for seed in 0..3_000 {
-        let record = random_record(seed);
-        let terms = record.terms();
-        let forms = Forms::new(terms);
-        let now = record.graphs().len() - 1;
-        for &entry in &terms.policies {
-            let clause = resolve::of_policy(&forms, entry);
-            for (you, target) in [(0, 0), (0, terms.members - 1), (terms.members - 1, 0)] {
-                let assigned = Assigned::default().with(0, target);
-                let mut evaluation =
-                    Evaluation { record: &record, you, here: 0, assigned, guests: Vec::new() };
-                let meant = record.holds(entry, now, you, assigned);
-                assert_eq!(evaluation.holds(&clause, now), meant, "seed {seed} entry {entry}");
-                compared += 1;
-            }
-        }
-        for entry in 0..terms.entries.len() {
-            if !forms.is_apart(forms.node(entry, true)) {
-                continue;
-            }
-            let entry = forms.node(entry, true).entry;
-            let clause = resolve::of_entry(&forms, entry);
-            let mut rng = Rng::new(seed);
-            let assigned = (0..VARIABLES).fold(Assigned::default(), |assigned, variable| {
-                assigned.with(variable, rng.below(terms.members))
-            });
-            let here = rng.below(terms.members);
-            let mut evaluation =
-                Evaluation { record: &record, you: 0, here, assigned, guests: Vec::new() };
-            let meant = record.holds(entry, now, here, assigned);
-            assert_eq!(evaluation.holds(&clause, now), meant, "seed {seed} entry {entry}");
-            apart += 1;
-        }
-    }
-    assert!(compared > 10_000 && apart > 40, "{compared} {apart}");
-}
 
 /// Names for two relations and three events: verbs with and without a
 /// preposition, nouns of both directions, and neither.
@@ -206,7 +72,7 @@ fn sayings(terms: &Terms, names: &Names) -> Vec<(String, String)> {
 }
 
 /// A clause shown with guests and numbered clauses counted as they are met.
-fn in_order(clause: &Clause, apart: &[usize]) -> String {
+pub fn in_order(clause: &Clause, apart: &[usize]) -> String {
     let mut shown = format!("{clause:?}");
     for (number, entry) in apart.iter().enumerate() {
         let (from, to) =
@@ -273,7 +139,7 @@ fn changed(terms: &Terms, rng: &mut Rng) -> Option<Terms> {
 #[test]
 fn no_two_meanings_sound_alike() {
     let mut said: Vec<HashMap<String, String>> = vec![HashMap::new(); NAMES.len()];
-    for seed in 0..8_000 {
+    for seed in 0..5_000 {
         let mut rng = Rng::new(seed);
         let size = if rng.percent(90) { Size::small(&mut rng) } else { Size::middle(&mut rng) };
         let size = Size { relations: 2, events: 3, ..size };
@@ -289,5 +155,5 @@ fn no_two_meanings_sound_alike() {
         }
     }
     let count: usize = said.iter().map(HashMap::len).sum();
-    assert!(count > 10_000, "{count}");
+    assert!(count > 8_000, "{count}");
 }

@@ -1,7 +1,7 @@
 //! All small formulas are read aloud, and those that sound alike are the same
 //! but for the laws by which clauses are made.
 
-use cuckooormolu_tool::aloud::clause::Clause;
+use crate::alike::in_order;
 use cuckooormolu_tool::aloud::form::Forms;
 use cuckooormolu_tool::aloud::{resolve, Aloud};
 use cuckooormolu_tool::names::{Kind, Names};
@@ -91,22 +91,9 @@ fn sound_different(all: impl Iterator<Item = Formula>, names: &Names) {
         let clause = resolve::of_policy(&Forms::new(&terms), terms.policies[0]);
         let aloud = Aloud::of(&terms, names);
         assert!(aloud.clauses.is_empty(), "small formulas have no parts of their own");
-        let (sentence, clause) = (aloud.events[0].policy.text(), guests_in_order(&clause));
+        let (sentence, clause) = (aloud.events[0].policy.text(), in_order(&clause, &[]));
         let before = said.entry(sentence.clone()).or_insert_with(|| clause.clone());
         assert_eq!(*before, clause, "{sentence}");
     }
     assert!(said.len() > 5_000, "{}", said.len());
-}
-
-/// A clause shown with its guests counted as they are met.
-fn guests_in_order(clause: &Clause) -> String {
-    let mut shown = format!("{clause:?}");
-    let met = shown.split("guest: ").skip(1);
-    let met: Vec<String> =
-        met.map(|part| part.chars().take_while(char::is_ascii_digit).collect()).collect();
-    for (number, guest) in met.iter().enumerate() {
-        shown = shown.replace(&format!("guest: {guest},"), &format!("guest {number},"));
-        shown = shown.replace(&format!("Guest({guest})"), &format!("Guest {number}"));
-    }
-    shown
 }

@@ -1,0 +1,7 @@
+//! Terms read aloud.
+
+mod alike;
+mod examples;
+mod meaning;
+mod sentences;
+mod small;
