@@ -16,7 +16,7 @@ const MEMBERS: usize = 64;
 const LEVELS: usize = 255;
 /// A chain is grown to its levels; where a request takes longer than this on
 /// the way, its time doubles with the levels, and the chain is left out.
-const SLOW: Duration = Duration::from_millis(20);
+const SLOW: Duration = Duration::from_millis(200);
 
 /// Makes the calls of a kind, over a start.
 type Make = for<'a> fn(&'a Start, &'a Archive) -> Batch<'a>;
