@@ -16,7 +16,7 @@ const MEMBERS: usize = 64;
 const LEVELS: usize = 255;
 /// A chain is grown to its levels; where a request takes longer than this on
 /// the way, its time doubles with the levels, and the chain is left out.
-const SLOW: Duration = Duration::from_millis(20);
+const SLOW: Duration = Duration::from_millis(50);
 
 /// Makes the calls of a kind, over a start.
 type Make = for<'a> fn(&'a Start, &'a Archive) -> Batch<'a>;
@@ -154,15 +154,16 @@ pub fn print(others: &[String]) {
     }
 }
 
-/// Of each kind of chain, whether no request takes long as it grows.
+/// Of each kind of chain, whether no request takes long as it grows. The
+/// machine may have other work, so it has three tries.
 fn are_quick(archive: &Archive) -> [bool; 3] {
     [0, 1, 2].map(|kind| {
         (8..=LEVELS).step_by(4).all(|levels| {
             let start = Start::read(archive, &chains(levels)[kind].1);
             let (mut state, mut scratch) = (start.state.clone(), vec![0; SCRATCH_WORDS]);
             let mut request = |call| archive.request(&start.terms, &mut state, &mut scratch, call);
-            let calls = || start.calls.iter().for_each(|&call| _ = request(call));
-            timed(calls) < SLOW
+            let mut calls = || start.calls.iter().for_each(|&call| _ = request(call));
+            (0..3).any(|_| timed(&mut calls) < SLOW)
         })
     })
 }

@@ -5,10 +5,10 @@ use Rattle.monitor.proofs.memo.are_few.Statement.{statement}
 use Rattle.monitor.proofs.memo.are_few.Tie as tie
 
 abbrev Inv-loop : tie.InvT-loop
-Inv-loop terms n once₀ twice₀ i₀ once twice i = Unit {0}
+Inv-loop terms once₀ twice₀ i₀ once twice i = Unit {0}
 
 abbrev μ-loop : tie.MeasureT-loop
-μ-loop terms n once₀ twice₀ i₀ once twice i = n - i
+μ-loop terms once₀ twice₀ i₀ once twice i = 10 - i
 
 entries-requires : tie.Need-entries-requires Inv-loop μ-loop
 entries-requires c κs = tt
