@@ -8,10 +8,10 @@
  *           request 169 KiB, and each 1.05 KiB more for every level by which
  *           entries nest, at most 447 KiB; the other calls take 4 KiB. Provide
  *           CUCKOOORMOLU_STACK_BYTES.
- * Time      not promised. Each entry is decided at most once for each member in
- *           one decision and in one sweep over the tables, as long as no
- *           variable that it reads is bound anew; nested binders over shared
- *           entries can take N to the depth of those binders.
+ * Time      measured, not proved. Entries that share others take no more than
+ *           a memo's time; what can still take long is nested binds over
+ *           entries that read their variables: about N to the depth of such
+ *           binds, N the members.
  * Kept      terms and state are plain words: they may be copied, kept and
  *           lent again. In a file they have the machine's byte order,
  *           little-endian. Scratch need not be kept.
