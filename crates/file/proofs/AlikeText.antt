@@ -3,7 +3,7 @@ use mathlib.Core.Path.{_≡_, ap, _∙_}
 use mathlib.Core.List.{[], _∷_, _++_}
 use Rattle.theory.specs.Terms.{Terms}
 use Rattle.theory.specs.Moment.{Relations}
-use Rattle.theory.proofs.Alike.{Alike, met, met-is}
+use Rattle.theory.proofs.Like.{Alike, met, met-is}
 use Rattle.file.specs.Writing.{listed, effectLines, edgeAt, allLines, printedAll, written}
 use Rattle.file.specs.declared.line.Line.the-variants.{Members, Labels, Entry, Policy}
 use Rattle.file.proofs.Listed.{listed-agree}

@@ -25,7 +25,7 @@ use Rattle.file.specs.Refused.{Passed}
 use Rattle.file.proofs.Taken.{Taken, Reached, reached-then, reached-one, reached-none}
 use Rattle.file.specs.Refused.Passed.{none, pass}
 use Rattle.file.proofs.Taken.Taken.{one}
-use Rattle.theory.proofs.Alike.{number-agree, spelled-agree}
+use Rattle.theory.proofs.Like.{number-agree, spelled-agree}
 use Rattle.file.proofs.Update.{update-cases}
 use Rattle.file.proofs.Fit.{in-range, is-lower, operand-small}
 use Rattle.file.proofs.Going.{Going, going-first, going}

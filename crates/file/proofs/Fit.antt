@@ -18,7 +18,7 @@ use Rattle.theory.specs.Fit.{operandFits, lone, targetOnly}
 use Rattle.theory.proofs.Good.{Within}
 use Rattle.theory.proofs.Good.Within.{none, more}
 use Rattle.file.specs.File.{update, inRange, isLower}
-use Rattle.theory.proofs.Alike.{number-agree, spelled-agree}
+use Rattle.theory.proofs.Like.{number-agree, spelled-agree}
 use Rattle.file.proofs.Update.{update-same, update-other, update-cases}
 
 -- ---- entries

@@ -32,7 +32,7 @@ use Rattle.file.specs.declared.line.Line.the-variants.{Members, Labels, Entry, 
 use Rattle.reader.specs.declared.step.Context.{Context}
 use Rattle.file.specs.Refused.{Passed}
 use Rattle.file.proofs.Taken.{passed-at}
-use Rattle.theory.proofs.Alike.{number-agree, below-agree, spelled-agree}
+use Rattle.theory.proofs.Like.{number-agree, below-agree, spelled-agree}
 use Rattle.file.proofs.Update.{update-same, update-other}
 use Rattle.file.proofs.Fit.{operand-fits}
 use Rattle.file.proofs.Going.{Going, entry-phase, policy-phase, complete-phase}

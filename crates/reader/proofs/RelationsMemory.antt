@@ -24,7 +24,7 @@ use Rattle.file.specs.File.{File, reading}
 use Rattle.file.specs.File.Reading.{accepted}
 use Rattle.reader.specs.Memory.{memoryOf, relationsMemory}
 use Rattle.file.proofs.Accepted.{Inside, Accepted, accepted-good}
-use Rattle.theory.proofs.Alike.{Alike}
+use Rattle.theory.proofs.Like.{Alike}
 use Rattle.reader.proofs.TermsMemory.{length-memory, memory-alike, memory-good}
 
 pub length-relations : (R : Relations) → length (relationsMemory R) ≡ relationWords

@@ -13,7 +13,7 @@ use Rattle.theory.specs.Moment.{Relations, Moment, graph, first}
 use Rattle.theory.specs.Keeper.{recordOf, last, keeperHolds}
 use Rattle.theory.specs.Tables.{opening}
 use Rattle.theory.proofs.Past.{past-entry}
-use Rattle.theory.proofs.Alike.{Alike, met, met-is, same-number, same-formula, same-past, since-met}
+use Rattle.theory.proofs.Like.{Alike, met, met-is, same-number, same-formula, same-past, since-met}
 use Rattle.memory.specs.Layout.{stateWords, relationWords, eventAt, row, wordAt, tabulate, wordsOf}
 use Rattle.monitor.specs.Agreement.{Agrees}
 

@@ -29,7 +29,7 @@ use Rattle.text.specs.Text.{readState}
 use Rattle.writer.specs.Write.{writtenText, writeGives, writeLeaves}
 use Rattle.writer.specs.Write.Writing.{bytes}
 use Rattle.file.proofs.Accepted.{Accepted, accepted-good}
-use Rattle.theory.proofs.Alike.{Alike, good-alike}
+use Rattle.theory.proofs.Like.{Alike, good-alike}
 use Rattle.text.proofs.AlikeWords.{words-alike}
 use Rattle.file.proofs.AlikeText.{written-alike}
 use Rattle.reader.proofs.TermsMemory.{length-memory, memory-good}
