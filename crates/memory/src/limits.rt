@@ -1,0 +1,14 @@
+// The most members, relations, events, entries, past-time tables, effects of an event, and variables that there may be (document 01, "The terms file").
+pub const MEMBERS: usize = 64;
+
+pub const RELATIONS: usize = 16;
+
+pub const EVENTS: usize = 16;
+
+pub const ENTRIES: usize = 256;
+
+pub const TABLES: usize = 32;
+
+pub const EFFECTS: usize = 4;
+
+pub const VARIABLES: usize = 16;
