@@ -1,0 +1,36 @@
+-- Why nothing is decided (document 01, "What is returned when nothing is decided"), as far as no text is read: line by line of the table.
+use Prim.Native.Nat.{ℕ, _≤_, _<_}
+use mathlib.Core.Path.{_≡_}
+use mathlib.Core.List.{List}
+use mathlib.Core.Bool.{true, false}
+use lib.ListN.{length}
+use Rattle.memory.specs.Layout.{termsWords, stateWords, scratchWords, termsOf}
+use Rattle.memory.specs.Checks.{goodMemory, goodState, goodRelations}
+
+-- The lent memory is as long as named.
+pub record Long (terms state scratch : List ℕ) : Type 0 where
+  pub terms-long : termsWords ≤ length terms
+  pub state-long : stateWords ≤ length state
+  pub scratch-long : scratchWords ≤ length scratch
+
+-- Why a look or a request is refused with a number: the first of these that fits.
+pub data Refusal (terms state scratch : List ℕ) (j u v : ℕ) : (number : ℕ) → Type 0 where
+  short-terms : length terms < termsWords → Refusal terms state scratch j u v 6
+  short-state : length state < stateWords → Refusal terms state scratch j u v 6
+  short-scratch : length scratch < scratchWords → Refusal terms state scratch j u v 6
+  bad-terms : Long terms state scratch → goodMemory terms ≡ false → Refusal terms state scratch j u v 7
+  bad-state : Long terms state scratch → goodMemory terms ≡ true → goodState (termsOf terms) state ≡ false → Refusal terms state scratch j u v 8
+  no-event : Long terms state scratch → goodMemory terms ≡ true → goodState (termsOf terms) state ≡ true →
+      termsOf terms .events ≤ j → Refusal terms state scratch j u v 9
+  no-initiator : Long terms state scratch → goodMemory terms ≡ true → goodState (termsOf terms) state ≡ true →
+      termsOf terms .members ≤ u → Refusal terms state scratch j u v 9
+  no-target : Long terms state scratch → goodMemory terms ≡ true → goodState (termsOf terms) state ≡ true →
+      termsOf terms .members ≤ v → Refusal terms state scratch j u v 9
+
+-- Why an opening is refused with a number.
+pub data OpeningRefusal (terms state : List ℕ) : (number : ℕ) → Type 0 where
+  short-terms : length terms < termsWords → OpeningRefusal terms state 6
+  short-state : length state < stateWords → OpeningRefusal terms state 6
+  bad-terms : termsWords ≤ length terms → stateWords ≤ length state → goodMemory terms ≡ false → OpeningRefusal terms state 7
+  bad-relations : termsWords ≤ length terms → stateWords ≤ length state → goodMemory terms ≡ true →
+      goodRelations (termsOf terms) state ≡ false → OpeningRefusal terms state 8

@@ -1,0 +1,89 @@
+-- The marked cases hold of the keeper and of the meaning. The preset's requests and nested past-time terms likewise.
+use Prim.Native.Nat.{ℕ}
+use mathlib.Core.Path.{_≡_, refl}
+use mathlib.Core.List.{List, [], _∷_}
+use mathlib.Core.Bool.{cond, not, _&&_}
+use lib.ListN.{getD}
+use borrow.Author.Tests.{ltb-true, lt-ltb, eqb-true, eq-eqb}
+use Rattle.sets.specs.Sets.{anyBelow, allBelow}
+use Rattle.sets.proofs.Finite.{and-left, and-both}
+use Rattle.theory.specs.Formula.{node, number, below, spelled, free, highest}
+use Rattle.theory.specs.Formula.Formula.{top, neg}
+use Rattle.theory.specs.Meaning.{Record, Assignment, holds}
+use Rattle.theory.specs.Terms.{Terms}
+use Rattle.theory.specs.Moment.{affectAll}
+use Rattle.theory.specs.Keeper.{Call, Answer, keep, keepAll, keeper}
+use Rattle.theory.specs.Keeper.Answer.{refused}
+use Rattle.theory.specs.Tables.{State, holdsNow, prevTables, sinceTables, opening, decideNow, advance}
+use Rattle.theory.specs.Cases.{line, request, look, yes, no, preset, own, cases, kept, expected, Anywhere}
+use Rattle.theory.proofs.Record.{since-unfolds}
+
+-- ---- the preset's requests
+
+pub preset-answers :
+    keeper preset own (request 2 1 2 ∷ request 0 0 1 ∷ request 2 1 2 ∷ request 1 0 1 ∷ request 2 1 2 ∷ request 9 0 0 ∷ []) .0
+    ≡ no ∷ yes ∷ yes ∷ yes ∷ no ∷ refused 9 0 ∷ []
+unfolding preset own keep keepAll holds anyBelow allBelow node number below spelled affectAll
+preset-answers = refl
+
+-- ---- the marked cases
+
+anywhere : (N : ℕ) (γ : Record) (i : ℕ) (g : Assignment) (m : ℕ) → Anywhere N γ i g m
+unfolding holds
+anywhere N γ i g m = record {
+  prev-top = λ t. ((λ e. ltb-true 0 i (and-left _ _ e)), (λ h. and-both _ _ (lt-ltb 0 i h) refl));
+  since-top = λ t. since-unfolds N γ t 0 (neg top) top g m i;
+  var-target = (eqb-true m (g 0), eq-eqb m (g 0));
+  bind-var = eq-eqb m m refl;
+  bind-again = eq-eqb (g 0) (g 0) refl;
+}
+
+-- The keeper answers every call of the table as it says; and what is marked as holding always, or with where it holds, does so for every
+-- number of members, record, moment, assignment and member.
+pub marked-cases : (kept cases ≡ expected cases) × ((N : ℕ) (γ : Record) (i : ℕ) (g : Assignment) (m : ℕ) → Anywhere N γ i g m)
+unfolding cases kept expected preset own keep keepAll holds anyBelow allBelow node number below spelled affectAll
+marked-cases = (refl, anywhere)
+
+-- ---- nested past-time terms, by the keeper and by the tables
+
+-- The answers of a state that keeps tables.
+unfoldable pub byTables : Terms → State → List Call → List Answer
+byTables T S [] = []
+byTables T S (c ∷ cs) =
+    let p = decideNow T S (c .event) (c .from) (c .to) in
+    let after = advance T S (c .event) (c .from) (c .to) in
+    let rest = byTables T (cond (p && not (c .look)) after S) cs in
+    cond p yes no ∷ rest
+
+-- Event 0 is always granted; the others go by: prev of prev, prev of a since, since over a since, since with a first operand that never holds, prev.
+unfoldable pub nested : Terms
+nested = record {
+  members = 2;
+  relations = 1;
+  events = 6;
+  entries = 11;
+  entry = λ n. getD (
+      line 0 0 0 ∷ line 6 0 0 ∷ line 6 1 0 ∷ line 4 1 0 ∷ line 7 0 3 ∷ line 6 4 0 ∷ line 2 3 0 ∷ line 7 6 4 ∷ line 2 0 0 ∷ line 7 8 3 ∷ line 6 3 0 ∷ []
+      ) n (line 0 0 0);
+  policy = λ j. getD (0 ∷ 2 ∷ 5 ∷ 7 ∷ 9 ∷ 10 ∷ []) j 0;
+  effects = λ j. [];
+}
+
+-- three grants, and at each moment the five policies at member 0
+unfoldable pub nestedCalls : List Call
+nestedCalls =
+    look 1 0 1 ∷ look 2 0 1 ∷ look 3 0 1 ∷ look 4 0 1 ∷ look 5 0 1 ∷ request 0 0 1
+    ∷ look 1 0 1 ∷ look 2 0 1 ∷ look 3 0 1 ∷ look 4 0 1 ∷ look 5 0 1 ∷ request 0 1 0
+    ∷ look 1 0 1 ∷ look 2 0 1 ∷ look 3 0 1 ∷ look 4 0 1 ∷ look 5 0 1 ∷ request 0 1 1
+    ∷ look 1 0 1 ∷ look 2 0 1 ∷ look 3 0 1 ∷ look 4 0 1 ∷ look 5 0 1 ∷ []
+
+unfoldable pub nestedAnswers : List Answer
+nestedAnswers =
+    no ∷ no ∷ no ∷ no ∷ no ∷ yes
+    ∷ no ∷ no ∷ yes ∷ yes ∷ no ∷ yes
+    ∷ yes ∷ yes ∷ yes ∷ no ∷ yes ∷ yes
+    ∷ yes ∷ yes ∷ yes ∷ no ∷ no ∷ []
+
+pub nested-answers : (keeper nested own nestedCalls .0 ≡ nestedAnswers) × (byTables nested (opening nested own) nestedCalls ≡ nestedAnswers)
+unfolding nested nestedCalls nestedAnswers own keep keepAll holds anyBelow allBelow node number below spelled affectAll byTables holdsNow free highest prevTables sinceTables opening advance
+nested-answers = (refl, refl)

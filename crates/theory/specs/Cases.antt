@@ -1,0 +1,139 @@
+-- Document 01's marked cases: one table of calls and the keeper's answers, and what is marked as holding always, or with where it holds.
+use Prim.Native.Nat.{ℕ, _-_, _<_}
+use mathlib.Core.Path.{_≡_}
+use mathlib.Core.Logic.{_↔_}
+use mathlib.Core.List.{List, [], _∷_}
+use mathlib.Core.Bool.{true, false, cond, _&&_}
+use lib.Dec.{eqb}
+use lib.ListN.{getD, replicate}
+use Rattle.theory.specs.Formula.{Entry}
+use Rattle.theory.specs.Formula.Formula.{top, var, neg, prev, since, bind, at}
+use Rattle.theory.specs.Meaning.{Record, Assignment, holds}
+use Rattle.theory.specs.Terms.{Terms, Effect}
+use Rattle.theory.specs.Moment.{Relations}
+use Rattle.theory.specs.Keeper.{Call, Answer, keeper}
+use Rattle.theory.specs.Keeper.Verdict.{grant, deny}
+use Rattle.theory.specs.Keeper.Answer.{decided}
+
+abbrev pub line : ℕ → ℕ → ℕ → Entry
+line o a b = record { op = o; a = a; b = b }
+
+abbrev pub request : ℕ → ℕ → ℕ → Call
+request j u v = record { look = false; event = j; from = u; to = v; scratch = 2048 }
+
+abbrev pub look : ℕ → ℕ → ℕ → Call
+look j u v = record { look = true; event = j; from = u; to = v; scratch = 2048 }
+
+abbrev pub yes : Answer
+yes = decided grant
+
+abbrev pub no : Answer
+no = decided deny
+
+-- ---- the preset terms, whole: relation 0 is own; events are 0 share, 1 withdraw, 2 load
+
+unfoldable pub preset : Terms
+preset = record {
+  members = 3;
+  relations = 1;
+  events = 3;
+  entries = 9;
+  entry = λ n. getD (
+      line 1 1 0 ∷ line 4 1 0 ∷ line 4 2 0 ∷ line 2 2 0 ∷ line 7 3 1 ∷ line 5 0 4 ∷ line 9 0 5 ∷ line 8 1 6 ∷ line 0 0 0 ∷ []
+      ) n (line 0 0 0);
+  policy = λ j. getD (8 ∷ 8 ∷ 7 ∷ []) j 0;
+  effects = λ j. [];
+}
+
+-- G 0 0 2
+unfoldable pub own : Relations
+own k a b = eqb k 0 && eqb a 0 && eqb b 2
+
+-- ---- the table
+
+-- Terms, calls from the preset's first edges, and the answers to them.
+pub record Case : Type 0 where
+  pub terms : Terms
+  pub calls : List Call
+  pub answers : List Answer
+
+abbrev pub case : Terms → List Call → List Answer → Case
+case T cs xs = record { terms = T; calls = cs; answers = xs }
+
+-- Three members, one relation, n entries of which the first is top, two events: event 0 is always granted and has the effects fs, event 1 goes by the last entry.
+abbrev pub small : (n : ℕ) → List Entry → List Effect → Terms
+small n es fs = record {
+  members = 3;
+  relations = 1;
+  events = 2;
+  entries = n;
+  entry = λ k. getD (line 0 0 0 ∷ es) k (line 0 0 0);
+  policy = λ j. cond (eqb j 1) (n - 1) 0;
+  effects = λ j. cond (eqb j 0) fs [];
+}
+
+abbrev pub adds : Effect
+adds = record { adds = true; relation = 0; back = false }
+
+abbrev pub dels : Effect
+dels = record { adds = false; relation = 0; back = false }
+
+-- event 1 looked at for all initiators and targets
+abbrev pub everywhere : List Call
+everywhere = look 1 0 0 ∷ look 1 0 1 ∷ look 1 0 2 ∷ look 1 1 0 ∷ look 1 1 1 ∷ look 1 1 2 ∷ look 1 2 0 ∷ look 1 2 1 ∷ look 1 2 2 ∷ []
+
+abbrev pub always : List Answer
+always = replicate 9 yes
+
+unfoldable pub cases : List Case
+cases =
+    -- fresh preset terms: load 1 2 is denied
+    case preset (look 2 1 2 ∷ []) (no ∷ [])
+    -- after share 0 1: granted
+    ∷ case preset (request 0 0 1 ∷ look 2 1 2 ∷ []) (yes ∷ yes ∷ [])
+    -- after share 0 1, withdraw 0 1: denied
+    ∷ case preset (request 0 0 1 ∷ request 1 0 1 ∷ look 2 1 2 ∷ []) (yes ∷ yes ∷ no ∷ [])
+    -- after share 2 1 alone: denied
+    ∷ case preset (request 0 2 1 ∷ look 2 1 2 ∷ []) (yes ∷ no ∷ [])
+    -- prev of top fails at moment 0, and holds after one grant
+    ∷ case (small 2 (line 6 0 0 ∷ []) []) everywhere (replicate 9 no)
+    ∷ case (small 2 (line 6 0 0 ∷ []) []) (request 0 0 1 ∷ everywhere) (yes ∷ always)
+    -- since(not top, top) holds at moments 0, 1 and 2
+    ∷ case (small 3 (line 2 0 0 ∷ line 7 1 0 ∷ []) []) everywhere always
+    ∷ case (small 3 (line 2 0 0 ∷ line 7 1 0 ∷ []) []) (request 0 0 1 ∷ everywhere) (yes ∷ always)
+    ∷ case (small 3 (line 2 0 0 ∷ line 7 1 0 ∷ []) []) (request 0 0 1 ∷ request 0 1 1 ∷ everywhere) (yes ∷ yes ∷ always)
+    -- var 0 holds where initiator and target are the same member
+    ∷ case (small 2 (line 1 0 0 ∷ []) []) everywhere (yes ∷ no ∷ no ∷ no ∷ yes ∷ no ∷ no ∷ no ∷ yes ∷ [])
+    -- bind 1 of var 1 always holds
+    ∷ case (small 3 (line 1 1 0 ∷ line 8 1 1 ∷ []) []) everywhere always
+    -- bind 1, at 0, bind 1, at 1, var 0 holds
+    ∷ case (small 6 (line 1 0 0 ∷ line 9 1 1 ∷ line 8 1 2 ∷ line 9 0 3 ∷ line 8 1 4 ∷ []) []) everywhere always
+    -- effects add then del leave the edge absent, del then add present, where it was absent before (1 to 2) and present (0 to 2)
+    ∷ case (small 3 (line 1 0 0 ∷ line 4 0 1 ∷ []) (adds ∷ dels ∷ [])) (request 0 1 2 ∷ look 1 1 2 ∷ []) (yes ∷ no ∷ [])
+    ∷ case (small 3 (line 1 0 0 ∷ line 4 0 1 ∷ []) (adds ∷ dels ∷ [])) (look 1 0 2 ∷ request 0 0 2 ∷ look 1 0 2 ∷ []) (yes ∷ yes ∷ no ∷ [])
+    ∷ case (small 3 (line 1 0 0 ∷ line 4 0 1 ∷ []) (dels ∷ adds ∷ [])) (look 1 1 2 ∷ request 0 1 2 ∷ look 1 1 2 ∷ []) (no ∷ yes ∷ yes ∷ [])
+    ∷ case (small 3 (line 1 0 0 ∷ line 4 0 1 ∷ []) (dels ∷ adds ∷ [])) (request 0 0 2 ∷ look 1 0 2 ∷ []) (yes ∷ yes ∷ [])
+    ∷ []
+
+-- The keeper's answers to the calls of each case, and those that the table has.
+unfoldable pub kept : List Case → List (List Answer)
+kept [] = []
+kept (c ∷ cs) = keeper (c .terms) own (c .calls) .0 ∷ kept cs
+
+unfoldable pub expected : List Case → List (List Answer)
+expected [] = []
+expected (c ∷ cs) = c .answers ∷ expected cs
+
+-- ---- always, and where: the same cases at any moment of any record, at any member, under any assignment
+
+pub record Anywhere (N : ℕ) (γ : Record) (i : ℕ) (g : Assignment) (m : ℕ) : Type 0 where
+  -- prev of top: at each moment but the first
+  pub prev-top : (t : ℕ) → (holds N γ (prev t top) i g m ≡ true) ↔ (0 < i)
+  -- since(not top, top): at every moment
+  pub since-top : (t : ℕ) → holds N γ (since t (neg top) top) i g m ≡ true
+  -- var 0: at the target, and nowhere else
+  pub var-target : (holds N γ (var 0) i g m ≡ true) ↔ (m ≡ g 0)
+  -- bind 1 of var 1: always
+  pub bind-var : holds N γ (bind 1 (var 1)) i g m ≡ true
+  -- bind 1, at 0, bind 1, at 1, var 0: always
+  pub bind-again : holds N γ (bind 1 (at 0 (bind 1 (at 1 (var 0))))) i g m ≡ true
