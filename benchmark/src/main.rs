@@ -9,10 +9,15 @@
 //! * `pieces`: where the time of a call goes
 //! * `texts`: reading and writing
 //! * `stack`: the stack that one call takes
+//! * `archives`, `compare`: archives beside each other
 //!
 //! `benchmark pieces`, `benchmark texts` and `benchmark stack` measure that
-//! only, `benchmark loop` makes many requests for a profiler.
+//! only, `benchmark compare ARCHIVE...` times the calls of those archives and
+//! of the one that is built in turn, `benchmark loop` makes many requests for
+//! a profiler.
 
+mod archives;
+mod compare;
 mod floor;
 #[cfg_attr(not(sqlite), path = "no_log.rs")]
 mod log;
@@ -24,24 +29,30 @@ mod stack;
 mod texts;
 mod workload;
 
+use archives::Archive;
 use rows::Row;
 use workload::Workload;
 
 const MEMBERS: [usize; 3] = [3, 16, 64];
 
 fn main() {
-    match std::env::args().nth(1).as_deref() {
+    let words: Vec<String> = std::env::args().skip(1).collect();
+    match words.first().map(String::as_str) {
         None => {
             table();
             pieces::print();
             texts::print();
-            stack::print();
+            println!();
+            stack::print(&Archive::open(&archives::built())[0]);
         }
         Some("pieces") => pieces::print(),
         Some("texts") => texts::print(),
-        Some("stack") => stack::print(),
+        Some("stack") => stack::print(&Archive::open(&archives::built())[0]),
+        Some("compare") => compare::print(&words[1..]),
         Some("loop") => repeat(),
-        Some(other) => eprintln!("{other}: not known; pieces, texts, stack, loop or nothing"),
+        Some(other) => {
+            eprintln!("{other}: not known; pieces, texts, stack, compare, loop or nothing")
+        }
     }
 }
 
@@ -91,7 +102,7 @@ fn goals(all: &[Row]) {
 fn repeat() {
     let workload = Workload::preset(64);
     let mut monitor = workload.monitor();
-    for &[event, from, to] in workload.requests(7, 20_000).iter() {
-        std::hint::black_box(monitor.request(event, from, to).is_ok());
+    for &request in workload.requests(7, 20_000).iter() {
+        std::hint::black_box(monitor.request(workload::named(request)).is_ok());
     }
 }

@@ -2,7 +2,7 @@
 
 use crate::floor;
 use crate::measure::{in_turn, timed, Batch};
-use crate::workload::Workload;
+use crate::workload::{named, Workload};
 use cuckooormolu::{raw, SCRATCH_WORDS};
 use std::hint::black_box;
 use std::time::Duration;
@@ -26,17 +26,19 @@ pub fn print() {
     let workload = Workload::preset(64);
     let mut monitor = workload.monitor();
     // Member 1 owns 0 and shares with 7; 8 has no share.
-    let shared = monitor.request(SHARE, 1, 7).is_ok_and(|answer| answer.is_grant());
-    let (granted, denied) = (monitor.look(LOAD, 7, 0), monitor.look(LOAD, 8, 0));
+    let shared = monitor.request(named([SHARE, 1, 7])).is_ok_and(|answer| answer.is_grant());
+    let [granted, denied] = [[LOAD, 7, 0], [LOAD, 8, 0]].map(|ask| monitor.look(named(ask)));
     assert!(shared && granted.is_ok_and(|answer| answer.is_grant()));
     assert!(denied.is_ok_and(|answer| !answer.is_grant()));
     let (terms, state) = (monitor.terms().words(), monitor.state().words());
     let look = |event: usize, from: usize, to: usize| {
-        batch(move || raw::look(terms, state, &[0; SCRATCH_WORDS], event, from, to))
+        let request = raw::Request { event, from, to };
+        batch(move || raw::look(terms, state, &[0; SCRATCH_WORDS], request))
     };
     let request = |event: usize, from: usize, to: usize| {
         let (mut state, mut scratch) = (state.to_vec(), vec![0; SCRATCH_WORDS]);
-        batch(move || raw::request(terms, &mut state, &mut scratch, event, from, to))
+        let request = raw::Request { event, from, to };
+        batch(move || raw::request(terms, &mut state, &mut scratch, request))
     };
     let mut scratch = vec![1u64; SCRATCH_WORDS];
     let names_and_batches: [(&str, Batch); 9] = [

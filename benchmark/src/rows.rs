@@ -4,7 +4,7 @@ use crate::floor;
 use crate::log::Log;
 use crate::matrices::Matrices;
 use crate::measure::{in_turn, timed, Batch, Time};
-use crate::workload::{Request, Workload};
+use crate::workload::{named, Request, Workload};
 use cuckooormolu::{raw, Monitor, SCRATCH_WORDS};
 use keeper::record::{Answer, Call, Record};
 use keeper::terms::Terms;
@@ -119,10 +119,10 @@ fn records(workload: &Workload) -> Vec<Kept> {
     let mut all = Vec::new();
     for &wanted in workload.moments {
         while moments < wanted {
-            let [event, from, to] = list.next().expect("the list has no end");
-            if monitor.request(event, from, to).is_ok_and(|answer| answer.is_grant()) {
+            let request = list.next().expect("the list has no end");
+            if monitor.request(named(request)).is_ok_and(|answer| answer.is_grant()) {
                 moments += 1;
-                logged.push([event, from, to]);
+                logged.push(request);
             }
         }
         all.push(Kept {
@@ -156,7 +156,8 @@ fn agreed(workload: &Workload, kept: &mut Kept, calls: &[Request]) -> usize {
     let mut matrices = kept.matrices.clone();
     let mut grants = 0;
     for &[event, from, to] in calls {
-        let answer = monitor.request(event, from, to).expect("decided").is_grant();
+        let request = named([event, from, to]);
+        let answer = monitor.request(request).expect("decided").is_grant();
         assert_eq!(matrices.request(event, from, to), answer, "001's algorithm disagrees");
         grants += usize::from(answer);
         if let Some(log) = &mut kept.log {
@@ -177,7 +178,8 @@ fn monitor_batches<'a>(terms: &'a [u16], start: &'a [u64], calls: &'a [Request])
         state.copy_from_slice(start);
         timed(|| {
             for &[event, from, to] in calls {
-                black_box(raw::request(terms, &mut state, &mut scratch, event, from, to).is_ok());
+                let request = raw::Request { event, from, to };
+                black_box(raw::request(terms, &mut state, &mut scratch, request).is_ok());
             }
         })
     };
@@ -185,7 +187,8 @@ fn monitor_batches<'a>(terms: &'a [u16], start: &'a [u64], calls: &'a [Request])
     let looks = move || {
         timed(|| {
             for &[event, from, to] in calls {
-                black_box(raw::look(terms, start, &scratch, event, from, to).is_ok());
+                let request = raw::Request { event, from, to };
+                black_box(raw::look(terms, start, &scratch, request).is_ok());
             }
         })
     };

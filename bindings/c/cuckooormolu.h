@@ -1,28 +1,58 @@
 /*
- * The sharing-terms reference monitor: functions over lent memory.
+ * The sharing-terms reference monitor, over memory that the host lends.
  *
- * Link the archive that `rt staticlib panel` writes, target/staticlib/libpanel.a.
- * It needs nothing but memcpy and memset from its host, has no state of its own and
- * allocates nothing, so calls over different memory may run at the same time.
+ * Machine   x86-64 Linux only: the archive is machine code for it.
+ * RAM       terms 1,960 bytes, state 24,584 bytes, scratch 16,384 bytes. The
+ *           library allocates nothing and has no state of its own.
+ * Stack     measured, not proved: reading takes 181 KiB, an opening, look or
+ *           request 169 KiB, and each 1.05 KiB more for every level by which
+ *           entries nest, at most 447 KiB; the other calls take 4 KiB. Provide
+ *           CUCKOOORMOLU_STACK_BYTES.
+ * Kept      terms and state are plain words: they may be copied, kept and
+ *           lent again. In a file they have the machine's byte order,
+ *           little-endian. Scratch need not be kept.
+ * Threads   calls over distinct memory may run at the same time; calls over
+ *           the same memory must not, unless none of them may write it.
  *
- * A memory is lent as a pointer and a count of words (bytes for a text). The
- * pointer must be aligned and good for that many words; memory that a call
- * may write must not overlap any other that is lent to it. Nothing else is
- * asked of the caller: every content and every length is answered. Memory
- * longer than named is accepted and its further words are not touched.
+ * Link target/staticlib/libcuckooormolu.a, which `rt staticlib cuckooormolu`
+ * writes. It needs nothing but memcpy and memset.
  *
- * Stack: a call takes at most CUCKOOORMOLU_STACK_BYTES, with the most deeply
- * nested terms.
+ *     static struct cuckooormolu m;
+ *     size_t line;
+ *     if (!cuckooormolu_done(cuckooormolu_monitor_read(&m, text, length, &line).code))
+ *         complain(line);
+ *     if (cuckooormolu_granted(cuckooormolu_monitor_request(&m, event, from, to).code))
+ *         load();
  */
 #ifndef CUCKOOORMOLU_H
 #define CUCKOOORMOLU_H
 
+#include <stdbool.h>
 #include <stddef.h>
 #include <stdint.h>
 
+#if !defined(__x86_64__)
+#error "the monitor's archive is for x86-64 only"
+#endif
+
 #ifdef __cplusplus
 extern "C" {
+#define CUCKOOORMOLU_ASSERT static_assert
+#else
+#define CUCKOOORMOLU_ASSERT _Static_assert
 #endif
+
+/* A result that is not looked at is a mistake. */
+#ifdef __GNUC__
+#define CUCKOOORMOLU_USED __attribute__((warn_unused_result))
+#else
+#define CUCKOOORMOLU_USED
+#endif
+
+#define CUCKOOORMOLU_VERSION_MAJOR 0
+#define CUCKOOORMOLU_VERSION_MINOR 2
+#define CUCKOOORMOLU_VERSION_PATCH 0
+#define CUCKOOORMOLU_VERSION "0.2.0"
 
 /* The named words of each memory. */
 #define CUCKOOORMOLU_TERMS_WORDS 980
@@ -32,86 +62,368 @@ extern "C" {
 /* No written text is longer than this many bytes. */
 #define CUCKOOORMOLU_TEXT_BYTES 727261
 
-/* A bound on the stack of one call, in bytes. */
+/* More stack than any call was measured to take. */
 #define CUCKOOORMOLU_STACK_BYTES (512 * 1024)
 
 /*
- * What a call returns. A request or look that is decided returns GRANTED or
- * DENIED. Refusals leave all memory as lent. Where several fit, reading gives
- * 6, then the first faulty line and in it the lowest number; the other calls
- * give 6 (terms, state, scratch), 7, 8, 9, and last 6 for the output.
+ * The code of a call. No code is 0, and a refusal's is below 100; granted and
+ * denied differ in five bits. Refusals leave all memory as lent. Where several
+ * fit, reading gives 6, then the first faulty line and in it the lowest
+ * number; the other calls give 6 (terms, state, scratch), 7, 8, 9, and last 6
+ * for the output.
  */
-#define CUCKOOORMOLU_DONE 0
-#define CUCKOOORMOLU_GRANTED 0
-#define CUCKOOORMOLU_DENIED 10
+typedef enum cuckooormolu_code {
+    /* The form of a line, its place, or a text that ends too soon. */
+    CUCKOOORMOLU_REFUSED_FORM = 1,
+    /* A number out of its range, or too many of something. */
+    CUCKOOORMOLU_REFUSED_RANGE = 2,
+    /* An operand that is not lower than its entry. */
+    CUCKOOORMOLU_REFUSED_OPERAND = 3,
+    /* A prev or since with two or more free variables. */
+    CUCKOOORMOLU_REFUSED_PAST = 4,
+    /* A policy with a free variable other than 0. */
+    CUCKOOORMOLU_REFUSED_POLICY = 5,
+    /* A memory shorter than named, or an output too short for the text. */
+    CUCKOOORMOLU_REFUSED_SHORT = 6,
+    /* Terms memory that no accepted text yields. */
+    CUCKOOORMOLU_REFUSED_TERMS = 7,
+    /* A state that breaks the layout. */
+    CUCKOOORMOLU_REFUSED_STATE = 8,
+    /* An event or a member that does not exist. */
+    CUCKOOORMOLU_REFUSED_NAME = 9,
+    /* A reading, writing, check or opening that is done. */
+    CUCKOOORMOLU_DONE = 100,
+    /* A look or request whose policy does not hold. */
+    CUCKOOORMOLU_DENIED = 200,
+    /* A look or request whose policy holds. */
+    CUCKOOORMOLU_GRANTED = 300
+} cuckooormolu_code;
 
-/* The form of a line, its place, or a text that ends too soon. */
-#define CUCKOOORMOLU_REFUSED_FORM 1
-/* A number out of its range, or too many of something. */
-#define CUCKOOORMOLU_REFUSED_RANGE 2
-/* An operand that is not lower than its entry. */
-#define CUCKOOORMOLU_REFUSED_OPERAND 3
-/* A prev or since with two or more free variables. */
-#define CUCKOOORMOLU_REFUSED_PAST 4
-/* A policy with a free variable other than 0. */
-#define CUCKOOORMOLU_REFUSED_POLICY 5
-/* A memory shorter than named, or an output too short for the whole text. */
-#define CUCKOOORMOLU_REFUSED_SHORT 6
-/* Terms memory that no accepted text yields. */
-#define CUCKOOORMOLU_REFUSED_TERMS 7
-/* A state that breaks the layout. */
-#define CUCKOOORMOLU_REFUSED_STATE 8
-/* An event or a member that does not exist. */
-#define CUCKOOORMOLU_REFUSED_NAME 9
+/* What a call returns: its code in a struct, so that no call can be tested as
+ * a truth value by mistake. */
+struct cuckooormolu_result {
+    size_t code;
+};
+
+static inline struct cuckooormolu_result cuckooormolu_result_of(size_t code)
+{
+    struct cuckooormolu_result result = {code};
+    return result;
+}
+
+/* All the memory of a monitor. Where it is zeroed, or was never read into,
+ * every request is refused. */
+struct cuckooormolu {
+    uint16_t terms[CUCKOOORMOLU_TERMS_WORDS];
+    uint64_t state[CUCKOOORMOLU_STATE_WORDS];
+    uint64_t scratch[CUCKOOORMOLU_SCRATCH_WORDS];
+};
+
+CUCKOOORMOLU_ASSERT(sizeof(size_t) == 8, "lengths and codes have 64 bits");
+CUCKOOORMOLU_ASSERT(sizeof(struct cuckooormolu) == 1960 + 24584 + 16384,
+                    "no padding between the memories");
+CUCKOOORMOLU_ASSERT(CUCKOOORMOLU_REFUSED_FORM > 0, "no code is 0");
+CUCKOOORMOLU_ASSERT(CUCKOOORMOLU_REFUSED_NAME < 100,
+                    "refusals are below 100");
+CUCKOOORMOLU_ASSERT(CUCKOOORMOLU_DONE >= 100, "done is no refusal");
+CUCKOOORMOLU_ASSERT(CUCKOOORMOLU_DENIED > CUCKOOORMOLU_DONE,
+                    "denied is neither a refusal nor done");
+CUCKOOORMOLU_ASSERT(CUCKOOORMOLU_GRANTED > CUCKOOORMOLU_DENIED,
+                    "granted is no other code");
+
+static inline bool cuckooormolu_granted(size_t code)
+{
+    return code == CUCKOOORMOLU_GRANTED;
+}
+
+static inline bool cuckooormolu_denied(size_t code)
+{
+    return code == CUCKOOORMOLU_DENIED;
+}
+
+static inline bool cuckooormolu_done(size_t code)
+{
+    return code == CUCKOOORMOLU_DONE;
+}
+
+/* A code in words. */
+static inline const char *cuckooormolu_words(size_t code)
+{
+    switch (code) {
+    case CUCKOOORMOLU_REFUSED_FORM:
+        return "unknown kind or word, line out of its order, wrong count of "
+               "fields, ill-formed number, no last line feed, or the text "
+               "ends too soon";
+    case CUCKOOORMOLU_REFUSED_RANGE:
+        return "number out of its range, non-zero unused field, more than 32 "
+               "past-time entries, more than 4 effects, or a label or entry "
+               "that doesn't exist";
+    case CUCKOOORMOLU_REFUSED_OPERAND:
+        return "operand not lower than its entry";
+    case CUCKOOORMOLU_REFUSED_PAST:
+        return "prev or since with two or more free variables";
+    case CUCKOOORMOLU_REFUSED_POLICY:
+        return "policy with a free variable other than 0";
+    case CUCKOOORMOLU_REFUSED_SHORT:
+        return "memory shorter than its named words, or output too short";
+    case CUCKOOORMOLU_REFUSED_TERMS:
+        return "terms that no accepted text yields";
+    case CUCKOOORMOLU_REFUSED_STATE:
+        return "state that breaks the memory layout";
+    case CUCKOOORMOLU_REFUSED_NAME:
+        return "no such event or member";
+    case CUCKOOORMOLU_DONE:
+        return "done";
+    case CUCKOOORMOLU_DENIED:
+        return "denied";
+    case CUCKOOORMOLU_GRANTED:
+        return "granted";
+    default:
+        return "not a code of the monitor";
+    }
+}
 
 /*
- * Reads a terms text. Accepted (0): the named words of terms and state are
- * filled, the state at moment 0, and *line is 0. Refused with 1 to 5: *line
- * is the first faulty line, from 1. Refused with 6: *line is 0.
+ * The archive's own functions, for other languages. They return a code. What
+ * they do stands at the functions of the same names below; but here no pointer
+ * may be null, not even where its length is 0.
  */
-size_t cuckooormolu_read(const uint8_t *text, size_t text_length,
-                         uint16_t *terms, size_t terms_length,
-                         uint64_t *state, size_t state_length, size_t *line);
+size_t cuckooormolu_raw_read(const uint8_t *text, size_t text_length,
+                             uint16_t *terms, size_t terms_length,
+                             uint64_t *state, size_t state_length,
+                             size_t *line);
+size_t cuckooormolu_raw_size(const uint16_t *terms, size_t terms_length,
+                             const uint64_t *state, size_t state_length,
+                             size_t *count);
+size_t cuckooormolu_raw_write(const uint16_t *terms, size_t terms_length,
+                              const uint64_t *state, size_t state_length,
+                              uint8_t *output, size_t output_length,
+                              size_t *count);
+size_t cuckooormolu_raw_check(const uint16_t *terms, size_t terms_length,
+                              const uint64_t *state, size_t state_length);
+size_t cuckooormolu_raw_open(const uint16_t *terms, size_t terms_length,
+                             uint64_t *state, size_t state_length);
+size_t cuckooormolu_raw_look(const uint16_t *terms, size_t terms_length,
+                             const uint64_t *state, size_t state_length,
+                             const uint64_t *scratch, size_t scratch_length,
+                             size_t event, size_t from, size_t to);
+size_t cuckooormolu_raw_request(const uint16_t *terms, size_t terms_length,
+                                uint64_t *state, size_t state_length,
+                                uint64_t *scratch, size_t scratch_length,
+                                size_t event, size_t from, size_t to);
 
 /*
- * Writes the terms with the present relations as a text. Done (0): the text
- * stands at the front of output and *count is its count of bytes; the bytes
- * after it are not touched. Refused with 6, 7 or 8: *count is 0.
+ * The calls. A memory is lent as a pointer and a count of words (bytes for a
+ * text). The pointer must be aligned and good for that many words; memory that
+ * a call may write must not overlap any other that is lent to it. A null
+ * pointer lends an empty memory, whatever its length. Nothing else is asked of
+ * the caller: every content and every length is answered. Memory longer than
+ * named is accepted and its further words are not touched.
  */
-size_t cuckooormolu_write(const uint16_t *terms, size_t terms_length,
-                          const uint64_t *state, size_t state_length,
-                          uint8_t *output, size_t output_length,
-                          size_t *count);
 
-/* Whether terms and state are ones that a call accepts: 0, 6, 7 or 8. */
-size_t cuckooormolu_check(const uint16_t *terms, size_t terms_length,
-                          const uint64_t *state, size_t state_length);
+/* A null pointer stands for an empty memory. */
+#define CUCKOOORMOLU_LENT(type, memory, length) \
+    type no_##memory = 0;                       \
+    if (memory == NULL) {                       \
+        memory = &no_##memory;                  \
+        length = 0;                             \
+    }
+
+/* A null pointer stands for a number that nobody wants. */
+#define CUCKOOORMOLU_WANTED(number) \
+    size_t no_##number;             \
+    if (number == NULL)             \
+        number = &no_##number;
+
+/*
+ * Reads a terms text. Done: the named words of terms and state are filled, the
+ * state at moment 0, and *line is 0. Refused with 1 to 5: *line is the first
+ * faulty line, from 1. Refused with 6: *line is 0. `line` may be null.
+ */
+CUCKOOORMOLU_USED static inline struct cuckooormolu_result
+cuckooormolu_read(const uint8_t *text, size_t text_length,
+                  uint16_t *terms, size_t terms_length,
+                  uint64_t *state, size_t state_length, size_t *line)
+{
+    CUCKOOORMOLU_LENT(uint8_t, text, text_length)
+    CUCKOOORMOLU_LENT(uint16_t, terms, terms_length)
+    CUCKOOORMOLU_LENT(uint64_t, state, state_length)
+    CUCKOOORMOLU_WANTED(line)
+    return cuckooormolu_result_of(
+        cuckooormolu_raw_read(text, text_length, terms, terms_length, state,
+                              state_length, line));
+}
+
+/*
+ * How many bytes writing takes. Done: *count is that number. Refused with 6, 7
+ * or 8: *count is 0. `count` may be null.
+ */
+CUCKOOORMOLU_USED static inline struct cuckooormolu_result
+cuckooormolu_size(const uint16_t *terms, size_t terms_length,
+                  const uint64_t *state, size_t state_length, size_t *count)
+{
+    CUCKOOORMOLU_LENT(uint16_t, terms, terms_length)
+    CUCKOOORMOLU_LENT(uint64_t, state, state_length)
+    CUCKOOORMOLU_WANTED(count)
+    return cuckooormolu_result_of(
+        cuckooormolu_raw_size(terms, terms_length, state, state_length,
+                              count));
+}
+
+/*
+ * Writes the terms with the present relations as a text. Done: the text stands
+ * at the front of output and *count is its count of bytes; the bytes after it
+ * are not touched. Refused with 6, 7 or 8: *count is 0. `count` may be null.
+ */
+CUCKOOORMOLU_USED static inline struct cuckooormolu_result
+cuckooormolu_write(const uint16_t *terms, size_t terms_length,
+                   const uint64_t *state, size_t state_length,
+                   uint8_t *output, size_t output_length, size_t *count)
+{
+    CUCKOOORMOLU_LENT(uint16_t, terms, terms_length)
+    CUCKOOORMOLU_LENT(uint64_t, state, state_length)
+    CUCKOOORMOLU_LENT(uint8_t, output, output_length)
+    CUCKOOORMOLU_WANTED(count)
+    return cuckooormolu_result_of(
+        cuckooormolu_raw_write(terms, terms_length, state, state_length,
+                               output, output_length, count));
+}
+
+/* Whether terms and state are ones that a call accepts: done, 6, 7 or 8. */
+CUCKOOORMOLU_USED static inline struct cuckooormolu_result
+cuckooormolu_check(const uint16_t *terms, size_t terms_length,
+                   const uint64_t *state, size_t state_length)
+{
+    CUCKOOORMOLU_LENT(uint16_t, terms, terms_length)
+    CUCKOOORMOLU_LENT(uint64_t, state, state_length)
+    return cuckooormolu_result_of(
+        cuckooormolu_raw_check(terms, terms_length, state, state_length));
+}
 
 /*
  * Makes the state of moment 0 of the relations that stand in its first 1,024
- * words; what the other words held is lost. Returns 0, 6, 7 or 8.
+ * words; what the other words held is lost. Done, 6, 7 or 8.
  */
-size_t cuckooormolu_open(const uint16_t *terms, size_t terms_length,
-                         uint64_t *state, size_t state_length);
+CUCKOOORMOLU_USED static inline struct cuckooormolu_result
+cuckooormolu_open(const uint16_t *terms, size_t terms_length,
+                  uint64_t *state, size_t state_length)
+{
+    CUCKOOORMOLU_LENT(uint16_t, terms, terms_length)
+    CUCKOOORMOLU_LENT(uint64_t, state, state_length)
+    return cuckooormolu_result_of(
+        cuckooormolu_raw_open(terms, terms_length, state, state_length));
+}
 
 /*
- * What a request would be answered now; makes no moment and writes nothing.
- * Returns 0 (granted), 10 (denied), 6, 7, 8 or 9.
+ * What a request by an event, from its initiator to its target, would be
+ * answered; makes no moment and writes nothing. Granted, denied, 6, 7, 8 or 9.
  */
-size_t cuckooormolu_look(const uint16_t *terms, size_t terms_length,
-                         const uint64_t *state, size_t state_length,
-                         const uint64_t *scratch, size_t scratch_length,
-                         size_t event, size_t from, size_t to);
+CUCKOOORMOLU_USED static inline struct cuckooormolu_result
+cuckooormolu_look(const uint16_t *terms, size_t terms_length,
+                  const uint64_t *state, size_t state_length,
+                  const uint64_t *scratch, size_t scratch_length,
+                  size_t event, size_t from, size_t to)
+{
+    CUCKOOORMOLU_LENT(uint16_t, terms, terms_length)
+    CUCKOOORMOLU_LENT(uint64_t, state, state_length)
+    CUCKOOORMOLU_LENT(uint64_t, scratch, scratch_length)
+    return cuckooormolu_result_of(
+        cuckooormolu_raw_look(terms, terms_length, state, state_length,
+                              scratch, scratch_length, event, from, to));
+}
 
 /*
- * Answers a request. Granted (0): the state is that of the next moment and
- * the named words of scratch are 0. Denied (10) or refused (6, 7, 8 or 9):
- * all memory is as lent.
+ * Answers a request. Granted: the state is that of the next moment and the
+ * named words of scratch are 0. Denied, or refused with 6, 7, 8 or 9: all
+ * memory is as lent.
  */
-size_t cuckooormolu_request(const uint16_t *terms, size_t terms_length,
-                            uint64_t *state, size_t state_length,
-                            uint64_t *scratch, size_t scratch_length,
-                            size_t event, size_t from, size_t to);
+CUCKOOORMOLU_USED static inline struct cuckooormolu_result
+cuckooormolu_request(const uint16_t *terms, size_t terms_length,
+                     uint64_t *state, size_t state_length,
+                     uint64_t *scratch, size_t scratch_length,
+                     size_t event, size_t from, size_t to)
+{
+    CUCKOOORMOLU_LENT(uint16_t, terms, terms_length)
+    CUCKOOORMOLU_LENT(uint64_t, state, state_length)
+    CUCKOOORMOLU_LENT(uint64_t, scratch, scratch_length)
+    return cuckooormolu_result_of(
+        cuckooormolu_raw_request(terms, terms_length, state, state_length,
+                                 scratch, scratch_length, event, from, to));
+}
+
+#undef CUCKOOORMOLU_LENT
+#undef CUCKOOORMOLU_WANTED
+
+/*
+ * The same over a monitor's memory, so that no length is typed. A null monitor
+ * is refused with 6.
+ */
+#define CUCKOOORMOLU_PART(m, part) ((m) == NULL ? NULL : (m)->part)
+#define CUCKOOORMOLU_TERMS(m) \
+    CUCKOOORMOLU_PART(m, terms), CUCKOOORMOLU_TERMS_WORDS
+#define CUCKOOORMOLU_STATE(m) \
+    CUCKOOORMOLU_PART(m, state), CUCKOOORMOLU_STATE_WORDS
+#define CUCKOOORMOLU_SCRATCH(m) \
+    CUCKOOORMOLU_PART(m, scratch), CUCKOOORMOLU_SCRATCH_WORDS
+
+CUCKOOORMOLU_USED static inline struct cuckooormolu_result
+cuckooormolu_monitor_read(struct cuckooormolu *m, const void *text,
+                          size_t length, size_t *line)
+{
+    return cuckooormolu_read((const uint8_t *)text, length,
+                             CUCKOOORMOLU_TERMS(m), CUCKOOORMOLU_STATE(m),
+                             line);
+}
+
+CUCKOOORMOLU_USED static inline struct cuckooormolu_result
+cuckooormolu_monitor_size(const struct cuckooormolu *m, size_t *count)
+{
+    return cuckooormolu_size(CUCKOOORMOLU_TERMS(m), CUCKOOORMOLU_STATE(m),
+                             count);
+}
+
+CUCKOOORMOLU_USED static inline struct cuckooormolu_result
+cuckooormolu_monitor_write(const struct cuckooormolu *m, void *output,
+                           size_t length, size_t *count)
+{
+    return cuckooormolu_write(CUCKOOORMOLU_TERMS(m), CUCKOOORMOLU_STATE(m),
+                              (uint8_t *)output, length, count);
+}
+
+CUCKOOORMOLU_USED static inline struct cuckooormolu_result
+cuckooormolu_monitor_check(const struct cuckooormolu *m)
+{
+    return cuckooormolu_check(CUCKOOORMOLU_TERMS(m), CUCKOOORMOLU_STATE(m));
+}
+
+CUCKOOORMOLU_USED static inline struct cuckooormolu_result
+cuckooormolu_monitor_open(struct cuckooormolu *m)
+{
+    return cuckooormolu_open(CUCKOOORMOLU_TERMS(m), CUCKOOORMOLU_STATE(m));
+}
+
+CUCKOOORMOLU_USED static inline struct cuckooormolu_result
+cuckooormolu_monitor_look(const struct cuckooormolu *m, size_t event,
+                          size_t from, size_t to)
+{
+    return cuckooormolu_look(CUCKOOORMOLU_TERMS(m), CUCKOOORMOLU_STATE(m),
+                             CUCKOOORMOLU_SCRATCH(m), event, from, to);
+}
+
+CUCKOOORMOLU_USED static inline struct cuckooormolu_result
+cuckooormolu_monitor_request(struct cuckooormolu *m, size_t event,
+                             size_t from, size_t to)
+{
+    return cuckooormolu_request(CUCKOOORMOLU_TERMS(m), CUCKOOORMOLU_STATE(m),
+                                CUCKOOORMOLU_SCRATCH(m), event, from, to);
+}
+
+#undef CUCKOOORMOLU_PART
+#undef CUCKOOORMOLU_TERMS
+#undef CUCKOOORMOLU_STATE
+#undef CUCKOOORMOLU_SCRATCH
+#undef CUCKOOORMOLU_ASSERT
+#undef CUCKOOORMOLU_USED
 
 #ifdef __cplusplus
 }

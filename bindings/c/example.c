@@ -5,24 +5,22 @@
  *     example TERMS REQUESTS [WRITTEN]
  *
  * One line for each request: its number, the answer, and for a refusal its
- * number, parted by tabs. Refused terms print one line only. Where a third
- * file is named, the terms with the relations that then stand are written to
- * it.
+ * number, parted by tabs. Refused terms print one line only, and the reason on
+ * standard error. Where a third file is named, the terms with the relations
+ * that then stand are written to it.
  */
 #include "cuckooormolu.h"
 
 #include <stdio.h>
+#include <stdlib.h>
 #include <string.h>
 
 #define MOST_BYTES 65536
 
 static uint8_t terms_text[MOST_BYTES + 1];
 static uint8_t requests_text[MOST_BYTES + 1];
-static uint8_t written_text[CUCKOOORMOLU_TEXT_BYTES];
 
-static uint16_t terms[CUCKOOORMOLU_TERMS_WORDS];
-static uint64_t state[CUCKOOORMOLU_STATE_WORDS];
-static uint64_t scratch[CUCKOOORMOLU_SCRATCH_WORDS];
+static struct cuckooormolu monitor;
 
 /* The bytes of a file, one more than allowed at most. A file that can't be
  * opened counts as empty. */
@@ -64,17 +62,14 @@ static size_t answer(const uint8_t *line, const uint8_t *stop)
         at = number(at, stop, '\n', &to);
     if (at != stop)
         return CUCKOOORMOLU_REFUSED_FORM;
-    return cuckooormolu_request(terms, CUCKOOORMOLU_TERMS_WORDS,
-                                state, CUCKOOORMOLU_STATE_WORDS,
-                                scratch, CUCKOOORMOLU_SCRATCH_WORDS,
-                                event, from, to);
+    return cuckooormolu_monitor_request(&monitor, event, from, to).code;
 }
 
 static void print_answer(size_t line, size_t code)
 {
-    if (code == CUCKOOORMOLU_GRANTED)
+    if (cuckooormolu_granted(code))
         printf("%zu\tgrant\n", line);
-    else if (code == CUCKOOORMOLU_DENIED)
+    else if (cuckooormolu_denied(code))
         printf("%zu\tdeny\n", line);
     else
         printf("%zu\trefuse\t%zu\n", line, code);
@@ -91,19 +86,22 @@ static void answer_all(const uint8_t *text, size_t length)
     }
 }
 
+/* Asks for the size, writes into memory of that size, and that to a file. */
 static int write_to(const char *name)
 {
-    size_t count;
-    size_t code = cuckooormolu_write(terms, CUCKOOORMOLU_TERMS_WORDS,
-                                     state, CUCKOOORMOLU_STATE_WORDS,
-                                     written_text, sizeof written_text, &count);
-    if (code != CUCKOOORMOLU_DONE)
+    size_t size;
+    if (!cuckooormolu_done(cuckooormolu_monitor_size(&monitor, &size).code))
         return 1;
+    uint8_t *text = malloc(size);
     FILE *file = fopen(name, "wb");
-    if (file == NULL)
-        return 1;
-    size_t written = fwrite(written_text, 1, count, file);
-    return fclose(file) != 0 || written != count;
+    bool done = text != NULL && file != NULL &&
+                cuckooormolu_done(cuckooormolu_monitor_write(
+                    &monitor, text, size, NULL).code) &&
+                fwrite(text, 1, size, file) == size;
+    free(text);
+    if (file != NULL && fclose(file) != 0)
+        done = false;
+    return done ? 0 : 1;
 }
 
 int main(int argc, char **argv)
@@ -119,11 +117,11 @@ int main(int argc, char **argv)
         return 0;
     }
     size_t line;
-    size_t code = cuckooormolu_read(terms_text, terms_bytes,
-                                    terms, CUCKOOORMOLU_TERMS_WORDS,
-                                    state, CUCKOOORMOLU_STATE_WORDS, &line);
-    if (code != CUCKOOORMOLU_DONE) {
+    size_t code = cuckooormolu_monitor_read(&monitor, terms_text, terms_bytes,
+                                            &line).code;
+    if (!cuckooormolu_done(code)) {
         printf("terms\t%zu\t%zu\n", code, line);
+        fprintf(stderr, "line %zu: %s\n", line, cuckooormolu_words(code));
         return 0;
     }
     if (requests_bytes > MOST_BYTES) {

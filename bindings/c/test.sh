@@ -1,7 +1,8 @@
 #!/bin/sh
-# test.sh ARCHIVE: builds the example host over the archive, runs it and
-# compares what it prints; a second time with the sanitizers, where the
-# compiler has them. Needs a C compiler (CC, else cc).
+# test.sh ARCHIVE: builds test.c and the example host over the archive, runs
+# them and compares what is printed; a second time with the sanitizers, where
+# the compiler has them; test.c also as C++, where there is a compiler of it
+# (CXX, else c++). Needs a C compiler (CC, else cc).
 set -eu
 
 if [ $# -ne 1 ] || [ ! -f "$1" ]; then
@@ -11,7 +12,9 @@ fi
 archive=$1
 here=$(cd "$(dirname "$0")" && pwd)
 CC=${CC:-cc}
-strict="-std=c11 -Wall -Wextra -Werror -pedantic"
+CXX=${CXX:-c++}
+warnings="-Wall -Wextra -Wconversion -Wshadow -Werror -pedantic"
+strict="-std=c11 $warnings"
 work=$(mktemp -d)
 trap 'rm -rf "$work"' EXIT
 failed=0
@@ -41,7 +44,7 @@ expect() {
     tabs "$2" >"$work/terms.tsv"
     tabs "$3" >"$work/requests.tsv"
     tabs "$4" >"$work/wanted"
-    "$work/$build" "$work/terms.tsv" "$work/requests.tsv" >"$work/got" || true
+    "$work/$build" "$work/terms.tsv" "$work/requests.tsv" >"$work/got" 2>/dev/null || true
     judge "$1"
 }
 
@@ -54,6 +57,30 @@ judge() {
         diff "$work/got" "$work/wanted" || true
         failed=1
     fi
+}
+
+# silent PROGRAM NAME: the program holds, and prints nothing.
+silent() {
+    : >"$work/wanted"
+    "$work/$1" >"$work/got" 2>&1 || echo "status $?" >>"$work/got"
+    judge "$2"
+}
+
+# compiling WANTED NAME STATEMENT: whether the compiler takes a statement over
+# a monitor m: ok or not.
+compiling() {
+    echo "$1" >"$work/wanted"
+    {
+        echo '#include "cuckooormolu.h"'
+        echo 'void host(struct cuckooormolu *m);'
+        echo "void host(struct cuckooormolu *m) { $3 }"
+    } >"$work/host.c"
+    if "$CC" $strict -I "$here" -c -o "$work/host.o" "$work/host.c" 2>/dev/null; then
+        echo ok >"$work/got"
+    else
+        echo not >"$work/got"
+    fi
+    judge "$2"
 }
 
 run_all() {
@@ -97,13 +124,13 @@ F 0 not 0 0
 ' 'terms 1 1
 '
     rm "$work/terms.tsv"
-    "$work/$build" "$work/terms.tsv" "$work/requests.tsv" >"$work/got"
+    "$work/$build" "$work/terms.tsv" "$work/requests.tsv" >"$work/got" 2>/dev/null
     tabs 'terms 1 1
 ' >"$work/wanted"
     judge "terms that can't be opened"
 
     head -c 65537 /dev/zero >"$work/terms.tsv"
-    "$work/$build" "$work/terms.tsv" "$work/requests.tsv" >"$work/got"
+    "$work/$build" "$work/terms.tsv" "$work/requests.tsv" >"$work/got" 2>/dev/null
     tabs 'terms 6 0
 ' >"$work/wanted"
     judge "terms too long"
@@ -113,7 +140,7 @@ F 0 not 0 0
     head -c 65537 /dev/zero >"$work/requests.tsv"
     "$work/$build" "$work/terms.tsv" /dev/null "$work/got"
     judge "the preset written again"
-    "$work/$build" "$work/terms.tsv" "$work/requests.tsv" >"$work/got"
+    "$work/$build" "$work/terms.tsv" "$work/requests.tsv" >"$work/got" 2>/dev/null
     tabs 'requests 6 0
 ' >"$work/wanted"
     judge "requests too long"
@@ -122,6 +149,21 @@ F 0 not 0 0
 build=plain
 "$CC" $strict -O2 -o "$work/$build" "$here/example.c" "$archive"
 run_all
+"$CC" $strict -O2 -o "$work/test" "$here/test.c" "$archive"
+silent test "codes, lengths and null pointers"
+call='cuckooormolu_monitor_request(m, 0, 0, 0)'
+compiling ok "a grant that is asked for compiles" \
+    "if (cuckooormolu_granted($call.code)) m->state[0] = 0;"
+compiling not "a call as a truth value does not compile" "if ($call) m->state[0] = 0;"
+compiling not "a result that is not looked at does not compile" "$call;"
+
+if command -v "$CXX" >/dev/null; then
+    build=c++
+    "$CXX" -x c++ -std=c++11 $warnings -O2 -o "$work/test" "$here/test.c" -x none "$archive"
+    silent test "codes, lengths and null pointers"
+else
+    echo "skip c++: no compiler"
+fi
 
 echo 'int main(void) { return 0; }' >"$work/probe.c"
 sanitize="-fsanitize=address,undefined -fno-sanitize-recover=all"
@@ -129,6 +171,8 @@ if "$CC" $sanitize -o "$work/probe" "$work/probe.c" 2>/dev/null && "$work/probe"
     build=sanitized
     "$CC" $strict -g $sanitize -o "$work/$build" "$here/example.c" "$archive"
     run_all
+    "$CC" $strict -g $sanitize -o "$work/test" "$here/test.c" "$archive"
+    silent test "codes, lengths and null pointers"
 else
     echo "skip sanitized: the compiler has no sanitizers"
 fi

@@ -1,4 +1,4 @@
-//! Links the archive `libpanel.a`. Its folder is that of the environment
+//! Links the archive `libcuckooormolu.a`. Its folder is that of the environment
 //! variable CUCKOOORMOLU_LIB, or `target/staticlib` of the repository.
 
 use std::env;
@@ -6,7 +6,7 @@ use std::path::{Path, PathBuf};
 
 const VARIABLE: &str = "CUCKOOORMOLU_LIB";
 const DEFAULT: &str = "../../target/staticlib";
-const ARCHIVE: &str = "libpanel.a";
+const ARCHIVE: &str = "libcuckooormolu.a";
 
 fn main() {
     println!("cargo::rerun-if-env-changed={VARIABLE}");
@@ -15,9 +15,9 @@ fn main() {
     println!("cargo::rerun-if-changed={}", archive.display());
     if archive.is_file() {
         println!("cargo::rustc-link-search=native={}", folder.display());
-        println!("cargo::rustc-link-lib=static=panel");
+        println!("cargo::rustc-link-lib=static=cuckooormolu");
     } else {
-        let text = "build it with `rt staticlib panel`, or name its folder in";
+        let text = "build it with `rt staticlib cuckooormolu`, or name its folder in";
         println!("cargo::error=no {} here: {text} {VARIABLE}", archive.display());
     }
 }

@@ -1,6 +1,6 @@
 //! What a decided request carries.
 
-use std::fmt;
+use core::fmt;
 
 /// The answer to a request or a look.
 ///

@@ -1,20 +1,33 @@
 //! The sharing-terms reference monitor.
 //!
+//! * **x86-64 Linux only.** The static library is machine code for it.
+//! * **Memory**: terms have 1,960 bytes, a state 24,584, scratch 16,384. This
+//!   crate puts them on the heap; the library allocates nothing.
+//! * **Stack**: measured, not proved. Reading takes 181 KiB, an opening, look
+//!   or request 169 KiB, and each 1.05 KiB more for every level by which
+//!   entries nest, at most 447 KiB.
+//! * **Terms and states are plain words** that may be copied and kept. In a
+//!   file they have the machine's byte order, little-endian.
+//! * **Threads**: two monitors share nothing.
+//!
 //! A terms text says who may ask for what. A [`Monitor`] reads it, keeps the
 //! present relations and what the policies need of the past, and answers
 //! requests. A grant makes the next moment; a denied or refused request
 //! changes nothing.
 //!
 //! ```
-//! use cuckooormolu::{Answer, Monitor};
+//! use cuckooormolu::{Answer, Edge, Event, Member, Monitor, Relation, Request};
 //!
 //! // Event 0 makes an edge from initiator to target; event 1 asks for one.
 //! let text = "M 3\nL 1 2\nF 0 var 0 0\nF 1 out 0 0\nF 2 top 0 0\nP 0 2\nP 1 1\nE 0 add 0 fwd\n";
 //! let mut monitor = Monitor::read(text.replace(' ', "\t").as_bytes())?;
-//! assert_eq!(monitor.request(1, 0, 2)?, Answer::Deny);
-//! assert_eq!(monitor.request(0, 0, 2)?, Answer::Grant);
-//! assert_eq!(monitor.look(1, 0, 2)?, Answer::Grant);
-//! assert!(monitor.state().has_edge(0, 0, 2));
+//! let make = Request { event: Event(0), from: Member(0), to: Member(2) };
+//! let ask = Request { event: Event(1), ..make };
+//! assert_eq!(monitor.request(ask)?, Answer::Deny);
+//! assert_eq!(monitor.request(make)?, Answer::Grant);
+//! assert_eq!(monitor.look(ask)?, Answer::Grant);
+//! let edge = Edge { relation: Relation(0), from: Member(0), to: Member(2) };
+//! assert!(monitor.state().has_edge(edge));
 //! # Ok::<(), Box<dyn std::error::Error>>(())
 //! ```
 //!
@@ -24,16 +37,23 @@
 //!
 //! Member, relation, event and entry numbers, and the order of the words, are
 //! those of the terms file and of the memory layout.
+#![no_std]
+
+extern crate alloc;
 
 mod answer;
 mod layout;
-mod memory;
 mod monitor;
+mod names;
 pub mod raw;
 mod refusal;
+mod state;
+mod terms;
 
 pub use answer::Answer;
 pub use layout::{SCRATCH_WORDS, STATE_WORDS, TERMS_WORDS};
-pub use memory::{EventEdge, State, Terms};
 pub use monitor::Monitor;
+pub use names::{Edge, Event, Member, Relation, Request, Variable};
 pub use refusal::{Refusal, TextError};
+pub use state::State;
+pub use terms::{Action, Direction, Effect, Entry, Label, Terms};

@@ -1,7 +1,12 @@
 //! The monitor: terms, the present state, and scratch for its calls.
 
 use crate::layout::*;
-use crate::{raw, Answer, Refusal, State, Terms, TextError};
+use crate::{raw, Answer, Refusal, Request, State, Terms, TextError};
+use alloc::boxed::Box;
+use alloc::vec;
+use alloc::vec::Vec;
+
+const CHECKED: &str = "a monitor's terms and state have passed the checks";
 
 /// A reference monitor that owns all its memory.
 ///
@@ -25,14 +30,15 @@ impl Monitor {
     /// Goes on from terms and a state kept earlier, once they are checked.
     ///
     /// ```
-    /// use cuckooormolu::{Monitor, Refusal, State, Terms};
+    /// use cuckooormolu::{Event, Member, Monitor, Refusal, Request, State};
     ///
     /// let text = b"M\t2\nL\t0\t1\nF\t0\ttop\t0\t0\nP\t0\t0\n";
     /// let mut monitor = Monitor::read(text)?;
-    /// monitor.request(0, 0, 1)?;
+    /// let request = Request { event: Event(0), from: Member(0), to: Member(1) };
+    /// monitor.request(request)?;
     /// let (terms, state) = monitor.into_parts();
     /// let later = Monitor::resume(terms.clone(), state)?;
-    /// assert_eq!(later.state().event().map(|edge| edge.to), Some(1));
+    /// assert_eq!(later.state().event(), Some(request));
     ///
     /// let broken = State::from_words(&[9; 3_073])?;
     /// assert_eq!(Monitor::resume(terms, broken).unwrap_err(), Refusal::BadState);
@@ -52,20 +58,14 @@ impl Monitor {
 
     /// Answers a request; a grant makes the next moment. Refused with
     /// [`Refusal::NoSuchName`] where an event or member doesn't exist.
-    pub fn request(&mut self, event: usize, from: usize, to: usize) -> Result<Answer, Refusal> {
-        raw::request(
-            self.terms.words(),
-            &mut self.state.0[..],
-            &mut self.scratch[..],
-            event,
-            from,
-            to,
-        )
+    pub fn request(&mut self, request: Request) -> Result<Answer, Refusal> {
+        let (state, scratch) = (&mut self.state.0[..], &mut self.scratch[..]);
+        raw::request(self.terms.words(), state, scratch, request.into())
     }
 
     /// What [`Monitor::request`] would answer; it makes no moment.
-    pub fn look(&self, event: usize, from: usize, to: usize) -> Result<Answer, Refusal> {
-        raw::look(self.terms.words(), self.state.words(), &self.scratch[..], event, from, to)
+    pub fn look(&self, request: Request) -> Result<Answer, Refusal> {
+        raw::look(self.terms.words(), self.state.words(), &self.scratch[..], request.into())
     }
 
     /// The terms text with the present relations. Reading it gives the same
@@ -77,9 +77,9 @@ impl Monitor {
     /// # Ok::<(), cuckooormolu::TextError>(())
     /// ```
     pub fn write(&self) -> Vec<u8> {
-        let mut output = vec![0; LONGEST_HEAD + LONGEST_EDGE * self.state.edges()];
-        let written = raw::write(self.terms.words(), self.state.words(), &mut output);
-        output.truncate(written.expect("checked terms and state fit the longest text"));
+        let (terms, state) = (self.terms.words(), self.state.words());
+        let mut output = vec![0; raw::size(terms, state).expect(CHECKED)];
+        raw::write(terms, state, &mut output).expect(CHECKED);
         output
     }
 

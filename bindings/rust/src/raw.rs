@@ -6,23 +6,39 @@
 
 use crate::{Answer, Refusal};
 
+/// A request by any numbers, whether or not there are such an event and
+/// members.
+#[derive(Clone, Copy, Debug, PartialEq, Eq, Hash)]
+pub struct Request {
+    pub event: usize,
+    pub from: usize,
+    pub to: usize,
+}
+
+impl From<crate::Request> for Request {
+    fn from(request: crate::Request) -> Request {
+        let crate::Request { event, from, to } = request;
+        Request { event: event.into(), from: from.into(), to: to.into() }
+    }
+}
+
 mod library {
     extern "C" {
-        pub fn cuckooormolu_check(
+        pub fn cuckooormolu_raw_check(
             terms: *const u16,
             terms_length: usize,
             state: *const u64,
             state_length: usize,
         ) -> usize;
 
-        pub fn cuckooormolu_open(
+        pub fn cuckooormolu_raw_open(
             terms: *const u16,
             terms_length: usize,
             state: *mut u64,
             state_length: usize,
         ) -> usize;
 
-        pub fn cuckooormolu_look(
+        pub fn cuckooormolu_raw_look(
             terms: *const u16,
             terms_length: usize,
             state: *const u64,
@@ -34,7 +50,7 @@ mod library {
             to: usize,
         ) -> usize;
 
-        pub fn cuckooormolu_request(
+        pub fn cuckooormolu_raw_request(
             terms: *const u16,
             terms_length: usize,
             state: *mut u64,
@@ -46,7 +62,7 @@ mod library {
             to: usize,
         ) -> usize;
 
-        pub fn cuckooormolu_read(
+        pub fn cuckooormolu_raw_read(
             text: *const u8,
             text_length: usize,
             terms: *mut u16,
@@ -56,7 +72,15 @@ mod library {
             line: *mut usize,
         ) -> usize;
 
-        pub fn cuckooormolu_write(
+        pub fn cuckooormolu_raw_size(
+            terms: *const u16,
+            terms_length: usize,
+            state: *const u64,
+            state_length: usize,
+            count: *mut usize,
+        ) -> usize;
+
+        pub fn cuckooormolu_raw_write(
             terms: *const u16,
             terms_length: usize,
             state: *const u64,
@@ -68,8 +92,9 @@ mod library {
     }
 }
 
-const DONE: usize = 0;
-const DENIED: usize = 10;
+const DONE: usize = 100;
+const DENIED: usize = 200;
+const GRANTED: usize = 300;
 
 fn refused(code: usize) -> Refusal {
     Refusal::of_number(code).unwrap_or_else(|| panic!("the library gave the unknown code {code}"))
@@ -84,7 +109,7 @@ fn done(code: usize) -> Result<(), Refusal> {
 
 fn decided(code: usize) -> Result<Answer, Refusal> {
     match code {
-        DONE => Ok(Answer::Grant),
+        GRANTED => Ok(Answer::Grant),
         DENIED => Ok(Answer::Deny),
         code => Err(refused(code)),
     }
@@ -96,7 +121,7 @@ fn decided(code: usize) -> Result<Answer, Refusal> {
 /// Whether terms and state are ones that a call accepts: 6, 7 or 8 if not.
 pub fn check(terms: &[u16], state: &[u64]) -> Result<(), Refusal> {
     done(unsafe {
-        library::cuckooormolu_check(terms.as_ptr(), terms.len(), state.as_ptr(), state.len())
+        library::cuckooormolu_raw_check(terms.as_ptr(), terms.len(), state.as_ptr(), state.len())
     })
 }
 
@@ -104,7 +129,7 @@ pub fn check(terms: &[u16], state: &[u64]) -> Result<(), Refusal> {
 /// its other words held is lost. Refused with 6, 7 or 8.
 pub fn open(terms: &[u16], state: &mut [u64]) -> Result<(), Refusal> {
     done(unsafe {
-        library::cuckooormolu_open(terms.as_ptr(), terms.len(), state.as_mut_ptr(), state.len())
+        library::cuckooormolu_raw_open(terms.as_ptr(), terms.len(), state.as_mut_ptr(), state.len())
     })
 }
 
@@ -113,21 +138,19 @@ pub fn look(
     terms: &[u16],
     state: &[u64],
     scratch: &[u64],
-    event: usize,
-    from: usize,
-    to: usize,
+    request: Request,
 ) -> Result<Answer, Refusal> {
     decided(unsafe {
-        library::cuckooormolu_look(
+        library::cuckooormolu_raw_look(
             terms.as_ptr(),
             terms.len(),
             state.as_ptr(),
             state.len(),
             scratch.as_ptr(),
             scratch.len(),
-            event,
-            from,
-            to,
+            request.event,
+            request.from,
+            request.to,
         )
     })
 }
@@ -138,21 +161,19 @@ pub fn request(
     terms: &[u16],
     state: &mut [u64],
     scratch: &mut [u64],
-    event: usize,
-    from: usize,
-    to: usize,
+    request: Request,
 ) -> Result<Answer, Refusal> {
     decided(unsafe {
-        library::cuckooormolu_request(
+        library::cuckooormolu_raw_request(
             terms.as_ptr(),
             terms.len(),
             state.as_mut_ptr(),
             state.len(),
             scratch.as_mut_ptr(),
             scratch.len(),
-            event,
-            from,
-            to,
+            request.event,
+            request.from,
+            request.to,
         )
     })
 }
@@ -162,7 +183,7 @@ pub fn request(
 pub fn read(text: &[u8], terms: &mut [u16], state: &mut [u64]) -> Result<(), (Refusal, usize)> {
     let mut line = 0;
     let code = unsafe {
-        library::cuckooormolu_read(
+        library::cuckooormolu_raw_read(
             text.as_ptr(),
             text.len(),
             terms.as_mut_ptr(),
@@ -175,12 +196,27 @@ pub fn read(text: &[u8], terms: &mut [u16], state: &mut [u64]) -> Result<(), (Re
     done(code).map_err(|refusal| (refusal, line))
 }
 
+/// How many bytes [`write`] would write. Refused with 6, 7 or 8.
+pub fn size(terms: &[u16], state: &[u64]) -> Result<usize, Refusal> {
+    let mut count = 0;
+    let code = unsafe {
+        library::cuckooormolu_raw_size(
+            terms.as_ptr(),
+            terms.len(),
+            state.as_ptr(),
+            state.len(),
+            &mut count,
+        )
+    };
+    done(code).map(|()| count)
+}
+
 /// Writes the terms with the present relations from the output's first byte
 /// on and gives the count of bytes.
 pub fn write(terms: &[u16], state: &[u64], output: &mut [u8]) -> Result<usize, Refusal> {
     let mut count = 0;
     let code = unsafe {
-        library::cuckooormolu_write(
+        library::cuckooormolu_raw_write(
             terms.as_ptr(),
             terms.len(),
             state.as_ptr(),

@@ -1,7 +1,9 @@
 //! Why nothing was decided.
 
-use std::error::Error;
-use std::fmt;
+use alloc::format;
+use alloc::string::String;
+use core::error::Error;
+use core::fmt;
 
 /// A refusal. Whatever is refused leaves all memory as it was.
 ///

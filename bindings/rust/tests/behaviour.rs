@@ -1,6 +1,8 @@
 //! One test for each behaviour of the binding.
 
-use cuckooormolu::{raw, Answer, EventEdge, Monitor, Refusal, State, Terms};
+use cuckooormolu::{raw, Answer, Monitor, Refusal, State, Terms};
+use cuckooormolu::{Action, Direction, Effect, Entry, Label};
+use cuckooormolu::{Edge, Event, Member, Relation, Request, Variable};
 use cuckooormolu::{SCRATCH_WORDS, STATE_WORDS, TERMS_WORDS};
 
 /// Relation 0 is own; events are 0 share, 1 withdraw, 2 load. Spaces for tabs.
@@ -22,9 +24,17 @@ P 2 7
 G 0 0 2
 ";
 
-const SHARE: usize = 0;
-const WITHDRAW: usize = 1;
-const LOAD: usize = 2;
+const SHARE: Event = Event(0);
+const WITHDRAW: Event = Event(1);
+const LOAD: Event = Event(2);
+
+fn asked(event: Event, from: u8, to: u8) -> Request {
+    Request { event, from: Member(from), to: Member(to) }
+}
+
+fn edge(relation: u8, from: u8, to: u8) -> Edge {
+    Edge { relation: Relation(relation), from: Member(from), to: Member(to) }
+}
 
 fn tabs(text: &str) -> Vec<u8> {
     text.replace(' ', "\t").into_bytes()
@@ -42,26 +52,26 @@ fn refused(text: &str) -> (usize, usize) {
 #[test]
 fn the_preset_answers_as_written() {
     let mut monitor = preset();
-    assert_eq!(monitor.request(LOAD, 1, 2), Ok(Answer::Deny));
-    assert_eq!(monitor.request(SHARE, 0, 1), Ok(Answer::Grant));
-    assert_eq!(monitor.request(LOAD, 1, 2), Ok(Answer::Grant));
-    assert_eq!(monitor.request(WITHDRAW, 0, 1), Ok(Answer::Grant));
-    assert_eq!(monitor.request(LOAD, 1, 2), Ok(Answer::Deny));
-    assert_eq!(monitor.request(9, 0, 0), Err(Refusal::NoSuchName));
+    assert_eq!(monitor.request(asked(LOAD, 1, 2)), Ok(Answer::Deny));
+    assert_eq!(monitor.request(asked(SHARE, 0, 1)), Ok(Answer::Grant));
+    assert_eq!(monitor.request(asked(LOAD, 1, 2)), Ok(Answer::Grant));
+    assert_eq!(monitor.request(asked(WITHDRAW, 0, 1)), Ok(Answer::Grant));
+    assert_eq!(monitor.request(asked(LOAD, 1, 2)), Ok(Answer::Deny));
+    assert_eq!(monitor.request(asked(Event(9), 0, 0)), Err(Refusal::NoSuchName));
 }
 
 #[test]
 fn a_share_by_somebody_who_owns_nothing_does_not_count() {
     let mut monitor = preset();
-    monitor.request(SHARE, 2, 1).unwrap();
-    assert_eq!(monitor.look(LOAD, 1, 2), Ok(Answer::Deny));
+    monitor.request(asked(SHARE, 2, 1)).unwrap();
+    assert_eq!(monitor.look(asked(LOAD, 1, 2)), Ok(Answer::Deny));
 }
 
 #[test]
 fn a_look_makes_no_moment() {
     let monitor = preset();
     let before = monitor.state().clone();
-    assert_eq!(monitor.look(SHARE, 0, 1), Ok(Answer::Grant));
+    assert_eq!(monitor.look(asked(SHARE, 0, 1)), Ok(Answer::Grant));
     assert_eq!(*monitor.state(), before);
 }
 
@@ -69,27 +79,80 @@ fn a_look_makes_no_moment() {
 fn a_denied_or_refused_request_changes_nothing() {
     let mut monitor = preset();
     let before = monitor.state().clone();
-    assert_eq!(monitor.request(LOAD, 1, 2), Ok(Answer::Deny));
-    assert_eq!(monitor.request(LOAD, 1, 3), Err(Refusal::NoSuchName));
-    assert_eq!(monitor.request(LOAD, usize::MAX, 0), Err(Refusal::NoSuchName));
+    assert_eq!(monitor.request(asked(LOAD, 1, 2)), Ok(Answer::Deny));
+    assert_eq!(monitor.request(asked(LOAD, 1, 3)), Err(Refusal::NoSuchName));
+    assert_eq!(monitor.request(asked(LOAD, u8::MAX, 0)), Err(Refusal::NoSuchName));
     assert_eq!(*monitor.state(), before);
 }
 
 #[test]
-fn terms_and_state_are_shown() {
-    let mut monitor = preset();
+fn terms_are_shown() {
+    let monitor = preset();
     let terms = monitor.terms();
-    let counts = (terms.members(), terms.relations(), terms.events(), terms.entries());
-    assert_eq!(counts, (3, 1, 3, 9));
-    assert!(monitor.state().has_edge(0, 0, 2));
-    assert!(!monitor.state().has_edge(0, 2, 0));
-    assert!(!monitor.state().has_edge(16, 0, 0) && !monitor.state().has_edge(0, 64, 64));
-    assert_eq!((monitor.state().event(), monitor.state().edges()), (None, 1));
-    assert!(!monitor.state().table_holds(0, 0, 1));
-    monitor.request(SHARE, 0, 1).unwrap();
-    assert!(monitor.state().table_holds(0, 0, 1));
-    assert!(!monitor.state().table_holds(32, 0, 0));
-    assert_eq!(monitor.state().event(), Some(EventEdge { event: SHARE, from: 0, to: 1 }));
+    let counts = [terms.members().len(), terms.relations().len(), terms.events().len()];
+    assert_eq!(counts, [3, 1, 3]);
+    let entries = [
+        Entry::Var(Variable(1)),
+        Entry::Out(Label::Event(SHARE), 0),
+        Entry::Out(Label::Event(WITHDRAW), 0),
+        Entry::Not(2),
+        Entry::Since(3, 1),
+        Entry::In(Label::Relation(Relation(0)), 4),
+        Entry::At(Variable(0), 5),
+        Entry::Bind(Variable(1), 6),
+        Entry::Top,
+    ];
+    assert!(terms.entries().eq(entries));
+    assert_eq!((terms.entry(4), terms.entry(9)), (Some(Entry::Since(3, 1)), None));
+    let words: Vec<_> = terms.entries().map(Entry::word).collect();
+    assert_eq!(words, ["var", "out", "out", "not", "since", "in", "at", "bind", "top"]);
+    assert!(terms.tables().eq([4]));
+    assert!(terms.events().map(|event| terms.policy(event)).eq([Some(8), Some(8), Some(7)]));
+    assert_eq!((terms.policy(Event(3)), terms.policy(Event(255))), (None, None));
+    assert_eq!((terms.effects(LOAD).count(), terms.effects(Event(255)).count()), (0, 0));
+}
+
+#[test]
+fn entries_and_effects_of_each_kind_are_shown() {
+    let text = "M 1\nL 1 2\nF 0 top 0 0\nF 1 or 0 0\nF 2 prev 1 0\nP 0 2\nP 1 0\n\
+                E 1 add 0 fwd\nE 1 del 0 back\n";
+    let monitor = Monitor::read(&tabs(text)).unwrap();
+    let terms = monitor.terms();
+    assert!(terms.entries().eq([Entry::Top, Entry::Or(0, 0), Entry::Prev(1)]));
+    let relation = Relation(0);
+    let effects = [
+        Effect { action: Action::Add, relation, direction: Direction::Fwd },
+        Effect { action: Action::Del, relation, direction: Direction::Back },
+    ];
+    assert!(terms.effects(Event(1)).eq(effects));
+    assert_eq!(terms.effects(Event(0)).count(), 0);
+}
+
+#[test]
+fn a_state_is_shown() {
+    let mut monitor = preset();
+    let state = monitor.state();
+    assert!(state.edges().eq([edge(0, 0, 2)]));
+    assert!(state.has_edge(edge(0, 0, 2)) && !state.has_edge(edge(0, 2, 0)));
+    assert!(!state.has_edge(edge(16, 0, 0)));
+    assert!(!state.has_edge(edge(0, 64, 0)) && !state.has_edge(edge(0, 0, 64)));
+    assert_eq!((state.event(), state.table(0).count()), (None, 0));
+    monitor.request(asked(SHARE, 0, 1)).unwrap();
+    let state = monitor.state();
+    assert!(state.table(0).eq([(Member(0), Member(1))]));
+    assert!(state.table_holds(0, Member(0), Member(1)));
+    assert!(!state.table_holds(0, Member(1), Member(0)));
+    assert!(!state.table_holds(32, Member(0), Member(0)) && state.table(32).next().is_none());
+    assert_eq!(state.event(), Some(asked(SHARE, 0, 1)));
+}
+
+#[test]
+fn numbers_that_name_nothing_are_no_names() {
+    assert_eq!(Event::try_from(255usize), Ok(Event(255)));
+    assert_eq!(Event::try_from(256usize), Err(Refusal::NoSuchName));
+    assert_eq!(Member::try_from(usize::MAX), Err(Refusal::NoSuchName));
+    assert_eq!((Member::from(7), usize::from(Member(7))), (Member(7), 7));
+    assert_eq!(format!("{} {:>3}", Member(7), Relation(8)), "7   8");
 }
 
 #[test]
@@ -112,33 +175,33 @@ fn the_longest_text_is_written() {
         text.push_str(&format!("G {} {} {}\n", place / 4_096, place / 64 % 64, place % 64));
     }
     let monitor = Monitor::read(&tabs(&text)).unwrap();
-    assert_eq!(monitor.state().edges(), 65_536);
+    assert_eq!(monitor.state().edges().count(), 65_536);
     assert!(monitor.write() == tabs(&text));
 }
 
 #[test]
 fn a_written_text_forgets_the_past() {
     let mut monitor = preset();
-    monitor.request(SHARE, 0, 1).unwrap();
+    monitor.request(asked(SHARE, 0, 1)).unwrap();
     let mut later = Monitor::read(&monitor.write()).unwrap();
     assert_eq!(later.terms(), monitor.terms());
-    assert_eq!(later.request(LOAD, 1, 2), Ok(Answer::Deny));
+    assert_eq!(later.request(asked(LOAD, 1, 2)), Ok(Answer::Deny));
 }
 
 #[test]
 fn kept_words_are_resumed() {
     let mut monitor = preset();
-    monitor.request(SHARE, 0, 1).unwrap();
+    monitor.request(asked(SHARE, 0, 1)).unwrap();
     let terms = Terms::from_words(monitor.terms().words()).unwrap();
     let state = State::from_words(monitor.state().words()).unwrap();
     let later = Monitor::resume(terms, state).unwrap();
-    assert_eq!(later.look(LOAD, 1, 2), Ok(Answer::Grant));
+    assert_eq!(later.look(asked(LOAD, 1, 2)), Ok(Answer::Grant));
 }
 
 #[test]
 fn opening_keeps_the_relations_only() {
     let mut monitor = preset();
-    monitor.request(SHARE, 0, 1).unwrap();
+    monitor.request(asked(SHARE, 0, 1)).unwrap();
     let (terms, state) = monitor.into_parts();
     let fresh = Monitor::open(terms, state).unwrap();
     assert_eq!(fresh.state(), preset().state());
@@ -213,7 +276,7 @@ fn answers_are_shown_as_words() {
 #[test]
 fn monitors_may_move_between_threads() {
     let mut monitor = preset();
-    let thread = std::thread::spawn(move || monitor.request(SHARE, 0, 1));
+    let thread = std::thread::spawn(move || monitor.request(asked(SHARE, 0, 1)));
     assert_eq!(thread.join().unwrap(), Ok(Answer::Grant));
 }
 
@@ -222,14 +285,17 @@ fn raw_calls_take_memory_of_any_length() {
     let (terms, state) = preset().into_parts();
     let (terms, mut words) = (terms.words(), state.words().to_vec());
     let mut scratch = vec![5; SCRATCH_WORDS];
+    let request = raw::Request { event: 0, from: 0, to: 1 };
     assert_eq!(raw::check(&terms[1..], &words), Err(Refusal::TooShort));
-    assert_eq!(raw::look(terms, &words, &scratch[1..], 0, 0, 0), Err(Refusal::TooShort));
-    assert_eq!(raw::request(terms, &mut words, &mut [], 0, 0, 0), Err(Refusal::TooShort));
+    assert_eq!(raw::look(terms, &words, &scratch[1..], request), Err(Refusal::TooShort));
+    assert_eq!(raw::request(terms, &mut words, &mut [], request), Err(Refusal::TooShort));
     assert_eq!(raw::open(terms, &mut words[1..]), Err(Refusal::TooShort));
+    let none = raw::Request { from: usize::MAX, ..request };
+    assert_eq!(raw::request(terms, &mut words, &mut scratch, none), Err(Refusal::NoSuchName));
     assert_eq!(words, state.words());
     words.push(6);
     scratch.push(7);
-    assert_eq!(raw::request(terms, &mut words, &mut scratch, 0, 0, 1), Ok(Answer::Grant));
+    assert_eq!(raw::request(terms, &mut words, &mut scratch, request), Ok(Answer::Grant));
     assert_eq!((words[STATE_WORDS], scratch[SCRATCH_WORDS]), (6, 7));
     assert_eq!(scratch[..SCRATCH_WORDS], [0; SCRATCH_WORDS]);
 }
@@ -243,10 +309,40 @@ fn raw_reading_and_writing_keep_to_their_memory() {
     assert_eq!((&terms, &state), (&vec![3; TERMS_WORDS + 1], &vec![4; STATE_WORDS + 1]));
     assert_eq!(raw::read(&text, &mut terms, &mut state), Ok(()));
     assert_eq!((terms[TERMS_WORDS], state[STATE_WORDS]), (3, 4));
+    assert_eq!(raw::size(&terms, &state), Ok(text.len()));
+    assert_eq!(raw::size(&terms[2..], &state), Err(Refusal::TooShort));
     let mut output = vec![9; text.len() + 1];
     let short = &mut output[2..];
     assert_eq!(raw::write(&terms, &state, short), Err(Refusal::TooShort));
     assert_eq!(short, vec![9; text.len() - 1]);
     assert_eq!(raw::write(&terms, &state, &mut output), Ok(text.len()));
     assert_eq!((&output[..text.len()], output[text.len()]), (&text[..], 9));
+}
+
+/// The number that the C header defines a name as.
+fn defined(name: &str) -> usize {
+    let header = include_str!("../../c/cuckooormolu.h");
+    let mut words = header.split_whitespace().skip_while(|word| *word != name);
+    let value = words.by_ref().skip(1).find(|word| *word != "=").expect(name);
+    value.trim_end_matches(',').parse().expect(name)
+}
+
+#[test]
+fn the_c_header_has_the_same_numbers() {
+    let version = ["MAJOR", "MINOR", "PATCH"]
+        .map(|part| defined(&format!("CUCKOOORMOLU_VERSION_{part}")).to_string());
+    assert_eq!(version.join("."), env!("CARGO_PKG_VERSION"));
+    assert_eq!(defined("CUCKOOORMOLU_TERMS_WORDS"), TERMS_WORDS);
+    assert_eq!(defined("CUCKOOORMOLU_STATE_WORDS"), STATE_WORDS);
+    assert_eq!(defined("CUCKOOORMOLU_SCRATCH_WORDS"), SCRATCH_WORDS);
+    let refusals =
+        ["FORM", "RANGE", "OPERAND", "PAST", "POLICY", "SHORT", "TERMS", "STATE", "NAME"];
+    for (name, refusal) in refusals.into_iter().zip(Refusal::ALL) {
+        assert_eq!(defined(&format!("CUCKOOORMOLU_REFUSED_{name}")), refusal.number());
+    }
+    let header: String = include_str!("../../c/cuckooormolu.h").lines().map(str::trim).collect();
+    let header = header.replace("\"\"", "");
+    for refusal in Refusal::ALL {
+        assert!(header.contains(refusal.words()), "{refusal}");
+    }
 }

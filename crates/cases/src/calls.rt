@@ -1,18 +1,18 @@
 // Cases that read the head and make calls. A text that is refused leaves memory of zeros, which the calls refuse by 7.
-use crate::fields::Call;
-use crate::fields::call_at;
-use crate::fields::label;
-use crate::fields::number_at;
-use crate::fields::term_at;
-use crate::fields::word_at;
-use crate::lent::SCRATCH;
-use crate::lent::STATE;
-use crate::lent::TERMS;
+use crate::columns::Call;
+use crate::columns::call_at;
+use crate::columns::label;
+use crate::columns::number_at;
+use crate::columns::term_at;
+use crate::columns::word_at;
 use crate::lent::looking;
 use crate::lent::reading;
 use crate::lent::requesting;
 use crate::show::show_answer;
-use text::word::same;
+use fields::word::same;
+use memory::layout::SCRATCH;
+use memory::layout::STATE;
+use memory::layout::TERMS;
 
 // `asks` call: one request.
 fn asks(l: &[u8], head: &[u8]) {

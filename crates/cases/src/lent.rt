@@ -1,20 +1,14 @@
 // The calls over the front of lent memory. Memory that does not reach so far gives a refusal by 0, which no call gives.
-use crate::fields::Call;
-use crate::fields::put_text;
+use crate::columns::Call;
+use crate::columns::put_text;
 use memory::Outcome;
+use memory::layout::SCRATCH;
 use monitor::Answer;
 use monitor::look;
 use monitor::request;
-use text::Written;
 use text::read::read;
-use text::write::write;
-
-// Words of terms, state and scratch (document 01, "Memory").
-pub(crate) const TERMS: usize = 980;
-
-pub(crate) const STATE: usize = 3073;
-
-pub(crate) const SCRATCH: usize = 2048;
+use writer::Written;
+use writer::write::write;
 
 // Bytes of a text, enough for those of the cases.
 pub(crate) const ROOM: usize = 8192;

@@ -1,17 +1,17 @@
-// Runs the cases of cases.tsv in the current folder: every case of document 01's section "Cases", and a dozen more of each refusal. A case prints one
+// Runs the cases of cases.tsv in the current folder: every case of docs/SCOPE.md, Cases, and a dozen more of each refusal. A case prints one
 // line: its label, a tab, the result. The keeper reads the same file and works out by itself what is to be printed.
 mod calls;
-mod fields;
+mod columns;
 mod lent;
 mod reads;
 mod show;
 mod writes;
 
-use fields::label;
+use columns::label;
+use fields::field::piece;
+use fields::field::pieces;
+use fields::word::same;
 use show::show_word;
-use text::field::piece;
-use text::field::pieces;
-use text::word::same;
 ghost use Rattle.io.specs.Counts.{Counts};
 
 // More bytes than the file has.

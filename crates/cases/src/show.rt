@@ -3,7 +3,7 @@ use libc::STDOUT_FILENO;
 use memory::Outcome;
 use monitor::Answer;
 use monitor::Verdict;
-use text::Written;
+use writer::Written;
 
 fn put(bytes: &[u8]) {
     io::write_all(STDOUT_FILENO, bytes);

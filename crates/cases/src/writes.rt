@@ -1,16 +1,13 @@
 // Cases that read the head and write the memory out again.
 use crate::calls::put_term;
 use crate::calls::put_word;
-use crate::fields::call_at;
-use crate::fields::label;
-use crate::fields::number_at;
-use crate::fields::put_text;
-use crate::fields::term_at;
-use crate::fields::word_at;
+use crate::columns::call_at;
+use crate::columns::label;
+use crate::columns::number_at;
+use crate::columns::put_text;
+use crate::columns::term_at;
+use crate::columns::word_at;
 use crate::lent::ROOM;
-use crate::lent::SCRATCH;
-use crate::lent::STATE;
-use crate::lent::TERMS;
 use crate::lent::reading;
 use crate::lent::reading_front;
 use crate::lent::requesting;
@@ -18,10 +15,13 @@ use crate::lent::writing;
 use crate::show::show_answer;
 use crate::show::show_word;
 use crate::show::show_written;
+use fields::field::piece;
+use fields::word::same;
 use memory::Outcome;
-use text::Written;
-use text::field::piece;
-use text::word::same;
+use memory::layout::SCRATCH;
+use memory::layout::STATE;
+use memory::layout::TERMS;
+use writer::Written;
 
 // `writes` terms state bytes: so many words of terms and of state into so many bytes.
 fn writes(l: &[u8], head: &[u8]) {

@@ -1,7 +1,7 @@
-// Answers the requests of requests.tsv by the terms of terms.tsv, both in the current folder (document 01, "The preset terms, whole").
+// Answers the requests of requests.tsv by the terms of terms.tsv, both in the current folder (docs/SCOPE.md, The program).
 use libc::STDERR_FILENO;
 use libc::STDOUT_FILENO;
-use text::Written;
+use writer::Written;
 ghost use Rattle.io.specs.Counts.{Counts};
 
 // As many bytes as a file may have, and one more: a longer file is noticed by it.

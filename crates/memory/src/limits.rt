@@ -1,4 +1,4 @@
-// The most members, relations, events, entries, past-time tables, effects of an event, and variables that there may be (document 01, "The terms file").
+// The most members, relations, events, entries, past-time tables, effects of an event, and variables that there may be (docs/SCOPE.md, The terms file).
 pub const MEMBERS: usize = 64;
 
 pub const RELATIONS: usize = 16;

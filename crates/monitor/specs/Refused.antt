@@ -1,4 +1,4 @@
--- Why nothing is decided (document 01, "What is returned when nothing is decided"), as far as no text is read: line by line of the table.
+-- Why nothing is decided (docs/SCOPE.md, Refusals), as far as no text is read: line by line of the table.
 use Prim.Native.Nat.{ℕ, _≤_, _<_}
 use mathlib.Core.Path.{_≡_}
 use mathlib.Core.List.{List}

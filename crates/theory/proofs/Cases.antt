@@ -15,13 +15,13 @@ use Rattle.theory.specs.Moment.{affectAll}
 use Rattle.theory.specs.Keeper.{Call, Answer, keep, keepAll, keeper}
 use Rattle.theory.specs.Keeper.Answer.{refused}
 use Rattle.theory.specs.Tables.{State, holdsNow, prevTables, sinceTables, opening, decideNow, advance}
-use Rattle.theory.specs.Cases.{line, request, look, yes, no, preset, circle, own, cases, kept, expected, Anywhere}
+use Rattle.theory.specs.Cases.{line, requests, looks, yes, no, preset, circle, own, cases, keptAnswers, expected, Anywhere}
 use Rattle.theory.proofs.Record.{since-unfolds}
 
 -- ---- the preset's requests
 
 pub preset-answers :
-    keeper preset own (request 2 1 2 ∷ request 0 0 1 ∷ request 2 1 2 ∷ request 1 0 1 ∷ request 2 1 2 ∷ request 9 0 0 ∷ []) .0
+    keeper preset own (requests 2 1 2 ∷ requests 0 0 1 ∷ requests 2 1 2 ∷ requests 1 0 1 ∷ requests 2 1 2 ∷ requests 9 0 0 ∷ []) .0
     ≡ no ∷ yes ∷ yes ∷ yes ∷ no ∷ refused 9 0 ∷ []
 unfolding preset own keep keepAll holds anyBelow allBelow node number below spelled affectAll
 preset-answers = refl
@@ -40,8 +40,8 @@ anywhere N γ i g m = record {
 
 -- The keeper answers every call of the table as it says; and what is marked as holding always, or with where it holds, does so for every
 -- number of members, record, moment, assignment and member.
-pub marked-cases : (kept cases ≡ expected cases) × ((N : ℕ) (γ : Record) (i : ℕ) (g : Assignment) (m : ℕ) → Anywhere N γ i g m)
-unfolding cases kept expected preset circle own keep keepAll holds anyBelow allBelow node number below spelled affectAll
+pub marked-cases : (keptAnswers cases ≡ expected cases) × ((N : ℕ) (γ : Record) (i : ℕ) (g : Assignment) (m : ℕ) → Anywhere N γ i g m)
+unfolding cases keptAnswers expected preset circle own keep keepAll holds anyBelow allBelow node number below spelled affectAll
 marked-cases = (refl, anywhere)
 
 -- ---- nested past-time terms, by the keeper and by the tables
@@ -72,10 +72,10 @@ nested = record {
 -- three grants, and at each moment the five policies at member 0
 unfoldable pub nestedCalls : List Call
 nestedCalls =
-    look 1 0 1 ∷ look 2 0 1 ∷ look 3 0 1 ∷ look 4 0 1 ∷ look 5 0 1 ∷ request 0 0 1
-    ∷ look 1 0 1 ∷ look 2 0 1 ∷ look 3 0 1 ∷ look 4 0 1 ∷ look 5 0 1 ∷ request 0 1 0
-    ∷ look 1 0 1 ∷ look 2 0 1 ∷ look 3 0 1 ∷ look 4 0 1 ∷ look 5 0 1 ∷ request 0 1 1
-    ∷ look 1 0 1 ∷ look 2 0 1 ∷ look 3 0 1 ∷ look 4 0 1 ∷ look 5 0 1 ∷ []
+    looks 1 0 1 ∷ looks 2 0 1 ∷ looks 3 0 1 ∷ looks 4 0 1 ∷ looks 5 0 1 ∷ requests 0 0 1
+    ∷ looks 1 0 1 ∷ looks 2 0 1 ∷ looks 3 0 1 ∷ looks 4 0 1 ∷ looks 5 0 1 ∷ requests 0 1 0
+    ∷ looks 1 0 1 ∷ looks 2 0 1 ∷ looks 3 0 1 ∷ looks 4 0 1 ∷ looks 5 0 1 ∷ requests 0 1 1
+    ∷ looks 1 0 1 ∷ looks 2 0 1 ∷ looks 3 0 1 ∷ looks 4 0 1 ∷ looks 5 0 1 ∷ []
 
 unfoldable pub nestedAnswers : List Answer
 nestedAnswers =

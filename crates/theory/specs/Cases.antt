@@ -1,4 +1,4 @@
--- Document 01's marked cases: one table of calls and the keeper's answers, and what is marked as holding always, or with where it holds.
+-- The marked cases of docs/SCOPE.md: one table of calls and the keeper's answers, and what is marked as holding always, or with where it holds.
 use Prim.Native.Nat.{ℕ, _-_, _<_}
 use mathlib.Core.Path.{_≡_}
 use mathlib.Core.Logic.{_↔_}
@@ -21,11 +21,11 @@ line o a b = record { op = o; a = a; b = b; c = 0 }
 abbrev pub reaching : (x f g : ℕ) → Entry
 reaching x f g = record { op = 10; a = x; b = f; c = g }
 
-abbrev pub request : ℕ → ℕ → ℕ → Call
-request j u v = record { look = false; event = j; from = u; to = v; scratch = 2048 }
+abbrev pub requests : ℕ → ℕ → ℕ → Call
+requests j u v = record { look = false; event = j; from = u; to = v; scratch = 2048 }
 
-abbrev pub look : ℕ → ℕ → ℕ → Call
-look j u v = record { look = true; event = j; from = u; to = v; scratch = 2048 }
+abbrev pub looks : ℕ → ℕ → ℕ → Call
+looks j u v = record { look = true; event = j; from = u; to = v; scratch = 2048 }
 
 abbrev pub yes : Answer
 yes = decided grant
@@ -98,7 +98,7 @@ dels = record { adds = false; relation = 0; back = false }
 
 -- event 1 looked at for all initiators and targets
 abbrev pub everywhere : List Call
-everywhere = look 1 0 0 ∷ look 1 0 1 ∷ look 1 0 2 ∷ look 1 1 0 ∷ look 1 1 1 ∷ look 1 1 2 ∷ look 1 2 0 ∷ look 1 2 1 ∷ look 1 2 2 ∷ []
+everywhere = looks 1 0 0 ∷ looks 1 0 1 ∷ looks 1 0 2 ∷ looks 1 1 0 ∷ looks 1 1 1 ∷ looks 1 1 2 ∷ looks 1 2 0 ∷ looks 1 2 1 ∷ looks 1 2 2 ∷ []
 
 abbrev pub always : List Answer
 always = replicate 9 yes
@@ -106,20 +106,20 @@ always = replicate 9 yes
 unfoldable pub cases : List Case
 cases =
     -- fresh preset terms: load 1 2 is denied
-    case preset (look 2 1 2 ∷ []) (no ∷ [])
+    case preset (looks 2 1 2 ∷ []) (no ∷ [])
     -- after share 0 1: granted
-    ∷ case preset (request 0 0 1 ∷ look 2 1 2 ∷ []) (yes ∷ yes ∷ [])
+    ∷ case preset (requests 0 0 1 ∷ looks 2 1 2 ∷ []) (yes ∷ yes ∷ [])
     -- after share 0 1, withdraw 0 1: denied
-    ∷ case preset (request 0 0 1 ∷ request 1 0 1 ∷ look 2 1 2 ∷ []) (yes ∷ yes ∷ no ∷ [])
+    ∷ case preset (requests 0 0 1 ∷ requests 1 0 1 ∷ looks 2 1 2 ∷ []) (yes ∷ yes ∷ no ∷ [])
     -- after share 2 1 alone: denied
-    ∷ case preset (request 0 2 1 ∷ look 2 1 2 ∷ []) (yes ∷ no ∷ [])
+    ∷ case preset (requests 0 2 1 ∷ looks 2 1 2 ∷ []) (yes ∷ no ∷ [])
     -- prev of top fails at moment 0, and holds after one grant
     ∷ case (small 2 (line 6 0 0 ∷ []) []) everywhere (replicate 9 no)
-    ∷ case (small 2 (line 6 0 0 ∷ []) []) (request 0 0 1 ∷ everywhere) (yes ∷ always)
+    ∷ case (small 2 (line 6 0 0 ∷ []) []) (requests 0 0 1 ∷ everywhere) (yes ∷ always)
     -- since(not top, top) holds at moments 0, 1 and 2
     ∷ case (small 3 (line 2 0 0 ∷ line 7 1 0 ∷ []) []) everywhere always
-    ∷ case (small 3 (line 2 0 0 ∷ line 7 1 0 ∷ []) []) (request 0 0 1 ∷ everywhere) (yes ∷ always)
-    ∷ case (small 3 (line 2 0 0 ∷ line 7 1 0 ∷ []) []) (request 0 0 1 ∷ request 0 1 1 ∷ everywhere) (yes ∷ yes ∷ always)
+    ∷ case (small 3 (line 2 0 0 ∷ line 7 1 0 ∷ []) []) (requests 0 0 1 ∷ everywhere) (yes ∷ always)
+    ∷ case (small 3 (line 2 0 0 ∷ line 7 1 0 ∷ []) []) (requests 0 0 1 ∷ requests 0 1 1 ∷ everywhere) (yes ∷ yes ∷ always)
     -- var 0 holds where initiator and target are the same member
     ∷ case (small 2 (line 1 0 0 ∷ []) []) everywhere (yes ∷ no ∷ no ∷ no ∷ yes ∷ no ∷ no ∷ no ∷ yes ∷ [])
     -- bind 1 of var 1 always holds
@@ -127,20 +127,20 @@ cases =
     -- bind 1, at 0, bind 1, at 1, var 0 holds
     ∷ case (small 6 (line 1 0 0 ∷ line 9 1 1 ∷ line 8 1 2 ∷ line 9 0 3 ∷ line 8 1 4 ∷ []) []) everywhere always
     -- effects add then del leave the edge absent, del then add present, where it was absent before (1 to 2) and present (0 to 2)
-    ∷ case (small 3 (line 1 0 0 ∷ line 4 0 1 ∷ []) (adds ∷ dels ∷ [])) (request 0 1 2 ∷ look 1 1 2 ∷ []) (yes ∷ no ∷ [])
-    ∷ case (small 3 (line 1 0 0 ∷ line 4 0 1 ∷ []) (adds ∷ dels ∷ [])) (look 1 0 2 ∷ request 0 0 2 ∷ look 1 0 2 ∷ []) (yes ∷ yes ∷ no ∷ [])
-    ∷ case (small 3 (line 1 0 0 ∷ line 4 0 1 ∷ []) (dels ∷ adds ∷ [])) (look 1 1 2 ∷ request 0 1 2 ∷ look 1 1 2 ∷ []) (no ∷ yes ∷ yes ∷ [])
-    ∷ case (small 3 (line 1 0 0 ∷ line 4 0 1 ∷ []) (dels ∷ adds ∷ [])) (request 0 0 2 ∷ look 1 0 2 ∷ []) (yes ∷ yes ∷ [])
+    ∷ case (small 3 (line 1 0 0 ∷ line 4 0 1 ∷ []) (adds ∷ dels ∷ [])) (requests 0 1 2 ∷ looks 1 1 2 ∷ []) (yes ∷ no ∷ [])
+    ∷ case (small 3 (line 1 0 0 ∷ line 4 0 1 ∷ []) (adds ∷ dels ∷ [])) (looks 1 0 2 ∷ requests 0 0 2 ∷ looks 1 0 2 ∷ []) (yes ∷ yes ∷ no ∷ [])
+    ∷ case (small 3 (line 1 0 0 ∷ line 4 0 1 ∷ []) (dels ∷ adds ∷ [])) (looks 1 1 2 ∷ requests 0 1 2 ∷ looks 1 1 2 ∷ []) (no ∷ yes ∷ yes ∷ [])
+    ∷ case (small 3 (line 1 0 0 ∷ line 4 0 1 ∷ []) (dels ∷ adds ∷ [])) (requests 0 0 2 ∷ looks 1 0 2 ∷ []) (yes ∷ yes ∷ [])
     -- whoever I once shared with: nobody at first; after share 0 1 it is 1 for 0, and not 0 for 1
-    ∷ case circle (look 1 0 1 ∷ request 0 0 1 ∷ look 1 0 1 ∷ look 1 1 0 ∷ look 1 0 2 ∷ []) (no ∷ yes ∷ yes ∷ no ∷ no ∷ [])
+    ∷ case circle (looks 1 0 1 ∷ requests 0 0 1 ∷ looks 1 0 1 ∷ looks 1 1 0 ∷ looks 1 0 2 ∷ []) (no ∷ yes ∷ yes ∷ no ∷ no ∷ [])
     -- after share 0 1, share 1 2 it still is; 2 is two such steps from 0, and 1 is not
-    ∷ case circle (request 0 0 1 ∷ request 0 1 2 ∷ look 1 0 1 ∷ look 1 0 2 ∷ look 2 0 2 ∷ look 2 0 1 ∷ []) (yes ∷ yes ∷ yes ∷ no ∷ yes ∷ no ∷ [])
+    ∷ case circle (requests 0 0 1 ∷ requests 0 1 2 ∷ looks 1 0 1 ∷ looks 1 0 2 ∷ looks 2 0 2 ∷ looks 2 0 1 ∷ []) (yes ∷ yes ∷ yes ∷ no ∷ yes ∷ no ∷ [])
     ∷ []
 
 -- The keeper's answers to the calls of each case, and those that the table has.
-unfoldable pub kept : List Case → List (List Answer)
-kept [] = []
-kept (c ∷ cs) = keeper (c .terms) own (c .calls) .0 ∷ kept cs
+unfoldable pub keptAnswers : List Case → List (List Answer)
+keptAnswers [] = []
+keptAnswers (c ∷ cs) = keeper (c .terms) own (c .calls) .0 ∷ keptAnswers cs
 
 unfoldable pub expected : List Case → List (List Answer)
 expected [] = []

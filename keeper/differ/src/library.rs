@@ -3,11 +3,13 @@
 //! Every call goes to the lent slices. Where the memory is regular the same
 //! call is made of a `Monitor`, which has to agree in answer and state.
 
+use crate::shown;
 use crate::tally::Tally;
-use cuckooormolu::{raw, Monitor, SCRATCH_WORDS, STATE_WORDS, TERMS_WORDS};
+use cuckooormolu::{raw, Event, Member, Monitor, Request};
+use cuckooormolu::{SCRATCH_WORDS, STATE_WORDS, TERMS_WORDS};
 use keeper::compare::Other;
 use keeper::record::{Answer, Call};
-use keeper::terms::Refusal;
+use keeper::terms::{memory, Refusal};
 
 /// The library, and what it and its binding have been seen to do.
 pub struct Library<'a> {
@@ -23,8 +25,16 @@ impl Library<'_> {
     }
 
     /// The text written last, or what the library and its binding disagreed
-    /// about.
-    pub fn agrees(self) -> Result<Vec<u8>, String> {
+    /// about. What the binding shows of its terms and state is compared once,
+    /// here.
+    pub fn agrees(mut self) -> Result<Vec<u8>, String> {
+        if let Some(monitor) = self.monitor.take() {
+            let (terms, state) = (monitor.terms().words(), monitor.state().words());
+            let terms = memory::terms_of_words(terms).unwrap_or_default();
+            let state = memory::state_of_words(&terms, state).unwrap_or_default();
+            self.same("terms shown", shown::terms(&monitor), terms);
+            self.same("state shown", shown::state(&monitor), state);
+        }
         self.disagreement.map_or(Ok(self.written), Err)
     }
 
@@ -56,6 +66,15 @@ fn answer(result: Result<cuckooormolu::Answer, cuckooormolu::Refusal>) -> Answer
     }
 }
 
+/// The request of a call, as far as its numbers can be names.
+fn named(call: &Call) -> Result<Request, cuckooormolu::Refusal> {
+    Ok(Request {
+        event: Event::try_from(call.event)?,
+        from: Member::try_from(call.from)?,
+        to: Member::try_from(call.to)?,
+    })
+}
+
 impl Other for Library<'_> {
     fn read(&mut self, text: &[u8], terms: &mut [u16], state: &mut [u64]) -> Result<(), Refusal> {
         let refused =
@@ -85,18 +104,19 @@ impl Other for Library<'_> {
         scratch: &mut [u64],
     ) -> Answer {
         let Call { event, from, to, .. } = *call;
+        let request = raw::Request { event, from, to };
         let got = if call.look {
-            raw::look(terms, state, scratch, event, from, to)
+            raw::look(terms, state, scratch, request)
         } else {
-            raw::request(terms, state, scratch, event, from, to)
+            raw::request(terms, state, scratch, request)
         };
         let got = answer(got);
         self.tally.call(call, got);
         if let (Some(monitor), true) = (&mut self.monitor, scratch.len() >= SCRATCH_WORDS) {
-            let bound = answer(match call.look {
-                true => monitor.look(event, from, to),
-                false => monitor.request(event, from, to),
-            });
+            let bound = answer(named(call).and_then(|request| match call.look {
+                true => monitor.look(request),
+                false => monitor.request(request),
+            }));
             self.same("answer", bound, got);
             self.same_words(terms, state);
         }
@@ -106,6 +126,10 @@ impl Other for Library<'_> {
     fn write(&mut self, terms: &[u16], state: &[u64], output: &mut [u8]) -> Result<usize, Refusal> {
         let got = raw::write(terms, state, output).map_err(plain);
         self.tally.write(&got);
+        let short = plain(cuckooormolu::Refusal::TooShort);
+        let size = raw::size(terms, state).map_err(plain);
+        let told = size.and_then(|n| if n <= output.len() { Ok(n) } else { Err(short) });
+        self.same("size", told, got);
         if let Ok(count) = got {
             self.written = output[..count].to_vec();
             let bound = self.monitor.as_ref().map(Monitor::write);

@@ -6,6 +6,7 @@
 mod library;
 mod options;
 mod rounds;
+mod shown;
 mod tally;
 
 use options::Options;

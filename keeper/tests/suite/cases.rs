@@ -1,4 +1,4 @@
-//! Every case of the section "Cases".
+//! Every case of docs/SCOPE.md, Cases.
 
 use crate::help::*;
 use keeper::expect;

@@ -9,6 +9,7 @@ mod lists;
 mod literal;
 mod memory;
 mod mutants;
+mod page;
 mod program;
 mod refusals;
 mod shrinking;

@@ -1,0 +1,164 @@
+//! The functions of archives. Each archive is made a shared object by the C
+//! compiler, so that several can be called in one process.
+
+use std::ffi::{c_char, c_int, c_void, CString};
+use std::mem::transmute;
+use std::path::{Path, PathBuf};
+use std::process::Command;
+use std::sync::atomic::{AtomicUsize, Ordering};
+
+type Check = unsafe extern "C" fn(*const u16, usize, *const u64, usize) -> usize;
+type Look = unsafe extern "C" fn(
+    *const u16,
+    usize,
+    *const u64,
+    usize,
+    *const u64,
+    usize,
+    usize,
+    usize,
+    usize,
+) -> usize;
+type Request = unsafe extern "C" fn(
+    *const u16,
+    usize,
+    *mut u64,
+    usize,
+    *mut u64,
+    usize,
+    usize,
+    usize,
+    usize,
+) -> usize;
+type Read =
+    unsafe extern "C" fn(*const u8, usize, *mut u16, usize, *mut u64, usize, *mut usize) -> usize;
+type Write =
+    unsafe extern "C" fn(*const u16, usize, *const u64, usize, *mut u8, usize, *mut usize) -> usize;
+
+extern "C" {
+    fn dlopen(name: *const c_char, flags: c_int) -> *mut c_void;
+    fn dlsym(handle: *mut c_void, name: *const c_char) -> *mut c_void;
+}
+
+/// Resolve every symbol at once.
+const RTLD_NOW: c_int = 2;
+
+/// The archive that is built, as the binding finds it.
+pub fn built() -> PathBuf {
+    let default = Path::new(env!("CARGO_MANIFEST_DIR")).join("../target/staticlib");
+    std::env::var_os("CUCKOOORMOLU_LIB").map_or(default, PathBuf::from).join("libcuckooormolu.a")
+}
+
+/// Whether a code says that a reading or writing is done; 0 is that of an
+/// archive before 0.2.
+pub fn is_done(code: usize) -> bool {
+    code == 100 || code == 0
+}
+
+/// Whether a code says that a request is granted; 0 is that of an archive
+/// before 0.2.
+pub fn is_granted(code: usize) -> bool {
+    code == 300 || code == 0
+}
+
+/// The functions of an archive.
+pub struct Archive {
+    check: Check,
+    look: Look,
+    request: Request,
+    read: Read,
+    write: Write,
+}
+
+impl Archive {
+    /// Opens an archive several times, its code at another place in the cache
+    /// line each time: where loops fall is worth some percent.
+    pub fn open(path: &Path) -> [Archive; 4] {
+        [0, 16, 32, 48].map(|pad| Archive::open_at(path, pad))
+    }
+
+    fn open_at(path: &Path, pad: usize) -> Archive {
+        static OPENED: AtomicUsize = AtomicUsize::new(0);
+        let number = OPENED.fetch_add(1, Ordering::Relaxed);
+        let name = format!("benchmark-{}-{number}", std::process::id());
+        let object = std::env::temp_dir().join(format!("{name}.so"));
+        let source = std::env::temp_dir().join(format!("{name}.s"));
+        let text = format!(
+            ".section .note.GNU-stack,\"\",@progbits\n.text\n.balign 64\n.skip {}\n",
+            64 + pad
+        );
+        std::fs::write(&source, text).expect("the source is written");
+        let mut link = Command::new(std::env::var_os("CC").unwrap_or("cc".into()));
+        link.args(["-shared", "-Wl,-Bsymbolic"]).arg(&source).arg("-Wl,--whole-archive");
+        link.arg(path).arg("-Wl,--no-whole-archive").arg("-o").arg(&object);
+        assert!(link.status().is_ok_and(|status| status.success()), "{}", path.display());
+        std::fs::remove_file(&source).expect("the source was written");
+        let name = CString::new(object.as_os_str().as_encoded_bytes()).expect("a path");
+        let handle = unsafe { dlopen(name.as_ptr(), RTLD_NOW) };
+        assert!(!handle.is_null(), "{} cannot be opened", object.display());
+        std::fs::remove_file(&object).expect("the object was written");
+        let symbol = |name: &str| {
+            // An archive before 0.2 has the second name.
+            let names = [format!("cuckooormolu_raw_{name}"), format!("cuckooormolu_{name}")];
+            let find = |name: &String| {
+                let name = CString::new(name.as_str()).expect("a name");
+                unsafe { dlsym(handle, name.as_ptr()) }
+            };
+            let symbol = names.iter().map(find).find(|symbol| !symbol.is_null());
+            symbol.unwrap_or_else(|| panic!("{} has no {name}", path.display()))
+        };
+        // Safety: the archive's functions have these types.
+        unsafe {
+            Archive {
+                check: transmute::<*mut c_void, Check>(symbol("check")),
+                look: transmute::<*mut c_void, Look>(symbol("look")),
+                request: transmute::<*mut c_void, Request>(symbol("request")),
+                read: transmute::<*mut c_void, Read>(symbol("read")),
+                write: transmute::<*mut c_void, Write>(symbol("write")),
+            }
+        }
+    }
+
+    // Safety, here and below: a slice is valid for its length, a mutable one is
+    // no other's, and the library keeps within the lengths it is given.
+
+    pub fn check(&self, terms: &[u16], state: &[u64]) -> usize {
+        unsafe { (self.check)(terms.as_ptr(), terms.len(), state.as_ptr(), state.len()) }
+    }
+
+    pub fn look(&self, terms: &[u16], state: &[u64], scratch: &[u64], call: [usize; 3]) -> usize {
+        let [event, from, to] = call;
+        let (words, lent) = (terms.as_ptr(), scratch.as_ptr());
+        let (state, length) = (state.as_ptr(), state.len());
+        unsafe {
+            (self.look)(words, terms.len(), state, length, lent, scratch.len(), event, from, to)
+        }
+    }
+
+    pub fn request(
+        &self,
+        terms: &[u16],
+        state: &mut [u64],
+        scratch: &mut [u64],
+        call: [usize; 3],
+    ) -> usize {
+        let [event, from, to] = call;
+        let (words, lent) = (terms.as_ptr(), scratch.as_mut_ptr());
+        let (state, length) = (state.as_mut_ptr(), state.len());
+        unsafe {
+            (self.request)(words, terms.len(), state, length, lent, scratch.len(), event, from, to)
+        }
+    }
+
+    pub fn read(&self, text: &[u8], terms: &mut [u16], state: &mut [u64]) -> usize {
+        let (words, count) = (terms.as_mut_ptr(), terms.len());
+        let (state, length) = (state.as_mut_ptr(), state.len());
+        unsafe { (self.read)(text.as_ptr(), text.len(), words, count, state, length, &mut 0) }
+    }
+
+    pub fn write(&self, terms: &[u16], state: &[u64], output: &mut [u8]) -> usize {
+        let (words, count) = (terms.as_ptr(), terms.len());
+        let (bytes, room) = (output.as_mut_ptr(), output.len());
+        unsafe { (self.write)(words, count, state.as_ptr(), state.len(), bytes, room, &mut 0) }
+    }
+}

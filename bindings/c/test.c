@@ -1,0 +1,179 @@
+/*
+ * What the header promises of codes, lengths and null pointers. It is compiled
+ * as C and as C++, and prints nothing where all of it holds.
+ */
+#include "cuckooormolu.h"
+
+#include <stdio.h>
+#include <stdlib.h>
+#include <string.h>
+
+static int failed;
+
+#define EXPECT(fact)                                              \
+    do {                                                          \
+        if (!(fact)) {                                            \
+            printf("test.c:%d: not so: %s\n", __LINE__, #fact);   \
+            failed = 1;                                           \
+        }                                                         \
+    } while (0)
+
+/* Event 0 makes an edge from initiator to target, event 1 asks for one. */
+static const char text[] = "M\t3\nL\t1\t2\nF\t0\tvar\t0\t0\nF\t1\tout\t0\t0\n"
+                           "F\t2\ttop\t0\t0\nP\t0\t2\nP\t1\t1\n"
+                           "E\t0\tadd\t0\tfwd\n";
+static const size_t length = sizeof text - 1;
+
+static struct cuckooormolu m;
+
+static void codes(void)
+{
+    size_t zeroed;
+    memset(&zeroed, 0, sizeof zeroed);
+    EXPECT(!cuckooormolu_granted(zeroed) && !cuckooormolu_denied(zeroed));
+    EXPECT(!cuckooormolu_done(zeroed));
+    for (size_t code = 0; code < 1000; code++) {
+        EXPECT(cuckooormolu_granted(code) == (code == 300));
+        EXPECT(cuckooormolu_denied(code) == (code == 200));
+        EXPECT(cuckooormolu_done(code) == (code == 100));
+        bool known = (code >= 1 && code <= 9) || code == 100 || code == 200 ||
+                     code == 300;
+        EXPECT((strcmp(cuckooormolu_words(code),
+                       "not a code of the monitor") != 0) == known);
+    }
+    EXPECT(strcmp(cuckooormolu_words(CUCKOOORMOLU_REFUSED_NAME),
+                  "no such event or member") == 0);
+}
+
+static void version(void)
+{
+    char words[32];
+    snprintf(words, sizeof words, "%d.%d.%d", CUCKOOORMOLU_VERSION_MAJOR,
+             CUCKOOORMOLU_VERSION_MINOR, CUCKOOORMOLU_VERSION_PATCH);
+    EXPECT(strcmp(words, CUCKOOORMOLU_VERSION) == 0);
+}
+
+/* Zeroed memory decides nothing. */
+static void zeroed(void)
+{
+    memset(&m, 0, sizeof m);
+    EXPECT(cuckooormolu_monitor_check(&m).code == CUCKOOORMOLU_REFUSED_TERMS);
+    EXPECT(cuckooormolu_monitor_request(&m, 0, 0, 0).code ==
+           CUCKOOORMOLU_REFUSED_TERMS);
+}
+
+static void calls(void)
+{
+    size_t line = 77;
+    size_t count = 77;
+    char output[sizeof text + 1];
+    EXPECT(cuckooormolu_done(
+        cuckooormolu_monitor_read(&m, text, length, &line).code));
+    EXPECT(line == 0);
+    EXPECT(cuckooormolu_done(cuckooormolu_monitor_check(&m).code));
+    EXPECT(cuckooormolu_denied(cuckooormolu_monitor_look(&m, 1, 0, 2).code));
+    EXPECT(
+        cuckooormolu_denied(cuckooormolu_monitor_request(&m, 1, 0, 2).code));
+    EXPECT(
+        cuckooormolu_granted(cuckooormolu_monitor_request(&m, 0, 0, 2).code));
+    EXPECT(cuckooormolu_granted(cuckooormolu_monitor_look(&m, 1, 0, 2).code));
+    EXPECT(cuckooormolu_monitor_look(&m, 2, 0, 2).code ==
+           CUCKOOORMOLU_REFUSED_NAME);
+    EXPECT(cuckooormolu_done(cuckooormolu_monitor_size(&m, &count).code));
+    EXPECT(count == length + strlen("G\t0\t0\t2\n"));
+    EXPECT(count > sizeof output);
+    count = 77;
+    EXPECT(cuckooormolu_monitor_write(&m, output, sizeof output, &count)
+               .code == CUCKOOORMOLU_REFUSED_SHORT);
+    EXPECT(count == 0);
+    EXPECT(cuckooormolu_monitor_read(&m, "M\t3\nL\t", 6, &line).code ==
+           CUCKOOORMOLU_REFUSED_FORM);
+    EXPECT(line == 2);
+    EXPECT(cuckooormolu_granted(cuckooormolu_monitor_look(&m, 1, 0, 2).code));
+}
+
+/* An output of the size that is told takes the whole text, a byte less none
+ * of it. */
+static void size(void)
+{
+    size_t count = 0;
+    size_t written = 77;
+    EXPECT(cuckooormolu_done(
+        cuckooormolu_monitor_read(&m, text, length, NULL).code));
+    EXPECT(cuckooormolu_done(cuckooormolu_monitor_size(&m, &count).code));
+    EXPECT(count == length);
+    char *output = (char *)malloc(count);
+    EXPECT(cuckooormolu_monitor_write(&m, output, count - 1, &written).code ==
+           CUCKOOORMOLU_REFUSED_SHORT);
+    EXPECT(written == 0);
+    EXPECT(cuckooormolu_done(
+        cuckooormolu_monitor_write(&m, output, count, &written).code));
+    EXPECT(written == count && memcmp(output, text, count) == 0);
+    free(output);
+}
+
+/* A null pointer is an empty memory or a number that nobody wants. */
+static void nulls(void)
+{
+    const size_t six = CUCKOOORMOLU_REFUSED_SHORT;
+    size_t line = 77;
+    size_t count = 77;
+    char output[sizeof text];
+    EXPECT(cuckooormolu_monitor_read(NULL, text, length, &line).code == six);
+    EXPECT(line == 0);
+    EXPECT(cuckooormolu_monitor_size(NULL, &count).code == six && count == 0);
+    EXPECT(cuckooormolu_monitor_write(NULL, output, 1, NULL).code == six);
+    EXPECT(cuckooormolu_monitor_check(NULL).code == six);
+    EXPECT(cuckooormolu_monitor_open(NULL).code == six);
+    EXPECT(cuckooormolu_monitor_look(NULL, 0, 0, 0).code == six);
+    EXPECT(cuckooormolu_monitor_request(NULL, 0, 0, 0).code == six);
+
+    EXPECT(cuckooormolu_monitor_read(&m, NULL, 0, &line).code ==
+           CUCKOOORMOLU_REFUSED_FORM);
+    EXPECT(line == 1);
+    EXPECT(cuckooormolu_monitor_read(&m, NULL, 9, NULL).code ==
+           CUCKOOORMOLU_REFUSED_FORM);
+    EXPECT(cuckooormolu_done(
+        cuckooormolu_monitor_read(&m, text, length, NULL).code));
+    EXPECT(cuckooormolu_done(cuckooormolu_monitor_size(&m, NULL).code));
+    EXPECT(cuckooormolu_monitor_write(&m, NULL, 0, NULL).code == six);
+    EXPECT(cuckooormolu_monitor_write(&m, NULL, 99, &count).code == six);
+    EXPECT(cuckooormolu_done(
+        cuckooormolu_monitor_write(&m, output, sizeof output, NULL).code));
+
+    EXPECT(cuckooormolu_request(m.terms, CUCKOOORMOLU_TERMS_WORDS,
+                                m.state, CUCKOOORMOLU_STATE_WORDS,
+                                NULL, 0, 0, 0, 0).code == six);
+    EXPECT(cuckooormolu_look(m.terms, CUCKOOORMOLU_TERMS_WORDS,
+                             NULL, CUCKOOORMOLU_STATE_WORDS,
+                             m.scratch, CUCKOOORMOLU_SCRATCH_WORDS,
+                             0, 0, 0).code == six);
+    EXPECT(cuckooormolu_open(NULL, 0, m.state,
+                             CUCKOOORMOLU_STATE_WORDS).code == six);
+}
+
+/* Lengths that are not the named ones. */
+static void lengths(void)
+{
+    struct cuckooormolu before = m;
+    EXPECT(cuckooormolu_check(m.terms, CUCKOOORMOLU_TERMS_WORDS - 1,
+                              m.state, CUCKOOORMOLU_STATE_WORDS).code ==
+           CUCKOOORMOLU_REFUSED_SHORT);
+    EXPECT(cuckooormolu_request(m.terms, CUCKOOORMOLU_TERMS_WORDS,
+                                m.state, CUCKOOORMOLU_STATE_WORDS,
+                                m.scratch, CUCKOOORMOLU_SCRATCH_WORDS - 1,
+                                0, 0, 0).code == CUCKOOORMOLU_REFUSED_SHORT);
+    EXPECT(memcmp(&before, &m, sizeof m) == 0);
+}
+
+int main(void)
+{
+    codes();
+    version();
+    zeroed();
+    calls();
+    size();
+    nulls();
+    lengths();
+    return failed;
+}

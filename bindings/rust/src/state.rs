@@ -1,0 +1,77 @@
+//! A state: the present moment, and what the policies need of the past.
+
+use crate::layout::*;
+use crate::{Edge, Event, Member, Refusal, Relation, Request};
+use alloc::boxed::Box;
+
+/// The present moment: relations, past-time tables and the event edge.
+#[derive(Clone, Debug, PartialEq, Eq)]
+pub struct State(pub(crate) Box<[u64; STATE_WORDS]>);
+
+impl State {
+    /// A state from its words. Whether they keep the layout depends on the
+    /// terms and is checked where both come together. Further words are left
+    /// out.
+    pub fn from_words(words: &[u64]) -> Result<State, Refusal> {
+        front(words).map(State)
+    }
+
+    /// The words of the memory layout.
+    pub fn words(&self) -> &[u64; STATE_WORDS] {
+        &self.0
+    }
+
+    /// The edges of all relations, rising.
+    pub fn edges(&self) -> impl Iterator<Item = Edge> + '_ {
+        bits(&self.0[..FIRST_TABLE]).map(|(row, to)| Edge {
+            relation: Relation((row / ROWS) as u8),
+            from: Member((row % ROWS) as u8),
+            to,
+        })
+    }
+
+    pub fn has_edge(&self, edge: Edge) -> bool {
+        let relation = usize::from(edge.relation);
+        relation < RELATIONS && self.bit(ROWS * relation, edge.from, edge.to)
+    }
+
+    /// Where the past-time entry of table t holds now: at the first member,
+    /// with the second for its free variable. Without one it is every second
+    /// member or none. [`crate::Terms::tables`] says whose table it is.
+    pub fn table(&self, t: usize) -> impl Iterator<Item = (Member, Member)> + '_ {
+        let words = if t < TABLES { &self.0[FIRST_TABLE + ROWS * t..][..ROWS] } else { &[] };
+        bits(words).map(|(at, other)| (Member(at as u8), other))
+    }
+
+    /// Whether [`State::table`] has a pair.
+    pub fn table_holds(&self, t: usize, at: Member, other: Member) -> bool {
+        t < TABLES && self.bit(FIRST_TABLE + ROWS * t, at, other)
+    }
+
+    /// The request whose grant made this moment; none at moment 0.
+    pub fn event(&self) -> Option<Request> {
+        let code = self.0[EVENT_WORD].checked_sub(1)?;
+        Some(Request {
+            event: Event((code / 4_096) as u8),
+            from: Member((code / 64 % 64) as u8),
+            to: Member((code % 64) as u8),
+        })
+    }
+
+    fn bit(&self, first: usize, row: Member, bit: Member) -> bool {
+        let row = usize::from(row);
+        row < ROWS
+            && self.0[first + row].checked_shr(bit.0.into()).is_some_and(|word| word & 1 == 1)
+    }
+
+    pub(crate) fn blank() -> State {
+        State(Box::new([0; STATE_WORDS]))
+    }
+}
+
+/// The bits that are set, each with the number of its word.
+fn bits(words: &[u64]) -> impl Iterator<Item = (usize, Member)> + '_ {
+    words.iter().enumerate().flat_map(|(row, word)| {
+        (0..64).filter(move |bit| word >> bit & 1 == 1).map(move |bit| (row, Member(bit)))
+    })
+}

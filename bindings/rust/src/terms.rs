@@ -1,0 +1,183 @@
+//! Terms: what a terms file says, without its edges.
+
+use crate::layout::*;
+use crate::{raw, Event, Member, Refusal, Relation, State, Variable};
+use alloc::boxed::Box;
+
+/// An entry of the formula list, by its operator. A `usize` is the number of
+/// a lower entry.
+#[derive(Clone, Copy, Debug, PartialEq, Eq, Hash)]
+pub enum Entry {
+    Top,
+    Var(Variable),
+    Not(usize),
+    Or(usize, usize),
+    Out(Label, usize),
+    In(Label, usize),
+    Prev(usize),
+    Since(usize, usize),
+    Bind(Variable, usize),
+    At(Variable, usize),
+}
+
+/// The label of an edge that an entry looks along.
+#[derive(Clone, Copy, Debug, PartialEq, Eq, Hash)]
+pub enum Label {
+    Relation(Relation),
+    Event(Event),
+}
+
+/// What a granted event does to a relation.
+#[derive(Clone, Copy, Debug, PartialEq, Eq, Hash)]
+pub struct Effect {
+    pub action: Action,
+    pub relation: Relation,
+    pub direction: Direction,
+}
+
+#[derive(Clone, Copy, Debug, PartialEq, Eq, Hash)]
+pub enum Action {
+    Add,
+    Del,
+}
+
+#[derive(Clone, Copy, Debug, PartialEq, Eq, Hash)]
+pub enum Direction {
+    /// From initiator to target.
+    Fwd,
+    /// From target to initiator.
+    Back,
+}
+
+impl Entry {
+    /// The operator's word in a terms file.
+    pub fn word(self) -> &'static str {
+        match self {
+            Entry::Top => "top",
+            Entry::Var(..) => "var",
+            Entry::Not(..) => "not",
+            Entry::Or(..) => "or",
+            Entry::Out(..) => "out",
+            Entry::In(..) => "in",
+            Entry::Prev(..) => "prev",
+            Entry::Since(..) => "since",
+            Entry::Bind(..) => "bind",
+            Entry::At(..) => "at",
+        }
+    }
+
+    /// Whether the state keeps a table for the entry.
+    pub fn is_past(self) -> bool {
+        matches!(self, Entry::Prev(..) | Entry::Since(..))
+    }
+}
+
+/// Accepted terms: members, labels, formulas, policies and effects.
+///
+/// ```
+/// use cuckooormolu::*;
+///
+/// let text = "M 2\nL 1 1\nF 0 top 0 0\nF 1 in 1 0\nF 2 prev 1 0\nP 0 2\nE 0 add 0 back\n";
+/// let monitor = Monitor::read(text.replace(' ', "\t").as_bytes())?;
+/// let terms = monitor.terms();
+/// assert_eq!(terms.members().len(), 2);
+/// assert_eq!(terms.entry(1), Some(Entry::In(Label::Event(Event(0)), 0)));
+/// assert_eq!(terms.policy(Event(0)), Some(2));
+/// assert_eq!(terms.tables().collect::<Vec<_>>(), [2]);
+/// let effect = terms.effects(Event(0)).next().unwrap();
+/// assert_eq!((effect.action, effect.direction), (Action::Add, Direction::Back));
+/// # Ok::<(), TextError>(())
+/// ```
+#[derive(Clone, Debug, PartialEq, Eq)]
+pub struct Terms(pub(crate) Box<[u16; TERMS_WORDS]>);
+
+impl Terms {
+    /// Terms from their words, checked. Further words are left out.
+    pub fn from_words(words: &[u16]) -> Result<Terms, Refusal> {
+        let terms = Terms(front(words)?);
+        raw::check(terms.words(), State::blank().words()).map(|()| terms)
+    }
+
+    /// The words of the memory layout.
+    pub fn words(&self) -> &[u16; TERMS_WORDS] {
+        &self.0
+    }
+
+    pub fn members(&self) -> impl ExactSizeIterator<Item = Member> {
+        (0..self.0[0] as u8).map(Member)
+    }
+
+    pub fn relations(&self) -> impl ExactSizeIterator<Item = Relation> {
+        (0..self.0[1] as u8).map(Relation)
+    }
+
+    pub fn events(&self) -> impl ExactSizeIterator<Item = Event> {
+        (0..self.0[2] as u8).map(Event)
+    }
+
+    /// The formula list, lowest entry first.
+    pub fn entries(&self) -> impl ExactSizeIterator<Item = Entry> + '_ {
+        (0..self.0[3].into()).map(|number| self.entry_at(number))
+    }
+
+    /// An entry by its number.
+    pub fn entry(&self, number: usize) -> Option<Entry> {
+        (number < self.0[3].into()).then(|| self.entry_at(number))
+    }
+
+    /// The numbers of the past-time entries, in the order of their tables.
+    pub fn tables(&self) -> impl Iterator<Item = usize> + '_ {
+        self.entries().enumerate().filter(|(_, entry)| entry.is_past()).map(|(number, _)| number)
+    }
+
+    /// The number of the entry that is an event's policy.
+    pub fn policy(&self, event: Event) -> Option<usize> {
+        self.has(event).then(|| self.0[FIRST_POLICY + usize::from(event)].into())
+    }
+
+    /// An event's effects, in the order in which they are carried out.
+    pub fn effects(&self, event: Event) -> impl Iterator<Item = Effect> + '_ {
+        let first = FIRST_EFFECT + EFFECTS * EFFECT_WORDS * usize::from(event);
+        let words = if self.has(event) { &self.0[first..][..EFFECTS * EFFECT_WORDS] } else { &[] };
+        words.chunks_exact(EFFECT_WORDS).take_while(|effect| effect[0] != 0).map(|effect| Effect {
+            action: if effect[0] == 1 { Action::Add } else { Action::Del },
+            relation: Relation(effect[1] as u8),
+            direction: if effect[2] == 1 { Direction::Back } else { Direction::Fwd },
+        })
+    }
+
+    fn has(&self, event: Event) -> bool {
+        u16::from(event.0) < self.0[2]
+    }
+
+    fn entry_at(&self, number: usize) -> Entry {
+        let words = &self.0[FIRST_ENTRY + ENTRY_WORDS * number..][..ENTRY_WORDS];
+        let (a, b) = (usize::from(words[1]), usize::from(words[2]));
+        let variable = Variable(words[1] as u8);
+        match words[0] {
+            0 => Entry::Top,
+            1 => Entry::Var(variable),
+            2 => Entry::Not(a),
+            3 => Entry::Or(a, b),
+            4 => Entry::Out(self.label(words[1]), b),
+            5 => Entry::In(self.label(words[1]), b),
+            6 => Entry::Prev(a),
+            7 => Entry::Since(a, b),
+            8 => Entry::Bind(variable, b),
+            9 => Entry::At(variable, b),
+            operator => unreachable!("checked terms with operator {operator}"),
+        }
+    }
+
+    /// Labels are the relations and then the events.
+    fn label(&self, number: u16) -> Label {
+        match number.checked_sub(self.0[1]) {
+            None => Label::Relation(Relation(number as u8)),
+            Some(event) => Label::Event(Event(event as u8)),
+        }
+    }
+
+    pub(crate) fn blank() -> Terms {
+        Terms(Box::new([0; TERMS_WORDS]))
+    }
+}

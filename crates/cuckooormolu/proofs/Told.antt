@@ -1,0 +1,197 @@
+-- No code can be mistaken for another, whatever the functions are lent: the code of a grant is given for a grant only, that of a denial for a denial only, that of
+-- a call that is done for such a call only, and every refusal has a number from 1 to 99. So no code is 0.
+use Prim.Native.Nat.{ℕ, _+_}
+use mathlib.Core.Path.{_≡_, refl}
+use mathlib.Core.List.{List, [], _∷_}
+use mathlib.Core.Bool.{Bool, true, false, cond, not, _&&_, _||_}
+use native.Mathlib.Omega.{arith}
+use lib.Dec.{ltb}
+use lib.ListN.{length}
+use borrow.Author.Tests.{ltb-true}
+use Rattle.sets.proofs.Finite.{and-left, and-right}
+use Rattle.theory.specs.Tables.{decideNow}
+use Rattle.theory.specs.Keeper.{Verdict, Answer}
+use Rattle.theory.specs.Keeper.Verdict.{grant, deny}
+use Rattle.theory.specs.Keeper.Answer.{decided, refused}
+use Rattle.memory.specs.Layout.{termsWords, stateWords, scratchWords, termsOf, stateOf}
+use Rattle.memory.specs.Checks.{goodMemory, goodState, goodRelations}
+use Rattle.memory.specs.Outcome.{Outcome, checks, opens}
+use Rattle.memory.specs.Outcome.Outcome.{passed, failed}
+use Rattle.monitor.specs.Monitor.{named, answer}
+use Rattle.fields.specs.Split.{Lines, split, lines}
+use Rattle.fields.specs.Split.Lines.{done, cut, line}
+use Rattle.file.specs.Line.{parsed}
+use Rattle.file.specs.File as file
+use Rattle.file.specs.File.{File, Test, Reading, tests, tried, after, complete, nothing, readOn, reading}
+use Rattle.reader.specs.Read.{short, outcome, readGives}
+use Rattle.writer.specs.Write.{Writing, fitted, sizeGives, writeGives, writtenText}
+use Rattle.writer.specs.Write.Writing.{bytes, unwritten}
+use Rattle.file.specs.declared.line.Line.{Line}
+use Rattle.file.specs.declared.line.Line.the-variants.{Members, Labels, Entry, Policy, Effect, Edge, Malformed}
+use Rattle.cuckooormolu.specs.Codes.{doneCode, Low, ToldAnswer, ToldOutcome, ToldWriting}
+
+-- ---- a low number for each refusal
+
+abbrev LowAnswer : Answer → Type 0
+LowAnswer (decided v) = Unit {0}
+LowAnswer (refused n l) = Low n
+
+abbrev LowOutcome : Outcome → Type 0
+LowOutcome passed = Unit {0}
+LowOutcome (failed n l) = Low n
+
+abbrev LowWriting : Writing → Type 0
+LowWriting (bytes n) = Unit {0}
+LowWriting (unwritten n l) = Low n
+
+told-answer : (a : Answer) → LowAnswer a → ToldAnswer a
+told-answer (decided grant) h = record {
+  grants = ((λ e. refl), (λ e. refl));
+  denies = ((λ e. absurd (omega arith)), (λ e. let z : _≡_ {A = ℕ} 0 1 = cc in absurd (omega arith)));
+  refuses = λ n l e. let z : _≡_ {A = ℕ} 0 1 = cc in absurd (omega arith);
+}
+told-answer (decided deny) h = record {
+  grants = ((λ e. absurd (omega arith)), (λ e. let z : _≡_ {A = ℕ} 0 1 = cc in absurd (omega arith)));
+  denies = ((λ e. refl), (λ e. refl));
+  refuses = λ n l e. let z : _≡_ {A = ℕ} 0 1 = cc in absurd (omega arith);
+}
+told-answer (refused n l) h = record {
+  grants = ((λ e. absurd (omega arith)), (λ e. let z : _≡_ {A = ℕ} 0 1 = cc in absurd (omega arith)));
+  denies = ((λ e. absurd (omega arith)), (λ e. let z : _≡_ {A = ℕ} 0 1 = cc in absurd (omega arith)));
+  refuses = λ m k e. let z : n ≡ m = cc in (omega arith, omega arith);
+}
+
+told-outcome : (o : Outcome) → LowOutcome o → ToldOutcome o
+told-outcome passed h = record {
+  done = ((λ e. refl), (λ e. refl));
+  refuses = λ n l e. let z : _≡_ {A = ℕ} 0 1 = cc in absurd (omega arith);
+}
+told-outcome (failed n l) h = record {
+  done = ((λ e. absurd (omega arith)), (λ e. let z : _≡_ {A = ℕ} 0 1 = cc in absurd (omega arith)));
+  refuses = λ m k e. let z : n ≡ m = cc in (omega arith, omega arith);
+}
+
+told-writing : (w : Writing) → LowWriting w → ToldWriting w
+told-writing (bytes n) h = record {
+  done = ((λ e. refl), (λ e. refl));
+  refuses = λ n l e. let z : _≡_ {A = ℕ} 0 1 = cc in absurd (omega arith);
+}
+told-writing (unwritten n l) h = record {
+  done = ((λ e. absurd (omega arith)), (λ e. let z : _≡_ {A = ℕ} 0 1 = cc in absurd (omega arith)));
+  refuses = λ m k e. let z : n ≡ m = cc in (omega arith, omega arith);
+}
+
+-- ---- the calls over memory
+
+low : (n : ℕ) → (ltb 0 n && ltb n doneCode) ≡ true → Low n
+low n e = (ltb-true 0 n (and-left (ltb 0 n) (ltb n doneCode) e), ltb-true n doneCode (and-right (ltb 0 n) (ltb n doneCode) e))
+
+low-checked : (a b c : Bool) → LowOutcome (cond a (failed 6 0) (cond b (failed 7 0) (cond c (failed 8 0) passed)))
+low-checked true b c = low 6 refl
+low-checked false true c = low 7 refl
+low-checked false false true = low 8 refl
+low-checked false false false = tt
+
+low-checks : (terms state : List ℕ) → LowOutcome (checks terms state)
+unfolding checks
+low-checks terms state =
+    low-checked (ltb (length terms) termsWords || ltb (length state) stateWords) (not (goodMemory terms)) (not (goodState (termsOf terms) state))
+
+low-opens : (terms state : List ℕ) → LowOutcome (opens terms state)
+unfolding opens
+low-opens terms state =
+    low-checked (ltb (length terms) termsWords || ltb (length state) stateWords) (not (goodMemory terms)) (not (goodRelations (termsOf terms) state))
+
+low-decided : (a b c d : Bool) (v : Verdict) →
+    LowAnswer (cond a (refused 6 0) (cond b (refused 7 0) (cond c (refused 8 0) (cond d (refused 9 0) (decided v)))))
+low-decided true b c d v = low 6 refl
+low-decided false true c d v = low 7 refl
+low-decided false false true d v = low 8 refl
+low-decided false false false true v = low 9 refl
+low-decided false false false false v = tt
+
+low-answer : (terms state scratch : List ℕ) (j u v : ℕ) → LowAnswer (answer terms state scratch j u v)
+unfolding answer
+low-answer terms state scratch j u v =
+    let T = termsOf terms in
+    low-decided (ltb (length terms) termsWords || (ltb (length state) stateWords || ltb (length scratch) scratchWords)) (not (goodMemory terms))
+    (not (goodState T state)) (not (named T j u v)) (cond (decideNow T (stateOf state) j u v) grant deny)
+
+low-fitted : (short : Bool) (n : ℕ) (o : Outcome) → LowOutcome o → LowWriting (fitted short n o)
+low-fitted true n passed h = low 6 refl
+low-fitted false n passed h = tt
+low-fitted short n (failed k l) h = h
+
+-- ---- reading
+
+abbrev LowReading : Reading → Type 0
+LowReading (file.accepted f) = Unit {0}
+LowReading (file.refused n l) = Low n
+
+-- Each test has a low number.
+unfoldable lowTests : List Test → Bool
+lowTests [] = true
+lowTests (t ∷ ts) = (ltb 0 (t .number) && ltb (t .number) doneCode) && lowTests ts
+
+low-tests : (f : File) (l : Line) → lowTests (tests f l) ≡ true
+unfolding tests lowTests
+low-tests f (Members n) = refl
+low-tests f (Labels r e) = refl
+low-tests f (Entry n o a b) = refl
+low-tests f (Policy j n) = refl
+low-tests f (Effect j c k d) = refl
+low-tests f (Edge k a b) = refl
+low-tests f Malformed = refl
+
+low-either : (b : Bool) (x y : Reading) → LowReading x → LowReading y → LowReading (cond b x y)
+low-either true x y p q = p
+low-either false x y p q = q
+
+low-tried : (ts : List Test) (n : ℕ) (r : Reading) → lowTests ts ≡ true → LowReading r → LowReading (tried ts n r)
+unfolding tried lowTests
+low-tried [] n r e h = h
+low-tried (t ∷ ts) n r e h =
+    let s = ltb 0 (t .number) && ltb (t .number) doneCode in
+    low-either (t .passes) (tried ts n r) (file.refused (t .number) n) (low-tried ts n r (and-right s (lowTests ts) e) h)
+    (low (t .number) (and-left s (lowTests ts) e))
+
+low-read : (f : File) (n : ℕ) (ls : Lines) → LowReading (readOn f n ls)
+unfolding readOn
+low-read f n done = low-either (complete f) (file.accepted f) (file.refused 1 n) tt (low 1 refl)
+low-read f n (cut l) = low 1 refl
+low-read f n (line l r) =
+    let p = parsed (split 9 l) in
+    low-tried (tests f p) n (readOn (after f p) (n + 1) r) (low-tests f p) (low-read (after f p) (n + 1) r)
+
+low-outcome : (b : Bool) (r : Reading) → LowReading r → LowOutcome (cond b (failed 6 0) (outcome r))
+low-outcome true r h = low 6 refl
+low-outcome false (file.accepted f) h = tt
+low-outcome false (file.refused n l) h = h
+
+low-reading : (text terms state : List ℕ) → LowOutcome (readGives text terms state)
+unfolding readGives reading
+low-reading text terms state = low-outcome (short terms state) (reading text) (low-read nothing 1 (lines text))
+
+-- ---- the theorems
+
+pub told-look : (terms state scratch : List ℕ) (j u v : ℕ) → ToldAnswer (answer terms state scratch j u v)
+told-look terms state scratch j u v = told-answer (answer terms state scratch j u v) (low-answer terms state scratch j u v)
+
+pub told-read : (text terms state : List ℕ) → ToldOutcome (readGives text terms state)
+told-read text terms state = told-outcome (readGives text terms state) (low-reading text terms state)
+
+pub told-check : (terms state : List ℕ) → ToldOutcome (checks terms state)
+told-check terms state = told-outcome (checks terms state) (low-checks terms state)
+
+pub told-open : (terms state : List ℕ) → ToldOutcome (opens terms state)
+told-open terms state = told-outcome (opens terms state) (low-opens terms state)
+
+pub told-size : (terms state : List ℕ) → ToldWriting (sizeGives terms state)
+unfolding sizeGives
+told-size terms state = told-writing (sizeGives terms state) (low-fitted false (length (writtenText terms state)) (checks terms state) (low-checks terms state))
+
+pub told-write : (terms state out : List ℕ) → ToldWriting (writeGives terms state out)
+unfolding writeGives
+told-write terms state out =
+    let n = length (writtenText terms state) in
+    told-writing (writeGives terms state out) (low-fitted (ltb (length out) n) n (checks terms state) (low-checks terms state))

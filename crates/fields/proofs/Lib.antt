@@ -1,0 +1,5 @@
+pub mod Split
+pub mod Scan
+pub mod Numeral
+pub mod Digits
+pub mod Output

@@ -1,0 +1,37 @@
+-- Laws of lines: a test that fails makes a line malformed; a line is one of its kind.
+use Prim.Native.Nat.{ℕ, zero, suc}
+use mathlib.Core.Path.{_≡_, refl, ap, _∙_}
+use mathlib.Core.List.{List, [], _∷_}
+use mathlib.Core.Bool.{Bool, true, false, cond, and-false, true≢false}
+use lib.ListN.{getD}
+use Rattle.theory.specs.Fit.{every}
+use Rattle.file.specs.Words.{kindOf}
+use Rattle.file.specs.Line.{lineOf, parsed}
+use Rattle.file.specs.declared.line.Line.{Line}
+use Rattle.file.specs.declared.line.Line.the-variants.{Malformed}
+
+not-every : (bs : List Bool) (k : ℕ) → getD bs k true ≡ false → every bs ≡ false
+unfolding every
+not-every [] k e = absurd (true≢false e)
+not-every (b ∷ bs) zero e = rw e refl
+not-every (b ∷ bs) (suc k) e = rw (not-every bs k e) (and-false b)
+
+-- test number k of a line fails
+pub malformed : (x : Line) (bs : List Bool) (k : ℕ) → getD bs k true ≡ false → Malformed ≡ cond (every bs) x Malformed
+malformed x bs k e = rw (not-every bs k e) refl
+
+-- a line of kind k
+pub line-kind : {r : Line} (k : ℕ) (fs : List (List ℕ)) → r ≡ lineOf k fs → k ≡ kindOf (getD fs 0 []) → r ≡ parsed fs
+unfolding parsed
+line-kind k fs e h = e ∙ ap (λ (j : ℕ). lineOf j fs) h
+
+pub line-none : (fs : List (List ℕ)) (k : ℕ) → (k ≡ 0 → ⊥) → (k ≡ 1 → ⊥) → (k ≡ 2 → ⊥) → (k ≡ 3 → ⊥) → (k ≡ 4 → ⊥) → (k ≡ 5 → ⊥)
+    → Malformed ≡ lineOf k fs
+unfolding lineOf
+line-none fs zero a b c d e f = absurd (a refl)
+line-none fs (suc zero) a b c d e f = absurd (b refl)
+line-none fs (suc (suc zero)) a b c d e f = absurd (c refl)
+line-none fs (suc (suc (suc zero))) a b c d e f = absurd (d refl)
+line-none fs (suc (suc (suc (suc zero)))) a b c d e f = absurd (e refl)
+line-none fs (suc (suc (suc (suc (suc zero))))) a b c d e f = absurd (f refl)
+line-none fs (suc (suc (suc (suc (suc (suc k)))))) a b c d e f = refl

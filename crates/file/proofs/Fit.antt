@@ -1,0 +1,226 @@
+-- What the tests have made sure of so far, part by part: the entries, the policies, the effects, the edges; and that one line more keeps it so.
+use Prim.Native.Nat.{ℕ, _+_, _*_, _≤_, _<_}
+use mathlib.Core.Path.{_≡_, refl, sym, subst, _∙_}
+use mathlib.Core.Logic.{_⊎_, inl, inr, ⊎-elim}
+use mathlib.Core.List.{List, [], _∷_, _++_}
+use mathlib.Core.Bool.{true, false, cond, _&&_, false≢true}
+use native.Mathlib.Omega.{arith}
+use native.Mathlib.Numerals.{add-one}
+use lib.Dec.{eqb, ltb}
+use lib.ListN.{length, length-append}
+use borrow.Author.Tests.{eqb-true, ltb-true}
+use Rattle.sets.proofs.Finite.{true-or-false, and-left, and-right, last-or-below}
+use Rattle.theory.specs.Formula.{Formula, Entry, Operand, firstOperand, secondOperand, number, spelled, isPast}
+use Rattle.theory.specs.Formula.Operand.{unused, variable, binder, label, entry}
+use Rattle.theory.specs.Terms.{Effect}
+use Rattle.theory.specs.Moment.{Relations}
+use Rattle.theory.specs.Fit.{operandFits, lone, targetOnly}
+use Rattle.theory.proofs.Good.{Within}
+use Rattle.theory.proofs.Good.Within.{none, more}
+use Rattle.file.specs.File.{update, inRange, isLower}
+use Rattle.theory.proofs.Alike.{number-agree, spelled-agree}
+use Rattle.file.proofs.Update.{update-same, update-other, update-cases}
+
+-- ---- entries
+
+abbrev pub noEntry : Entry
+noEntry = record { op = 0; a = 0; b = 0 }
+
+pub record EntryFits (labels : ℕ) (g : ℕ → Entry) (n : ℕ) : Type 0 where
+  pub known : g n .op < 10
+  pub first : operandFits (firstOperand (g n .op)) labels n (g n .a) ≡ true
+  pub second : operandFits (secondOperand (g n .op)) labels n (g n .b) ≡ true
+  pub one-free : isPast (g n .op) ≡ true → lone (spelled g n) ≡ true
+
+pub record EntriesFit (labels entries : ℕ) (g : ℕ → Entry) : Type 0 where
+  pub few : entries < 257
+  pub few-tables : number g entries < 33
+  pub fit : (n : ℕ) → n < entries → EntryFits labels g n
+  pub blank : (n : ℕ) → entries ≤ n → g n ≡ noEntry
+
+-- the two tests of an operand are those of the lent memory
+pub operand-fits : (k : Operand) (labels n v : ℕ) → inRange k labels v ≡ true → isLower k n v ≡ true → operandFits k labels n v ≡ true
+unfolding operandFits inRange isLower
+operand-fits unused labels n v p q = p
+operand-fits variable labels n v p q = p
+operand-fits binder labels n v p q = p
+operand-fits label labels n v p q = p
+operand-fits entry labels n v p q = q
+
+-- and the other way round; an operand that fits has at most five digits
+pub in-range : (k : Operand) (labels n v : ℕ) → operandFits k labels n v ≡ true → inRange k labels v ≡ true
+unfolding operandFits inRange
+in-range unused labels n v h = h
+in-range variable labels n v h = h
+in-range binder labels n v h = h
+in-range label labels n v h = h
+in-range entry labels n v h = refl
+
+pub is-lower : (k : Operand) (labels n v : ℕ) → operandFits k labels n v ≡ true → isLower k n v ≡ true
+unfolding operandFits isLower
+is-lower unused labels n v h = refl
+is-lower variable labels n v h = refl
+is-lower binder labels n v h = refl
+is-lower label labels n v h = refl
+is-lower entry labels n v h = h
+
+pub operand-small : (k : Operand) (labels n v : ℕ) → labels < 100000 → n < 100000 → operandFits k labels n v ≡ true → v < 100000
+unfolding operandFits
+operand-small unused labels n v p q h = let e = eqb-true v 0 h in omega arith
+operand-small variable labels n v p q h = let e = ltb-true v 16 h in omega arith
+operand-small binder labels n v p q h = let e = ltb-true v 16 (and-right (ltb 0 v) _ h) in omega arith
+operand-small label labels n v p q h = let e = ltb-true v labels h in omega arith
+operand-small entry labels n v p q h = let e = ltb-true v n h in omega arith
+
+entry-kept : (labels : ℕ) (g h : ℕ → Entry) (n : ℕ) → ((k : ℕ) → k ≤ n → g k ≡ h k) → EntryFits labels g n → EntryFits labels h n
+entry-kept labels g h n e t =
+    let r = e n (omega arith) in
+    record {
+      known = subst (λ (x : Entry). x .op < 10) r (t .known);
+      first = subst (λ (x : Entry). operandFits (firstOperand (x .op)) labels n (x .a) ≡ true) r (t .first);
+      second = subst (λ (x : Entry). operandFits (secondOperand (x .op)) labels n (x .b) ≡ true) r (t .second);
+      one-free = λ p. subst (λ (φ : Formula). lone φ ≡ true) (spelled-agree g h n e)
+          (t .one-free (subst (λ (x : Entry). isPast (x .op) ≡ true) (sym r) p));
+    }
+
+-- an entry put at n
+module _ (labels n : ℕ) (g : ℕ → Entry) (v : Entry) where
+  abbrev now : ℕ → Entry
+  now = update g n v
+
+  pub entry-put : v .op < 10 → operandFits (firstOperand (v .op)) labels n (v .a) ≡ true → operandFits (secondOperand (v .op)) labels n (v .b) ≡ true
+      → (isPast (v .op) ≡ true → lone (spelled now n) ≡ true) → EntryFits labels now n
+  entry-put p q r s =
+      let e = sym (update-same g n v) in
+      record {
+        known = subst (λ (x : Entry). x .op < 10) e p;
+        first = subst (λ (x : Entry). operandFits (firstOperand (x .op)) labels n (x .a) ≡ true) e q;
+        second = subst (λ (x : Entry). operandFits (secondOperand (x .op)) labels n (x .b) ≡ true) e r;
+        one-free = λ t. s (subst (λ (x : Entry). isPast (x .op) ≡ true) (sym e) t);
+      }
+
+  tables-put : number g n < 33 → (isPast (v .op) ≡ true → number g n < 32) → number now (n + 1) < 33
+  unfolding number
+  tables-put h i =
+      let e = number-agree now g n (λ k l. update-other g n v k (λ z. omega arith)) in
+      rw (add-one n, update-same g n v, e)
+      (⊎-elim (λ p. rw p (let l = i p in omega arith)) (λ p. rw p h) (true-or-false (isPast (v .op))))
+
+  pub entry-more : EntriesFit labels n g → n < 256 → (isPast (v .op) ≡ true → number g n < 32) → EntryFits labels now n → EntriesFit labels (n + 1) now
+  entry-more t l i f =
+      record {
+        few = omega arith;
+        few-tables = tables-put (t .few-tables) i;
+        fit = λ k m. ⊎-elim
+            (λ b. entry-kept labels g now k (λ j p. sym (update-other g n v j (λ z. omega arith))) (t .fit k b))
+            (λ b. subst (EntryFits labels now) (sym b) f)
+            (last-or-below k n (omega arith));
+        blank = λ k m. update-other g n v k (λ z. omega arith) ∙ t .blank k (omega arith);
+      }
+
+-- ---- policies
+
+pub record PoliciesFit (policies events entries : ℕ) (g : ℕ → Entry) (policy : ℕ → ℕ) : Type 0 where
+  pub few : policies ≤ events
+  pub exists : (j : ℕ) → j < policies → policy j < entries
+  pub free : (j : ℕ) → j < policies → targetOnly (spelled g (policy j)) ≡ true
+  pub blank : (j : ℕ) → policies ≤ j → policy j ≡ 0
+
+-- before the first policy, events and entries may change
+pub policies-none : {p e m e′ m′ : ℕ} {g h : ℕ → Entry} {policy : ℕ → ℕ} → p ≡ 0 → PoliciesFit p e m g policy → PoliciesFit p e′ m′ h policy
+policies-none z t = record {
+  few = omega arith;
+  exists = λ j l. absurd (omega arith);
+  free = λ j l. absurd (omega arith);
+  blank = t .blank;
+}
+
+pub policy-more : {e m : ℕ} {g : ℕ → Entry} {policy : ℕ → ℕ} (j n : ℕ) → j < e → n < m → targetOnly (spelled g n) ≡ true
+    → PoliciesFit j e m g policy → PoliciesFit (j + 1) e m g (update policy j n)
+policy-more {m = m} {g = g} {policy = policy} j n h i q t = record {
+  few = omega arith;
+  exists = λ k l. update-cases policy j n (λ x. x < m) k (λ z. i) (λ z. t .exists k (omega arith));
+  free = λ k l. update-cases policy j n (λ x. targetOnly (spelled g x) ≡ true) k (λ z. q) (λ z. t .free k (omega arith));
+  blank = λ k l. update-other policy j n k (λ z. omega arith) ∙ t .blank k (omega arith);
+}
+
+-- ---- effects
+
+pub record EffectsFit (event events relations : ℕ) (effects : ℕ → List Effect) : Type 0 where
+  pub within : (j : ℕ) → Within relations (effects j)
+  pub few : (j : ℕ) → length (effects j) ≤ 4
+  pub later : (j : ℕ) → event < j → effects j ≡ []
+  pub beyond : (j : ℕ) → events ≤ j → effects j ≡ []
+
+pub effects-none : (event events relations : ℕ) (effects : ℕ → List Effect) → ((j : ℕ) → effects j ≡ []) → EffectsFit event events relations effects
+effects-none event events relations effects h = record {
+  within = λ j. subst (Within relations) (sym (h j)) none;
+  few = λ j. rw h (omega arith);
+  later = λ j l. h j;
+  beyond = λ j l. h j;
+}
+
+within-more : {r : ℕ} {es : List Effect} → Within r es → (x : Effect) → x .relation < r → Within r (es ++ (x ∷ []))
+within-more none x h = more h none
+within-more (more p ps) x h = more p (within-more ps x h)
+
+pub effect-more : {i e r : ℕ} {effects : ℕ → List Effect} (j : ℕ) (x : Effect) → i ≤ j → j < e → length (effects j) < 4 → x .relation < r
+    → EffectsFit i e r effects → EffectsFit j e r (update effects j (effects j ++ (x ∷ [])))
+effect-more {r = r} {effects = effects} j x h l m q t =
+    let s : List Effect = effects j ++ (x ∷ []) in
+    let o = length-append (effects j) (x ∷ []) in
+    record {
+      within = λ k. update-cases effects j s (Within r) k (λ z. within-more (t .within j) x q) (λ z. t .within k);
+      few = λ k. update-cases effects j s (λ y. length y ≤ 4) k (λ z. omega arith) (λ z. t .few k);
+      later = λ k p. update-other effects j s k (λ z. omega arith) ∙ t .later k (omega arith);
+      beyond = λ k p. update-other effects j s k (λ z. omega arith) ∙ t .beyond k p;
+    }
+
+-- ---- edges
+
+-- The number of an edge, by relation, from, to.
+abbrev pub code : (k a b : ℕ) → ℕ
+code k a b = k * 4096 + a * 64 + b
+
+pub record EdgesFit (members relations : ℕ) (edges : Relations) (relation from to : ℕ) : Type 0 where
+  pub inside : (k a b : ℕ) → edges k a b ≡ true → (k < relations) × (a < members) × (b < members)
+  pub rising : (k a b : ℕ) → edges k a b ≡ true → code k a b ≤ code relation from to
+  pub short : (from < 64) × (to < 64)
+
+pub edges-none : (members relations : ℕ) (edges : Relations) (k a b : ℕ) → a < 64 → b < 64 → ((k a b : ℕ) → edges k a b ≡ false)
+    → EdgesFit members relations edges k a b
+edges-none members relations edges k a b p q h = record {
+  inside = λ l c d e. absurd (false≢true (sym (h l c d) ∙ e));
+  rising = λ l c d e. absurd (false≢true (sym (h l c d) ∙ e));
+  short = (p, q);
+}
+
+abbrev pub withEdge : Relations → (k a b : ℕ) → Relations
+withEdge R k a b l c d = cond (eqb l k && (eqb c a && eqb d b)) true (R l c d)
+
+-- an edge of the relations with one more is that one or was there
+edge-cases : (R : Relations) (k a b l c d : ℕ) → withEdge R k a b l c d ≡ true → ((l ≡ k) × (c ≡ a) × (d ≡ b)) ⊎ (R l c d ≡ true)
+edge-cases R k a b l c d e =
+    ⊎-elim
+    (λ p. let q = and-right (eqb l k) _ p in
+    inl (eqb-true l k (and-left (eqb l k) _ p), eqb-true c a (and-left (eqb c a) _ q), eqb-true d b (and-right (eqb c a) _ q)))
+    (λ p. inr (rw p at e))
+    (true-or-false (eqb l k && (eqb c a && eqb d b)))
+
+-- (relation, from, to) comes before (k, a, b), or nothing has come yet
+pub edge-more : {N r : ℕ} {R : Relations} {l c d : ℕ} (k a b : ℕ) → N < 65 → k < r → a < N → b < N
+    → (((k a b : ℕ) → R k a b ≡ false) ⊎ (code l c d < code k a b)) → EdgesFit N r R l c d → EdgesFit N r (withEdge R k a b) k a b
+edge-more {N = N} {r = r} {R = R} {l = l} {c = c} {d = d} k a b n h i j o t = record {
+  inside = λ x y z e. ⊎-elim
+      (λ p. let p0 = p .0 in let p1 = p .1 in let p2 = p .2 in (omega arith, omega arith, omega arith))
+      (λ p. t .inside x y z p)
+      (edge-cases R k a b x y z e);
+  rising = λ x y z e. ⊎-elim
+      (λ p. let p0 = p .0 in let p1 = p .1 in let p2 = p .2 in rw (p0, p1, p2) (omega arith))
+      (λ p. ⊎-elim
+      (λ q. absurd (false≢true (sym (q x y z) ∙ p)))
+      (λ q. let m = t .rising x y z p in omega arith)
+      o)
+      (edge-cases R k a b x y z e);
+  short = (omega arith, omega arith);
+}

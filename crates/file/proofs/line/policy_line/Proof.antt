@@ -1,0 +1,72 @@
+-- `file::line::policy_line` meets its contract: the first test that fails makes the line malformed.
+use mathlib.Core.Path.{refl, sym, _∙_}
+use borrow.Author.Tests.{ne-eqb, eq-eqb}
+use Rattle.theory.specs.Fit.{every}
+use Rattle.file.specs.Line.{policyLine}
+use Rattle.fields.proofs.Numeral.{number-is, number-none}
+use Rattle.file.proofs.Fields.{malformed}
+use borrow.Author.Needs.{needs}
+use Rattle.file.proofs.line.policy_line.Statement.{statement}
+use Rattle.file.proofs.line.policy_line.Tie as tie
+
+pieces-requires : tie.Need-pieces-requires
+pieces-requires c κs = search needs
+
+returns : tie.Need-returns
+unfolding policyLine
+returns c = malformed _ _ 0 (ne-eqb _ _ (λ e. c .if1 .taken (c .before .pieces .ensures ∙ e)))
+
+number-at-requires : tie.Need-number-at-requires
+number-at-requires c κs = search needs
+
+enum-known-j : tie.Need-enum-known-j
+enum-known-j c = search needs
+
+enum-told : tie.Need-enum-told
+enum-told c = search needs
+
+returns-2 : tie.Need-returns-2
+unfolding policyLine
+returns-2 c = malformed _ _ 1 (number-none _ (sym (c .before .before .number-at .ensures) ∙ c .enum-told .given .1))
+
+number-at-requires-2 : tie.Need-number-at-requires-2
+number-at-requires-2 c κs = search needs
+
+enum-known-n : tie.Need-enum-known-n
+enum-known-n c = search needs
+
+enum-told-2 : tie.Need-enum-told-2
+enum-told-2 c = search needs
+
+returns-3 : tie.Need-returns-3
+unfolding policyLine
+returns-3 c = malformed _ _ 2 (number-none _ (sym (c .before .before .number-at2 .ensures) ∙ c .enum-told2 .given .1))
+
+returns-4 : tie.Need-returns-4
+unfolding policyLine every
+returns-4 c =
+    let k1 = c .before in
+    let k2 = k1 .before .before in
+    let k3 = k2 .before .before in
+    let k4 = k3 .before .before in
+    let k5 = k4 .before in
+    let k6 = k5 .before in
+    let e1 = number-is _ _ (sym (k4 .number-at .ensures) ∙ k3 .j .given .1) in
+    let e2 = number-is _ _ (sym (k2 .number-at2 .ensures) ∙ k1 .n .given .1) in
+    rw (eq-eqb _ _ (sym (k6 .pieces .ensures) ∙ k5 .if1 .left), e1 .0, e2 .0, e1 .1, e2 .1) refl
+
+pub policy-line-spec : {M : Type 1} → statement M
+policy-line-spec =
+    tie.close
+    (tie.spec
+    pieces-requires
+    returns
+    number-at-requires
+    enum-known-j
+    enum-told
+    returns-2
+    number-at-requires-2
+    enum-known-n
+    enum-told-2
+    returns-3
+    returns-4)

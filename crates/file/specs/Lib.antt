@@ -1,0 +1,7 @@
+pub mod Words
+pub mod Line
+pub mod File
+pub mod Refused
+pub mod Said
+pub mod Writing
+pub mod Normal

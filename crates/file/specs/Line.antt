@@ -1,0 +1,70 @@
+-- A line of a terms file and what it says (docs/SCOPE.md, The terms file): each kind's fields, read and written.
+use Prim.Native.Nat.{ℕ, zero, suc}
+use mathlib.Core.Bool.{Bool, cond}
+use mathlib.Core.List.{List, [], _∷_}
+use lib.Dec.{eqb, ltb}
+use lib.ListN.{length, getD}
+use Rattle.theory.specs.Fit.{every}
+use Rattle.fields.specs.Split.{join}
+use Rattle.fields.specs.Number.{isNumber, valueOf, digits}
+use Rattle.file.specs.Words.{operatorWords, actionWords, directionWords, kindWords, operatorOf, actionOf, directionOf, kindOf}
+use Rattle.file.specs.declared.line.Line.{Line}
+use Rattle.file.specs.declared.line.Line.the-variants.{Members, Labels, Entry, Policy, Effect, Edge, Malformed}
+
+-- The value of field k; whether the fields numbered in the list are numbers.
+abbrev pub num : List (List ℕ) → ℕ → ℕ
+num fs k = valueOf (getD fs k [])
+
+abbrev pub isNum : List (List ℕ) → ℕ → Bool
+isNum fs k = isNumber (getD fs k [])
+
+-- A line of each kind: its field count, number forms and words, and what it says. (The action is 1 add, 2 del; the direction 0 fwd, 1 back.)
+unfoldable pub membersLine : List (List ℕ) → Line
+membersLine fs = cond (every (eqb (length fs) 2 ∷ isNum fs 1 ∷ [])) (Members (num fs 1)) Malformed
+
+unfoldable pub labelsLine : List (List ℕ) → Line
+labelsLine fs = cond (every (eqb (length fs) 3 ∷ isNum fs 1 ∷ isNum fs 2 ∷ [])) (Labels (num fs 1) (num fs 2)) Malformed
+
+unfoldable pub entryLine : List (List ℕ) → Line
+entryLine fs =
+    cond (every (eqb (length fs) 5 ∷ isNum fs 1 ∷ ltb (operatorOf (getD fs 2 [])) 10 ∷ isNum fs 3 ∷ isNum fs 4 ∷ []))
+    (Entry (num fs 1) (operatorOf (getD fs 2 [])) (num fs 3) (num fs 4)) Malformed
+
+unfoldable pub policyLine : List (List ℕ) → Line
+policyLine fs = cond (every (eqb (length fs) 3 ∷ isNum fs 1 ∷ isNum fs 2 ∷ [])) (Policy (num fs 1) (num fs 2)) Malformed
+
+unfoldable pub effectLine : List (List ℕ) → Line
+effectLine fs =
+    cond (every (eqb (length fs) 5 ∷ isNum fs 1 ∷ ltb 0 (actionOf (getD fs 2 [])) ∷ isNum fs 3 ∷ ltb (directionOf (getD fs 4 [])) 2 ∷ []))
+    (Effect (num fs 1) (actionOf (getD fs 2 [])) (num fs 3) (directionOf (getD fs 4 []))) Malformed
+
+unfoldable pub edgeLine : List (List ℕ) → Line
+edgeLine fs =
+    cond (every (eqb (length fs) 4 ∷ isNum fs 1 ∷ isNum fs 2 ∷ isNum fs 3 ∷ [])) (Edge (num fs 1) (num fs 2) (num fs 3)) Malformed
+
+-- What a line of kind k, in the order of the kinds' words, says.
+unfoldable pub lineOf : ℕ → List (List ℕ) → Line
+lineOf zero fs = membersLine fs
+lineOf (suc zero) fs = labelsLine fs
+lineOf (suc (suc zero)) fs = entryLine fs
+lineOf (suc (suc (suc zero))) fs = policyLine fs
+lineOf (suc (suc (suc (suc zero)))) fs = effectLine fs
+lineOf (suc (suc (suc (suc (suc zero))))) fs = edgeLine fs
+lineOf (suc (suc (suc (suc (suc (suc k)))))) fs = Malformed
+
+-- What the fields of a line say.
+unfoldable pub parsed : List (List ℕ) → Line
+parsed fs = lineOf (kindOf (getD fs 0 [])) fs
+
+-- The fields of a line that says this, and its bytes without the line feed.
+unfoldable pub fieldsOf : Line → List (List ℕ)
+fieldsOf (Members n) = getD kindWords 0 [] ∷ digits n ∷ []
+fieldsOf (Labels r e) = getD kindWords 1 [] ∷ digits r ∷ digits e ∷ []
+fieldsOf (Entry n o a b) = getD kindWords 2 [] ∷ digits n ∷ getD operatorWords o [] ∷ digits a ∷ digits b ∷ []
+fieldsOf (Policy j n) = getD kindWords 3 [] ∷ digits j ∷ digits n ∷ []
+fieldsOf (Effect j c k d) = getD kindWords 4 [] ∷ digits j ∷ getD ([] ∷ actionWords) c [] ∷ digits k ∷ getD directionWords d [] ∷ []
+fieldsOf (Edge k a b) = getD kindWords 5 [] ∷ digits k ∷ digits a ∷ digits b ∷ []
+fieldsOf Malformed = []
+
+abbrev pub printed : Line → List ℕ
+printed l = join 9 (fieldsOf l)

@@ -1,0 +1,129 @@
+-- What the lines of a text say, taken line by line and with no test: the terms and the first edges that the keeper is fed.
+use Prim.Native.Nat.{ℕ}
+use mathlib.Core.Bool.{false, cond, _&&_, _||_}
+use mathlib.Core.List.{List, [], _∷_}
+use lib.Dec.{eqb}
+use lib.ListN.{length, getD}
+use Rattle.theory.specs.Formula as formulas
+use Rattle.theory.specs.Terms as terms
+use Rattle.theory.specs.Terms.{Terms}
+use Rattle.theory.specs.Moment.{Relations}
+use Rattle.fields.specs.Split.{Lines, split, lines}
+use Rattle.fields.specs.Split.Lines.{done, cut, line}
+use Rattle.file.specs.Line.{parsed}
+use Rattle.file.specs.declared.line.Line.{Line}
+use Rattle.file.specs.declared.line.Line.the-variants.{Members, Labels, Entry, Policy, Effect, Edge, Malformed}
+
+-- The lines of a text.
+unfoldable pub records : Lines → List Line
+records done = []
+records (cut l) = []
+records (line l r) = parsed (split 9 l) ∷ records r
+
+-- ---- what one line adds
+
+abbrev pub membersIn : Line → ℕ → ℕ
+membersIn (Members n) rest = n
+membersIn (Labels r e) rest = rest
+membersIn (Entry n o a b) rest = rest
+membersIn (Policy j n) rest = rest
+membersIn (Effect j c k d) rest = rest
+membersIn (Edge k a b) rest = rest
+membersIn Malformed rest = rest
+
+abbrev pub relationsIn : Line → ℕ → ℕ
+relationsIn (Members n) rest = rest
+relationsIn (Labels r e) rest = r
+relationsIn (Entry n o a b) rest = rest
+relationsIn (Policy j n) rest = rest
+relationsIn (Effect j c k d) rest = rest
+relationsIn (Edge k a b) rest = rest
+relationsIn Malformed rest = rest
+
+abbrev pub eventsIn : Line → ℕ → ℕ
+eventsIn (Members n) rest = rest
+eventsIn (Labels r e) rest = e
+eventsIn (Entry n o a b) rest = rest
+eventsIn (Policy j n) rest = rest
+eventsIn (Effect j c k d) rest = rest
+eventsIn (Edge k a b) rest = rest
+eventsIn Malformed rest = rest
+
+abbrev pub entryIn : Line → List formulas.Entry → List formulas.Entry
+entryIn (Members n) rest = rest
+entryIn (Labels r e) rest = rest
+entryIn (Entry n o a b) rest = record { op = o; a = a; b = b } ∷ rest
+entryIn (Policy j n) rest = rest
+entryIn (Effect j c k d) rest = rest
+entryIn (Edge k a b) rest = rest
+entryIn Malformed rest = rest
+
+abbrev pub policyIn : Line → List ℕ → List ℕ
+policyIn (Members n) rest = rest
+policyIn (Labels r e) rest = rest
+policyIn (Entry n o a b) rest = rest
+policyIn (Policy j n) rest = n ∷ rest
+policyIn (Effect j c k d) rest = rest
+policyIn (Edge k a b) rest = rest
+policyIn Malformed rest = rest
+
+-- An effect of event i.
+abbrev pub effectIn : ℕ → Line → List terms.Effect → List terms.Effect
+effectIn i (Members n) rest = rest
+effectIn i (Labels r e) rest = rest
+effectIn i (Entry n o a b) rest = rest
+effectIn i (Policy j n) rest = rest
+effectIn i (Effect j c k d) rest = cond (eqb i j) (record { adds = eqb c 1; relation = k; back = eqb d 1 } ∷ rest) rest
+effectIn i (Edge k a b) rest = rest
+effectIn i Malformed rest = rest
+
+abbrev pub edgeIn : Line → Relations
+edgeIn (Members n) l c d = false
+edgeIn (Labels r e) l c d = false
+edgeIn (Entry n o a b) l c d = false
+edgeIn (Policy j n) l c d = false
+edgeIn (Effect j c' k d') l c d = false
+edgeIn (Edge k a b) l c d = eqb l k && (eqb c a && eqb d b)
+edgeIn Malformed l c d = false
+
+-- ---- what all lines say
+
+unfoldable pub membersSaid : List Line → ℕ
+membersSaid [] = 0
+membersSaid (l ∷ ls) = membersIn l (membersSaid ls)
+
+unfoldable pub relationsSaid : List Line → ℕ
+relationsSaid [] = 0
+relationsSaid (l ∷ ls) = relationsIn l (relationsSaid ls)
+
+unfoldable pub eventsSaid : List Line → ℕ
+eventsSaid [] = 0
+eventsSaid (l ∷ ls) = eventsIn l (eventsSaid ls)
+
+unfoldable pub entriesSaid : List Line → List formulas.Entry
+entriesSaid [] = []
+entriesSaid (l ∷ ls) = entryIn l (entriesSaid ls)
+
+unfoldable pub policiesSaid : List Line → List ℕ
+policiesSaid [] = []
+policiesSaid (l ∷ ls) = policyIn l (policiesSaid ls)
+
+unfoldable pub effectsSaid : ℕ → List Line → List terms.Effect
+effectsSaid j [] = []
+effectsSaid j (l ∷ ls) = effectIn j l (effectsSaid j ls)
+
+unfoldable pub edgesSaid : List Line → Relations
+edgesSaid [] k a b = false
+edgesSaid (l ∷ ls) k a b = edgeIn l k a b || edgesSaid ls k a b
+
+-- The terms that the lines say, and the first edges.
+unfoldable pub termsSaid : List Line → Terms
+termsSaid ls = record {
+  members = membersSaid ls;
+  relations = relationsSaid ls;
+  events = eventsSaid ls;
+  entries = length (entriesSaid ls);
+  entry = λ n. getD (entriesSaid ls) n (record { op = 0; a = 0; b = 0 });
+  policy = λ j. getD (policiesSaid ls) j 0;
+  effects = λ j. effectsSaid j ls;
+}

@@ -1,0 +1,160 @@
+// One line of a terms file: its fields, as parts of the text, and what they say.
+use crate::vocabulary::read_action;
+use crate::vocabulary::read_direction;
+use crate::vocabulary::read_kind;
+use crate::vocabulary::read_operator;
+use fields::field::piece;
+use fields::field::pieces;
+use fields::number::Number;
+use fields::number::read_number;
+use theory::operators::OPERATORS;
+ghost use mathlib.Core.Path.{_≡_};
+ghost use mathlib.Core.List.{[]};
+ghost use lib.ListN.{getD};
+ghost use Rattle.fields.specs.Split.{split};
+ghost use Rattle.fields.specs.Number.{numberOf};
+ghost use Rattle.file.specs.Line.{membersLine, labelsLine, entryLine, policyLine, effectLine, edgeLine, parsed};
+
+// One line of a terms file, as what it says.
+pub enum Line {
+    Members(usize),
+    Labels(usize, usize),
+    Entry(usize, usize, usize, usize),
+    Policy(usize, usize),
+    Effect(usize, usize, usize, usize),
+    Edge(usize, usize, usize),
+    Malformed,
+}
+
+// Field k as a number.
+fn number_at(l: &[u8], k: usize) -> Number
+    ensures { λ r. ⌜ r ≡ numberOf (getD (split 9 (now (l .entry))) k []) ⌝ }
+{
+    read_number(piece(l, 9, k))
+}
+
+// A line `M` N.
+fn members_line(l: &[u8]) -> Line
+    ensures { λ r. ⌜ r ≡ membersLine (split 9 (now (l .entry))) ⌝ }
+{
+    if pieces(l, 9) != 2 {
+        return Line::Malformed;
+    }
+    let Number::Value(n) = number_at(l, 1) else {
+        return Line::Malformed;
+    };
+    Line::Members(n)
+}
+
+// A line `L` r e.
+fn labels_line(l: &[u8]) -> Line
+    ensures { λ r. ⌜ r ≡ labelsLine (split 9 (now (l .entry))) ⌝ }
+{
+    if pieces(l, 9) != 3 {
+        return Line::Malformed;
+    }
+    let Number::Value(r) = number_at(l, 1) else {
+        return Line::Malformed;
+    };
+    let Number::Value(e) = number_at(l, 2) else {
+        return Line::Malformed;
+    };
+    Line::Labels(r, e)
+}
+
+// A line `F` entry word a b.
+fn entry_line(l: &[u8]) -> Line
+    ensures { λ r. ⌜ r ≡ entryLine (split 9 (now (l .entry))) ⌝ }
+{
+    if pieces(l, 9) != 5 {
+        return Line::Malformed;
+    }
+    let Number::Value(n) = number_at(l, 1) else {
+        return Line::Malformed;
+    };
+    let o = read_operator(piece(l, 9, 2));
+    if OPERATORS <= o {
+        return Line::Malformed;
+    }
+    let Number::Value(a) = number_at(l, 3) else {
+        return Line::Malformed;
+    };
+    let Number::Value(b) = number_at(l, 4) else {
+        return Line::Malformed;
+    };
+    Line::Entry(n, o, a, b)
+}
+
+// A line `P` event entry.
+fn policy_line(l: &[u8]) -> Line
+    ensures { λ r. ⌜ r ≡ policyLine (split 9 (now (l .entry))) ⌝ }
+{
+    if pieces(l, 9) != 3 {
+        return Line::Malformed;
+    }
+    let Number::Value(j) = number_at(l, 1) else {
+        return Line::Malformed;
+    };
+    let Number::Value(n) = number_at(l, 2) else {
+        return Line::Malformed;
+    };
+    Line::Policy(j, n)
+}
+
+// A line `E` event action relation direction.
+fn effect_line(l: &[u8]) -> Line
+    ensures { λ r. ⌜ r ≡ effectLine (split 9 (now (l .entry))) ⌝ }
+{
+    if pieces(l, 9) != 5 {
+        return Line::Malformed;
+    }
+    let Number::Value(j) = number_at(l, 1) else {
+        return Line::Malformed;
+    };
+    let action = read_action(piece(l, 9, 2));
+    if action <= 0 {
+        return Line::Malformed;
+    }
+    let Number::Value(k) = number_at(l, 3) else {
+        return Line::Malformed;
+    };
+    let direction = read_direction(piece(l, 9, 4));
+    if 2 <= direction {
+        return Line::Malformed;
+    }
+    Line::Effect(j, action, k, direction)
+}
+
+// A line `G` relation from to.
+fn edge_line(l: &[u8]) -> Line
+    ensures { λ r. ⌜ r ≡ edgeLine (split 9 (now (l .entry))) ⌝ }
+{
+    if pieces(l, 9) != 4 {
+        return Line::Malformed;
+    }
+    let Number::Value(k) = number_at(l, 1) else {
+        return Line::Malformed;
+    };
+    let Number::Value(a) = number_at(l, 2) else {
+        return Line::Malformed;
+    };
+    let Number::Value(b) = number_at(l, 3) else {
+        return Line::Malformed;
+    };
+    Line::Edge(k, a, b)
+}
+
+// What a line says, by the kind that its first field names.
+pub fn parse_line(l: &[u8]) -> Line
+    ensures { λ r. ⌜ r ≡ parsed (split 9 (now (l .entry))) ⌝ }
+{
+    match read_kind(piece(l, 9, 0)) {
+        0 => members_line(l),
+        1 => labels_line(l),
+        2 => entry_line(l),
+        3 => policy_line(l),
+        4 => effect_line(l),
+        5 => edge_line(l),
+        _ => Line::Malformed,
+    }
+}

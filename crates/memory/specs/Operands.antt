@@ -1,0 +1,12 @@
+-- The kinds of operands as code has them.
+use Rattle.theory.specs.Formula.{Operand}
+use Rattle.theory.specs.Formula.Operand.{unused, variable, binder, label, entry}
+use Rattle.memory.specs.declared.operands.Kind.{Kind}
+use Rattle.memory.specs.declared.operands.Kind.the-variants.{Unused, Variable, Binder, Label, Entry}
+
+abbrev pub kindOf : Kind → Operand
+kindOf Unused = unused
+kindOf Variable = variable
+kindOf Binder = binder
+kindOf Label = label
+kindOf Entry = entry

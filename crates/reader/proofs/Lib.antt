@@ -1,0 +1,10 @@
+pub mod Operands
+pub mod Tried
+pub mod Effects
+pub mod TermsMemory
+pub mod RelationsMemory
+pub mod Stored
+pub mod Counters
+pub mod Turns
+pub mod Copied
+pub mod Ended

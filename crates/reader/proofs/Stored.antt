@@ -1,0 +1,299 @@
+-- What a line stores, word by word, is the memory of what has been said after it.
+use Prim.Native.Nat.{ℕ, zero, suc, _+_, _-_, _/_, _%_, _^_, _≤_, _<_}
+use native.Mathlib.Omega.{arith}
+use mathlib.Core.Path.{_≡_, refl, sym, ap, ap₂, _∙_}
+use mathlib.Core.Logic.{⊎-elim}
+use mathlib.Core.List.{List, [], _∷_, _++_}
+use mathlib.Core.Bool.{Bool, true, false, cond, _&&_, _||_}
+use lib.Bits.{bitOr, or-lt}
+use lib.Dec.{eqb, ltb, eqb·suc-suc}
+use lib.Pow.{pow-lt}
+use lib.ListN.{length, getD, set, length-set}
+use lib.Seq.{ext-getD, getD-set-same, getD-set-other}
+use borrow.Author.Tests.{eq-eqb, ne-eqb, lt-ltb, le-ltb, ltb-true, ltb-false, eqb-true, eqb-false}
+use Rattle.sets.specs.Sets.{pack}
+use Rattle.sets.proofs.Finite.{true-or-false}
+use Rattle.sets.proofs.Bits.{bits-equal, bit-set}
+use Rattle.sets.proofs.Pack.{bit-pack, pack-cong, pack-lt}
+use Rattle.theory.specs.Terms as terms
+use Rattle.theory.specs.Terms.{Terms}
+use Rattle.theory.specs.Moment.{Relations}
+use Rattle.memory.specs.Layout.{termsWords, entryAt, policyAt, effectAt, relationAt, tabulate}
+use Rattle.memory.proofs.Row.{length-tabulate, getD-tabulate}
+use Rattle.file.specs.File.{update, withEntry, withPolicy, withEffect}
+use Rattle.reader.specs.Memory.{effectWord, termsWord, memoryOf, relationsMemory}
+use Rattle.reader.specs.Storing.{three, withEdgeBit}
+use Rattle.file.proofs.Fit.{withEdge}
+
+-- ---- lists made of words
+
+pub tabulate-cong : (n : ℕ) (g h : ℕ → ℕ) → ((i : ℕ) → i < n → g i ≡ h i) → tabulate n g ≡ tabulate n h
+unfolding tabulate
+tabulate-cong zero g h e = refl
+tabulate-cong (suc n) g h e =
+    ap₂ {C = List ℕ} (λ x l. x ∷ l) (e 0 (omega arith)) (tabulate-cong n (λ i. g (suc i)) (λ i. h (suc i)) (λ i l. e (suc i) (omega arith)))
+
+set-tabulate : (n : ℕ) (g : ℕ → ℕ) (at v : ℕ) → set (tabulate n g) at v ≡ tabulate n (update g at v)
+set-tabulate n g at v =
+    ext-getD 0 (set (tabulate n g) at v) (tabulate n (update g at v))
+    (length-set (tabulate n g) at v ∙ length-tabulate n g ∙ sym (length-tabulate n (update g at v)))
+    (λ i l. let b : i < n = omega (arith, length-set (tabulate n g) at v, length-tabulate n g) in
+    ⊎-elim (same i b) (other i b) (true-or-false (eqb i at)) ∙ sym (getD-tabulate n (update g at v) i b))
+  where
+    same : (i : ℕ) → i < n → eqb i at ≡ true → getD (set (tabulate n g) at v) i 0 ≡ update g at v i
+    same i b e =
+        rw (e, eqb-true i at e)
+        (getD-set-same (tabulate n g) at v 0 (omega (arith, eqb-true i at e, length-tabulate n g)))
+
+    other : (i : ℕ) → i < n → eqb i at ≡ false → getD (set (tabulate n g) at v) i 0 ≡ update g at v i
+    other i b e = rw e (getD-set-other (tabulate n g) at i v 0 (eqb-false i at e) ∙ getD-tabulate n g i b)
+
+-- ---- the words of the terms
+
+abbrev withMembers : Terms → ℕ → Terms
+withMembers T n = record {
+  members = n;
+  relations = T .relations;
+  events = T .events;
+  entries = T .entries;
+  entry = T .entry;
+  policy = T .policy;
+  effects = T .effects;
+}
+
+abbrev withLabels : Terms → (r e : ℕ) → Terms
+withLabels T r e = record {
+  members = T .members;
+  relations = r;
+  events = e;
+  entries = T .entries;
+  entry = T .entry;
+  policy = T .policy;
+  effects = T .effects;
+}
+
+module _ (T : Terms) where
+  members-word : (n i : ℕ) → update (termsWord T) 0 n i ≡ termsWord (withMembers T n) i
+  unfolding termsWord
+  members-word n zero = refl
+  members-word n (suc i) = rw (ne-eqb (suc i) 0 (λ e. omega arith)) refl
+
+  pub members-stored : (n : ℕ) → set (memoryOf T) 0 n ≡ memoryOf (withMembers T n)
+  unfolding memoryOf
+  members-stored n = set-tabulate termsWords (termsWord T) 0 n ∙ tabulate-cong termsWords _ _ (λ i l. members-word n i)
+
+  labels-word : (r e i : ℕ) → update (update (termsWord T) 1 r) 2 e i ≡ termsWord (withLabels T r e) i
+  unfolding termsWord
+  labels-word r e zero = refl
+  labels-word r e (suc zero) = refl
+  labels-word r e (suc (suc zero)) = refl
+  labels-word r e (suc (suc (suc i))) = rw (ne-eqb (suc (suc (suc i))) 2 (λ e. omega arith), ne-eqb (suc (suc (suc i))) 1 (λ e. omega arith)) refl
+
+  pub labels-stored : (r e : ℕ) → set (set (memoryOf T) 1 r) 2 e ≡ memoryOf (withLabels T r e)
+  unfolding memoryOf
+  labels-stored r e =
+      ap (λ w. set w 2 e) (set-tabulate termsWords (termsWord T) 1 r)
+      ∙ set-tabulate termsWords (update (termsWord T) 1 r) 2 e ∙ tabulate-cong termsWords _ _ (λ i l. labels-word r e i)
+
+  -- one word of three from at on
+  abbrev thrice : (ℕ → ℕ) → (at x y z : ℕ) → ℕ → ℕ
+  thrice g at x y z = update (update (update g at x) (at + 1) y) (at + 2) z
+
+  three-tabulate : (g : ℕ → ℕ) (at x y z : ℕ) → three (tabulate termsWords g) at x y z ≡ tabulate termsWords (thrice g at x y z)
+  three-tabulate g at x y z =
+      ap (λ w. set (set w (at + 1) y) (at + 2) z) (set-tabulate termsWords g at x)
+      ∙ ap (λ w. set w (at + 2) z) (set-tabulate termsWords (update g at x) (at + 1) y)
+      ∙ set-tabulate termsWords (update (update g at x) (at + 1) y) (at + 2) z
+
+  -- no word of the three, and each of them
+  not-three : (g : ℕ → ℕ) (at x y z i : ℕ) → (i ≡ at → ⊥) → (i ≡ at + 1 → ⊥) → (i ≡ at + 2 → ⊥) → thrice g at x y z i ≡ g i
+  not-three g at x y z i p q r = rw (ne-eqb i (at + 2) r, ne-eqb i (at + 1) q, ne-eqb i at p)
+
+  of-three : (g : ℕ → ℕ) (at x y z i c : ℕ) → i ≡ at + c → c < 3 → thrice g at x y z i ≡ cond (eqb c 0) x (cond (eqb c 1) y z)
+  of-three g at x y z i zero e h =
+      rw (ne-eqb i (at + 2) (λ f. omega arith), ne-eqb i (at + 1) (λ f. omega arith), eq-eqb i at (omega arith))
+  of-three g at x y z i (suc zero) e h = rw (ne-eqb i (at + 2) (λ f. omega arith), eq-eqb i (at + 1) (omega arith))
+  of-three g at x y z i (suc (suc zero)) e h = rw (eq-eqb i (at + 2) (omega arith))
+  of-three g at x y z i (suc (suc (suc c))) e h = absurd (omega arith)
+
+  module _ (n o a b : ℕ) (l : n < 256) where
+    entry-low : (i : ℕ) → i < 4 → update (termsWord T) 3 (n + 1) i ≡ termsWord (withEntry T n o a b) i
+    unfolding termsWord
+    entry-low zero h = refl
+    entry-low (suc zero) h = refl
+    entry-low (suc (suc zero)) h = refl
+    entry-low (suc (suc (suc zero))) h = refl
+    entry-low (suc (suc (suc (suc i)))) h = absurd (omega arith)
+
+    entry-word : (i : ℕ) → thrice (update (termsWord T) 3 (n + 1)) (entryAt n) o a b i ≡ termsWord (withEntry T n o a b) i
+    unfolding termsWord
+    entry-word i =
+        ⊎-elim
+        (λ p. let q : i < 4 = ltb-true i 4 p in
+        not-three g (entryAt n) o a b i (λ e. omega arith) (λ e. omega arith) (λ e. omega arith) ∙ entry-low i q)
+        (λ p. let q : 4 ≤ i = ltb-false i 4 p in
+        ⊎-elim
+        (λ r. let s : i < 772 = ltb-true i 772 r in middle q s)
+        (λ r. let s : 772 ≤ i = ltb-false i 772 r in
+        not-three g (entryAt n) o a b i (λ e. omega arith) (λ e. omega arith) (λ e. omega arith)
+        ∙ rw (ne-eqb i 3 (λ e. omega arith), p, r))
+        (true-or-false (ltb i 772)))
+        (true-or-false (ltb i 4))
+      where
+        g : ℕ → ℕ
+        g = update (termsWord T) 3 (n + 1)
+
+        middle : 4 ≤ i → i < 772 → thrice g (entryAt n) o a b i ≡ termsWord (withEntry T n o a b) i
+        middle q s =
+            ⊎-elim
+            (λ e. let k : (i - 4) / 3 ≡ n = eqb-true ((i - 4) / 3) n e in
+            of-three g (entryAt n) o a b i ((i - 4) % 3) (omega arith) (omega arith) ∙ rw (le-ltb i 4 q, lt-ltb i 772 s, e))
+            (λ e. let k : (i - 4) / 3 ≡ n → ⊥ = eqb-false ((i - 4) / 3) n e in
+            not-three g (entryAt n) o a b i (λ z. k (omega arith)) (λ z. k (omega arith)) (λ z. k (omega arith))
+            ∙ rw (ne-eqb i 3 (λ z. omega arith), le-ltb i 4 q, lt-ltb i 772 s, e))
+            (true-or-false (eqb ((i - 4) / 3) n))
+
+    pub entry-stored : three (set (memoryOf T) 3 (n + 1)) (entryAt n) o a b ≡ memoryOf (withEntry T n o a b)
+    unfolding memoryOf
+    entry-stored =
+        ap (λ w. three w (entryAt n) o a b) (set-tabulate termsWords (termsWord T) 3 (n + 1))
+        ∙ three-tabulate (update (termsWord T) 3 (n + 1)) (entryAt n) o a b ∙ tabulate-cong termsWords _ _ (λ i l. entry-word i)
+
+  module _ (j n : ℕ) (l : j < 16) where
+    policy-word : (i : ℕ) → update (termsWord T) (policyAt j) n i ≡ termsWord (withPolicy T j n) i
+    unfolding termsWord
+    policy-word i =
+        ⊎-elim
+        (λ p. let q : i < 772 = ltb-true i 772 p in rw (ne-eqb i (policyAt j) (λ e. omega arith), p))
+        (λ p. let q : 772 ≤ i = ltb-false i 772 p in
+        ⊎-elim
+        (λ e. let s : i ≡ policyAt j = eqb-true i (policyAt j) e in
+        rw (e, le-ltb i 4 (omega arith), p, lt-ltb i 788 (omega arith), eq-eqb (i - 772) j (omega arith)))
+        (λ e. let s : i ≡ policyAt j → ⊥ = eqb-false i (policyAt j) e in
+        rw (e, ne-eqb (i - 772) j (λ z. s (omega arith))))
+        (true-or-false (eqb i (policyAt j))))
+        (true-or-false (ltb i 772))
+
+    pub policy-stored : set (memoryOf T) (policyAt j) n ≡ memoryOf (withPolicy T j n)
+    unfolding memoryOf
+    policy-stored = set-tabulate termsWords (termsWord T) (policyAt j) n ∙ tabulate-cong termsWords _ _ (λ i l. policy-word i)
+
+  -- the words of an effect after the others
+  abbrev wordOf : terms.Effect → ℕ → ℕ
+  wordOf e c = cond (eqb c 0) (cond (e .adds) 1 2) (cond (eqb c 1) (e .relation) (cond (e .back) 1 0))
+
+  effect-more : (es : List terms.Effect) (e : terms.Effect) (i c : ℕ) →
+      effectWord (es ++ (e ∷ [])) i c ≡ cond (eqb i (length es)) (wordOf e c) (effectWord es i c)
+  unfolding effectWord
+  effect-more [] e zero c = refl
+  effect-more [] e (suc i) c = rw (ne-eqb (suc i) 0 (λ z. omega arith))
+  effect-more (d ∷ es) e zero c = rw (ne-eqb 0 (suc (length es)) (λ z. omega arith))
+  effect-more (d ∷ es) e (suc i) c = rw (eqb·suc-suc i (length es)) (effect-more es e i c)
+
+  module _ (j a k d : ℕ) (action : cond (eqb a 1) 1 2 ≡ a) (direction : cond (eqb d 1) 1 0 ≡ d) (few : length (T .effects j) < 4) where
+    abbrev at : ℕ
+    at = effectAt j (length (T .effects j))
+
+    effect-word : (i : ℕ) → thrice (termsWord T) at a k d i ≡ termsWord (withEffect T j a k d) i
+    unfolding termsWord
+    effect-word i =
+        ⊎-elim
+        (λ p. let q : i < 788 = ltb-true i 788 p in
+        not-three (termsWord T) at a k d i (λ e. omega arith) (λ e. omega arith) (λ e. omega arith) ∙ rw p)
+        (λ p. let q : 788 ≤ i = ltb-false i 788 p in ⊎-elim (here q) (elsewhere q) (true-or-false (eqb ((i - 788) / 12) j)))
+        (true-or-false (ltb i 788))
+      where
+        es : List terms.Effect
+        es = T .effects j
+
+        elsewhere : 788 ≤ i → eqb ((i - 788) / 12) j ≡ false → thrice (termsWord T) at a k d i ≡ termsWord (withEffect T j a k d) i
+        elsewhere q e =
+            let m : (i - 788) / 12 ≡ j → ⊥ = eqb-false ((i - 788) / 12) j e in
+            not-three (termsWord T) at a k d i (λ z. m (omega arith)) (λ z. m (omega arith)) (λ z. m (omega arith)) ∙ rw e
+
+        here : 788 ≤ i → eqb ((i - 788) / 12) j ≡ true → thrice (termsWord T) at a k d i ≡ termsWord (withEffect T j a k d) i
+        here q e =
+            ⊎-elim
+            (λ s. let sl : (i - 788) % 12 / 3 ≡ length es = eqb-true ((i - 788) % 12 / 3) (length es) s in
+            of-three (termsWord T) at a k d i ((i - 788) % 3) (omega (arith, eqb-true ((i - 788) / 12) j e)) (omega arith)
+            ∙ rw (
+              le-ltb i 4 (omega arith),
+              le-ltb i 772 (omega arith),
+              le-ltb i 788 q,
+              e,
+              effect-more es new ((i - 788) % 12 / 3) ((i - 788) % 3),
+              s,
+              action,
+              direction,
+            ))
+            (λ s. let sl : (i - 788) % 12 / 3 ≡ length es → ⊥ = eqb-false ((i - 788) % 12 / 3) (length es) s in
+            not-three (termsWord T) at a k d i (λ z. sl (omega arith)) (λ z. sl (omega arith)) (λ z. sl (omega arith))
+            ∙ rw (
+              le-ltb i 4 (omega arith),
+              le-ltb i 772 (omega arith),
+              le-ltb i 788 q,
+              e,
+              effect-more es new ((i - 788) % 12 / 3) ((i - 788) % 3),
+              s,
+              eqb-true ((i - 788) / 12) j e,
+            ))
+            (true-or-false (eqb ((i - 788) % 12 / 3) (length es)))
+          where
+            new : terms.Effect
+            new = record { adds = eqb a 1; relation = k; back = eqb d 1 }
+
+    pub effect-stored : three (memoryOf T) at a k d ≡ memoryOf (withEffect T j a k d)
+    unfolding memoryOf
+    effect-stored = three-tabulate (termsWord T) at a k d ∙ tabulate-cong termsWords _ _ (λ i l. effect-word i)
+
+-- ---- the words of the relations
+
+module _ (R : Relations) (k a b : ℕ) (kl : k < 16) (al : a < 64) (bl : b < 64) where
+  or-cond : (x y : Bool) → x || y ≡ cond y true x
+  or-cond true true = refl
+  or-cond true false = refl
+  or-cond false true = refl
+  or-cond false false = refl
+
+  edge-word : bitOr (pack 64 (R k a)) (2 ^ b) ≡ pack 64 (withEdge R k a b k a)
+  edge-word =
+      bits-equal 64 (bitOr (pack 64 (R k a)) (2 ^ b)) (pack 64 (withEdge R k a b k a))
+      (or-lt 64 (pack 64 (R k a)) (2 ^ b) (pack-lt 64 (R k a)) (pow-lt bl)) (pack-lt 64 (withEdge R k a b k a))
+      (λ x l. bit-set (pack 64 (R k a)) b x
+      ∙ rw (bit-pack 64 (R k a) x, bit-pack 64 (withEdge R k a b k a) x, lt-ltb x 64 l, eq-eqb k k refl, eq-eqb a a refl)
+      (or-cond (R k a x) (eqb x b)))
+
+  abbrev g : ℕ → ℕ
+  g i = pack 64 (R (i / 64) (i % 64))
+
+  edge-words : (i : ℕ) → update g (relationAt k a) (bitOr (pack 64 (R k a)) (2 ^ b)) i ≡ pack 64 (withEdge R k a b (i / 64) (i % 64))
+  edge-words i =
+      ⊎-elim
+      (λ e. let at : i ≡ relationAt k a = eqb-true i (relationAt k a) e in
+      let quo : i / 64 ≡ k = omega arith in
+      let rem : i % 64 ≡ a = omega arith in
+      rw (e, quo, rem) edge-word)
+      (λ e. let at : i ≡ relationAt k a → ⊥ = eqb-false i (relationAt k a) e in
+      rw e (pack-cong 64 (λ x l. go at x (eqb (i / 64) k) refl (eqb (i % 64) a) refl)))
+      (true-or-false (eqb i (relationAt k a)))
+    where
+      go : (i ≡ relationAt k a → ⊥) → (x : ℕ) (p : Bool) → eqb (i / 64) k ≡ p → (q : Bool) → eqb (i % 64) a ≡ q →
+          R (i / 64) (i % 64) x ≡ cond (p && (q && eqb x b)) true (R (i / 64) (i % 64) x)
+      go at x true e true f = absurd (at (omega (arith, eqb-true (i / 64) k e, eqb-true (i % 64) a f)))
+      go at x true e false f = refl
+      go at x false e q f = refl
+
+  pub edge-stored : withEdgeBit (relationsMemory R) k a b ≡ relationsMemory (withEdge R k a b)
+  unfolding relationsMemory
+  edge-stored =
+      ap (λ w. set (tabulate 1024 g) (relationAt k a) (bitOr w (2 ^ b))) word
+      ∙ set-tabulate 1024 g (relationAt k a) (bitOr (pack 64 (R k a)) (2 ^ b)) ∙ tabulate-cong 1024 _ _ (λ i l. edge-words i)
+    where
+      quo : relationAt k a / 64 ≡ k
+      quo = omega arith
+
+      rem : relationAt k a % 64 ≡ a
+      rem = omega arith
+
+      word : getD (tabulate 1024 g) (relationAt k a) 0 ≡ pack 64 (R k a)
+      word = getD-tabulate 1024 g (relationAt k a) (omega arith) ∙ rw (quo, rem)

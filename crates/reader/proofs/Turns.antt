@@ -1,0 +1,228 @@
+-- The loop over the lines: what is left, read on from here, gives what the whole text gives; and one law for each way that a turn goes.
+use Prim.Native.Nat.{ℕ, zero, suc, _+_, _-_, _%_, _^_, _≤_, _<_}
+use native.Mathlib.Omega.{arith}
+use native.Mathlib.Numerals.{add-one}
+use mathlib.Core.Path.{_≡_, refl, sym, ap, ap₂, subst, _∙_}
+use mathlib.Core.Logic.{⊎-elim}
+use mathlib.Core.List.{List, [], _∷_}
+use mathlib.Core.Bool.{Bool, true, false, cond, false≢true}
+use lib.Dec.{eqb, ltb}
+use lib.ListN.{length, getD, take, drop, replicate}
+use Rattle.sets.proofs.Pack.{pack-none}
+use Rattle.sets.specs.Sets.{pack}
+use Rattle.theory.specs.Formula.{number}
+use Rattle.memory.specs.Layout.{termsWords, tabulate}
+use Rattle.memory.specs.Outcome.Outcome.{passed, failed}
+use Rattle.memory.specs.Plan.{Masked}
+use Rattle.fields.specs.Split.{lines, split, place}
+use Rattle.file.specs.Line.{parsed}
+use Rattle.file.specs.File.{File, nothing, tests, after, complete, Reading, tried, readOn, reading}
+use Rattle.file.specs.File.Reading.{accepted, refused}
+use Rattle.reader.specs.Memory.{effectWord, termsWord, memoryOf, relationsMemory}
+use Rattle.reader.specs.Stepping.{numberFrom, begun, isComplete, contextTests, FreeIn, Ranges, stepped}
+use Rattle.reader.specs.Storing.{storedTerms, storedEdges, storedSets, Reads}
+use Rattle.file.specs.declared.line.Line.{Line}
+use Rattle.file.specs.declared.line.Line.the-variants.{Members, Labels, Entry, Policy, Effect, Edge, Malformed}
+use Rattle.reader.specs.declared.step.Context.{Context}
+use Rattle.fields.proofs.Split.{place-le, lines-here, lines-cut, part-rest, rest-shorter}
+use Rattle.file.proofs.Printed.{Ranged, formed}
+use Rattle.file.specs.Refused.{Passed}
+use Rattle.file.proofs.Taken.{passed-at, tried-passed}
+use Rattle.file.proofs.Going.{Going, going-first, going}
+use Rattle.reader.proofs.Tried.{Same, positive, all-pass, tried-fails}
+use Rattle.reader.proofs.Stored.{tabulate-cong}
+use Rattle.reader.proofs.Counters.{contextOf, tests-same, in-ranges, context-after, masked-after, terms-after, relations-after}
+
+-- ---- the words before the first line are 0
+
+tabulate-none : (n : ℕ) → tabulate n (λ i. 0) ≡ replicate n 0
+unfolding tabulate
+tabulate-none zero = refl
+tabulate-none (suc n) = ap {B = List ℕ} (λ l. 0 ∷ l) (tabulate-none n)
+
+none-either : (b : Bool) (x y : ℕ) → x ≡ 0 → y ≡ 0 → cond b x y ≡ 0
+none-either true x y p q = p
+none-either false x y p q = q
+
+none-word : (i : ℕ) → termsWord (nothing .terms) i ≡ 0
+unfolding termsWord nothing effectWord
+none-word i =
+    none-either (ltb i 4) _ _ (counts i)
+    (none-either (ltb i 772) _ _ (none-either (eqb ((i - 4) % 3) 0) 0 _ refl (none-either (eqb ((i - 4) % 3) 1) 0 0 refl refl))
+    (none-either (ltb i 788) 0 0 refl refl))
+  where
+    counts : (i : ℕ) → _≡_ {A = ℕ} (getD (0 ∷ 0 ∷ 0 ∷ 0 ∷ []) i 0) 0
+    counts zero = refl
+    counts (suc zero) = refl
+    counts (suc (suc zero)) = refl
+    counts (suc (suc (suc zero))) = refl
+    counts (suc (suc (suc (suc i)))) = refl
+
+none-terms : replicate termsWords 0 ≡ memoryOf (nothing .terms)
+unfolding memoryOf
+none-terms = sym (tabulate-cong termsWords (termsWord (nothing .terms)) (λ i. 0) (λ i l. none-word i) ∙ tabulate-none termsWords)
+
+none-relations : replicate 1024 0 ≡ relationsMemory (nothing .edges)
+unfolding relationsMemory nothing
+none-relations = sym (tabulate-cong 1024 (λ i. pack 64 (λ b. false)) (λ i. 0) (λ i l. pack-none 64) ∙ tabulate-none 1024)
+
+-- ---- the invariant
+
+-- The text t is left from line n on. The counters c, the sets of free variables and the words stand for one file that has been said so far.
+pub record Along (text terms relations masks t : List ℕ) (c : Context) (n : ℕ) : Type 0 where
+  pub file : File
+  pub going : Going file
+  pub context : c ≡ contextOf file
+  pub masked : Masked (file .terms) masks
+  pub words : terms ≡ memoryOf (file .terms)
+  pub edges : relations ≡ relationsMemory (file .edges)
+  pub within : length t ≤ length text
+  pub counted : n + length t ≤ suc (length text)
+  pub same : readOn file n (lines t) ≡ reading text
+
+pub along-first : (text terms relations masks : List ℕ) → terms ≡ replicate termsWords 0 → relations ≡ replicate 1024 0 → length masks ≡ 256 →
+    Along text terms relations masks text begun 1
+unfolding nothing number reading
+along-first text terms relations masks p q r = record {
+  file = nothing;
+  going = going-first;
+  context = refl;
+  masked = record { long = r; bits = λ i x l. absurd (omega arith) };
+  words = p ∙ none-terms;
+  edges = q ∙ none-relations;
+  within = omega arith;
+  counted = omega arith;
+  same = refl;
+}
+
+-- ---- the ways out of the loop
+
+-- a text that is refused
+refuses : (text terms relations : List ℕ) (k n : ℕ) → reading text ≡ refused k n → Reads text (failed k n) terms relations
+refuses text terms relations k n e = record {
+  given = rw e;
+  filled = λ f h. let z : _≡_ {A = ℕ} 0 1 = cc in absurd (omega arith);
+}
+
+module _ (text terms relations masks t : List ℕ) (c : Context) (n : ℕ) (s : Along text terms relations masks t c n) where
+  -- nothing is left
+  read-end : length t ≤ 0 → reading text ≡ cond (isComplete c) (accepted (s .file)) (refused 1 n)
+  unfolding readOn lines
+  read-end h =
+      sym (s .same) ∙ end-lines t h
+      ∙ ap (λ (d : Context). cond (isComplete d) (accepted (s .file)) (refused 1 n)) (sym (s .context))
+    where
+      end-lines : (t : List ℕ) → length t ≤ 0 → readOn (s .file) n (lines t) ≡ cond (complete (s .file)) (accepted (s .file)) (refused 1 n)
+      end-lines [] h = refl
+      end-lines (x ∷ t) h = absurd (omega arith)
+
+  pub along-done : length t ≤ 0 → isComplete c ≡ true → Reads text passed terms relations
+  along-done h b =
+      let r : reading text ≡ accepted (s .file) = read-end h ∙ rw b in
+      record {
+        given = rw r;
+        filled = λ f e.
+            let z : s .file ≡ f = cc in
+            (s .words ∙ ap (λ (x : File). memoryOf (x .terms)) z, s .edges ∙ ap (λ (x : File). relationsMemory (x .edges)) z);
+      }
+
+  pub along-short : length t ≤ 0 → isComplete c ≡ false → Reads text (failed 1 n) terms relations
+  along-short h b = refuses text terms relations 1 n (read-end h ∙ rw b)
+
+  -- no line feed is left
+  pub along-cut : (e : ℕ) → e ≡ place 10 t → 0 < length t → length t ≤ e → Reads text (failed 1 n) terms relations
+  unfolding readOn
+  along-cut e p h k =
+      refuses text terms relations 1 n
+      (sym (s .same) ∙ ap (readOn (s .file) n) (lines-cut t (omega (arith, place-le 10 t)) h))
+
+-- ---- one turn
+
+tests-positive : (c : Context) (m : ℕ) (l : Line) → positive (contextTests c m l) ≡ true
+unfolding positive contextTests
+tests-positive c m (Members n) = refl
+tests-positive c m (Labels r e) = refl
+tests-positive c m (Entry n o a b) = refl
+tests-positive c m (Policy j n) = refl
+tests-positive c m (Effect j a k d) = refl
+tests-positive c m (Edge k a b) = refl
+tests-positive c m Malformed = refl
+
+line-read : (f : File) (t : List ℕ) (n e : ℕ) (l : Line) → e ≡ place 10 t → e < length t → l ≡ parsed (split 9 (take e t)) →
+    readOn f n (lines t) ≡ tried (tests f l) n (readOn (after f l) (n + 1) (lines (take (length t - (e + 1)) (drop (e + 1) t))))
+unfolding readOn
+line-read f t n e l p h q = rw (q, part-rest (e + 1) t, add-one e, p, lines-here t (omega arith)) refl
+
+-- The line l ends at e, m is the set of free variables that it is tested by, and k the number of its first test that fails.
+pub record Turn (text terms relations masks t : List ℕ) (c : Context) (n e : ℕ) (l : Line) (m k : ℕ) : Type 0 where
+  pub along : Along text terms relations masks t c n
+  pub ends : e ≡ place 10 t
+  pub inside : e < length t
+  pub line : l ≡ parsed (split 9 (take e t))
+  pub set : FreeIn masks l m
+  pub fits : m < 2 ^ 64
+  pub number : k ≡ numberFrom 0 (contextTests c m l)
+
+module _ {text terms relations masks t : List ℕ} {c : Context} {n e : ℕ} {l : Line} {m k : ℕ}
+    (s : Turn text terms relations masks t c n e l m k)
+  where
+    abbrev f : File
+    f = s .along .file
+
+    abbrev rest : List ℕ
+    rest = take (length t - (e + 1)) (drop (e + 1) t)
+
+    number-is : k ≡ numberFrom 0 (contextTests (contextOf f) m l)
+    number-is = s .number ∙ ap (λ (d : Context). numberFrom 0 (contextTests d m l)) (s .along .context)
+
+    abbrev later : Reading
+    later = readOn (after f l) (n + 1) (lines rest)
+
+    read-line : reading text ≡ tried (tests f l) n later
+    read-line = sym (s .along .same) ∙ line-read f t n e l (s .ends) (s .inside) (s .line)
+
+    tests-are : Same (contextTests (contextOf f) m l) (tests f l)
+    tests-are = tests-same f (s .along .going) masks (s .along .masked) m (s .fits) l (s .set)
+
+    pub few-tables : c .tables < 33
+    few-tables = subst (λ (d : Context). d .tables < 33) (sym (s .along .context)) (s .along .going .entries .few-tables)
+
+    -- the line is refused
+    pub turn-refused : 0 < k → Reads text (failed k n) terms relations
+    turn-refused h =
+        refuses text terms relations k n
+        (read-line ∙ sym (tests-are .come n later)
+        ∙ tried-fails (contextTests (contextOf f) m l) n later (tests-positive (contextOf f) m l) (subst (λ (j : ℕ). 0 < j) number-is h)
+        ∙ ap (λ (j : ℕ). refused j n) (sym number-is))
+
+    module _ (none : k ≤ 0) where
+      passes : Passed (tests f l)
+      passes =
+          tests-are .passes
+          (all-pass (contextTests (contextOf f) m l) (tests-positive (contextOf f) m l) (sym number-is ∙ (omega arith)))
+
+      ranged : Ranged l
+      unfolding tests
+      ranged =
+          ⊎-elim
+          (λ z. absurd (false≢true (passed-at (subst (λ (x : Line). Passed (tests f x)) (s .line ∙ z) passes) 0)))
+          (λ z. subst Ranged (sym (s .line)) (z .ranged))
+          (formed (split 9 (take e t)))
+
+      pub turn-ranges : Ranges c l
+      turn-ranges = subst (λ (d : Context). Ranges d l) (sym (s .along .context)) (in-ranges ranged (s .along .going) passes)
+
+      -- the line is taken
+      pub turn-next : Along text (storedTerms c l terms) (storedEdges l relations) (storedSets l m masks) rest (stepped c l) (n + 1)
+      turn-next = record {
+        file = after f l;
+        going = going ranged passes (s .along .going);
+        context = ap (λ (d : Context). stepped d l) (s .along .context) ∙ context-after ranged (s .along .going) passes;
+        masked = masked-after ranged (s .along .going) passes masks (s .along .masked) m (s .set);
+        words = ap₂ (λ (d : Context) (w : List ℕ). storedTerms d l w) (s .along .context) (s .along .words)
+            ∙ terms-after ranged (s .along .going) passes;
+        edges = ap (storedEdges l) (s .along .edges) ∙ relations-after ranged (s .along .going) passes;
+        within = omega (arith, rest-shorter e t, s .along .within);
+        counted = omega (arith, rest-shorter e t, s .along .counted, s .inside);
+        same = sym (read-line ∙ tried-passed passes n later);
+      }

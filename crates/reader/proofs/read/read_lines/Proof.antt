@@ -1,0 +1,234 @@
+-- `reader::read::read_lines` meets its contract. The loop's invariant is `Along`; a turn is put together once, where all that is known of its line is.
+use mathlib.Core.Path.{_≡_, refl, sym, ap, _∙_}
+use native.Mathlib.Omega.{arith}
+use borrow.Author.Needs.{needs}
+use lib.ListN.{length}
+use lib.Seq.{length-take-le}
+use Rattle.fields.proofs.Split.{rest-shorter}
+use Rattle.reader.proofs.TermsMemory.{length-memory}
+use Rattle.reader.proofs.RelationsMemory.{length-relations}
+use Rattle.reader.proofs.Turns.{Along, Turn, along-first, along-done, along-short, along-cut, few-tables, turn-refused, turn-ranges, turn-next}
+use Rattle.reader.proofs.read.read_lines.Statement.{statement}
+use Rattle.reader.proofs.read.read_lines.Tie as tie
+
+abbrev Inv-loop : tie.InvT-loop
+Inv-loop text terms₀ relations₀ masks₀ t₀ c₀ n₀ terms relations masks t c n =
+    Along text terms relations masks t c n
+    × (length terms ≡ length terms₀) × (length relations ≡ length relations₀) × (length masks ≡ length masks₀)
+
+abbrev μ-loop : tie.MeasureT-loop
+μ-loop text terms₀ relations₀ masks₀ t₀ c₀ n₀ terms relations masks t c n = length t
+
+abbrev numbered : tie.After-step Inv-loop μ-loop → tie.After-number-of Inv-loop μ-loop
+numbered c = c .before .before .before .before .before .before .before .before .before .before .before .before .before .before
+
+abbrev found : tie.After-number-of Inv-loop μ-loop → tie.After-find Inv-loop μ-loop
+found c = c .before .before .before .before .before .before
+
+abbrev head : tie.After-number-of Inv-loop μ-loop → tie.At-loop Inv-loop μ-loop
+head c = found c .before .before
+
+abbrev start : tie.At-loop Inv-loop μ-loop → tie.Start Inv-loop μ-loop
+start c = c .before .before .before .before .before .before
+
+turn : (c : tie.After-number-of Inv-loop μ-loop) →
+    let l = head c .loop in
+    Turn (start (head c) .args .text .now) (l .terms) (l .relations) (l .masks) (l .t .now) (l .c) (l .n)
+    (found c .find .result) (c .before .before .before .parse-line .result) (c .before .free-in .result) (c .number-of .result)
+turn c = record {
+  along = head c .loop .inv .0;
+  ends = found c .find .ensures;
+  inside = c .before .before .before .before .before .if1 .left;
+  line = c .before .before .before .parse-line .ensures;
+  set = c .before .free-in .ensures;
+  fits = omega (arith, c .before .free-in .ok);
+  number = c .number-of .ensures;
+}
+
+begin-requires : tie.Need-begin-requires Inv-loop μ-loop
+begin-requires c κs = search needs
+
+loop-holds : tie.Need-loop-holds Inv-loop μ-loop
+loop-holds c =
+    let k1 = c .before .before .before .before .before in
+    let p = k1 .pre in (rw (c .begin .ensures) (along-first _ _ _ _ (p .0) (p .1) (p .2)), refl, refl, refl)
+
+find-requires : tie.Need-find-requires Inv-loop μ-loop
+find-requires c κs = search needs
+
+same-length : tie.Need-same-length Inv-loop μ-loop
+same-length c = c .before .before .before .loop .inv .1
+
+same-length-2 : tie.Need-same-length-2 Inv-loop μ-loop
+same-length-2 c = c .before .before .before .loop .inv .2
+
+same-length-3 : tie.Need-same-length-3 Inv-loop μ-loop
+same-length-3 c = c .before .before .before .loop .inv .3
+
+returns : tie.Need-returns Inv-loop μ-loop
+returns c =
+    along-cut _ _ _ _ _ _ _ (c .before .before .before .loop .inv .0) _ (c .before .find .ensures) (c .before .before .loop-test .taken)
+    (c .if1 .taken)
+
+slice-aggregate-parse-line : tie.Need-slice-aggregate-parse-line Inv-loop μ-loop
+slice-aggregate-parse-line c = sym (length-take-le _ _ (omega arith))
+
+parse-line-requires : tie.Need-parse-line-requires Inv-loop μ-loop
+parse-line-requires c κs = search needs
+
+free-in-requires : tie.Need-free-in-requires Inv-loop μ-loop
+free-in-requires c κs = search needs
+
+number-of-requires : tie.Need-number-of-requires Inv-loop μ-loop
+number-of-requires c κs = search needs
+
+same-length-4 : tie.Need-same-length-4 Inv-loop μ-loop
+same-length-4 c =
+    let k1 = c .before .before .before .before .before .before .before .before .before in
+    k1 .loop .inv .1
+
+same-length-5 : tie.Need-same-length-5 Inv-loop μ-loop
+same-length-5 c =
+    let k1 = c .before .before .before .before .before .before .before .before .before in
+    k1 .loop .inv .2
+
+same-length-6 : tie.Need-same-length-6 Inv-loop μ-loop
+same-length-6 c =
+    let k1 = c .before .before .before .before .before .before .before .before .before in
+    k1 .loop .inv .3
+
+returns-2 : tie.Need-returns-2 Inv-loop μ-loop
+returns-2 c = turn-refused (turn (c .before)) (c .if2 .taken)
+
+store-terms-requires : tie.Need-store-terms-requires Inv-loop μ-loop
+store-terms-requires c κs =
+    let k1 = c .before in
+    let k2 = k1 .before in
+    let k3 = k2 .before .before .before .before .before .before .before .before in
+    (turn-ranges (turn k2) (k1 .if2 .left), ap length (k3 .loop .inv .0 .words) ∙ length-memory _)
+
+store-edge-requires : tie.Need-store-edge-requires Inv-loop μ-loop
+store-edge-requires c κs =
+    let k1 = c .before .before .before .before .before in
+    let k2 = k1 .before in
+    let k3 = k2 .before .before .before .before .before .before .before .before in
+    (turn-ranges (turn k2) (k1 .if2 .left), ap length (k3 .loop .inv .0 .edges) ∙ length-relations _)
+
+store-set-requires : tie.Need-store-set-requires Inv-loop μ-loop
+store-set-requires c κs =
+    let k1 = c .before .before .before .before .before .before .before .before .before in
+    let k2 = k1 .before in
+    let k3 = k2 .before .before .before .before .before .before .before .before in
+    (turn-ranges (turn k2) (k1 .if2 .left), k3 .loop .inv .0 .masked .long)
+
+step-requires : tie.Need-step-requires Inv-loop μ-loop
+step-requires c κs =
+    let k1 = c .before .before .before .before .before .before .before .before .before .before .before .before in
+    let k2 = k1 .before in
+    let t = turn k2 in (turn-ranges t (k1 .if2 .left), few-tables t)
+
+add-t : tie.Need-add-t Inv-loop μ-loop
+add-t c = omega (arith, head (numbered c) .loop .inv .0 .within, start (head (numbered c)) .good .0 .1)
+
+sub-t : tie.Need-sub-t Inv-loop μ-loop
+sub-t c = search needs
+
+part-t-start : tie.Need-part-t-start Inv-loop μ-loop
+part-t-start c = omega arith
+
+part-t-end : tie.Need-part-t-end Inv-loop μ-loop
+part-t-end c = search needs
+
+add-n : tie.Need-add-n Inv-loop μ-loop
+add-n c = omega (arith, head (numbered (c .before)) .loop .inv .0 .counted, start (head (numbered (c .before))) .good .0 .1)
+
+loop-less : tie.Need-loop-less Inv-loop μ-loop
+loop-less c = omega (arith, rest-shorter (found (numbered (c .before)) .find .result) (head (numbered (c .before)) .loop .t .now))
+
+loop-again : tie.Need-loop-again Inv-loop μ-loop
+loop-again c =
+    let k1 = c .before in
+    let k2 = k1 .before .before .before in
+    let k3 = k2 .before .before .before .before in
+    let k4 = k3 .before .before .before .before in
+    let k5 = k4 .before .before in
+    let k6 = k5 .before in
+    let k7 = k6 .before .before .before .before .before .before .before .before in (
+      rw (k4 .store-terms .ensures, k3 .store-edge .ensures, k2 .store-set .ensures, k1 .step .ensures) (turn-next (turn k6) (k5 .if2 .left)),
+      k4 .store-terms .kept .0 ∙ k7 .loop .inv .1,
+      k3 .store-edge .kept .0 ∙ k7 .loop .inv .2,
+      k2 .store-set .kept .0 ∙ k7 .loop .inv .3,
+    )
+
+is-complete-requires : tie.Need-is-complete-requires Inv-loop μ-loop
+is-complete-requires c κs = search needs
+
+same-length-7 : tie.Need-same-length-7 Inv-loop μ-loop
+same-length-7 c = c .before .before .before .loop .inv .1
+
+same-length-8 : tie.Need-same-length-8 Inv-loop μ-loop
+same-length-8 c = c .before .before .before .loop .inv .2
+
+same-length-9 : tie.Need-same-length-9 Inv-loop μ-loop
+same-length-9 c = c .before .before .before .loop .inv .3
+
+returns-3 : tie.Need-returns-3 Inv-loop μ-loop
+returns-3 c =
+    along-done _ _ _ _ _ _ _ (c .before .before .before .loop .inv .0) (c .before .before .loop-test .left)
+    (sym (c .before .is-complete .ensures) ∙ c .if3 .taken)
+
+same-length-10 : tie.Need-same-length-10 Inv-loop μ-loop
+same-length-10 c = c .before .before .before .loop .inv .1
+
+same-length-11 : tie.Need-same-length-11 Inv-loop μ-loop
+same-length-11 c = c .before .before .before .loop .inv .2
+
+same-length-12 : tie.Need-same-length-12 Inv-loop μ-loop
+same-length-12 c = c .before .before .before .loop .inv .3
+
+returns-4 : tie.Need-returns-4 Inv-loop μ-loop
+returns-4 c =
+    along-short _ _ _ _ _ _ _ (c .before .before .before .loop .inv .0) (c .before .before .loop-test .left)
+    (sym (c .before .is-complete .ensures) ∙ c .if3 .left)
+
+pub read-lines-spec : {M : Type 1} → statement M
+read-lines-spec =
+    tie.close
+    (tie.spec
+    Inv-loop
+    μ-loop
+    begin-requires
+    loop-holds
+    find-requires
+    same-length
+    same-length-2
+    same-length-3
+    returns
+    slice-aggregate-parse-line
+    parse-line-requires
+    free-in-requires
+    number-of-requires
+    same-length-4
+    same-length-5
+    same-length-6
+    returns-2
+    store-terms-requires
+    store-edge-requires
+    store-set-requires
+    step-requires
+    add-t
+    sub-t
+    part-t-start
+    part-t-end
+    add-n
+    loop-less
+    loop-again
+    is-complete-requires
+    same-length-7
+    same-length-8
+    same-length-9
+    returns-3
+    same-length-10
+    same-length-11
+    same-length-12
+    returns-4)

@@ -1,0 +1,58 @@
+-- `reader::step::edge_number` meets its contract: the tests are taken one after the other.
+use Rattle.reader.specs.Stepping.{numberFrom, contextTests}
+use borrow.Author.Needs.{needs}
+use Rattle.reader.proofs.step.edge_number.Statement.{statement}
+use Rattle.reader.proofs.step.edge_number.Tie as tie
+
+is-complete-requires : tie.Need-is-complete-requires
+is-complete-requires c κs = search needs
+
+first-requires : tie.Need-first-requires
+first-requires c κs = search needs
+
+edge-rises-requires : tie.Need-edge-rises-requires
+edge-rises-requires c κs = search needs
+
+first-requires-2 : tie.Need-first-requires-2
+first-requires-2 c κs = search needs
+
+first-requires-3 : tie.Need-first-requires-3
+first-requires-3 c κs = search needs
+
+first-requires-4 : tie.Need-first-requires-4
+first-requires-4 c κs = search needs
+
+first-requires-5 : tie.Need-first-requires-5
+first-requires-5 c κs = search needs
+
+returns : tie.Need-returns
+unfolding numberFrom contextTests
+returns c =
+    let k1 = c .before .before in
+    let k2 = k1 .before .before in
+    let k3 = k2 .before .before in
+    let k4 = k3 .before in
+    let k5 = k4 .before in
+    let k6 = k5 .before in
+    rw (
+      c .first5 .ensures,
+      k1 .first4 .ensures,
+      k2 .first3 .ensures,
+      k3 .first2 .ensures,
+      k5 .first .ensures,
+      k6 .is-complete .ensures,
+      k4 .edge-rises .ensures,
+    )
+
+pub edge-number-spec : {M : Type 1} → statement M
+edge-number-spec =
+    tie.close
+    (tie.spec
+    is-complete-requires
+    first-requires
+    edge-rises-requires
+    first-requires-2
+    first-requires-3
+    first-requires-4
+    first-requires-5
+    returns)

@@ -1,0 +1,59 @@
+-- `reader::store::store_set` meets its contract, kind by kind.
+use mathlib.Core.Path.{_≡_, refl, subst}
+use native.Mathlib.Omega.{arith}
+use Rattle.reader.specs.Stepping.{Ranges}
+use Rattle.reader.specs.Storing.{storedSets}
+use Prim.Native.Nat.{ℕ}
+use mathlib.Core.List.{List, [], _∷_}
+use denote.Enum.Declared.{tagOf}
+use types.Run.{OneOf, miss}
+use Rattle.file.specs.declared.line.Line.{Line}
+use Rattle.file.specs.declared.line.Line.the-variants.{Members, Labels, Entry, Policy, Effect, Edge, Malformed}
+use Rattle.file.proofs.line.Line.{the-type}
+use borrow.Author.Needs.{needs}
+use Rattle.reader.proofs.store.store_set.Statement.{statement}
+use Rattle.reader.proofs.store.store_set.Tie as tie
+
+-- the kinds that are no entry
+no-entry : (l : Line) (m : ℕ) (w : List ℕ) → OneOf (0 ∷ 1 ∷ 3 ∷ 4 ∷ 5 ∷ 6 ∷ []) (tagOf the-type l) → w ≡ storedSets l m w
+unfolding storedSets
+no-entry (Members n) m w h = refl
+no-entry (Labels r e) m w h = refl
+no-entry (Entry n o a b) m w h = absurd (miss (0 ∷ 1 ∷ 3 ∷ 4 ∷ 5 ∷ 6 ∷ []) 2 tt h)
+no-entry (Policy j n) m w h = refl
+no-entry (Effect j a k d) m w h = refl
+no-entry (Edge k a b) m w h = refl
+no-entry Malformed m w h = refl
+
+enum-known-line : tie.Need-enum-known-line
+enum-known-line c = search needs
+
+mul-masks : tie.Need-mul-masks
+mul-masks c =
+    omega (
+      arith,
+      (subst (Ranges (c .before .before .before .args .c)) (c .before .line .given .1) (c .before .before .before .pre .0)) .0,
+      c .before .before .before .pre .1,
+    )
+
+slice-write-masks : tie.Need-slice-write-masks
+slice-write-masks c =
+    omega (
+      arith,
+      (subst (Ranges (c .before .before .before .args .c)) (c .before .line .given .1) (c .before .before .before .pre .0)) .0,
+      c .before .before .before .pre .1,
+    )
+
+same-length : tie.Need-same-length
+same-length c = search needs
+
+returns : tie.Need-returns
+unfolding storedSets
+returns c = rw (c .before .line .given .1)
+
+returns-2 : tie.Need-returns-2
+returns-2 c = no-entry (c .before .args .line) (c .before .args .m) (c .before .args .masks .now) (c .match .keys2)
+
+pub store-set-spec : {M : Type 1} → statement M
+store-set-spec =
+    tie.close (tie.spec enum-known-line mul-masks slice-write-masks same-length returns returns-2)

@@ -1,0 +1,150 @@
+-- `reader::store::store_terms` meets its contract, kind by kind.
+use mathlib.Core.Path.{subst}
+use Rattle.reader.specs.Stepping.{Ranges}
+use Rattle.reader.specs.Storing.{storedTerms}
+use borrow.Author.Needs.{needs}
+use Rattle.reader.proofs.store.store_terms.Statement.{statement}
+use Rattle.reader.proofs.store.store_terms.Tie as tie
+
+enum-known-line : tie.Need-enum-known-line
+enum-known-line c = search needs
+
+store-members-requires : tie.Need-store-members-requires
+store-members-requires c κs =
+    let k1 = c .before .before in
+    let k2 = k1 .before .before .before in
+    (subst (Ranges (k2 .args .c)) (k1 .line .given .1) (k2 .pre .0), k2 .pre .1)
+
+enum-known-line-2 : tie.Need-enum-known-line-2
+enum-known-line-2 c = search needs
+
+store-labels-requires : tie.Need-store-labels-requires
+store-labels-requires c κs =
+    let k1 = c .before .before in
+    let k2 = k1 .before .before .before in
+    (subst (Ranges (k2 .args .c)) (k1 .line2 .given .1) (k2 .pre .0), k2 .pre .1)
+
+enum-known-line-3 : tie.Need-enum-known-line-3
+enum-known-line-3 c = search needs
+
+store-entry-requires : tie.Need-store-entry-requires
+store-entry-requires c κs =
+    let k1 = c .before .before in
+    let k2 = k1 .before .before .before in
+    (subst (Ranges (k2 .args .c)) (k1 .line3 .given .1) (k2 .pre .0), k2 .pre .1)
+
+enum-known-line-4 : tie.Need-enum-known-line-4
+enum-known-line-4 c = search needs
+
+store-policy-requires : tie.Need-store-policy-requires
+store-policy-requires c κs =
+    let k1 = c .before .before in
+    let k2 = k1 .before .before .before in
+    (subst (Ranges (k2 .args .c)) (k1 .line4 .given .1) (k2 .pre .0), k2 .pre .1)
+
+enum-known-line-5 : tie.Need-enum-known-line-5
+enum-known-line-5 c = search needs
+
+slot-of-requires : tie.Need-slot-of-requires
+slot-of-requires c κs = search needs
+
+store-effect-requires : tie.Need-store-effect-requires
+store-effect-requires c κs =
+    let k1 = c .before .before .before in
+    let k2 = k1 .before .before .before in
+    (rw (c .slot-of .ensures) (subst (Ranges (k2 .args .c)) (k1 .line5 .given .1) (k2 .pre .0)), k2 .pre .1)
+
+enum-told : tie.Need-enum-told
+enum-told c = search needs
+
+enum-told-2 : tie.Need-enum-told-2
+enum-told-2 c = search needs
+
+same-length : tie.Need-same-length
+same-length c = search needs
+
+returns : tie.Need-returns
+unfolding storedTerms
+returns c =
+    let k1 = c .before .before in
+    let k2 = k1 .before .before .before in
+    rw (k2 .line .given .1) (k1 .store-members .ensures)
+
+same-length-2 : tie.Need-same-length-2
+same-length-2 c = search needs
+
+returns-2 : tie.Need-returns-2
+unfolding storedTerms
+returns-2 c =
+    let k1 = c .before .before in
+    let k2 = k1 .before .before .before in
+    rw (k2 .line2 .given .1) (k1 .store-labels .ensures)
+
+same-length-3 : tie.Need-same-length-3
+same-length-3 c = search needs
+
+returns-3 : tie.Need-returns-3
+unfolding storedTerms
+returns-3 c =
+    let k1 = c .before .before in
+    let k2 = k1 .before .before .before in
+    rw (k2 .line3 .given .1) (k1 .store-entry .ensures)
+
+same-length-4 : tie.Need-same-length-4
+same-length-4 c = search needs
+
+returns-4 : tie.Need-returns-4
+unfolding storedTerms
+returns-4 c =
+    let k1 = c .before .before in
+    let k2 = k1 .before .before .before in
+    rw (k2 .line4 .given .1) (k1 .store-policy .ensures)
+
+same-length-5 : tie.Need-same-length-5
+same-length-5 c = search needs
+
+returns-5 : tie.Need-returns-5
+unfolding storedTerms
+returns-5 c =
+    let k1 = c .before .before in
+    let k2 = k1 .before in
+    let k3 = k2 .before .before .before in
+    rw (k3 .line5 .given .1, ← k2 .slot-of .ensures) (k1 .store-effect .ensures)
+
+returns-6 : tie.Need-returns-6
+unfolding storedTerms
+returns-6 c = rw (c .enum-told .given .1)
+
+returns-7 : tie.Need-returns-7
+unfolding storedTerms
+returns-7 c = rw (c .enum-told2 .given .1)
+
+pub store-terms-spec : {M : Type 1} → statement M
+store-terms-spec =
+    tie.close
+    (tie.spec
+    enum-known-line
+    store-members-requires
+    enum-known-line-2
+    store-labels-requires
+    enum-known-line-3
+    store-entry-requires
+    enum-known-line-4
+    store-policy-requires
+    enum-known-line-5
+    slot-of-requires
+    store-effect-requires
+    enum-told
+    enum-told-2
+    same-length
+    returns
+    same-length-2
+    returns-2
+    same-length-3
+    returns-3
+    same-length-4
+    returns-4
+    same-length-5
+    returns-5
+    returns-6
+    returns-7)

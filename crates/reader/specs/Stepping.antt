@@ -1,0 +1,221 @@
+-- The step of the reader, on numbers: counters in place of what the lines have said, the tests of a line against them, and the counters after it.
+use Prim.Native.Nat.{ℕ, suc, _+_, _-_, _<_}
+use mathlib.Core.Path.{_≡_}
+use mathlib.Core.Bool.{Bool, false, cond, _&&_, _||_}
+use mathlib.Core.List.{List, [], _∷_}
+use lib.Bits.{bitAnd}
+use lib.Dec.{eqb, ltb, leb}
+use lib.ListN.{getD}
+use Rattle.sets.specs.Sets.{bit}
+use Rattle.theory.specs.Formula.{Formula, node, free, firstOperand, secondOperand, isPast}
+use Rattle.theory.specs.Formula.Operand.{variable, entry}
+use Rattle.theory.specs.Fit.{_⇒_}
+use Rattle.file.specs.File.{Test, test, inRange, isLower}
+use Rattle.file.specs.declared.line.Line.{Line}
+use Rattle.file.specs.declared.line.Line.the-variants.{Members, Labels, Entry, Policy, Effect, Edge, Malformed}
+use Rattle.reader.specs.declared.step.Context.{Context}
+
+-- ---- the number of the first test that fails, or 0
+
+-- A number k from the tests before t: it stays, and where it is 0, t gives its own if it fails.
+unfoldable pub refusedBy : ℕ → Test → ℕ
+refusedBy k t = cond (eqb k 0) (cond (t .passes) 0 (t .number)) k
+
+unfoldable pub numberFrom : ℕ → List Test → ℕ
+numberFrom k [] = k
+numberFrom k (t ∷ ts) = numberFrom (refusedBy k t) ts
+
+-- ---- the tests of a line
+
+-- No line yet.
+abbrev pub begun : Context
+begun = record {
+  phase = 0;
+  members = 0;
+  relations = 0;
+  events = 0;
+  entries = 0;
+  tables = 0;
+  policies = 0;
+  event = 0;
+  effects = 0;
+  relation = 0;
+  from = 0;
+  to = 0;
+}
+
+-- All policies have been given.
+abbrev pub isComplete : Context → Bool
+isComplete c = leb 2 (c .phase) && eqb (c .policies) (c .events)
+
+-- How many effects of event j there are. (Events never fall, so a later one has none.)
+abbrev pub slot : Context → ℕ → ℕ
+slot c j = cond (eqb j (c .event)) (c .effects) 0
+
+-- The edge comes after the last one, by relation, from, to.
+abbrev pub rising : Context → (k a b : ℕ) → Bool
+rising c k a b =
+    ltb (c .phase) 6
+    || (ltb (c .relation) k || (eqb (c .relation) k && (ltb (c .from) a || (eqb (c .from) a && ltb (c .to) b))))
+
+-- The tests of File, against counters. m is the set of the free variables of an F line's entry, or of a P line's.
+unfoldable pub contextTests : Context → (m : ℕ) → Line → List Test
+contextTests c m (Members n) =
+    test 1 (eqb (c .phase) 0)
+    ∷ test 2 (ltb 0 n)
+    ∷ test 2 (ltb n 65)
+    ∷ []
+contextTests c m (Labels r e) =
+    test 1 (eqb (c .phase) 1)
+    ∷ test 2 (ltb r 17)
+    ∷ test 2 (ltb 0 e)
+    ∷ test 2 (ltb e 17)
+    ∷ []
+contextTests c m (Entry n o a b) =
+    test 1 (eqb (c .phase) 2 || eqb (c .phase) 3)
+    ∷ test 1 (eqb n (c .entries))
+    ∷ test 2 (ltb n 256)
+    ∷ test 2 (inRange (firstOperand o) (c .relations + c .events) a)
+    ∷ test 2 (inRange (secondOperand o) (c .relations + c .events) b)
+    ∷ test 2 (isPast o ⇒ ltb (c .tables) 32)
+    ∷ test 3 (isLower (firstOperand o) n a)
+    ∷ test 3 (isLower (secondOperand o) n b)
+    ∷ test 4 (isPast o ⇒ eqb (bitAnd m (m - 1)) 0)
+    ∷ []
+contextTests c m (Policy j n) =
+    test 1 (leb 2 (c .phase) && leb (c .phase) 4)
+    ∷ test 1 (eqb j (c .policies))
+    ∷ test 1 (ltb j (c .events))
+    ∷ test 2 (ltb n (c .entries))
+    ∷ test 5 (ltb m 2)
+    ∷ []
+contextTests c m (Effect j a k d) =
+    test 1 (isComplete c)
+    ∷ test 1 (leb (c .phase) 5)
+    ∷ test 1 (leb (c .event) j)
+    ∷ test 2 (ltb j (c .events))
+    ∷ test 2 (ltb (slot c j) 4)
+    ∷ test 2 (ltb k (c .relations))
+    ∷ []
+contextTests c m (Edge k a b) =
+    test 1 (isComplete c)
+    ∷ test 1 (rising c k a b)
+    ∷ test 2 (ltb k (c .relations))
+    ∷ test 2 (ltb a (c .members))
+    ∷ test 2 (ltb b (c .members))
+    ∷ []
+contextTests c m Malformed = test 1 false ∷ []
+
+-- m is that set, where masks has the sets of the entries so far.
+abbrev pub FreeIn : List ℕ → Line → (m : ℕ) → Type 0
+FreeIn masks (Members n) m = Unit {0}
+FreeIn masks (Labels r e) m = Unit {0}
+FreeIn masks (Entry n o a b) m =
+    (t d x : ℕ) (h : ℕ → Formula) → (firstOperand o ≡ variable → a < 64)
+    → (firstOperand o ≡ entry → bit (getD masks a 0) x ≡ free (h a) x)
+    → (secondOperand o ≡ entry → bit (getD masks b 0) x ≡ free (h d) x)
+    → bit m x ≡ free (node t h o a d) x
+FreeIn masks (Policy j n) m = m ≡ getD masks n 0
+FreeIn masks (Effect j a k d) m = Unit {0}
+FreeIn masks (Edge k a b) m = Unit {0}
+FreeIn masks Malformed m = Unit {0}
+
+-- ---- a line that has passed
+
+-- The ranges of what it says.
+abbrev pub Ranges : Context → Line → Type 0
+Ranges c (Members n) = n < 65
+Ranges c (Labels r e) = (r < 17) × (e < 17)
+Ranges c (Entry n o a b) = (n < 256) × (o < 10) × (a < 256) × (b < 256)
+Ranges c (Policy j n) = (j < 16) × (n < 256)
+Ranges c (Effect j a k d) = (j < 16) × (slot c j < 4) × (a < 3) × (k < 16) × (d < 2)
+Ranges c (Edge k a b) = (k < 16) × (a < 64) × (b < 64)
+Ranges c Malformed = ⊥
+
+-- The counters after it.
+unfoldable pub stepped : Context → Line → Context
+stepped c (Members n) = record {
+  phase = 1;
+  members = n;
+  relations = c .relations;
+  events = c .events;
+  entries = c .entries;
+  tables = c .tables;
+  policies = c .policies;
+  event = c .event;
+  effects = c .effects;
+  relation = c .relation;
+  from = c .from;
+  to = c .to;
+}
+stepped c (Labels r e) = record {
+  phase = 2;
+  members = c .members;
+  relations = r;
+  events = e;
+  entries = c .entries;
+  tables = c .tables;
+  policies = c .policies;
+  event = c .event;
+  effects = c .effects;
+  relation = c .relation;
+  from = c .from;
+  to = c .to;
+}
+stepped c (Entry n o a b) = record {
+  phase = 3;
+  members = c .members;
+  relations = c .relations;
+  events = c .events;
+  entries = n + 1;
+  tables = cond (isPast o) (suc (c .tables)) (c .tables);
+  policies = c .policies;
+  event = c .event;
+  effects = c .effects;
+  relation = c .relation;
+  from = c .from;
+  to = c .to;
+}
+stepped c (Policy j n) = record {
+  phase = 4;
+  members = c .members;
+  relations = c .relations;
+  events = c .events;
+  entries = c .entries;
+  tables = c .tables;
+  policies = j + 1;
+  event = c .event;
+  effects = c .effects;
+  relation = c .relation;
+  from = c .from;
+  to = c .to;
+}
+stepped c (Effect j a k d) = record {
+  phase = 5;
+  members = c .members;
+  relations = c .relations;
+  events = c .events;
+  entries = c .entries;
+  tables = c .tables;
+  policies = c .policies;
+  event = j;
+  effects = slot c j + 1;
+  relation = c .relation;
+  from = c .from;
+  to = c .to;
+}
+stepped c (Edge k a b) = record {
+  phase = 6;
+  members = c .members;
+  relations = c .relations;
+  events = c .events;
+  entries = c .entries;
+  tables = c .tables;
+  policies = c .policies;
+  event = c .event;
+  effects = c .effects;
+  relation = k;
+  from = a;
+  to = b;
+}
+stepped c Malformed = c

@@ -1,0 +1,135 @@
+// What a line that has passed stores: words of the terms, a bit of the relations, a set of free variables.
+use crate::step::Context;
+use crate::step::slot_of;
+use file::line::Line;
+use memory::layout::BLOCK;
+use memory::layout::EFFECT;
+use memory::layout::EFFECTS_AT;
+use memory::layout::ENTRIES_AT;
+use memory::layout::ENTRY;
+use memory::layout::EVENT;
+use memory::layout::POLICIES_AT;
+ghost use mathlib.Core.Path.{_≡_};
+ghost use Prim.Native.Nat.{_+_, _<_};
+ghost use lib.ListN.{length, set};
+ghost use Rattle.memory.specs.Layout.{termsWords, relationWords, entryAt, policyAt, effectAt};
+ghost use Rattle.reader.specs.Stepping.{Ranges};
+ghost use Rattle.reader.specs.Storing.{three, withEdgeBit, storedTerms, storedEdges, storedSets};
+
+// Word at becomes v.
+fn store(words: &mut [u16], at: usize, v: usize)
+    requires { ⌜ (at < length (now words)) × (v < 65536) ⌝ }
+    ensures { λ _. ⌜ now (words .exit) ≡ set (now (words .entry)) at v ⌝ }
+{
+    words[at] = v as u16;
+}
+
+// The three words from at on become x, y and z.
+fn store_three(words: &mut [u16], at: usize, x: usize, y: usize, z: usize)
+    requires { ⌜ (at + 2 < length (now words)) × (at < 65536) × (x < 65536) × (y < 65536) × (z < 65536) ⌝ }
+    ensures { λ _. ⌜ now (words .exit) ≡ three (now (words .entry)) at x y z ⌝ }
+{
+    store(words, at, x);
+    store(words, at + 1, y);
+    store(words, at + 2, z);
+}
+
+// N.
+fn store_members(terms: &mut [u16], n: usize)
+    requires { ⌜ n < 65 ⌝ }
+    requires { ⌜ length (now terms) ≡ termsWords ⌝ }
+    ensures { λ _. ⌜ now (terms .exit) ≡ set (now (terms .entry)) 0 n ⌝ }
+{
+    store(terms, 0, n);
+}
+
+// r and e.
+fn store_labels(terms: &mut [u16], r: usize, e: usize)
+    requires { ⌜ (r < 17) × (e < 17) ⌝ }
+    requires { ⌜ length (now terms) ≡ termsWords ⌝ }
+    ensures { λ _. ⌜ now (terms .exit) ≡ set (set (now (terms .entry)) 1 r) 2 e ⌝ }
+{
+    store(terms, 1, r);
+    store(terms, 2, e);
+}
+
+// Entry n, and the number of entries.
+fn store_entry(terms: &mut [u16], n: usize, o: usize, a: usize, b: usize)
+    requires { ⌜ (n < 256) × (o < 10) × (a < 256) × (b < 256) ⌝ }
+    requires { ⌜ length (now terms) ≡ termsWords ⌝ }
+    ensures { λ _. ⌜ now (terms .exit) ≡ three (set (now (terms .entry)) 3 (n + 1)) (entryAt n) o a b ⌝ }
+{
+    store(terms, 3, n + 1);
+    store_three(terms, ENTRIES_AT + ENTRY * n, o, a, b);
+}
+
+// The policy of event j.
+fn store_policy(terms: &mut [u16], j: usize, n: usize)
+    requires { ⌜ (j < 16) × (n < 256) ⌝ }
+    requires { ⌜ length (now terms) ≡ termsWords ⌝ }
+    ensures { λ _. ⌜ now (terms .exit) ≡ set (now (terms .entry)) (policyAt j) n ⌝ }
+{
+    store(terms, POLICIES_AT + j, n);
+}
+
+// Effect i of event j.
+fn store_effect(terms: &mut [u16], j: usize, i: usize, a: usize, k: usize, d: usize)
+    requires { ⌜ (j < 16) × (i < 4) × (a < 3) × (k < 16) × (d < 2) ⌝ }
+    requires { ⌜ length (now terms) ≡ termsWords ⌝ }
+    ensures { λ _. ⌜ now (terms .exit) ≡ three (now (terms .entry)) (effectAt j i) a k d ⌝ }
+{
+    store_three(terms, EFFECTS_AT + EVENT * j + EFFECT * i, a, k, d);
+}
+
+// The bit of an edge.
+fn set_edge(relations: &mut [u64], k: usize, a: usize, b: usize)
+    requires { ⌜ (k < 16) × (a < 64) × (b < 64) ⌝ }
+    requires { ⌜ length (now relations) ≡ relationWords ⌝ }
+    ensures { λ _. ⌜ now (relations .exit) ≡ withEdgeBit (now (relations .entry)) k a b ⌝ }
+{
+    let at = BLOCK * k + a;
+    relations[at] = relations[at] | (1u64 << b);
+}
+
+// The words of the terms that a line gives.
+pub(crate) fn store_terms(terms: &mut [u16], c: Context, line: Line)
+    requires { ⌜ Ranges c line ⌝ }
+    requires { ⌜ length (now terms) ≡ termsWords ⌝ }
+    ensures { λ _. ⌜ now (terms .exit) ≡ storedTerms c line (now (terms .entry)) ⌝ }
+{
+    match line {
+        Line::Members(n) => store_members(terms, n),
+        Line::Labels(r, e) => store_labels(terms, r, e),
+        Line::Entry(n, o, a, b) => store_entry(terms, n, o, a, b),
+        Line::Policy(j, n) => store_policy(terms, j, n),
+        Line::Effect(j, a, k, d) => store_effect(terms, j, slot_of(c, j), a, k, d),
+        Line::Edge(_, _, _) => {}
+        Line::Malformed => {}
+    }
+}
+
+// The bit of the relations that a line gives.
+pub(crate) fn store_edge(relations: &mut [u64], c: Context, line: Line)
+    requires { ⌜ Ranges c line ⌝ }
+    requires { ⌜ length (now relations) ≡ relationWords ⌝ }
+    ensures { λ _. ⌜ now (relations .exit) ≡ storedEdges line (now (relations .entry)) ⌝ }
+{
+    match line {
+        Line::Edge(k, a, b) => set_edge(relations, k, a, b),
+        _ => {}
+    }
+}
+
+// The free variables m of the entry that a line gives.
+pub(crate) fn store_set(masks: &mut [u64], c: Context, line: Line, m: u64)
+    requires { ⌜ Ranges c line ⌝ }
+    requires { ⌜ length (now masks) ≡ 256 ⌝ }
+    ensures { λ _. ⌜ now (masks .exit) ≡ storedSets line m (now (masks .entry)) ⌝ }
+{
+    match line {
+        Line::Entry(n, _, _, _) => {
+            masks[n] = m;
+        }
+        _ => {}
+    }
+}

@@ -1,0 +1,55 @@
+-- Terms that are alike have the same words at moment 0, and the words agree with the same records.
+use Prim.Native.Nat.{ℕ, _-_, _/_, _%_}
+use native.Mathlib.Omega.{arith}
+use mathlib.Core.Path.{_≡_, ap, subst, _∙_}
+use mathlib.Core.Bool.{false, cond, _&&_}
+use mathlib.Core.List.{List}
+use lib.Dec.{ltb}
+use borrow.Author.Tests.{ltb-true}
+use Rattle.sets.proofs.Finite.{and-under}
+use Rattle.theory.specs.Meaning.{standing, holds}
+use Rattle.theory.specs.Terms.{Terms, formula, tables, pastEntry}
+use Rattle.theory.specs.Moment.{Relations, Moment, graph, first}
+use Rattle.theory.specs.Keeper.{recordOf, last, keeperHolds}
+use Rattle.theory.specs.Tables.{opening}
+use Rattle.theory.proofs.Past.{past-entry}
+use Rattle.theory.proofs.Alike.{Alike, met, met-is, same-number, same-formula, same-past, since-met}
+use Rattle.memory.specs.Layout.{stateWords, relationWords, eventAt, row, wordAt, tabulate, wordsOf}
+use Rattle.monitor.specs.Agreement.{Agrees}
+
+module _ (T U : Terms) (a : Alike T U) where
+  abbrev W : Terms
+  W = met T U
+
+  agrees-met : {m₀ m : List ℕ} {Ms : List Moment} → Agrees T m₀ m Ms → Agrees W m₀ m Ms
+  agrees-met {m₀} {m} {Ms} h = record {
+    edges = h .edges;
+    tables = λ t i b tl al bl. h .tables t i b tl al bl ∙ ap (λ x. ltb i (T .members) && (ltb b (T .members) && x)) (table t i b);
+    event = h .event;
+    long = h .long;
+    further = h .further;
+  }
+    where
+      table : (t i b : ℕ) →
+          (ltb t (tables T) && keeperHolds T Ms (pastEntry T t) (standing (formula T (pastEntry T t)) b) i)
+          ≡ (ltb t (tables W) && keeperHolds W Ms (pastEntry W t) (standing (formula W (pastEntry W t)) b) i)
+      table t i b =
+          and-under (ltb t (tables T)) _ _ (λ tl.
+          let φ : formula T (pastEntry T t) ≡ formula W (pastEntry W t) =
+          same-formula T U a (pastEntry T t) (past-entry T t (ltb-true t (tables T) tl) .exists) ∙ ap (formula W) (same-past T U a t) in
+          λ d. holds (T .members) (recordOf T Ms) (φ d) (last Ms) (standing (φ d) b) i)
+          ∙ (λ d. ltb t (same-number T U a (T .entries) (omega arith) d) && keeperHolds W Ms (pastEntry W t) (standing (formula W (pastEntry W t)) b) i)
+
+  words-met : (R : Relations) → wordsOf T (opening T R) ≡ wordsOf W (opening W R)
+  unfolding wordsOf wordAt opening
+  words-met R = λ d. tabulate stateWords (λ i.
+      cond (ltb i relationWords) (cond (ltb (i / 64) (T .relations)) (row (T .members) (R (i / 64)) (i % 64)) 0)
+      (cond (ltb i eventAt) (cond (ltb ((i - relationWords) / 64) (same-number T U a (T .entries) (omega arith) d))
+      (row (T .members) (since-met T U a (graph (T .relations) (first R)) (λ t a b. false) (T .entries) (omega arith) d ((i - relationWords) / 64)) (i % 64)) 0)
+      0))
+
+  pub agrees-alike : {m₀ m : List ℕ} {Ms : List Moment} → Agrees T m₀ m Ms → Agrees U m₀ m Ms
+  agrees-alike {m₀} {m} {Ms} h = subst (λ X. Agrees X m₀ m Ms) (met-is T U a) (agrees-met h)
+
+  pub words-alike : (R : Relations) → wordsOf T (opening T R) ≡ wordsOf U (opening U R)
+  words-alike R = words-met R ∙ ap (λ X. wordsOf X (opening X R)) (met-is T U a)

@@ -1,0 +1,201 @@
+-- Terms that agree as far as they count entries and events: whatever reads terms reads the same in both.
+use Prim.Native.Nat.{ℕ, zero, suc, _+_, _-_, _/_, _%_, _≤_, _<_}
+use native.Mathlib.Omega.{arith}
+use mathlib.Core.Path.{_≡_, refl, sym, ap, ap₂, subst, _∙_}
+use mathlib.Core.Bool.{Bool, true, false, cond, not, _&&_, _||_}
+use mathlib.Core.List.{List, [], _∷_, _++_}
+use lib.Dec.{eqb, ltb, leb}
+use borrow.Author.Tests.{ltb-true, leb-false}
+use Rattle.sets.proofs.Finite.{and-under}
+use Rattle.theory.specs.Formula.{Formula, Entry, node, firstOperand, secondOperand, isPast, number, below, spelled, highest}
+use Rattle.theory.specs.Meaning.{Graph, standing, holds}
+use Rattle.theory.specs.Terms.{Terms, Effect, formula}
+use Rattle.theory.specs.Moment.{Relations, Moment, graph, affectAll, first}
+use Rattle.theory.specs.Moment.Event.{happened}
+use Rattle.theory.specs.Keeper.{Call, Answer, recordOf, last, lastMoment, target, keeperHolds, keep, keepAll, keeper}
+use Rattle.theory.specs.Keeper.Verdict.{grant, deny}
+use Rattle.theory.specs.Keeper.Answer.{decided, refused}
+use Rattle.theory.specs.Terms.{tables, pastEntry}
+use Rattle.theory.specs.Fit.{operandFits, lone, targetOnly}
+use Rattle.theory.specs.Tables.{Tables, store, holdsNow, sinceTables, opening}
+use Rattle.theory.proofs.Good.{Good, GoodEntry, Within}
+use Rattle.theory.proofs.Past.{past-entry}
+
+-- ---- tables of entries that agree: the formula of an entry depends on the entries up to it
+
+module _ (g h : ℕ → Entry) where
+  pub number-agree : (n : ℕ) → ((k : ℕ) → k < n → g k ≡ h k) → number g n ≡ number h n
+  unfolding number
+  number-agree zero e = refl
+  number-agree (suc n) e =
+      ap₂ (λ (x : Entry) (m : ℕ). cond (isPast (x .op)) (suc m) m) (e n (omega arith)) (number-agree n (λ k l. e k (omega arith)))
+
+  pub below-agree : (n : ℕ) → ((k : ℕ) → k < n → g k ≡ h k) → below g n ≡ below h n
+  unfolding below
+  below-agree zero e = refl
+  below-agree (suc n) e =
+      let p = number-agree n (λ k l. e k (omega arith)) in
+      let q = below-agree n (λ k l. e k (omega arith)) in
+      let r = e n (omega arith) in
+      λ i k. elim (eqb k n) [ true ↦ node (p i) (q i) (r i .op) (r i .a) (r i .b) | false ↦ q i k ]
+
+  pub spelled-agree : (n : ℕ) → ((k : ℕ) → k ≤ n → g k ≡ h k) → spelled g n ≡ spelled h n
+  unfolding spelled
+  spelled-agree n e =
+      let p = number-agree n (λ k l. e k (omega arith)) in
+      let q = below-agree n (λ k l. e k (omega arith)) in
+      let r = e n (omega arith) in
+      λ i. node (p i) (q i) (r i .op) (r i .a) (r i .b)
+
+-- ---- terms
+
+pub record Alike (T U : Terms) : Type 0 where
+  pub members : T .members ≡ U .members
+  pub relations : T .relations ≡ U .relations
+  pub events : T .events ≡ U .events
+  pub entries : T .entries ≡ U .entries
+  pub entry : (n : ℕ) → n < T .entries → T .entry n ≡ U .entry n
+  pub policy : (j : ℕ) → j < T .events → T .policy j ≡ U .policy j
+  pub effects : (j : ℕ) → j < T .events → T .effects j ≡ U .effects j
+
+highest-alike : (n : ℕ) {p q : ℕ → Bool} → ((k : ℕ) → k < n → p k ≡ q k) → highest n p ≡ highest n q
+unfolding highest
+highest-alike zero h = refl
+highest-alike (suc n) h = ap₂ (λ c k. cond c n k) (h n (omega arith)) (highest-alike n (λ k l. h k (omega arith)))
+
+-- ---- terms with the counts of T, alike
+
+-- The counts of T with what U says of each entry and event.
+abbrev pub met : Terms → Terms → Terms
+met T U = record {
+  members = T .members;
+  relations = T .relations;
+  events = T .events;
+  entries = T .entries;
+  entry = U .entry;
+  policy = U .policy;
+  effects = U .effects;
+}
+
+module _ (T U : Terms) (a : Alike T U) where
+  pub met-is : met T U ≡ U
+  met-is = λ d. record {
+    members = a .members d;
+    relations = a .relations d;
+    events = a .events d;
+    entries = a .entries d;
+    entry = U .entry;
+    policy = U .policy;
+    effects = U .effects;
+  }
+
+  abbrev W : Terms
+  W = met T U
+
+  pub same-number : (n : ℕ) → n ≤ T .entries → number (T .entry) n ≡ number (W .entry) n
+  same-number n l = number-agree (T .entry) (W .entry) n (λ k h. a .entry k (omega arith))
+
+  same-below : (n : ℕ) → n ≤ T .entries → below (T .entry) n ≡ below (W .entry) n
+  same-below n l = below-agree (T .entry) (W .entry) n (λ k h. a .entry k (omega arith))
+
+  pub same-formula : (n : ℕ) → n < T .entries → formula T n ≡ formula W n
+  same-formula n l = spelled-agree (T .entry) (W .entry) n (λ k h. a .entry k (omega arith))
+
+  same-policy : Good T → (j : ℕ) → j < T .events → formula T (T .policy j) ≡ formula W (W .policy j)
+  same-policy g j l = same-formula (T .policy j) (g .policy-exists j l) ∙ ap (formula W) (a .policy j l)
+
+  -- ---- goodness
+
+  good-met : Good T → Good W
+  good-met g = record {
+    some-member = g .some-member;
+    few-members = g .few-members;
+    few-relations = g .few-relations;
+    some-event = g .some-event;
+    few-events = g .few-events;
+    few-entries = g .few-entries;
+    few-tables = subst (λ n. n < 33) (same-number (T .entries) (omega arith)) (g .few-tables);
+    entry = λ n l. entry n l (g .entry n l);
+    policy-exists = λ j l. subst (λ n. n < T .entries) (a .policy j l) (g .policy-exists j l);
+    policy-free = λ j l. subst (λ φ. targetOnly φ ≡ true) (same-policy g j l) (g .policy-free j l);
+    effects = λ j l. subst (Within (T .relations)) (a .effects j l) (g .effects j l);
+  }
+    where
+      entry : (n : ℕ) → n < T .entries → GoodEntry T n → GoodEntry W n
+      entry n l h =
+          let same : T .entry n ≡ W .entry n = a .entry n l in
+          record {
+            known = subst (λ (e : Entry). e .op < 10) same (h .known);
+            first = subst (λ (e : Entry). operandFits (firstOperand (e .op)) (T .relations + T .events) n (e .a) ≡ true) same (h .first);
+            second = subst (λ (e : Entry). operandFits (secondOperand (e .op)) (T .relations + T .events) n (e .b) ≡ true) same (h .second);
+            one-free = λ p. subst (λ φ. lone φ ≡ true) (same-formula n l) (h .one-free (subst (λ (e : Entry). isPast (e .op) ≡ true) (sym same) p));
+          }
+
+  -- ---- the keeper
+
+  keep-met : Good T → (Ms : List Moment) (c : Call) → keep T Ms c ≡ keep W Ms c
+  unfolding keep
+  keep-met g Ms c = go (leb (T .events) (c .event)) refl
+    where
+      -- what becomes of a call with policy φ and effects es
+      kept : Formula → List Effect → Answer × List Moment
+      kept φ es =
+          cond (not (holds (T .members) (recordOf T Ms) φ (last Ms) (target (c .to)) (c .from))) (decided deny, Ms)
+          (cond (c .look) (decided grant, Ms)
+          (decided grant, Ms ++ (record { edge = affectAll (c .from) (c .to) es (lastMoment Ms .edge); event = happened (c .event) (c .from) (c .to) } ∷ [])))
+
+      -- a call, where it is told whether its event is out of range, and what becomes of it if it is in range
+      called : Bool → Answer × List Moment → Answer × List Moment
+      called b k = cond (ltb (c .scratch) 2048) (refused 6 0, Ms) (cond (b || leb (T .members) (c .from) || leb (T .members) (c .to)) (refused 9 0, Ms) k)
+
+      go : (b : Bool) → leb (T .events) (c .event) ≡ b →
+          called b (kept (formula T (T .policy (c .event))) (T .effects (c .event))) ≡ called b (kept (formula W (W .policy (c .event))) (W .effects (c .event)))
+      go true e = refl
+      go false e =
+          let l : c .event < T .events = leb-false (T .events) (c .event) e in
+          λ d. called false (kept (same-policy g (c .event) l d) (a .effects (c .event) l d))
+
+  keepAll-met : Good T → (Ms : List Moment) (cs : List Call) → keepAll T Ms cs ≡ keepAll W Ms cs
+  unfolding keepAll
+  keepAll-met g Ms [] = refl
+  keepAll-met g Ms (c ∷ cs) =
+      (λ d. (keep-met g Ms c d .0 ∷ keepAll T (keep-met g Ms c d .1) cs .0, keepAll T (keep-met g Ms c d .1) cs .1))
+      ∙ (λ d. (keep W Ms c .0 ∷ keepAll-met g (keep W Ms c .1) cs d .0, keepAll-met g (keep W Ms c .1) cs d .1))
+
+  -- ---- tables
+
+  pub same-past : (t : ℕ) → pastEntry T t ≡ pastEntry W t
+  same-past t = highest-alike (T .entries) (λ n l d. isPast (a .entry n l d .op) && eqb (same-number n (omega arith) d) t)
+
+  pub since-met : (G : Graph) (X : Tables) (n : ℕ) → n ≤ T .entries → sinceTables T G n X ≡ sinceTables W G n X
+  unfolding sinceTables
+  since-met G X zero l = refl
+  since-met G X (suc n) l =
+      let Y : sinceTables T G n X ≡ sinceTables W G n X = since-met G X n (omega arith) in
+      let e : T .entry n ≡ W .entry n = a .entry n l in
+      let s : number (T .entry) n ≡ number (W .entry) n = same-number n (omega arith) in
+      let f : below (T .entry) n ≡ below (W .entry) n = same-below n (omega arith) in
+      let φ : formula T n ≡ formula W n = same-formula n l in
+      λ d. cond (eqb (e d .op) 7)
+      (store (s d) (λ i b. holdsNow (T .members) G (Y d) (f d (e d .b)) (standing (φ d) b) i
+      || (holdsNow (T .members) G (Y d) (f d (e d .a)) (standing (φ d) b) i && Y d (s d) i b)) (Y d))
+      (Y d)
+
+  -- ---- the same of the terms themselves
+
+  pub good-alike : Good T → Good U
+  good-alike g = subst Good met-is (good-met g)
+
+  pub keeper-alike : Good T → (R : Relations) (cs : List Call) → keeper T R cs ≡ keeper U R cs
+  keeper-alike g R cs = keepAll-met g (first R ∷ []) cs ∙ ap (λ X. keeper X R cs) met-is
+
+pub alike-sym : {T U : Terms} → Alike T U → Alike U T
+alike-sym a = record {
+  members = sym (a .members);
+  relations = sym (a .relations);
+  events = sym (a .events);
+  entries = sym (a .entries);
+  entry = λ n l. sym (a .entry n (rw (a .entries) l));
+  policy = λ j l. sym (a .policy j (rw (a .events) l));
+  effects = λ j l. sym (a .effects j (rw (a .events) l));
+}

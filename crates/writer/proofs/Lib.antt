@@ -1,0 +1,4 @@
+pub mod Placed
+pub mod Listing
+pub mod Fitting
+pub mod Sized

@@ -1,0 +1,175 @@
+-- Laws of lines put one after the other: a list of them, the effects of an event, the edges of a word.
+use Prim.Native.Nat.{ℕ, zero, suc, _+_, _-_, _*_, _/_, _%_, _<_, _≤_}
+use mathlib.Core.Path.{_≡_, refl, sym, ap, ap₂, subst, _∙_}
+use mathlib.Core.Bool.{Bool, true, false, cond}
+use mathlib.Core.List.{List, [], _∷_, _++_, append-assoc, append-nil}
+use native.Mathlib.Omega.{arith}
+use native.Mathlib.Nat.{add-zero, add-suc, mul-suc}
+use native.Mathlib.Numerals.{add-one}
+use lib.ListN.{getD}
+use borrow.Author.Tests.{lt-ltb, ne-eqb}
+use Rattle.sets.specs.Sets.{bit}
+use Rattle.sets.proofs.Bits.{bit-zero}
+use Rattle.memory.specs.Layout.{effectAt, effectsFrom, stateOf}
+use Rattle.file.specs.Line.{printed}
+use Rattle.fields.specs.Put.{Put}
+use Rattle.file.specs.Writing.{listed, effectLines, edgeAt, printedAll}
+use Rattle.writer.specs.Kinds.{edgeLines, tripleOf, bitOf, rowOf}
+use Rattle.file.specs.declared.line.Line.{Line}
+use Rattle.file.specs.declared.line.Line.the-variants.{Edge}
+use Rattle.fields.proofs.Output.{put-none, put-then}
+
+-- ---- lists of lines
+
+printed-append : (ks ls : List Line) → printedAll ks ++ printedAll ls ≡ printedAll (ks ++ ls)
+unfolding printedAll
+printed-append [] ls = refl
+printed-append (k ∷ ks) ls =
+    append-assoc (printed k) (10 ∷ printedAll ks) (printedAll ls) ∙ ap (λ (l : List ℕ). printed k ++ (10 ∷ l)) (printed-append ks ls)
+
+pub put-lines : {o p q : List ℕ} {i j k : ℕ} (ks ls : List Line)
+    → Put o p i j (printedAll ks) → Put p q j k (printedAll ls) → Put o q i k (printedAll (ks ++ ls))
+put-lines ks ls x y = subst (Put _ _ _ _) (printed-append ks ls) (put-then x y)
+
+pub put-line : {o p : List ℕ} {i j : ℕ} (l : Line) → Put o p i j (printed l ++ (10 ∷ [])) → Put o p i j (printedAll (l ∷ []))
+unfolding printedAll
+put-line l x = x
+
+listed-suc : (n : ℕ) (f : ℕ → List Line) → listed (suc n) f ≡ listed n f ++ f n
+unfolding listed
+listed-suc n f = refl
+
+listed-cong : (n : ℕ) {f g : ℕ → List Line} → ((k : ℕ) → k < n → f k ≡ g k) → listed n f ≡ listed n g
+unfolding listed
+listed-cong zero h = refl
+listed-cong (suc n) h = ap₂ _++_ (listed-cong n (λ k l. h k (omega arith))) (h n (omega arith))
+
+listed-empty : (n : ℕ) → listed n (λ k. []) ≡ []
+unfolding listed
+listed-empty zero = refl
+listed-empty (suc n) = rw (listed-empty n) refl
+
+listed-span : (a n : ℕ) (f : ℕ → List Line) → listed a f ++ listed n (λ k. f (a + k)) ≡ listed (a + n) f
+unfolding listed
+listed-span a zero f = rw (add-zero a) (append-nil (listed a f))
+listed-span a (suc n) f =
+    sym (append-assoc (listed a f) (listed n (λ k. f (a + k))) (f (a + n)))
+    ∙ rw (add-suc a n) (ap (λ (l : List Line). l ++ f (a + n)) (listed-span a n f))
+
+-- ---- a loop that puts f 0, f 1, .. f (n − 1), each of at most k bytes: the first i have been put
+
+pub record Running (o p : List ℕ) (at m k n i : ℕ) (f : ℕ → List Line) : Type 0 where
+  pub within : i ≤ n
+  pub few : m ≤ at + k * i
+  pub put : Put o p at m (printedAll (listed i f))
+
+pub running-start : (o : List ℕ) (at k n : ℕ) (f : ℕ → List Line) → Running o o at at k n 0 f
+unfolding listed printedAll
+running-start o at k n f = record { within = omega arith; few = omega arith; put = put-none o at }
+
+pub running-more : {o p q : List ℕ} {at m r k n i : ℕ} {f : ℕ → List Line}
+    → i < n → Running o p at m k n i f → Put p q m r (printedAll (f i)) → r ≤ m + k → Running o q at r k n (i + 1) f
+unfolding listed
+running-more {at = at} {m = m} {r = r} {k = k} {n = n} {i = i} {f = f} l g x h = record {
+  within = omega arith;
+  few = let e : k * (i + 1) ≡ k * i + k = ap (λ (j : ℕ). k * j) (add-one i) ∙ mul-suc k i in let b = g .few in omega arith;
+  put = rw (add-one i) (put-lines (listed i f) (f i) (g .put) x);
+}
+
+pub running-end : {o p : List ℕ} {at m k n i : ℕ} {f : ℕ → List Line}
+    → n ≤ i → Running o p at m k n i f → Put o p at m (printedAll (listed n f))
+running-end {n = n} {i = i} l g = let e : i ≡ n = (let w = g .within in omega arith) in rw e at (g .put)
+
+-- ---- the edges of a word: those of number 64 i to 64 i + 63
+
+edge-at : (w i b : ℕ) → b < 64 → bitOf w i b ≡ cond (bit w b) (Edge (i / 64) (i % 64) b ∷ []) []
+edge-at w i b h =
+    let p : (64 * i + b) / 4096 ≡ i / 64 = omega arith in
+    let q : (64 * i + b) / 64 % 64 ≡ i % 64 = omega arith in
+    let r : (64 * i + b) % 64 ≡ b = omega arith in
+    rw (p, q, r)
+
+module _ (w i b : ℕ) (h : b < 64) where
+  pub put-edge-there : {o p : List ℕ} {at m : ℕ} (c : Bool) → c ≡ bit w b → c ≡ true
+      → Put o p at m (printed (Edge (i / 64) (i % 64) b) ++ (10 ∷ [])) → Put o p at m (printedAll (bitOf w i b))
+  put-edge-there c e t x = rw (edge-at w i b h, ← e, t) (put-line (Edge (i / 64) (i % 64) b) x)
+
+  pub put-edge-none : (o : List ℕ) (at : ℕ) (c : Bool) → c ≡ bit w b → c ≡ false → Put o o at at (printedAll (bitOf w i b))
+  unfolding printedAll
+  put-edge-none o at c e t = rw (edge-at w i b h, ← e, t) (put-none o at)
+
+-- a word without edges
+pub put-row-none : (o : List ℕ) (at w i : ℕ) → w ≡ 0 → Put o o at at (printedAll (rowOf w i))
+unfolding printedAll
+put-row-none o at w i e =
+    let none : rowOf w i ≡ [] = listed-cong 64 (λ b h. edge-at w i b h ∙ rw (e, bit-zero b) refl) ∙ listed-empty 64 in
+    rw none (put-none o at)
+
+edge-state : (w : List ℕ) (i b : ℕ) → i < 1024 → b < 64 → bitOf (getD w i 0) i b ≡ edgeAt (stateOf w .now .edge) (64 * i + b)
+unfolding stateOf
+edge-state w i b h g =
+    let p : 64 * ((64 * i + b) / 4096) + (64 * i + b) / 64 % 64 ≡ i = omega arith in
+    rw (lt-ltb ((64 * i + b) / 4096) 16 (omega arith), lt-ltb ((64 * i + b) / 64 % 64) 64 (omega arith), p) refl
+
+rows-edges : (w : List ℕ) (n : ℕ) → n ≤ 1024 → listed n (λ i. rowOf (getD w i 0) i) ≡ listed (64 * n) (edgeAt (stateOf w .now .edge))
+rows-edges w zero h = unfold listed in refl
+rows-edges w (suc n) h =
+    let f : ℕ → List Line = edgeAt (stateOf w .now .edge) in
+    let e : 64 * suc n ≡ 64 * n + 64 = omega arith in
+    listed-suc n (λ i. rowOf (getD w i 0) i)
+    ∙ ap₂ _++_ (rows-edges w n (omega arith)) (listed-cong 64 (λ b g. edge-state w n b (omega arith) g))
+    ∙ listed-span (64 * n) 64 f ∙ ap (λ (m : ℕ). listed m f) (sym e)
+
+-- the edges of all words
+pub put-all-rows : {o p : List ℕ} {at m : ℕ} (w : List ℕ) → Put o p at m (printedAll (listed 1024 (λ i. rowOf (getD w i 0) i)))
+    → Put o p at m (printedAll (edgeLines (stateOf w .now .edge)))
+put-all-rows w x = subst (Put _ _ _ _) (ap printedAll (rows-edges w 1024 (omega arith))) x
+
+-- ---- what is put so far and what is left make the whole
+
+pub record Going (o p : List ℕ) (at m : ℕ) (whole rest : List ℕ) : Type 0 where
+  pub done : List ℕ
+  pub put : Put o p at m done
+  pub joins : done ++ rest ≡ whole
+
+pub going-start : (o : List ℕ) (at : ℕ) (whole : List ℕ) → Going o o at at whole whole
+going-start o at whole = record { done = []; put = put-none o at; joins = refl }
+
+pub going-more : {o p q : List ℕ} {at j k : ℕ} {whole rest bs more : List ℕ}
+    → rest ≡ bs ++ more → Going o p at j whole rest → Put p q j k bs → Going o q at k whole more
+going-more {bs = bs} {more = more} e g x = record {
+  done = g .done ++ bs;
+  put = put-then (g .put) x;
+  joins = append-assoc (g .done) bs more ∙ ap (λ (l : List ℕ). g .done ++ l) (sym e) ∙ g .joins;
+}
+
+pub going-end : {o p : List ℕ} {at m : ℕ} {whole rest : List ℕ} → rest ≡ [] → Going o p at m whole rest → Put o p at m whole
+going-end e g = subst (Put _ _ _ _) (sym (append-nil (g .done)) ∙ ap (λ (l : List ℕ). g .done ++ l) (sym e) ∙ g .joins) (g .put)
+
+-- ---- the effects of an event: n places of three words
+
+-- The bytes of the effects of event j that begin at a word, in n places.
+abbrev pub slots : List ℕ → (j from n : ℕ) → List ℕ
+slots w j from n = printedAll (effectLines j (effectsFrom w from n))
+
+pub slots-none : (w : List ℕ) (j from n : ℕ) → n ≡ 0 → slots w j from n ≡ []
+unfolding effectsFrom effectLines printedAll
+slots-none w j from n e = rw e refl
+
+pub slots-stop : (w : List ℕ) (j from n : ℕ) → getD w from 0 ≡ 0 → slots w j from n ≡ []
+unfolding effectsFrom effectLines printedAll
+slots-stop w j from zero e = refl
+slots-stop w j from (suc n) e = rw e refl
+
+slots-first : (w : List ℕ) (j from n : ℕ) → (getD w from 0 ≡ 0 → ⊥)
+    → slots w j from (suc n) ≡ printedAll (tripleOf w j from) ++ slots w j (from + 3) n
+unfolding effectsFrom effectLines printedAll
+slots-first w j from n h =
+    rw (ne-eqb (getD w from 0) 0 h) (sym (printed-append (tripleOf w j from) (effectLines j (effectsFrom w (from + 3) n))))
+
+pub slots-more : (w : List ℕ) (j i : ℕ) → i < 4 → (getD w (effectAt j i) 0 ≡ 0 → ⊥)
+    → slots w j (effectAt j i) (4 - i) ≡ printedAll (tripleOf w j (effectAt j i)) ++ slots w j (effectAt j (i + 1)) (4 - (i + 1))
+slots-more w j i l h =
+    let n : 4 - i ≡ suc (4 - (i + 1)) = omega arith in
+    let e : effectAt j (i + 1) ≡ effectAt j i + 3 = omega arith in
+    rw (n, e) (slots-first w j (effectAt j i) (4 - (i + 1)) h)

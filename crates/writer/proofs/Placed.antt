@@ -1,0 +1,68 @@
+-- Laws of lines as they are put: how long a word is, and one field more.
+use Prim.Native.Nat.{ℕ, zero, suc, _+_, _^_, _≤_, _<_}
+use mathlib.Core.Path.{_≡_, refl, ap, subst, _∙_}
+use mathlib.Core.List.{List, [], _∷_, _++_, append-assoc}
+use native.Mathlib.Omega.{arith}
+use lib.ListN.{length, getD}
+use Rattle.fields.specs.Split.{join}
+use Rattle.file.specs.Words.{operatorWords, actionWords, directionWords, kindWords}
+use Rattle.fields.specs.Put.{Put, PutIf}
+use Rattle.fields.proofs.Output.{put-then}
+
+-- ---- words are short
+
+pub operator-short : (k : ℕ) → length (getD operatorWords k []) ≤ 5
+unfolding operatorWords
+operator-short zero = omega arith
+operator-short (suc zero) = omega arith
+operator-short (suc (suc zero)) = omega arith
+operator-short (suc (suc (suc zero))) = omega arith
+operator-short (suc (suc (suc (suc zero)))) = omega arith
+operator-short (suc (suc (suc (suc (suc zero))))) = omega arith
+operator-short (suc (suc (suc (suc (suc (suc zero)))))) = omega arith
+operator-short (suc (suc (suc (suc (suc (suc (suc zero))))))) = omega arith
+operator-short (suc (suc (suc (suc (suc (suc (suc (suc zero)))))))) = omega arith
+operator-short (suc (suc (suc (suc (suc (suc (suc (suc (suc zero))))))))) = omega arith
+operator-short (suc (suc (suc (suc (suc (suc (suc (suc (suc (suc k)))))))))) = omega arith
+
+pub action-short : (k : ℕ) → length (getD ([] ∷ actionWords) k []) ≤ 5
+unfolding actionWords
+action-short zero = omega arith
+action-short (suc zero) = omega arith
+action-short (suc (suc zero)) = omega arith
+action-short (suc (suc (suc k))) = omega arith
+
+pub direction-short : (k : ℕ) → length (getD directionWords k []) ≤ 5
+unfolding directionWords
+direction-short zero = omega arith
+direction-short (suc zero) = omega arith
+direction-short (suc (suc k)) = omega arith
+
+pub kind-short : (k : ℕ) → length (getD kindWords k []) ≤ 1
+unfolding kindWords
+kind-short zero = omega arith
+kind-short (suc zero) = omega arith
+kind-short (suc (suc zero)) = omega arith
+kind-short (suc (suc (suc zero))) = omega arith
+kind-short (suc (suc (suc (suc zero)))) = omega arith
+kind-short (suc (suc (suc (suc (suc zero))))) = omega arith
+kind-short (suc (suc (suc (suc (suc (suc k)))))) = omega arith
+
+-- ---- the word of a number: field k of a text whose fields are the table
+
+pub put-word : {o p : List ℕ} {at m : ℕ} (ws vs : List (List ℕ)) (k : ℕ) (w : List ℕ) → w ≡ getD ws k [] → ws ≡ vs → length (getD vs k []) ≤ 5 →
+    at < 2 ^ 61 → PutIf (at + length w < 2 ^ 62) o p at m w → Put o p at m (getD vs k [])
+put-word ws vs k w e d h l f =
+    let q : w ≡ getD vs k [] = e ∙ ap (λ (x : List (List ℕ)). getD x k []) d in
+    subst (Put _ _ _ _) q (f .all (omega (arith, ap length q)))
+
+-- ---- one field more
+
+join-more : (c : ℕ) (f : List ℕ) (fs : List (List ℕ)) (g : List ℕ) → join c (f ∷ fs) ++ (c ∷ g) ≡ join c (f ∷ (fs ++ (g ∷ [])))
+unfolding join
+join-more c f [] g = refl
+join-more c f (e ∷ fs) g = append-assoc f (c ∷ join c (e ∷ fs)) (c ∷ g) ∙ ap (λ (l : List ℕ). f ++ (c ∷ l)) (join-more c e fs g)
+
+pub put-next : {o p q : List ℕ} {i j k : ℕ} (f : List ℕ) (fs : List (List ℕ)) (g : List ℕ)
+    → Put o p i j (join 9 (f ∷ fs)) → Put p q j k (9 ∷ g) → Put o q i k (join 9 (f ∷ (fs ++ (g ∷ []))))
+put-next f fs g x y = subst (Put _ _ _ _) (join-more 9 f fs g) (put-then x y)

@@ -1,0 +1,60 @@
+-- `writer::write::put_entries` meets its contract: the first n F lines have been put.
+use Prim.Native.Nat.{_-_}
+use borrow.Author.Needs.{needs}
+use Rattle.memory.specs.Layout.{termsOf}
+use Rattle.writer.specs.Kinds.{entryOf}
+use Rattle.fields.proofs.Output.{put-long}
+use Rattle.writer.proofs.Listing.{Running, running-start, running-more, running-end}
+use Rattle.writer.proofs.write.put_entries.Statement.{statement}
+use Rattle.writer.proofs.write.put_entries.Tie as tie
+
+abbrev Inv-loop : tie.InvT-loop
+Inv-loop terms out₀ at count n₀ next₀ out n next = Running out₀ out at next 31 count n (entryOf (termsOf terms))
+
+abbrev μ-loop : tie.MeasureT-loop
+μ-loop terms out₀ at count n₀ next₀ out n next = count - n
+
+entries-requires : tie.Need-entries-requires Inv-loop μ-loop
+entries-requires c κs = search needs
+
+loop-holds : tie.Need-loop-holds Inv-loop μ-loop
+loop-holds c = running-start _ _ _ _ _
+
+put-entry-of-requires : tie.Need-put-entry-of-requires Inv-loop μ-loop
+put-entry-of-requires c κs = search needs
+
+add-n : tie.Need-add-n Inv-loop μ-loop
+add-n c = search needs
+
+loop-less : tie.Need-loop-less Inv-loop μ-loop
+loop-less c = search needs
+
+loop-again : tie.Need-loop-again Inv-loop μ-loop
+loop-again c =
+    let t = c .before .before .before .before in
+    let e = c .before .before .put-entry-of .ensures in
+    running-more (t .loop-test .taken) (t .before .loop .inv) (e .0) (e .1)
+
+same-length : tie.Need-same-length Inv-loop μ-loop
+same-length c = put-long (c .before .loop .inv .put)
+
+returns : tie.Need-returns Inv-loop μ-loop
+unfolding termsOf
+returns c =
+    let l = c .before in
+    (rw (← l .before .entries .ensures .0) (running-end (c .loop-test .left) (l .loop .inv)), search needs)
+
+pub put-entries-spec : {M : Type 1} → statement M
+put-entries-spec =
+    tie.close
+    (tie.spec
+    Inv-loop
+    μ-loop
+    entries-requires
+    loop-holds
+    put-entry-of-requires
+    add-n
+    loop-less
+    loop-again
+    same-length
+    returns)

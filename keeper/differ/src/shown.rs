@@ -1,0 +1,69 @@
+//! What the binding shows of terms and a state, in the keeper's words.
+
+use cuckooormolu::{Action, Direction, Entry, Label, Monitor};
+use keeper::terms::memory::State;
+use keeper::terms::{self, Effect, Terms};
+
+/// The terms, without edges.
+pub fn terms(monitor: &Monitor) -> Terms {
+    let shown = monitor.terms();
+    let relations = shown.relations().len();
+    let policy = |event| shown.policy(event).expect("each event has a policy");
+    let effects = |event| {
+        let effects = shown.effects(event).map(|effect| Effect {
+            add: effect.action == Action::Add,
+            relation: effect.relation.into(),
+            back: effect.direction == Direction::Back,
+        });
+        effects.collect()
+    };
+    Terms {
+        members: shown.members().len(),
+        relations,
+        events: shown.events().len(),
+        entries: shown.entries().map(|entry| plain(entry, relations)).collect(),
+        policies: shown.events().map(policy).collect(),
+        effects: shown.events().map(effects).collect(),
+        ..Terms::default()
+    }
+}
+
+/// The entry with a label by its number: relations first, then events.
+fn plain(entry: Entry, relations: usize) -> terms::Entry {
+    let number = |label| match label {
+        Label::Relation(relation) => usize::from(relation),
+        Label::Event(event) => relations + usize::from(event),
+    };
+    match entry {
+        Entry::Top => terms::Entry::Top,
+        Entry::Var(x) => terms::Entry::Var(x.into()),
+        Entry::Not(f) => terms::Entry::Not(f),
+        Entry::Or(f, g) => terms::Entry::Or(f, g),
+        Entry::Out(l, f) => terms::Entry::Out(number(l), f),
+        Entry::In(l, f) => terms::Entry::In(number(l), f),
+        Entry::Prev(f) => terms::Entry::Prev(f),
+        Entry::Since(f, g) => terms::Entry::Since(f, g),
+        Entry::Bind(x, f) => terms::Entry::Bind(x.into(), f),
+        Entry::At(x, f) => terms::Entry::At(x.into(), f),
+    }
+}
+
+pub fn state(monitor: &Monitor) -> State {
+    let shown = monitor.state();
+    let edge = |edge: cuckooormolu::Edge| {
+        assert!(shown.has_edge(edge));
+        (edge.relation.into(), edge.from.into(), edge.to.into())
+    };
+    let table = |t| {
+        let pairs = shown.table(t).map(|(at, other)| {
+            assert!(shown.table_holds(t, at, other));
+            (at.into(), other.into())
+        });
+        pairs.collect()
+    };
+    State {
+        edges: shown.edges().map(edge).collect(),
+        tables: (0..monitor.terms().tables().count()).map(table).collect(),
+        event: shown.event().map(|edge| (edge.event.into(), edge.from.into(), edge.to.into())),
+    }
+}

@@ -1,0 +1,63 @@
+//! The worked example of docs/MEMORY.md.
+
+use crate::help::*;
+use keeper::record::Answer::Grant;
+use keeper::record::Record;
+use keeper::terms::memory::{terms_words, STATE_WORDS, TERMS_WORDS};
+
+const PAGE: &str = include_str!("../../../docs/MEMORY.md");
+
+/// The cells of the rows of the table with these first columns.
+fn table(columns: &str) -> Vec<Vec<&'static str>> {
+    let rows = PAGE.lines().skip_while(|line| !line.starts_with(columns)).skip(2);
+    let rows = rows.take_while(|line| line.starts_with('|'));
+    let rows: Vec<Vec<_>> =
+        rows.map(|row| row.split('|').skip(1).map(str::trim).collect()).collect();
+    assert!(!rows.is_empty(), "no table {columns}");
+    rows
+}
+
+/// A number of the page.
+fn number(cell: &str) -> u64 {
+    cell.parse().unwrap_or_else(|_| panic!("{cell} is no number"))
+}
+
+/// The text of the lines that the page names, with the first edge.
+fn text() -> Vec<u8> {
+    let lines = table("| line | word |").into_iter().filter_map(|row| row[0].strip_prefix('`'));
+    let text: String = lines.map(|line| line.replace('`', "\n")).collect();
+    tabs(&format!("{text}G 0 0 2\n"))
+}
+
+#[test]
+fn its_lines_are_the_preset_and_one_effect() {
+    let effect = "E 2 add 0 fwd\n";
+    assert_eq!(text(), tabs(&PRESET.replace("G 0 0 2\n", &format!("{effect}G 0 0 2\n"))));
+}
+
+#[test]
+fn its_words_of_terms() {
+    let mut words = vec![0; TERMS_WORDS];
+    for row in table("| line | word |") {
+        let place = number(row[1]) as usize;
+        for (index, value) in row[2].split(' ').enumerate() {
+            words[place + index] = number(value) as u16;
+        }
+    }
+    assert_eq!(terms_words(&accepted(&text())), words);
+}
+
+#[test]
+fn its_words_of_state() {
+    let mut record = Record::new(accepted(&text()));
+    for (column, call) in [None, Some([0, 0, 1]), Some([2, 1, 2])].into_iter().enumerate() {
+        if let Some([event, from, to]) = call {
+            assert_eq!(request(&mut record, event, from, to), Grant);
+        }
+        let mut words = vec![0; STATE_WORDS];
+        for row in table("| word | moment 0 | share 0 1 | load 1 2 |") {
+            words[number(row[0]) as usize] = number(row[1 + column]);
+        }
+        assert_eq!(record.state_words(), words, "column {column}");
+    }
+}

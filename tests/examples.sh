@@ -1,0 +1,65 @@
+#!/bin/sh
+# examples.sh PROGRAM KEEPER: every example as it stands, and with each change that its README tells of under "Change one thing". The first column there is `line 4 to R 1 2 1`, of
+# the requests, or `without G 0 0 2`, of the terms; the second lists the answers that differ, `5, 6 deny; 7 grant`. All others must stay.
+here=$(cd "$(dirname "$0")" && pwd)
+# shellcheck source=tests/hold.sh
+. "$here/hold.sh"
+
+# rows README: the first two columns of the table, parted by a tab.
+rows() {
+    awk -F ' *[|] *' '
+        /^## / { inside = $0 == "## Change one thing"; next }
+        inside && /^[|]/ && !/^[|]-/ && $2 != "change" { gsub(/`/, ""); print $2 "\t" $3 }' "$1"
+}
+
+# tabs TEXT: the text with tabs for its spaces.
+tabs() { printf '%s\n' "$1" | tr ' ' '\t'; }
+
+# change WORDS: makes the change, or fails.
+change() {
+    case $1 in
+    'line '*' to R '*)
+        n=${1#line } n=${n%% *}
+        awk -v n="$n" -v line="$(tabs "${1#* to }")" 'NR == n && $0 != line { $0 = line; done = 1 } { print } END { exit !done }' "$dir/requests.tsv" >"$work/case/requests.tsv"
+        ;;
+    'without '*) awk -v line="$(tabs "${1#without }")" '$0 == line { done = 1; next } { print } END { exit !done }' "$dir/terms.tsv" >"$work/case/terms.tsv" ;;
+    *) return 1 ;;
+    esac
+}
+
+# differ ANSWERS: the expected answers with those that differ, or fails if one does not.
+differ() {
+    awk -v answers="$1" '
+        BEGIN {
+            for (g = split(answers, group, "; "); g > 0; g--) {
+                n = split(group[g], line, ", ")
+                answer = line[n]
+                sub(/^[0-9]+ /, "", answer)
+                sub(/ .*/, "", line[n])
+                gsub(/ /, "\t", answer)
+                for (; n > 0; n--) { wanted[line[n]] = line[n] "\t" answer; left++ }
+            }
+        }
+        NR in wanted && wanted[NR] != $0 { $0 = wanted[NR]; left-- }
+        { print }
+        END { exit left != 0 }' "$dir/expected.tsv" >"$work/wanted"
+}
+
+for dir in "$here"/../examples/*/; do
+    example=$(basename "$dir")
+    cp "$dir/terms.tsv" "$dir/requests.tsv" "$work/case"
+    cp "$dir/expected.tsv" "$work/wanted"
+    hold "$example"
+    rows "$dir/README.md" >"$work/rows"
+    [ -s "$work/rows" ] || { echo "FAIL $example: nothing to change" && failed=$((failed + 1)); }
+    while IFS='	' read -r words answers; do
+        cp "$dir/terms.tsv" "$dir/requests.tsv" "$work/case"
+        if change "$words" && differ "$answers"; then
+            hold "$example, $words"
+        else
+            echo "FAIL $example: $words: this changes nothing, or no answer: $answers"
+            failed=$((failed + 1))
+        fi
+    done <"$work/rows"
+done
+finish

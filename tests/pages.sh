@@ -1,0 +1,49 @@
+#!/bin/sh
+# pages.sh PROGRAM KEEPER: what the pages of docs/ show. The terms file of FORMAT with its requests gives its answers; each line of its table of refusals, put after the F lines,
+# gives the number. The preset of SCOPE is the example's and gives its answers.
+here=$(cd "$(dirname "$0")" && pwd)
+# shellcheck source=tests/hold.sh
+. "$here/hold.sh"
+docs=$here/../docs
+preset=$here/../examples/preset
+
+# column PAGE TITLE K: what stands between backquotes in column K of the tables under a title, a line for each row; more than one are parted by `;`. A space stands for a tab.
+column() {
+    awk -F ' *[|] *' -v title="## $2" -v k="$3" '
+        /^## / { inside = $0 == title; next }
+        inside && /^[|]/ && $(k + 1) ~ /`/ {
+            n = split($(k + 1), part, "`")
+            text = part[2]
+            for (i = 4; i <= n; i += 2) text = text ";" part[i]
+            print text
+        }' "$docs/$1" | tr ' ' '\t'
+}
+
+column FORMAT.md 'A terms file, line by line' 1 >"$work/terms"
+column FORMAT.md 'Requests and answers' 1 >"$work/case/requests.tsv"
+column FORMAT.md 'Requests and answers' 2 >"$work/wanted"
+cp "$work/terms" "$work/case/terms.tsv"
+hold 'FORMAT, requests and answers'
+
+# `faulty after earlier`: the earlier line goes before the faulty one.
+number=0
+column FORMAT.md 'When a terms file is refused' 3 >"$work/lines"
+while IFS=';' read -r faulty earlier; do
+    number=$((number + 1))
+    awk -v faulty="$faulty" -v earlier="$earlier" '
+        /^P/ && !put++ { if (earlier != "") print earlier; print faulty }
+        { print }' "$work/terms" >"$work/case/terms.tsv"
+    line=$(awk -v faulty="$faulty" '$0 == faulty { print NR }' "$work/case/terms.tsv")
+    printf 'terms\t%s\t%s\n' "$number" "$line" >"$work/wanted"
+    hold "FORMAT, refusal $number"
+done <"$work/lines"
+[ "$number" -eq 5 ] || { echo "FAIL FORMAT: $number refusals" && failed=$((failed + 1)); }
+
+sed -n '/^## The preset$/,/^## Cases$/s/^    //p' "$docs/SCOPE.md" | tr ' ' '\t' >"$work/case/terms.tsv"
+column SCOPE.md 'The preset' 1 >"$work/case/requests.tsv"
+column SCOPE.md 'The preset' 2 >"$work/wanted"
+hold 'SCOPE, the preset'
+for file in terms.tsv requests.tsv; do
+    cmp "$work/case/$file" "$preset/$file" || failed=$((failed + 1))
+done
+finish

@@ -1,0 +1,50 @@
+// Looks at a page as the browser laid it out and leaves what is wrong, or `ok`,
+// in an attribute of the root. Put into a copy of the page by browser.sh; no
+// page has it.
+const wrong = [];
+const say = (right, what) => right || wrong.push(what);
+const all = (selector) => [...document.querySelectorAll(selector)];
+
+say(document.documentElement.scrollWidth <= innerWidth, `wider than the window: ${document.documentElement.scrollWidth}`);
+
+for (const link of all('a[href^="#"], use[href^="#"]')) {
+  const id = link.getAttribute('href').slice(1);
+  say(document.getElementById(id), `nothing is called ${id}`);
+}
+
+const ids = all('[id]').map((element) => element.id);
+say(new Set(ids).size === ids.length, 'an id is there twice');
+
+for (const picture of all('svg.graph')) {
+  const box = picture.getBBox();
+  const view = picture.viewBox.baseVal;
+  const inside = box.x >= view.x && box.y >= view.y
+    && box.x + box.width <= view.x + view.width && box.y + box.height <= view.y + view.height;
+  const shown = picture.getBoundingClientRect();
+  say(inside, `${picture.querySelector('title').textContent}: cut off`);
+  say(shown.width >= 150 && shown.height >= 100, `${picture.querySelector('title').textContent}: too small`);
+  say(picture.querySelector('title') && picture.querySelector('desc'), 'a picture without words');
+}
+
+const style = getComputedStyle(document.documentElement);
+const light = (name) => {
+  const digits = style.getPropertyValue(name).trim().replace(/^#(.)(.)(.)$/, '#$1$1$2$2$3$3');
+  const part = (at) => {
+    const value = parseInt(digits.slice(at, at + 2), 16) / 255;
+    return value <= 0.03928 ? value / 12.92 : ((value + 0.055) / 1.055) ** 2.4;
+  };
+  return 0.2126 * part(1) + 0.7152 * part(3) + 0.0722 * part(5);
+};
+const contrast = (one, other, least) => {
+  const [low, high] = [light(one), light(other)].sort((a, b) => a - b);
+  const ratio = (high + 0.05) / (low + 0.05);
+  say(ratio >= least, `${one} on ${other}: contrast ${ratio.toFixed(2)}`);
+};
+for (const paper of ['--page', '--card']) {
+  contrast('--ink', paper, 7);
+  contrast('--soft', paper, 4.5);
+}
+for (const answer of ['granted', 'denied', 'refused']) contrast(`--${answer}`, `--${answer}-back`, 4.5);
+for (let relation = 0; relation < 8; relation += 1) contrast(`--c${relation}`, '--card', 3);
+
+document.documentElement.setAttribute('data-checked', wrong.length ? [...new Set(wrong)].slice(0, 8).join('; ') : 'ok');

@@ -1,0 +1,197 @@
+//! How relations and events are said: as verbs where their names are verbs,
+//! otherwise by their names.
+
+use super::grammar::{article, be, do_, have, with, Linking, Time};
+use super::wording::Wording;
+use crate::names::{Kind, Names};
+use keeper::terms::Terms;
+use std::collections::BTreeMap;
+
+/// How a link is asserted. Only events have the last three.
+#[derive(Clone, Copy, Debug, PartialEq, Eq)]
+pub enum Manner {
+    Plain,
+    Negated,
+    AtSomeTime,
+    Never,
+    NotSince,
+}
+
+/// Which end of the edge is the subject.
+#[derive(Clone, Copy, Debug, PartialEq, Eq)]
+pub enum Voice {
+    /// The one the edge leaves.
+    Active,
+    /// The one the edge enters.
+    Passive,
+}
+
+/// The wordings of all labels of some terms.
+pub struct Labels {
+    relations: usize,
+    wordings: Vec<Wording>,
+}
+
+impl Labels {
+    pub fn new(terms: &Terms, names: &Names) -> Labels {
+        let labels = 0..terms.relations + terms.events;
+        let kinds = labels.map(|label| match label.checked_sub(terms.relations) {
+            None => (Kind::Relation, label),
+            Some(event) => (Kind::Event, event),
+        });
+        let kinds: Vec<(Kind, usize)> = kinds.collect();
+        let wording = |&(kind, number): &(Kind, usize)| match names.given(kind, number) {
+            None => Wording::Name(format!("{kind} {number}")),
+            Some(name) => Wording::of(kind, name),
+        };
+        let mut labels =
+            Labels { relations: terms.relations, wordings: kinds.iter().map(wording).collect() };
+        // Labels that would sound alike are called by name, or else by number.
+        for label in labels.alike() {
+            let (kind, number) = kinds[label];
+            labels.wordings[label] = Wording::Name(names.name(kind, number));
+        }
+        for label in labels.alike() {
+            let (kind, number) = kinds[label];
+            labels.wordings[label] = Wording::Name(format!("{kind} number {number}"));
+        }
+        labels
+    }
+
+    /// The labels that share a form with another one of their kind.
+    fn alike(&self) -> Vec<usize> {
+        let mut said: BTreeMap<(bool, String), Vec<usize>> = BTreeMap::new();
+        for (label, wording) in self.wordings.iter().enumerate() {
+            let mut forms = match wording {
+                Wording::Verb(verb) => vec![verb.base.clone(), verb.participle.clone()],
+                Wording::Of(name) | Wording::Role(name) => vec![format!("{name} of")],
+                Wording::Name(name) => vec![name.clone()],
+            };
+            forms.dedup();
+            for form in forms {
+                said.entry((self.is_event(label), form)).or_default().push(label);
+            }
+        }
+        said.into_values().filter(|labels| labels.len() > 1).flatten().collect()
+    }
+
+    pub fn is_event(&self, label: usize) -> bool {
+        label >= self.relations
+    }
+
+    /// Whether an edge is said from its end to its beginning.
+    pub fn is_reversed(&self, label: usize) -> bool {
+        matches!(self.wordings[label], Wording::Role(_))
+    }
+
+    /// The noun of a label that is said with "of".
+    pub fn noun(&self, label: usize) -> Option<&str> {
+        match &self.wordings[label] {
+            Wording::Of(name) | Wording::Role(name) => Some(name),
+            Wording::Verb(_) | Wording::Name(_) => None,
+        }
+    }
+
+    /// What may be done to the target: `share with`.
+    pub fn may(&self, label: usize) -> String {
+        match &self.wordings[label] {
+            Wording::Verb(verb) => with(&verb.base, verb.preposition),
+            Wording::Of(name) | Wording::Role(name) | Wording::Name(name) => {
+                format!("do {name} to")
+            }
+        }
+    }
+
+    /// The words between subject and object, if there are any in this voice.
+    pub fn link(
+        &self,
+        label: usize,
+        voice: Voice,
+        you: bool,
+        time: Time,
+        manner: Manner,
+    ) -> Option<Linking> {
+        if self.is_event(label) {
+            self.event(label, voice, you, time, manner).map(Linking::from)
+        } else {
+            self.relation(label, voice, you, time, manner == Manner::Plain)
+        }
+    }
+
+    fn relation(
+        &self,
+        label: usize,
+        voice: Voice,
+        you: bool,
+        time: Time,
+        holds: bool,
+    ) -> Option<Linking> {
+        let not = if holds { "" } else { " not" };
+        let said = match (&self.wordings[label], voice) {
+            (Wording::Verb(verb), Voice::Active) => {
+                let said = match (time, holds, you) {
+                    (Time::Now, true, true) => verb.base.clone(),
+                    (Time::Now, true, false) => verb.third.clone(),
+                    (Time::Then, true, _) => verb.past.clone(),
+                    (time, false, you) => format!("{} not {}", do_(you, time), verb.base),
+                };
+                with(&said, verb.preposition)
+            }
+            (Wording::Verb(verb), Voice::Passive) if verb.preposition.is_empty() => {
+                format!("{}{not} {} by", be(you, time), verb.participle)
+            }
+            (Wording::Verb(_), Voice::Passive) => return None,
+            (Wording::Of(name) | Wording::Role(name), Voice::Active) => {
+                format!("{}{not} {} {name} of", be(you, time), article(name))
+            }
+            (Wording::Of(name) | Wording::Role(name), Voice::Passive) => {
+                let after = format!(" as {} {name}", article(name));
+                let before = match holds {
+                    true => have(you, time).to_string(),
+                    false => format!("{} not have", do_(you, time)),
+                };
+                return Some(Linking { before, after });
+            }
+            (Wording::Name(name), voice) => {
+                let edge = if holds { article(name) } else { "no" };
+                let way = if voice == Voice::Active { "to" } else { "from" };
+                format!("{} {edge} {name} edge {way}", have(you, time))
+            }
+        };
+        Some(said.into())
+    }
+
+    fn event(
+        &self,
+        label: usize,
+        voice: Voice,
+        you: bool,
+        time: Time,
+        manner: Manner,
+    ) -> Option<String> {
+        let adverb = match manner {
+            Manner::Plain => "just",
+            Manner::Negated => "not just",
+            Manner::AtSomeTime => "at some time",
+            Manner::Never => "never",
+            Manner::NotSince => "not",
+        };
+        let done = self.done(label, voice)?;
+        Some(format!("{} {adverb} {done}", have(you, time)))
+    }
+
+    /// What follows "has": `shared with`, `been joined by`.
+    pub fn done(&self, label: usize, voice: Voice) -> Option<String> {
+        Some(match (&self.wordings[label], voice) {
+            (Wording::Verb(verb), Voice::Active) => with(&verb.participle, verb.preposition),
+            (Wording::Verb(verb), Voice::Passive) if verb.preposition.is_empty() => {
+                format!("been {} by", verb.participle)
+            }
+            (Wording::Verb(_), Voice::Passive) => return None,
+            (Wording::Of(name) | Wording::Role(name) | Wording::Name(name), voice) => match voice {
+                Voice::Active => format!("done {name} to"),
+                Voice::Passive => format!("had {name} done by"),
+            },
+        })
+    }
+}

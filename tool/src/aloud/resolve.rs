@@ -1,0 +1,191 @@
+//! Clauses made of entries: of whom each part is said is worked out.
+
+use super::clause::{Clause, Link, Who};
+use super::form::{Form, Forms, Node, Quantity};
+use keeper::terms::VARIABLES;
+
+/// Whom each variable stands for.
+#[derive(Clone, Copy)]
+struct Named([Who; VARIABLES]);
+
+impl Named {
+    fn with(mut self, variable: usize, who: Who) -> Named {
+        self.0[variable] = who;
+        self
+    }
+}
+
+/// What a policy says of the initiator and the target.
+pub fn of_policy(forms: &Forms, entry: usize) -> Clause {
+    // A policy has no free variable but 0, so the others are never looked at.
+    let named = Named([Who::Target; VARIABLES]);
+    Resolver { forms, guests: 0 }.inside(forms.node(entry, true), Who::You, named)
+}
+
+/// What an entry that is said apart says of a member.
+pub fn of_entry(forms: &Forms, entry: usize) -> Clause {
+    let mut named = Named([Who::Target; VARIABLES]);
+    for variable in 1..VARIABLES {
+        named = named.with(variable, Who::Given(variable));
+    }
+    Resolver { forms, guests: 0 }.inside(forms.node(entry, true), Who::Here, named)
+}
+
+struct Resolver<'a> {
+    forms: &'a Forms<'a>,
+    guests: usize,
+}
+
+impl Resolver<'_> {
+    fn node(&mut self, node: Node, here: Who, named: Named) -> Clause {
+        if !self.forms.is_apart(node) {
+            return self.inside(node, here, named);
+        }
+        let free = self.forms.free[node.entry];
+        let given = (1..VARIABLES).filter(|x| free >> x & 1 == 1);
+        let given = given.map(|x| (x, named.0[x])).collect();
+        Clause::Apart { entry: node.entry, of: here, given, holds: node.holds }
+    }
+
+    /// The clause of a node even if it is said apart elsewhere.
+    fn inside(&mut self, node: Node, here: Who, named: Named) -> Clause {
+        match self.forms.form(node) {
+            Form::Constant(value) => Clause::Constant(value),
+            Form::Is { variable, holds } => {
+                Clause::Same { who: here, other: named.0[variable], holds }
+            }
+            Form::All(parts) => all(self.nodes(&parts, here, named)),
+            Form::Any(parts) => any(self.nodes(&parts, here, named)),
+            Form::Edge { quantity, label, out, there } => {
+                self.edge(quantity, label, out, there, here, named)
+            }
+            Form::Before { holds, then } => {
+                Clause::Before { holds, then: self.boxed(then, here, named) }
+            }
+            Form::Once { holds, then } => {
+                Clause::Once { holds, then: self.boxed(then, here, named) }
+            }
+            Form::Throughout(then) => Clause::Throughout(self.boxed(then, here, named)),
+            Form::Since { holds, start, hold } => {
+                let start = self.boxed(start, here, named);
+                Clause::Since { holds, start, hold: self.boxed(hold, here, named) }
+            }
+            Form::Bind { variable, here: f } => self.node(f, here, named.with(variable, here)),
+            Form::At { variable, there } => self.node(there, named.0[variable], named),
+        }
+    }
+
+    fn boxed(&mut self, node: Node, here: Who, named: Named) -> Box<Clause> {
+        Box::new(self.node(node, here, named))
+    }
+
+    fn nodes(&mut self, nodes: &[Node], here: Who, named: Named) -> Vec<Clause> {
+        nodes.iter().map(|&node| self.node(node, here, named)).collect()
+    }
+
+    fn edge(
+        &mut self,
+        quantity: Quantity,
+        label: usize,
+        out: bool,
+        there: Node,
+        here: Who,
+        named: Named,
+    ) -> Clause {
+        if quantity != Quantity::Every {
+            if let Some((other, rest)) = self.known_end(there, named) {
+                let holds = quantity == Quantity::Some;
+                let (from, to) = if out { (here, other) } else { (other, here) };
+                let mut parts = vec![Clause::Edge { label, from, to, holds }];
+                for (node, named) in rest {
+                    let node = if holds { node } else { node.negated() };
+                    parts.push(self.node(node, other, named));
+                }
+                return if holds { all(parts) } else { any(parts) };
+            }
+        }
+        let guest = self.guests;
+        self.guests += 1;
+        let that = self.boxed(there, Who::Guest(guest), named);
+        Clause::Linked(Link { quantity, label, near: here, out, guest, that })
+    }
+
+    /// If what is asked of an edge's far end says who it is: who, and what else
+    /// is asked of them.
+    fn known_end(&self, there: Node, named: Named) -> Option<(Who, Vec<(Node, Named)>)> {
+        let (mut node, mut bound) = (there, Vec::new());
+        loop {
+            if self.forms.is_apart(node) {
+                return None;
+            }
+            match self.forms.form(node) {
+                Form::Bind { variable, here } => {
+                    bound.push(variable);
+                    node = here;
+                }
+                Form::Is { variable, holds: true } if !bound.contains(&variable) => {
+                    return Some((named.0[variable], Vec::new()));
+                }
+                Form::All(mut parts) => {
+                    let place = parts.iter().position(|&part| {
+                        let form = self.forms.form(part);
+                        matches!(form, Form::Is { variable, holds: true } if !bound.contains(&variable))
+                    })?;
+                    let Form::Is { variable, .. } = self.forms.form(parts.remove(place)) else {
+                        return None;
+                    };
+                    let who = named.0[variable];
+                    let named = bound.iter().fold(named, |named, &x| named.with(x, who));
+                    return Some((who, parts.into_iter().map(|part| (part, named)).collect()));
+                }
+                _ => return None,
+            }
+        }
+    }
+}
+
+/// All parts hold; runs of `and` are one, and what always holds or is said
+/// twice is left out.
+fn all(parts: Vec<Clause>) -> Clause {
+    joined(parts, true, Clause::All, |part| match part {
+        Clause::All(parts) => Ok(parts),
+        other => Err(other),
+    })
+}
+
+/// At least one part holds; runs of `or` are one, and what never holds or is
+/// said twice is left out.
+fn any(parts: Vec<Clause>) -> Clause {
+    joined(parts, false, Clause::Any, |part| match part {
+        Clause::Any(parts) => Ok(parts),
+        other => Err(other),
+    })
+}
+
+fn joined(
+    parts: Vec<Clause>,
+    neutral: bool,
+    join: fn(Vec<Clause>) -> Clause,
+    same: fn(Clause) -> Result<Vec<Clause>, Clause>,
+) -> Clause {
+    let mut flat = Vec::new();
+    for part in parts {
+        match same(part) {
+            Ok(inner) => flat.extend(inner),
+            Err(Clause::Constant(value)) if value == neutral => {}
+            Err(Clause::Constant(value)) => return Clause::Constant(value),
+            Err(other) => flat.push(other),
+        }
+    }
+    let mut apart: Vec<Clause> = Vec::new();
+    for part in flat {
+        if !apart.contains(&part) {
+            apart.push(part);
+        }
+    }
+    match apart.len() {
+        0 => Clause::Constant(neutral),
+        1 => apart.remove(0),
+        _ => join(apart),
+    }
+}

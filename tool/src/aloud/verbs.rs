@@ -1,0 +1,213 @@
+//! The verbs that names of relations and events are taken for.
+
+/// A verb with the forms that sentences need.
+#[derive(Clone, Debug, PartialEq, Eq)]
+pub struct Verb {
+    pub base: String,
+    /// Third person: owns.
+    pub third: String,
+    /// Past tense: owned.
+    pub past: String,
+    /// Past participle, as in "has owned".
+    pub participle: String,
+    /// What comes before the object: "with", or nothing.
+    pub preposition: &'static str,
+}
+
+/// Verbs that are said without a preposition and inflected by rule.
+const PLAIN: &str = "
+    accept acknowledge add admit allow answer appoint approve archive assess attend audit
+    authorize back ban befriend block borrow call cancel certify change check claim clear close
+    confirm contact contain copy create decline delete deny disable discharge dismiss dominate
+    download drop edit employ enable endorse enter expel export fetch fire follow forgive greet
+    guard help hire ignore import include inspect install invite join judge kick like list load
+    lock love manage mark mention mentor move mute name nominate notify open order own pass pin
+    play prescribe preview print promote publish query quote rate receive recommend record refer
+    refuse reject release remove rename repair replace report request reserve restore return
+    review save scan share sign sponsor star start stop store submit supervise support suspect
+    suspend tag thank touch track trust unfriend update upload use verify view visit watch
+";
+
+/// Verbs that are not inflected by rule: base, past, participle.
+const IRREGULAR: &[(&str, &str, &str)] = &[
+    ("buy", "bought", "bought"),
+    ("choose", "chose", "chosen"),
+    ("feed", "fed", "fed"),
+    ("find", "found", "found"),
+    ("forget", "forgot", "forgotten"),
+    ("get", "got", "got"),
+    ("give", "gave", "given"),
+    ("have", "had", "had"),
+    ("hear", "heard", "heard"),
+    ("hold", "held", "held"),
+    ("keep", "kept", "kept"),
+    ("know", "knew", "known"),
+    ("lead", "led", "led"),
+    ("leave", "left", "left"),
+    ("lend", "lent", "lent"),
+    ("make", "made", "made"),
+    ("meet", "met", "met"),
+    ("pay", "paid", "paid"),
+    ("put", "put", "put"),
+    ("read", "read", "read"),
+    ("ring", "rang", "rung"),
+    ("run", "ran", "run"),
+    ("see", "saw", "seen"),
+    ("sell", "sold", "sold"),
+    ("send", "sent", "sent"),
+    ("show", "showed", "shown"),
+    ("speak", "spoke", "spoken"),
+    ("steal", "stole", "stolen"),
+    ("take", "took", "taken"),
+    ("teach", "taught", "taught"),
+    ("tell", "told", "told"),
+    ("withdraw", "withdrew", "withdrawn"),
+    ("write", "wrote", "written"),
+];
+
+/// Verbs whose last letter is doubled before -ed.
+const DOUBLED: &[&str] =
+    &["admit", "ban", "drop", "expel", "pin", "scan", "star", "stop", "submit", "tag", "refer"];
+
+/// Verbs that are said with a preposition.
+const PREPOSITIONS: &[(&str, &str)] = &[
+    ("agree", "with"),
+    ("apologize", "to"),
+    ("apply", "to"),
+    ("belong", "to"),
+    ("comment", "on"),
+    ("complain", "to"),
+    ("connect", "to"),
+    ("consent", "to"),
+    ("defer", "to"),
+    ("delegate", "to"),
+    ("give", "to"),
+    ("lend", "to"),
+    ("listen", "to"),
+    ("part", "from"),
+    ("post", "to"),
+    ("publish", "to"),
+    ("refer", "to"),
+    ("register", "with"),
+    ("reply", "to"),
+    ("report", ""),
+    ("resign", "from"),
+    ("respond", "to"),
+    ("sell", "to"),
+    ("send", "to"),
+    ("share", "with"),
+    ("speak", "to"),
+    ("subscribe", "to"),
+    ("talk", "to"),
+    ("transfer", "to"),
+    ("unsubscribe", "from"),
+    ("vote", "for"),
+    ("withdraw", "from"),
+    ("write", "to"),
+];
+
+/// The verb that a name is: in its base form or in the third person, perhaps
+/// with words before it, as in `weak-view`.
+pub fn verb(name: &str) -> Option<Verb> {
+    let place = name.rfind(['-', '_']).map_or(0, |place| place + 1);
+    let (first, last) = name.split_at(place);
+    let verb = single(last)?;
+    let compound = |form: String| format!("{first}{form}");
+    Some(Verb {
+        base: compound(verb.base),
+        third: compound(verb.third),
+        past: compound(verb.past),
+        participle: compound(verb.participle),
+        preposition: verb.preposition,
+    })
+}
+
+fn single(word: &str) -> Option<Verb> {
+    if !word.bytes().all(|byte| byte.is_ascii_lowercase()) {
+        return None;
+    }
+    if is_base(word) {
+        return Some(inflected(word));
+    }
+    let stems = [word.strip_suffix("s"), word.strip_suffix("es")];
+    let stem = stems.into_iter().flatten().find(|stem| is_base(stem))?;
+    let verb = inflected(stem);
+    (verb.third == word).then_some(verb)
+}
+
+fn is_base(word: &str) -> bool {
+    let known = |word: &str| {
+        PLAIN.split_whitespace().any(|plain| plain == word)
+            || IRREGULAR.iter().any(|(base, _, _)| *base == word)
+            || PREPOSITIONS.iter().any(|(base, _)| *base == word)
+    };
+    let undone =
+        ["un", "re", "dis", "over"].into_iter().filter_map(|first| word.strip_prefix(first));
+    known(word) || undone.into_iter().any(known)
+}
+
+fn inflected(base: &str) -> Verb {
+    let consonant_y = base.strip_suffix('y').filter(|stem| !stem.ends_with(['a', 'e', 'o', 'u']));
+    let hisses = ["s", "x", "z", "ch", "sh", "o"].iter().any(|end| base.ends_with(end));
+    let third = match (base, consonant_y) {
+        ("have", _) => "has".to_string(),
+        (_, Some(stem)) => format!("{stem}ies"),
+        _ if hisses => format!("{base}es"),
+        _ => format!("{base}s"),
+    };
+    let regular = match consonant_y {
+        Some(stem) => format!("{stem}ied"),
+        None if base.ends_with('e') => format!("{base}d"),
+        None if DOUBLED.contains(&base) => {
+            format!("{base}{}ed", &base[base.len() - 1..])
+        }
+        None => format!("{base}ed"),
+    };
+    let irregular = IRREGULAR.iter().find(|(known, _, _)| base.ends_with(known));
+    let irregular = irregular.filter(|(known, _, _)| {
+        ["", "un", "re", "over"].contains(&&base[..base.len() - known.len()])
+    });
+    let (past, participle) = match irregular {
+        Some((known, past, participle)) => {
+            let first = &base[..base.len() - known.len()];
+            (format!("{first}{past}"), format!("{first}{participle}"))
+        }
+        None => (regular.clone(), regular),
+    };
+    let preposition = PREPOSITIONS.iter().find(|(known, _)| *known == base);
+    let preposition = preposition.map_or("", |(_, preposition)| preposition);
+    Verb { base: base.to_string(), third, past, participle, preposition }
+}
+
+#[cfg(test)]
+mod tests {
+    use super::*;
+
+    fn forms(word: &str) -> String {
+        let verb = verb(word).unwrap();
+        format!(
+            "{} {} {} {} {}",
+            verb.base, verb.third, verb.past, verb.participle, verb.preposition
+        )
+    }
+
+    #[test]
+    fn inflections() {
+        assert_eq!(forms("owns"), "own owns owned owned ");
+        assert_eq!(forms("share"), "share shares shared shared with");
+        assert_eq!(forms("withdraw"), "withdraw withdraws withdrew withdrawn from");
+        assert_eq!(forms("reply"), "reply replies replied replied to");
+        assert_eq!(forms("expel"), "expel expels expelled expelled ");
+        assert_eq!(forms("unblock"), "unblock unblocks unblocked unblocked ");
+        assert_eq!(forms("teaches"), "teach teaches taught taught ");
+        assert_eq!(forms("weak-view"), "weak-view weak-views weak-viewed weak-viewed ");
+        assert_eq!(forms("part"), "part parts parted parted from");
+    }
+
+    #[test]
+    fn words_that_are_no_verbs() {
+        for word in ["friend", "blacklist", "view_weak", "Own", "", "s", "-"] {
+            assert_eq!(verb(word), None, "{word}");
+        }
+    }
+}

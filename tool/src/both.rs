@@ -1,0 +1,204 @@
+//! Every acceptance and every verdict, twice: from the proved library and from
+//! the keeper of the whole record. Where they differ, it is an error.
+
+use crate::stop::Stop;
+use keeper::record::{Graph, Record};
+use keeper::terms::memory::terms_words;
+use keeper::terms::{self, Refusal, Terms};
+use std::fmt;
+
+/// What a request or a look is answered.
+#[derive(Clone, Copy, Debug, PartialEq, Eq)]
+pub enum Verdict {
+    Grant,
+    Deny,
+    /// Refused, with the refusal's number.
+    Refused(u16),
+}
+
+impl fmt::Display for Verdict {
+    fn fmt(&self, out: &mut fmt::Formatter<'_>) -> fmt::Result {
+        match self {
+            Verdict::Grant => out.pad("grant"),
+            Verdict::Deny => out.pad("deny"),
+            Verdict::Refused(number) => write!(out, "refuse {number}"),
+        }
+    }
+}
+
+/// The proved monitor and the keeper's record, side by side.
+pub struct Both {
+    monitor: proved::Monitor,
+    record: Record,
+}
+
+impl Both {
+    /// Reads a terms text: both accept it, or both refuse it for the same
+    /// reason at the same line.
+    pub fn read(text: &[u8]) -> Result<Result<Both, Refusal>, Stop> {
+        match (proved::Monitor::read(text), terms::read(text)) {
+            (Ok(monitor), Ok(terms)) => {
+                let same = monitor.terms().words()[..] == terms_words(&terms)[..];
+                let both = Both { monitor, record: Record::new(terms) };
+                let agreed = same && both.relations_agree();
+                agreed.then_some(Ok(both)).ok_or_else(|| differ("they read other terms"))
+            }
+            (Err(error), Err(refusal))
+                if error.refusal().number() == usize::from(refusal.number)
+                    && error.line() == refusal.line =>
+            {
+                Ok(Err(refusal))
+            }
+            (first, second) => {
+                let first = first.map_or_else(|error| error.to_string(), |_| "accepted".into());
+                let second =
+                    second.map_or_else(|refusal| format!("{refusal:?}"), |_| "accepted".into());
+                Err(differ(&format!("library: {first}; keeper: {second}")))
+            }
+        }
+    }
+
+    /// The same for terms that are to be used: a refusal stops the program.
+    pub fn accepted(text: &[u8]) -> Result<Both, Stop> {
+        Both::read(text)?.map_err(|refusal| {
+            let (number, line) = (refusal.number, refusal.line);
+            let advice = "`cuckooormolu check` says what is wrong";
+            Stop::Failed(format!("the terms are refused with {number} at line {line}; {advice}"))
+        })
+    }
+
+    /// Answers a request; a grant makes the next moment.
+    pub fn request(&mut self, event: usize, from: usize, to: usize) -> Result<Verdict, Stop> {
+        let request = named(event, from, to);
+        let proved = verdict(request.and_then(|request| self.monitor.request(request)));
+        let kept = self.record.call(false, event, from, to, proved::SCRATCH_WORDS);
+        let verdict = agreed(proved, kept_verdict(kept), event, from, to)?;
+        if self.relations_agree() {
+            Ok(verdict)
+        } else {
+            Err(differ(&format!("relations after request {event} {from} {to}")))
+        }
+    }
+
+    /// What a request would be answered now; it makes no moment.
+    pub fn look(&self, event: usize, from: usize, to: usize) -> Result<Verdict, Stop> {
+        let request = named(event, from, to);
+        let proved = verdict(request.and_then(|request| self.monitor.look(request)));
+        let terms = self.record.terms();
+        let kept = if event >= terms.events || from.max(to) >= terms.members {
+            Verdict::Refused(9)
+        } else if self.record.permits(event, from, to) {
+            Verdict::Grant
+        } else {
+            Verdict::Deny
+        };
+        agreed(proved, kept, event, from, to)
+    }
+
+    /// The terms with the present relations, as a terms text.
+    pub fn write(&self) -> Result<Vec<u8>, Stop> {
+        let text = self.monitor.write();
+        let kept = terms::write(self.record.terms(), &self.record.last().edges);
+        if text == kept {
+            Ok(text)
+        } else {
+            Err(differ("they write other texts"))
+        }
+    }
+
+    pub fn terms(&self) -> &Terms {
+        self.record.terms()
+    }
+
+    /// The whole record: one graph for each moment.
+    pub fn record(&self) -> &Record {
+        &self.record
+    }
+
+    /// The present graph.
+    pub fn present(&self) -> &Graph {
+        self.record.last()
+    }
+
+    fn relations_agree(&self) -> bool {
+        let (state, graph) = (self.monitor.state(), self.record.last());
+        let event = state.event().map(|edge| (edge.event.into(), edge.from.into(), edge.to.into()));
+        let edges =
+            state.edges().map(|edge| (edge.relation.into(), edge.from.into(), edge.to.into()));
+        event == graph.event && edges.eq(graph.edges.iter().copied())
+    }
+}
+
+/// A request as the binding takes it; a number that is too large for it names
+/// nothing.
+fn named(event: usize, from: usize, to: usize) -> Result<proved::Request, proved::Refusal> {
+    Ok(proved::Request { event: event.try_into()?, from: from.try_into()?, to: to.try_into()? })
+}
+
+fn verdict(answer: Result<proved::Answer, proved::Refusal>) -> Verdict {
+    match answer {
+        Ok(proved::Answer::Grant) => Verdict::Grant,
+        Ok(proved::Answer::Deny) => Verdict::Deny,
+        Err(refusal) => Verdict::Refused(refusal.number() as u16),
+    }
+}
+
+fn kept_verdict(answer: keeper::record::Answer) -> Verdict {
+    match answer {
+        keeper::record::Answer::Grant => Verdict::Grant,
+        keeper::record::Answer::Deny => Verdict::Deny,
+        keeper::record::Answer::Refused(refusal) => Verdict::Refused(refusal.number),
+    }
+}
+
+fn agreed(
+    proved: Verdict,
+    kept: Verdict,
+    event: usize,
+    from: usize,
+    to: usize,
+) -> Result<Verdict, Stop> {
+    if proved == kept {
+        Ok(proved)
+    } else {
+        let asked = format!("event {event} from {from} to {to}");
+        Err(differ(&format!("{asked}: library {proved}, keeper {kept}")))
+    }
+}
+
+fn differ(how: &str) -> Stop {
+    Stop::Differ(how.to_string())
+}
+
+#[cfg(test)]
+mod tests {
+    use super::*;
+
+    const TEXT: &[u8] =
+        b"M\t2\nL\t1\t2\nF\t0\ttop\t0\t0\nF\t1\tvar\t0\t0\nF\t2\tout\t0\t1\nP\t0\t0\nP\t1\t2\nE\t0\tadd\t0\tfwd\n";
+
+    #[test]
+    fn verdicts() {
+        let mut both = Both::accepted(TEXT).unwrap();
+        assert_eq!(both.request(1, 0, 1).unwrap(), Verdict::Deny);
+        assert_eq!(both.request(0, 0, 1).unwrap(), Verdict::Grant);
+        assert_eq!(both.look(1, 0, 1).unwrap(), Verdict::Grant);
+        assert_eq!(both.look(2, 0, 1).unwrap(), Verdict::Refused(9));
+        assert!(both.write().unwrap().ends_with(b"G\t0\t0\t1\n"));
+    }
+
+    #[test]
+    fn a_difference_stops_the_program() {
+        let stop = agreed(Verdict::Grant, Verdict::Deny, 2, 0, 1).unwrap_err();
+        assert_eq!(stop.status(), crate::stop::FAILING);
+        let said = "the proved library and the keeper differ, please report it: \
+                    event 2 from 0 to 1: library grant, keeper deny";
+        assert_eq!(stop.to_string(), said);
+    }
+
+    #[test]
+    fn refusals() {
+        let refusal = Both::read(b"M\t0\n").unwrap().err();
+        assert_eq!(refusal, Some(Refusal { number: 2, line: 1 }));
+    }
+}

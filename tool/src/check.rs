@@ -1,0 +1,68 @@
+//! What is wrong with a terms file, and what may be.
+//!
+//! Whether a file is accepted, and if not with which number at which line, is
+//! said by the proved library and the keeper. Here the cause is found in that
+//! line, and told with what would be right.
+//!
+//! * `fault`: a cause with its place, and how both are shown
+//! * `reader`: the lines in turn; `line`: what a line is made of
+//! * `entries`, `others`: F lines; M, L, P, E and G lines
+//! * `advice`: what would be right
+//! * `warnings`, `tried`, `long`: what is accepted and yet seldom meant
+
+mod advice;
+mod entries;
+mod fault;
+mod line;
+mod long;
+mod others;
+mod reader;
+mod tried;
+mod warnings;
+
+pub use fault::Fault;
+pub use reader::diagnose;
+pub use warnings::Warning;
+
+use crate::both::Both;
+use crate::folder::Folder;
+use crate::stop::Stop;
+use keeper::terms::Refusal;
+
+/// The most bytes of a file that the program opens.
+pub const MOST_BYTES: usize = 65_536;
+/// The refusal of a file that is too long; no line is at fault.
+const TOO_LONG: u16 = 6;
+
+/// What there is to say of a terms text.
+pub enum Checked {
+    Refused(Fault),
+    Accepted(Box<Both>, Vec<Warning>),
+}
+
+/// Checks the terms of a folder.
+pub fn check(folder: &Folder) -> Result<Checked, Stop> {
+    let text = &folder.terms[..];
+    if text.len() > MOST_BYTES {
+        let what = format!("the file has {} bytes", text.len());
+        let right = format!("the program opens files of at most {MOST_BYTES} bytes");
+        return Ok(Checked::Refused(Fault::without_line(TOO_LONG, what, right)));
+    }
+    match Both::read(text)? {
+        Ok(both) => {
+            let warnings = warnings::warnings(&both, &folder.names, &folder.requests())?;
+            Ok(Checked::Accepted(Box::new(both), warnings))
+        }
+        Err(refusal) => Ok(Checked::Refused(agreed(folder, refusal))),
+    }
+}
+
+/// The cause that was found, if it is one for this refusal.
+fn agreed(folder: &Folder, refusal: Refusal) -> Fault {
+    let found = diagnose(&folder.terms, &folder.names);
+    let found = found.filter(|fault| (fault.number, fault.line) == (refusal.number, refusal.line));
+    found.unwrap_or_else(|| {
+        let what = format!("refused with {}", refusal.number);
+        Fault { line: refusal.line, ..Fault::without_line(refusal.number, what, String::new()) }
+    })
+}

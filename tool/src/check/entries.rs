@@ -1,0 +1,137 @@
+//! F lines.
+
+use super::advice::no_word;
+use super::fault::Fault;
+use super::line::{number, Field as Part, FORM};
+use super::others::{out_of_range, range};
+use super::reader::Reader;
+use crate::aloud::listed;
+use crate::names::{Kind, Names};
+use keeper::terms::{Entry, Field, Variables, MOST_ENTRIES, MOST_PAST, OPERATORS, VARIABLES};
+
+/// The refusal of an operand that isn't below its entry.
+const OPERAND: u16 = 3;
+/// The refusal of a past-time entry with two free variables.
+const PAST_VARIABLES: u16 = 4;
+
+impl Reader<'_> {
+    pub fn entry(&mut self, i: Part, word: Part, first: Part, second: Part) -> Result<(), Fault> {
+        let due = self.terms.entries.len();
+        let known = OPERATORS.iter().position(|(name, _, _)| name.as_bytes() == word.bytes);
+        let operator = known.ok_or_else(|| no_word(word, [first, second], due))?;
+        let (index, a, b) = (number(i)?, number(first)?, number(second)?);
+        let entry = Entry::of_parts(operator, a, b).unwrap_or(Entry::Top);
+        if index != due {
+            return Err(other_entry_due(i, index, due));
+        }
+        if index >= MOST_ENTRIES {
+            let right = format!("at most {MOST_ENTRIES} entries, 0 to {}", MOST_ENTRIES - 1);
+            return Err(out_of_range(i, format!("entry {index} is too many"), right));
+        }
+        if entry.is_past() && self.terms.past().len() >= MOST_PAST {
+            let what = format!("a {}rd prev or since", MOST_PAST + 1);
+            return Err(out_of_range(word, what, format!("at most {MOST_PAST} of them")));
+        }
+        let (name, kind, other) = OPERATORS[operator];
+        let parts = [(kind, a, first), (other, b, second)];
+        for (kind, value, field) in parts {
+            self.in_range(name, kind, value, field)?;
+        }
+        for (kind, value, field) in parts {
+            if kind == Field::Entry && value >= index {
+                let what = format!("operand {value} is not below entry {index}");
+                let right = "a formula's parts come before it: entries name lower ones only";
+                return Err(Fault::new(OPERAND, field.place(), what).right(right));
+            }
+        }
+        let free = entry.free(&self.free);
+        if entry.is_past() && free.count_ones() > 1 {
+            return Err(self.two_free(name, entry, free, word));
+        }
+        self.terms.entries.push(entry);
+        self.free.push(free);
+        Ok(())
+    }
+
+    fn in_range(&self, name: &str, kind: Field, value: usize, field: Part) -> Result<(), Fault> {
+        let (relations, events) = (self.terms.relations, self.terms.events);
+        let last = VARIABLES - 1;
+        let (what, right) = match kind {
+            Field::Unused if value > 0 => {
+                (format!("{value} in a field that `{name}` has no use for"), "write 0".to_string())
+            }
+            Field::Variable | Field::BoundVariable if value > last => {
+                (format!("no variable {value}"), format!("variables are 0 to {last}"))
+            }
+            Field::BoundVariable if value == 0 => (
+                "variable 0 bound".to_string(),
+                format!("variable 0 is always the target; bind 1 to {last}"),
+            ),
+            Field::Label if value >= relations + events => {
+                (format!("no label {value}"), labels(relations, events, self.names))
+            }
+            _ => return Ok(()),
+        };
+        Err(out_of_range(field, what, right))
+    }
+
+    fn two_free(&self, name: &str, entry: Entry, free: Variables, word: Part) -> Fault {
+        let what = format!("free here: {}; a {name} may have one free variable", shown(free));
+        let mut parts: Vec<String> = Vec::new();
+        for f in entry.operands() {
+            if self.free[f] != 0 {
+                parts.push(format!("entry {f} has {} free", shown(self.free[f])));
+            }
+        }
+        let right = format!(
+            "{}; bind one of them below this entry, or walk to one with `at` above it and name that one with `bind` there",
+            parts.join(", ")
+        );
+        Fault::new(PAST_VARIABLES, word.place(), what).right(right)
+    }
+}
+
+fn other_entry_due(field: Part, index: usize, due: usize) -> Fault {
+    let what = format!("entry {index} where {due} was due");
+    let right = match index < due {
+        true => format!("entry {index} stands above; entries count 0, 1, 2 and so on"),
+        false => {
+            let missing = match index - due {
+                1 => format!("entry {due} is missing"),
+                _ => format!("entries {due} to {} are missing", index - 1),
+            };
+            format!(
+                "{missing}; entries count 0, 1, 2 and so on, and operands go with their numbers"
+            )
+        }
+    };
+    Fault::new(FORM, field.place(), what).right(right)
+}
+
+/// `0 and 1`.
+fn shown(variables: Variables) -> String {
+    let chosen = (0..VARIABLES).filter(|x| variables >> x & 1 == 1);
+    listed(&chosen.map(|x| x.to_string()).collect::<Vec<_>>())
+}
+
+/// `labels are 0 to 3: 0 for the relation, 1 to 3 for the events`; with names,
+/// `labels are 0 own, 1 share, 2 withdraw and 3 load`.
+pub fn labels(relations: usize, events: usize, names: &Names) -> String {
+    let named = (0..relations).map(|relation| names.given(Kind::Relation, relation));
+    let named = named.chain((0..events).map(|event| names.given(Kind::Event, event)));
+    let named = named.enumerate().map(|(label, name)| Some(format!("{label} {}", name?)));
+    if let Some(named) = named.collect::<Option<Vec<String>>>() {
+        return format!("labels are {}", listed(&named));
+    }
+    let run = |thing: &str, first: usize, count: usize| match count {
+        1 => format!("{first} for the {thing}"),
+        count => format!("{first} to {} for the {thing}s", first + count - 1),
+    };
+    let all = range("labels", relations + events);
+    match relations {
+        0 => format!("{all}, for the events; there are no relations"),
+        _ => {
+            format!("{all}: {}, {}", run("relation", 0, relations), run("event", relations, events))
+        }
+    }
+}

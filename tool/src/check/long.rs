@@ -1,0 +1,69 @@
+//! Terms whose policies may take long to decide.
+//!
+//! An entry is worked out once for each member and for each way in which its
+//! free variables can stand for members. A variable that is bound at the
+//! initiator or the target stands for one; one bound at the far end of an edge
+//! may stand for all in turn.
+
+use super::warnings::{entry_line, Warning};
+use keeper::terms::{Entry, Terms, Variables};
+use std::collections::HashSet;
+
+/// So many ways to work out one entry are a matter of milliseconds.
+const MANY: usize = 200_000;
+/// So many places of the walk are looked at.
+const MOST_PLACES: usize = 100_000;
+
+/// A warning for the entry that takes longest, if that is long.
+pub fn long(terms: &Terms) -> Option<Warning> {
+    let (entry, depth) = deepest(terms);
+    let ways = terms.members.saturating_pow(depth as u32);
+    (ways > MANY).then(|| Warning {
+        kind: "long",
+        line: entry_line(entry),
+        what: format!(
+            "entry {entry} speaks of {depth} members that binders name one inside the other: up to {} to the power of {depth} = {ways} ways to work it out",
+            terms.members
+        ),
+        right: "a request may take long; fewer nested binders or fewer members help".to_string(),
+    })
+}
+
+/// The entry with the most free variables that were bound at the far end of an
+/// edge, and their number.
+fn deepest(terms: &Terms) -> (usize, usize) {
+    let free = terms.free();
+    let mut seen: HashSet<(usize, Variables, bool)> = HashSet::new();
+    let mut waiting: Vec<(usize, Variables, bool)> =
+        terms.policies.iter().map(|&policy| (policy, 0, false)).collect();
+    let mut deepest = (0, 0);
+    while let Some(place) = waiting.pop() {
+        if seen.len() > MOST_PLACES || !seen.insert(place) {
+            continue;
+        }
+        let (entry, wandering, away) = place;
+        let depth = (free[entry] & wandering).count_ones() as usize;
+        if depth > deepest.1 {
+            deepest = (entry, depth);
+        }
+        match terms.entries[entry] {
+            Entry::Out(_, f) | Entry::In(_, f) => waiting.push((f, wandering, true)),
+            Entry::Bind(x, f) => {
+                let others = wandering & !(1 << x);
+                waiting.push((f, others | Variables::from(away) << x, away));
+            }
+            Entry::At(x, f) => waiting.push((f, wandering, wandering >> x & 1 == 1)),
+            // A table has every member for here and for its free variable.
+            Entry::Prev(_) | Entry::Since(_, _) => {
+                for f in terms.entries[entry].operands() {
+                    waiting.push((f, free[entry], true));
+                }
+            }
+            other => {
+                let parts = other.operands().into_iter();
+                waiting.extend(parts.map(|f| (f, wandering, away)));
+            }
+        }
+    }
+    deepest
+}

@@ -1,0 +1,166 @@
+//! Reads a terms text line by line until something is wrong.
+
+use super::fault::Fault;
+use super::line::{counted, fields, form, Field, FORM};
+use crate::names::{did_you_mean, Names};
+use keeper::terms::{Terms, Variables};
+
+/// The first cause for which a text is refused; none if it is accepted.
+pub fn diagnose(text: &[u8], names: &Names) -> Option<Fault> {
+    let (terms, free, last_effect) = (Terms::default(), Vec::new(), 0);
+    let mut reader = Reader { names, terms, free, last_effect };
+    let mut line = 0;
+    for bytes in text.split_inclusive(|&byte| byte == b'\n') {
+        line += 1;
+        let fault = match bytes.strip_suffix(b"\n") {
+            Some(bytes) => reader.line(bytes, line == 1).err(),
+            None => Some(unended(bytes)),
+        };
+        if let Some(fault) = fault {
+            return Some(Fault { line, ..fault });
+        }
+    }
+    let fault = reader.ends_too_soon(line == 0)?;
+    Some(Fault { line: line + 1, ..fault })
+}
+
+fn unended(line: &[u8]) -> Fault {
+    let end = line.len();
+    match line.iter().position(|&byte| byte == b'\r') {
+        Some(place) if place + 1 < end => {
+            Fault::new(FORM, place..place + 1, "carriage returns end the lines")
+                .right("let lines end with a line feed")
+        }
+        _ => Fault::new(FORM, end..end, "the last line has no line feed")
+            .right("every line ends with one, the last one too"),
+    }
+}
+
+/// The terms read so far. A zero count of members or events means that the
+/// M or L line has yet to come.
+pub struct Reader<'a> {
+    /// The names that messages may use.
+    pub names: &'a Names,
+    pub terms: Terms,
+    pub free: Vec<Variables>,
+    /// The event of the last E line.
+    pub last_effect: usize,
+}
+
+/// The kinds of lines and the names of their fields.
+const KINDS: [(&str, &[&str]); 6] = [
+    ("M", &["kind M", "count of members"]),
+    ("L", &["kind L", "count of relations", "count of events"]),
+    ("F", &["kind F", "entry number", "word", "first operand", "second operand"]),
+    ("P", &["kind P", "event", "entry"]),
+    ("E", &["kind E", "event", "action", "relation", "direction"]),
+    ("G", &["kind G", "relation", "from", "to"]),
+];
+
+impl Reader<'_> {
+    /// Reads one line, or finds what is wrong with it. What has the lowest
+    /// number is looked for first.
+    fn line(&mut self, line: &[u8], first: bool) -> Result<(), Fault> {
+        if let Some(fault) = form(line, first) {
+            return Err(fault);
+        }
+        let fields = fields(line);
+        let kind = fields[0];
+        let known = KINDS.iter().find(|(word, _)| word.as_bytes() == kind.bytes);
+        let (word, due) = known.ok_or_else(|| no_kind(kind))?;
+        if let Some((what, right)) = self.out_of_order(word) {
+            return Err(Fault::new(FORM, kind.place(), what).right(right));
+        }
+        counted(&fields, due, line.len())?;
+        match fields[1..] {
+            [n] => self.members(n),
+            [relations, events] if *word == "L" => self.labels(relations, events),
+            [event, entry] => self.policy(event, entry),
+            [relation, from, to] => self.edge(relation, from, to),
+            [index, word, a, b] if kind.bytes == b"F" => self.entry(index, word, a, b),
+            [event, action, relation, direction] => self.effect(event, action, relation, direction),
+            _ => Ok(()),
+        }
+    }
+
+    pub fn complete(&self) -> bool {
+        self.terms.events > 0 && self.terms.policies.len() == self.terms.events
+    }
+
+    /// Why a line of this kind may not stand here, and what is due.
+    fn out_of_order(&self, kind: &str) -> Option<(String, String)> {
+        let (members, labels) = (self.terms.members > 0, self.terms.events > 0);
+        let policies = self.terms.policies.len();
+        let told = |what: &str, right: &str| Some((what.to_string(), right.to_string()));
+        let order = "the kinds come in the order M, L, F, P, E, G";
+        match kind {
+            "M" if members => told("a second M line", order),
+            "L" if labels => told("a second L line", order),
+            "M" => None,
+            _ if !members => told(&format!("{kind} where M is due"), "the first line is M"),
+            "L" => None,
+            _ if !labels => told(&format!("{kind} where L is due"), "the second line is L"),
+            "F" if policies > 0 => told("an F line after a P line", order),
+            "P" if self.complete() => {
+                let what = format!("a policy too many: {}", events(self.terms.events));
+                told(&what, "each event has its policy above")
+            }
+            "E" | "G" if !self.complete() => {
+                let what = format!("{kind} where the policy of event {policies} is due");
+                told(&what, &each_needs_one(self.terms.events))
+            }
+            "E" if !self.terms.edges.is_empty() => told("an E line after a G line", order),
+            _ => None,
+        }
+    }
+
+    /// What is missing at the end of the text.
+    fn ends_too_soon(&self, empty: bool) -> Option<Fault> {
+        if self.complete() {
+            return None;
+        }
+        let policies = self.terms.policies.len();
+        let (what, right) = if empty {
+            ("the file is empty".into(), "the first line is M with the count of members".into())
+        } else if self.terms.events == 0 {
+            ("the file ends before L".into(), "L has the counts of relations and events".into())
+        } else {
+            let missing = match self.terms.events - 1 {
+                last if last == policies => format!("the policy of event {last}"),
+                last => format!("the policies of events {policies} to {last}"),
+            };
+            (format!("the file ends before {missing}"), each_needs_one(self.terms.events))
+        };
+        Some(Fault::new(FORM, 0..0, what).right(right))
+    }
+}
+
+/// `there are 3 events, 0 to 2`.
+fn events(count: usize) -> String {
+    match count {
+        1 => "there is 1 event, 0".to_string(),
+        count => format!("there are {count} events, 0 to {}", count - 1),
+    }
+}
+
+fn each_needs_one(count: usize) -> String {
+    format!("{}; each event needs a P line", events(count))
+}
+
+fn no_kind(kind: Field) -> Fault {
+    let shown = kind.shown();
+    let kinds = KINDS.map(|(word, _)| word);
+    let upper = shown.to_uppercase();
+    let fault = |what: String| Fault::new(FORM, kind.place(), what);
+    if kind.bytes.is_empty() {
+        return fault("a tab before the kind".into()).right("a line begins with its kind");
+    }
+    if shown == "R" {
+        return fault("a request among the terms".into()).right("R lines belong in requests.tsv");
+    }
+    if kinds.contains(&upper.as_str()) {
+        return fault(format!("no kind `{shown}`")).right(format!("kinds are capitals: {upper}"));
+    }
+    let hint = did_you_mean(&shown, kinds);
+    fault(format!("no kind `{shown}`{hint}")).right("kinds are M, L, F, P, E and G")
+}

@@ -1,0 +1,152 @@
+//! Policies that were never met, or always, when requests were tried.
+
+use super::warnings::{policy_line, Warning};
+use crate::both::{Both, Verdict};
+use crate::folder::Request;
+use crate::names::Names;
+use crate::stop::Stop;
+use keeper::terms::{Entry, Terms};
+
+/// At moment 0 so many members are looked at, first those with first edges.
+const LOOKED_AT: usize = 24;
+/// Requests are tried among so many of them.
+const TRYING: usize = 6;
+/// So many requests are made: of the folder's, and of those tried.
+const REQUESTS: usize = 400;
+/// No more is tried after so many moments.
+const MOMENTS: usize = 40;
+
+/// What is often wrong with a policy that is never met.
+const IN_FOR_OUT: &str =
+    "is `in` written where `out` is meant, or `out` for `in`? `cuckooormolu aloud` reads it aloud";
+
+/// How often each event was granted and denied.
+#[derive(Clone, Copy, Default)]
+struct Count {
+    granted: usize,
+    denied: usize,
+}
+
+/// Warnings for events that were all granted or all denied: by the folder's
+/// requests, and by looks to begin with and after requests tried in turn.
+pub fn one_sided(both: &Both, names: &Names, requests: &[Request]) -> Result<Vec<Warning>, Stop> {
+    let terms = both.terms();
+    let asked = asked(both, requests)?;
+    let (seen, moments) = seen(both)?;
+    let mut warnings = Vec::new();
+    for event in 0..terms.events {
+        if is_constant(terms, terms.policies[event]) {
+            continue;
+        }
+        let (asked, seen, name) = (asked[event], seen[event], names.event(event));
+        let s = if moments == 1 { "" } else { "s" };
+        let looks = format!("in {} looks at {moments} moment{s}", seen.granted + seen.denied);
+        let no_proof = "that is no proof, but";
+        let (kind, what, right) = if asked.granted + seen.granted == 0 {
+            let what = format!(
+                "nobody was ever granted {name} {looks}; {no_proof} can its policy be met?"
+            );
+            ("never", what, IN_FOR_OUT)
+        } else if asked.denied + seen.denied == 0 {
+            let what = format!("nobody was ever denied {name} {looks}; {no_proof} does its policy ask for anything?");
+            ("always", what, "`top` says that everybody may")
+        } else if asked.granted == 0 && asked.denied > 1 {
+            let times = asked.denied;
+            let what =
+                format!("requests.tsv asks {times} times for {name} and is denied each time");
+            ("denied", what, IN_FOR_OUT)
+        } else {
+            continue;
+        };
+        let line = policy_line(terms, event);
+        warnings.push(Warning { kind, line, what, right: right.to_string() });
+    }
+    Ok(warnings)
+}
+
+/// How the folder's requests are answered.
+fn asked(both: &Both, requests: &[Request]) -> Result<Vec<Count>, Stop> {
+    let mut counts = vec![Count::default(); both.terms().events];
+    // A record of its own, here and below: the one at hand stays at moment 0.
+    let mut trial = Both::accepted(&both.write()?)?;
+    for request in requests.iter().take(REQUESTS) {
+        let Request::Ask { event, from, to } = *request else { continue };
+        match trial.request(event, from, to)? {
+            Verdict::Grant => counts[event].granted += 1,
+            Verdict::Deny => counts[event].denied += 1,
+            Verdict::Refused(_) => {}
+        }
+    }
+    Ok(counts)
+}
+
+/// How looks are answered while requests are tried, and at how many moments.
+fn seen(both: &Both) -> Result<(Vec<Count>, usize), Stop> {
+    let terms = both.terms();
+    let mut members = busiest(terms);
+    let mut counts = vec![Count::default(); terms.events];
+    let mut trial = Both::accepted(&both.write()?)?;
+    look_around(&trial, &members, &mut counts)?;
+    members.truncate(TRYING);
+    let mut random = 1u64;
+    let mut below = |bound: usize| {
+        random =
+            random.wrapping_mul(6_364_136_223_846_793_005).wrapping_add(1_442_695_040_888_963_407);
+        (random >> 33) as usize % bound
+    };
+    for _ in 0..REQUESTS {
+        if trial.record().graphs().len() > MOMENTS || counts.iter().all(is_mixed) {
+            break;
+        }
+        let (event, from, to) =
+            (below(terms.events), members[below(members.len())], members[below(members.len())]);
+        if trial.request(event, from, to)? == Verdict::Grant {
+            look_around(&trial, &members, &mut counts)?;
+        }
+    }
+    Ok((counts, trial.record().graphs().len()))
+}
+
+fn is_mixed(count: &Count) -> bool {
+    count.granted > 0 && count.denied > 0
+}
+
+/// Looks at every event between the members that isn't granted here and denied
+/// there already.
+fn look_around(both: &Both, members: &[usize], counts: &mut [Count]) -> Result<(), Stop> {
+    for (event, count) in counts.iter_mut().enumerate() {
+        for &from in members {
+            for &to in members {
+                if is_mixed(count) {
+                    break;
+                }
+                match both.look(event, from, to)? {
+                    Verdict::Grant => count.granted += 1,
+                    _ => count.denied += 1,
+                }
+            }
+        }
+    }
+    Ok(())
+}
+
+/// A few members, those of the first edges before the others.
+fn busiest(terms: &Terms) -> Vec<usize> {
+    let ends = terms.edges.iter().flat_map(|&(_, from, to)| [from, to]);
+    let mut members: Vec<usize> = Vec::new();
+    for member in ends.chain(0..terms.members) {
+        if !members.contains(&member) && members.len() < LOOKED_AT {
+            members.push(member);
+        }
+    }
+    members
+}
+
+/// Whether a policy is meant to be met always or never.
+fn is_constant(terms: &Terms, entry: usize) -> bool {
+    match terms.entries[entry] {
+        Entry::Top => true,
+        Entry::Not(f) => is_constant(terms, f),
+        _ => false,
+    }
+}

@@ -1,0 +1,148 @@
+//! `cuckooormolu check`: says whether a terms file is accepted, and what is
+//! wrong if not.
+
+use crate::arguments::Arguments;
+use crate::both::Both;
+use crate::check::{check, Checked, Fault, Warning};
+use crate::folder::{Folder, TERMS};
+use crate::json::Json;
+use crate::stop::{Stop, FAILING, WELL};
+use std::fs;
+use std::io::Write;
+use std::path::Path;
+
+pub const HELP: &str = "\
+usage: cuckooormolu check DIR|FILE [--json]
+
+Says whether a terms file is accepted. If not: the refusal's number, the line
+with the place marked, what is wrong and what would be right. Tabs are shown as
+→ and carriage returns as ↵. If it is: what may be a mistake all the same.
+
+Exit status: 0 if the file is accepted, with warnings or without; 1 if not.
+
+  --json  one line: accepted, and number, line, from, to, what, right of the
+          fault; or counts. Then one for each warning: warning, line, what, right
+";
+
+pub fn main(arguments: &[String], out: &mut dyn Write) -> Result<i32, Stop> {
+    let arguments = Arguments::read(arguments, &["--json"], &[])?;
+    let path = Path::new(arguments.one("a folder or a terms file")?);
+    if let Some(stop) = other_case(path) {
+        return Err(stop);
+    }
+    let folder = Folder::load(path)?;
+    let json = arguments.has("--json");
+    match check(&folder)? {
+        Checked::Refused(fault) if json => writeln!(out, "{}", fault_json(&fault))?,
+        Checked::Refused(fault) => refused(out, &fault, &folder.terms)?,
+        Checked::Accepted(both, warnings) => {
+            if json {
+                writeln!(out, "{}", accepted_json(&both))?;
+                for warning in &warnings {
+                    writeln!(out, "{}", warning_json(warning))?;
+                }
+            } else {
+                accepted(out, &both, &warnings)?;
+            }
+            return Ok(WELL);
+        }
+    }
+    Ok(FAILING)
+}
+
+/// A folder whose terms file is written with other letters.
+fn other_case(path: &Path) -> Option<Stop> {
+    if !path.is_dir() || path.join(TERMS).exists() {
+        return None;
+    }
+    let mut near: Vec<String> = fs::read_dir(path)
+        .ok()?
+        .flatten()
+        .map(|file| file.file_name().to_string_lossy().into_owned())
+        .filter(|name| name.to_lowercase().starts_with("term"))
+        .collect();
+    near.sort();
+    let near = near.first()?;
+    let what = format!("no {TERMS} in {}", path.display());
+    Some(Stop::Failed(format!("{what}, but {near}; the program opens {TERMS}, in these letters")))
+}
+
+fn refused(out: &mut dyn Write, fault: &Fault, text: &[u8]) -> Result<(), Stop> {
+    let number = fault.number;
+    match fault.line {
+        0 => writeln!(out, "refused with {number}: {}", fault.what)?,
+        line => writeln!(out, "refused with {number} at line {line}: {}", fault.what)?,
+    }
+    if let Some([shown, marks]) = fault.shown(text) {
+        let line = fault.line.to_string();
+        writeln!(out, "  {line} | {shown}")?;
+        writeln!(out, "  {} | {marks}", " ".repeat(line.len()))?;
+    }
+    if !fault.right.is_empty() {
+        writeln!(out, "{}", fault.right)?;
+    }
+    Ok(())
+}
+
+fn accepted(out: &mut dyn Write, both: &Both, warnings: &[Warning]) -> Result<(), Stop> {
+    let terms = both.terms();
+    let counted = |count: usize, one: &str, more: &str| match count {
+        1 => format!("1 {one}"),
+        count => format!("{count} {more}"),
+    };
+    let effects = terms.effects.iter().map(Vec::len).sum();
+    let parts = [
+        counted(terms.members, "member", "members"),
+        counted(terms.relations, "relation", "relations"),
+        counted(terms.events, "event", "events"),
+        counted(terms.entries.len(), "entry", "entries"),
+        counted(terms.past().len(), "of them past-time", "of them past-time"),
+        counted(effects, "effect", "effects"),
+        counted(terms.edges.len(), "first edge", "first edges"),
+    ];
+    writeln!(out, "accepted: {}", parts.join(", "))?;
+    for warning in warnings {
+        match warning.line {
+            0 => writeln!(out, "warning: {}", warning.what)?,
+            line => writeln!(out, "warning, line {line}: {}", warning.what)?,
+        }
+        if !warning.right.is_empty() {
+            writeln!(out, "  {}", warning.right)?;
+        }
+    }
+    Ok(())
+}
+
+fn fault_json(fault: &Fault) -> Json {
+    Json::Object(vec![
+        ("accepted", false.into()),
+        ("number", usize::from(fault.number).into()),
+        ("line", fault.line.into()),
+        ("from", fault.place.start.into()),
+        ("to", fault.place.end.into()),
+        ("what", fault.what.as_str().into()),
+        ("right", fault.right.as_str().into()),
+    ])
+}
+
+fn accepted_json(both: &Both) -> Json {
+    let terms = both.terms();
+    Json::Object(vec![
+        ("accepted", true.into()),
+        ("members", terms.members.into()),
+        ("relations", terms.relations.into()),
+        ("events", terms.events.into()),
+        ("entries", terms.entries.len().into()),
+        ("past", terms.past().len().into()),
+        ("edges", terms.edges.len().into()),
+    ])
+}
+
+fn warning_json(warning: &Warning) -> Json {
+    Json::Object(vec![
+        ("warning", warning.kind.into()),
+        ("line", warning.line.into()),
+        ("what", warning.what.as_str().into()),
+        ("right", warning.right.as_str().into()),
+    ])
+}

@@ -1,0 +1,43 @@
+//! `cuckooormolu report`: a folder's story as one page.
+
+use crate::arguments::Arguments;
+use crate::folder::{self, Folder};
+use crate::replay::Replay;
+use crate::report;
+use crate::stop::{Stop, WELL};
+use std::io::Write;
+use std::path::Path;
+
+pub const HELP: &str = "\
+usage: cuckooormolu report DIR -o FILE.html [--title TITLE]
+
+Writes one page of HTML that needs nothing else: the policies read aloud, a
+strip of moments, each moment's graph drawn, each request with its answer and
+reason, and who may do what in the end. It has no scripts and loads nothing.
+
+  -o FILE         where the page is written; `-` is standard output
+  --title TITLE   the page's title; else the name of the folder
+
+Exit status: 0.
+";
+
+pub fn main(arguments: &[String], out: &mut dyn Write) -> Result<i32, Stop> {
+    let arguments = Arguments::read(arguments, &[], &["-o", "--title"])?;
+    let directory = Path::new(arguments.one("DIR")?);
+    let file = arguments.option("-o").ok_or_else(|| Stop::Usage("give -o FILE.html".into()))?;
+    let folder = Folder::load(directory)?;
+    let title = arguments.option("--title").map_or_else(|| name(&folder.path), str::to_string);
+    let page = report::page(&title, &Replay::of(&folder)?, &folder.names)?;
+    if file == "-" {
+        out.write_all(page.as_bytes())?;
+    } else {
+        folder::write(Path::new(file), page.as_bytes())?;
+    }
+    Ok(WELL)
+}
+
+/// The name of a folder, also of `.`.
+fn name(folder: &Path) -> String {
+    let whole = folder.canonicalize().unwrap_or_else(|_| folder.to_path_buf());
+    whole.file_name().map_or_else(|| "report".into(), |name| name.to_string_lossy().into_owned())
+}

@@ -1,0 +1,102 @@
+//! `cuckooormolu run`: what the proved program prints, with words.
+
+use crate::arguments::Arguments;
+use crate::both::Verdict;
+use crate::folder::{Folder, Request};
+use crate::json::Json;
+use crate::replay::{Replay, Step};
+use crate::stop::{Stop, FAILING, WELL};
+use crate::words::{answered, Words};
+use std::io::Write;
+use std::path::Path;
+
+pub const HELP: &str = "\
+usage: cuckooormolu run DIR [--json]
+
+Makes the requests of DIR/requests.tsv under the terms of DIR/terms.tsv and
+prints each with its answer. Names come from DIR/names.tsv if it is there.
+
+  --json   one JSON object a line
+
+Exit status: 0 if every request is granted, 1 if one is denied or refused.
+";
+
+pub fn main(arguments: &[String], out: &mut dyn Write) -> Result<i32, Stop> {
+    let arguments = Arguments::read(arguments, &["--json"], &[])?;
+    let folder = Folder::load(Path::new(arguments.one("DIR")?))?;
+    let replay = Replay::of(&folder)?;
+    let words = Words::new(replay.both.terms(), &folder.names);
+    let widths = Widths::of(&replay.steps, &words);
+    for step in &replay.steps {
+        if arguments.has("--json") {
+            writeln!(out, "{}", Json::Object(fields(step, &words)))?;
+        } else {
+            writeln!(out, "{}", widths.line(step, &words))?;
+        }
+    }
+    Ok(status(&replay))
+}
+
+/// The exit status of answers.
+pub fn status(replay: &Replay) -> i32 {
+    if replay.all_granted() {
+        WELL
+    } else {
+        FAILING
+    }
+}
+
+/// How wide the columns of line numbers and requests are.
+pub struct Widths {
+    line: usize,
+    request: usize,
+}
+
+impl Widths {
+    pub fn of(steps: &[Step], words: &Words) -> Widths {
+        let request = steps.iter().map(|step| words.request(step.request).chars().count());
+        Widths {
+            line: steps.last().map_or(1, |step| step.line.to_string().len()),
+            request: request.max().unwrap_or(0),
+        }
+    }
+
+    /// `3  load pete → saw  granted`
+    pub fn line(&self, step: &Step, words: &Words) -> String {
+        let request = words.request(step.request);
+        let (line, wide) = (self.line, self.request);
+        let answer = match step.verdict {
+            Verdict::Refused(number) => {
+                format!("refused: {}", words.refusal(step.request, number))
+            }
+            verdict => answered(verdict).to_string(),
+        };
+        format!("{:line$}  {request:wide$}  {answer}", step.line)
+    }
+
+    /// The blanks before what is said below a line.
+    pub fn indent(&self) -> String {
+        " ".repeat(self.line + 4)
+    }
+}
+
+/// A step's fields as `--json` prints them.
+pub fn fields(step: &Step, words: &Words) -> Vec<(&'static str, Json)> {
+    let mut fields = vec![("line", step.line.into())];
+    if let Request::Ask { event, from, to } = step.request {
+        fields.push(("request", vec![event, from, to].into()));
+        fields.push(("event", words.names.event(event).into()));
+        fields.push(("from", words.names.member(from).into()));
+        fields.push(("to", words.names.member(to).into()));
+    }
+    match step.verdict {
+        Verdict::Grant => fields.push(("answer", "grant".into())),
+        Verdict::Deny => fields.push(("answer", "deny".into())),
+        Verdict::Refused(number) => {
+            fields.push(("answer", "refuse".into()));
+            fields.push(("number", usize::from(number).into()));
+            fields.push(("because", vec![words.refusal(step.request, number)].into()));
+        }
+    }
+    fields
+}

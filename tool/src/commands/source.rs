@@ -1,0 +1,38 @@
+//! `cuckooormolu source`: terms.tsv back to a readable source.
+
+use crate::arguments::Arguments;
+use crate::both::Both;
+use crate::folder::{self, Folder};
+use crate::source::decompile::{agrees, decompile};
+use crate::source::print::print;
+use crate::stop::{Stop, WELL};
+use std::io::Write;
+use std::path::Path;
+
+pub const HELP: &str = "\
+usage: cuckooormolu source DIR|FILE [-o FILE]
+
+Writes terms.tsv, with the names of names.tsv if it is there, as a source
+(docs/LANGUAGE.md). Compiling that gives terms with the same formulas, effects
+and first edges.
+
+  -o FILE   write it to FILE instead of printing it
+
+Exit status: 0, or 1 where the terms are refused.";
+
+pub fn main(arguments: &[String], out: &mut dyn Write) -> Result<i32, Stop> {
+    let arguments = Arguments::read(arguments, &[], &["-o"])?;
+    let folder = Folder::load(Path::new(arguments.one("a folder or a terms file")?))?;
+    let both = Both::accepted(&folder.terms)?;
+    let source = decompile(both.terms(), &folder.names);
+    if !agrees(&source, both.terms()) {
+        let message = "internal error, please report it: the source compiles to other terms";
+        return Err(Stop::Failed(message.into()));
+    }
+    let text = print(&source);
+    match arguments.option("-o") {
+        Some(file) => folder::write(Path::new(file), text.as_bytes())?,
+        None => out.write_all(text.as_bytes())?,
+    }
+    Ok(WELL)
+}

@@ -1,0 +1,71 @@
+//! `cuckooormolu try`: requests at a prompt.
+
+use crate::arguments::Arguments;
+use crate::folder::Folder;
+use crate::stop::{Stop, FAILING, WELL};
+use crate::trial::{Reply, Trial};
+use std::io::{self, BufRead, IsTerminal, Write};
+use std::path::Path;
+
+pub const HELP: &str = "\
+usage: cuckooormolu try DIR [--first]
+
+Reads lines from standard input and answers each:
+
+  share dora pete        make a request
+  look load pete saw     what it would be answered; makes no moment
+  why                    why the last answer was as it was
+  why load pete saw      why it would be granted or denied
+  who load               who may do it to whom
+  list, members          the requests so far; who and what there is
+  undo                   take the last request back
+  save [FILE]            write the requests to FILE, or to DIR/requests.tsv
+  help, quit
+
+It begins after the requests of DIR/requests.tsv. A name of several words is
+put in double quotes.
+
+  --first   begin at moment 0, before them
+
+Exit status: 0, or 1 if a line could not be understood or done.
+";
+
+pub fn main(arguments: &[String], out: &mut dyn Write) -> Result<i32, Stop> {
+    let arguments = Arguments::read(arguments, &["--first"], &[])?;
+    let folder = Folder::load(Path::new(arguments.one("DIR")?))?;
+    let mut trial = Trial::new(folder, arguments.has("--first"))?;
+    let input = io::stdin().lock();
+    let prompt = if io::stdin().is_terminal() { "> " } else { "" };
+    if !prompt.is_empty() {
+        writeln!(out, "{}", trial.greeting())?;
+    }
+    converse(&mut trial, input, prompt, out)
+}
+
+/// Answers every line until there are no more or one says quit.
+pub fn converse(
+    trial: &mut Trial,
+    mut input: impl BufRead,
+    prompt: &str,
+    out: &mut dyn Write,
+) -> Result<i32, Stop> {
+    let mut status = WELL;
+    loop {
+        write!(out, "{prompt}")?;
+        out.flush()?;
+        let mut line = Vec::new();
+        let read = input.read_until(b'\n', &mut line);
+        if read.map_err(|error| Stop::Failed(format!("cannot read: {error}")))? == 0 {
+            return Ok(status);
+        }
+        match trial.line(&String::from_utf8_lossy(&line))? {
+            Reply::Quit => return Ok(status),
+            Reply::Said(text) if text.is_empty() => {}
+            Reply::Said(text) => writeln!(out, "{text}")?,
+            Reply::Wrong(text) => {
+                status = FAILING;
+                writeln!(out, "? {text}")?;
+            }
+        }
+    }
+}

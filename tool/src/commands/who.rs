@@ -1,0 +1,57 @@
+//! `cuckooormolu who`: who may do what to whom.
+
+use crate::arguments::Arguments;
+use crate::folder::Folder;
+use crate::json::Json;
+use crate::matrix::Matrix;
+use crate::names::Kind;
+use crate::replay::Replay;
+use crate::stop::{Stop, WELL};
+use crate::words::Words;
+use std::io::Write;
+use std::path::Path;
+
+pub const HELP: &str = "\
+usage: cuckooormolu who DIR EVENT [--first] [--json]
+
+Shows who may do EVENT to whom after all requests of DIR/requests.tsv: a row
+for each initiator, a column for each target. EVENT is a name or a number.
+Nothing is requested: the table looks only.
+
+  --first  at moment 0, before any request
+  --json   one JSON object a line: an initiator and its targets
+
+Exit status: 0.
+";
+
+pub fn main(arguments: &[String], out: &mut dyn Write) -> Result<i32, Stop> {
+    let arguments = Arguments::read(arguments, &["--first", "--json"], &[])?;
+    let [directory, event] = &arguments.rest[..] else {
+        return Err(Stop::Usage("give DIR and EVENT".into()));
+    };
+    let folder = Folder::load(Path::new(directory))?;
+    let replay = match arguments.has("--first") {
+        true => Replay::before(&folder)?,
+        false => Replay::of(&folder)?,
+    };
+    let terms = replay.both.terms();
+    let event = folder.names.lookup(Kind::Event, event, terms.events).map_err(Stop::Usage)?;
+    let words = Words::new(terms, &folder.names);
+    let matrix = Matrix::now(&replay.both, event)?;
+    if !arguments.has("--json") {
+        write!(out, "{}", matrix.table(&words))?;
+        return Ok(WELL);
+    }
+    for (from, row) in matrix.rows.iter().enumerate() {
+        let allowed = (0..row.len()).filter(|&to| row[to]);
+        let targets: Vec<String> = allowed.map(|to| folder.names.member(to)).collect();
+        let fields = vec![
+            ("event", folder.names.event(event).into()),
+            ("moment", matrix.moment.into()),
+            ("from", folder.names.member(from).into()),
+            ("to", targets.into()),
+        ];
+        writeln!(out, "{}", Json::Object(fields))?;
+    }
+    Ok(WELL)
+}

@@ -1,0 +1,32 @@
+//! The tool for people: terms written with names, read aloud, checked, run,
+//! explained and drawn.
+//!
+//! * `both`: every acceptance and verdict, from the proved library and from the
+//!   keeper of the whole record
+//! * `names`, `folder`: the names of members, relations and events; a folder's files
+//! * `source`: the source language, compiled and written back
+//! * `replay`, `words`, `matrix`: the requests made one by one; words for them; who may do what
+//! * `why`: why a request is granted or denied
+//! * `report`: a folder's story as one page
+//! * `trial`: requests made and taken back at a prompt
+//! * `aloud`: every policy and effect as a sentence
+//! * `check`: what is wrong with a terms file, and what may be
+//! * `commands`: one file for each sub-command
+//! * `arguments`, `json`, `stop`: what the sub-commands share
+
+pub mod aloud;
+pub mod arguments;
+pub mod both;
+pub mod check;
+pub mod commands;
+pub mod folder;
+pub mod json;
+pub mod matrix;
+pub mod names;
+pub mod replay;
+pub mod report;
+pub mod source;
+pub mod stop;
+pub mod trial;
+pub mod why;
+pub mod words;

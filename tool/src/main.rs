@@ -1,0 +1,75 @@
+//! `cuckooormolu COMMAND ...`: finds the sub-command and runs it.
+
+use cuckooormolu_tool::commands::{Command, COMMANDS};
+use cuckooormolu_tool::names::did_you_mean;
+use cuckooormolu_tool::stop::{Stop, USAGE, WELL};
+use std::io::{self, Write};
+
+fn main() {
+    let arguments: Vec<String> =
+        std::env::args_os().skip(1).map(|word| word.to_string_lossy().into_owned()).collect();
+    let mut out = io::BufWriter::new(io::stdout());
+    let status = match dispatch(&arguments, &mut out) {
+        Ok(status) => out.flush().map_or_else(|error| report("", &error.into()), |()| status),
+        Err((name, stop)) => {
+            let _ = out.flush();
+            report(name, &stop)
+        }
+    };
+    std::process::exit(status);
+}
+
+/// Runs the sub-command that the first argument names.
+fn dispatch<'a>(arguments: &'a [String], out: &mut dyn Write) -> Result<i32, (&'a str, Stop)> {
+    let Some((name, rest)) = arguments.split_first() else {
+        eprint!("{}", overview());
+        return Ok(USAGE);
+    };
+    match name.as_str() {
+        "help" | "--help" | "-h" => match rest.first() {
+            Some(about) => show(out, find(about).map_err(|stop| ("", stop))?.help),
+            None => show(out, &overview()),
+        },
+        "--version" | "-V" => show(out, concat!("cuckooormolu ", env!("CARGO_PKG_VERSION"))),
+        name => {
+            let command = find(name).map_err(|stop| ("", stop))?;
+            if rest.iter().any(|word| word == "--help" || word == "-h") {
+                return show(out, command.help);
+            }
+            (command.main)(rest, out).map_err(|stop| (name, stop))
+        }
+    }
+}
+
+fn show<'a>(out: &mut dyn Write, text: &str) -> Result<i32, (&'a str, Stop)> {
+    writeln!(out, "{}", text.trim_end()).map_err(|error| ("", error.into()))?;
+    Ok(WELL)
+}
+
+fn find(name: &str) -> Result<&'static Command, Stop> {
+    COMMANDS.iter().find(|command| command.name == name).ok_or_else(|| {
+        let hint = did_you_mean(name, COMMANDS.iter().map(|command| command.name));
+        Stop::Usage(format!("no command `{name}`{hint}"))
+    })
+}
+
+fn overview() -> String {
+    let mut text = String::from("usage: cuckooormolu COMMAND ...\n\n");
+    for command in &COMMANDS {
+        text.push_str(&format!("  {:9} {}\n", command.name, command.summary));
+    }
+    text.push_str("\n`cuckooormolu COMMAND --help` says more.\n");
+    text.push_str("Exit status: 0, or 1 where something is denied, refused or failing, or 2 for a wrong command line.\n");
+    text
+}
+
+/// Says on standard error why a sub-command stopped; gives the exit status.
+fn report(name: &str, stop: &Stop) -> i32 {
+    let who = if name.is_empty() { "cuckooormolu".into() } else { format!("cuckooormolu {name}") };
+    match stop {
+        Stop::Closed => {}
+        Stop::Usage(_) => eprintln!("{who}: {stop}\n`{who} --help` says more."),
+        Stop::Failed(_) | Stop::Differ(_) => eprintln!("{who}: {stop}"),
+    }
+    stop.status()
+}

@@ -1,0 +1,213 @@
+//! The names of members, relations and events.
+
+use keeper::terms::Terms;
+use std::collections::BTreeMap;
+use std::fmt;
+
+/// What a name can be the name of.
+#[derive(Clone, Copy, Debug, PartialEq, Eq, PartialOrd, Ord)]
+pub enum Kind {
+    Member,
+    Relation,
+    Event,
+}
+
+impl Kind {
+    pub const ALL: [Kind; 3] = [Kind::Member, Kind::Relation, Kind::Event];
+
+    /// The kind's word in names.tsv and in messages.
+    pub fn word(self) -> &'static str {
+        match self {
+            Kind::Member => "member",
+            Kind::Relation => "relation",
+            Kind::Event => "event",
+        }
+    }
+}
+
+impl fmt::Display for Kind {
+    fn fmt(&self, out: &mut fmt::Formatter<'_>) -> fmt::Result {
+        out.pad(self.word())
+    }
+}
+
+/// The names of a folder. What has no name is called by its kind and number:
+/// `member 3`.
+#[derive(Clone, Debug, Default, PartialEq, Eq)]
+pub struct Names {
+    names: BTreeMap<(Kind, usize), String>,
+}
+
+impl Names {
+    /// Reads names.tsv: lines of kind, number and name, parted by tabs. Blank
+    /// lines are skipped. An error says which line is wrong and why.
+    pub fn read(text: &str) -> Result<Names, String> {
+        let mut names = Names::default();
+        for (index, line) in text.lines().enumerate() {
+            if line.is_empty() {
+                continue;
+            }
+            let wrong = |why: String| format!("names.tsv line {}: {why}", index + 1);
+            let fields: Vec<&str> = line.split('\t').collect();
+            let [kind, number, name] = fields[..] else {
+                return Err(wrong("kind, number and name are due, parted by tabs".into()));
+            };
+            let kind =
+                Kind::ALL.into_iter().find(|known| known.word() == kind).ok_or_else(|| {
+                    let hint = did_you_mean(kind, Kind::ALL.map(Kind::word));
+                    wrong(format!("no kind `{kind}`; kinds are member, relation and event{hint}"))
+                })?;
+            let number = number
+                .parse()
+                .map_err(|_| wrong(format!("`{number}` is no number of a {kind}")))?;
+            names.set(kind, number, name).map_err(wrong)?;
+        }
+        Ok(names)
+    }
+
+    /// Gives a name; refused where the number or the name is taken.
+    pub fn set(&mut self, kind: Kind, number: usize, name: &str) -> Result<(), String> {
+        if name.trim().is_empty() {
+            return Err(format!("{kind} {number} has an empty name"));
+        }
+        if let Some(other) = self.find(kind, name) {
+            return Err(format!("{kind} {other} is called {name} already"));
+        }
+        if let Some(other) = self.names.insert((kind, number), name.to_string()) {
+            return Err(format!("{kind} {number} is called {other} already"));
+        }
+        Ok(())
+    }
+
+    /// The text of names.tsv.
+    pub fn write(&self) -> String {
+        let lines = self.names.iter();
+        lines.map(|((kind, number), name)| format!("{kind}\t{number}\t{name}\n")).collect()
+    }
+
+    /// The name of a number, or its kind and number.
+    pub fn name(&self, kind: Kind, number: usize) -> String {
+        self.given(kind, number).map_or_else(|| format!("{kind} {number}"), str::to_string)
+    }
+
+    /// The name of a number, if it has one.
+    pub fn given(&self, kind: Kind, number: usize) -> Option<&str> {
+        self.names.get(&(kind, number)).map(String::as_str)
+    }
+
+    pub fn member(&self, number: usize) -> String {
+        self.name(Kind::Member, number)
+    }
+
+    pub fn relation(&self, number: usize) -> String {
+        self.name(Kind::Relation, number)
+    }
+
+    pub fn event(&self, number: usize) -> String {
+        self.name(Kind::Event, number)
+    }
+
+    /// The name of a label: a relation's, or that of an event after them.
+    pub fn label(&self, terms: &Terms, label: usize) -> String {
+        match label.checked_sub(terms.relations) {
+            None => self.relation(label),
+            Some(event) => self.event(event),
+        }
+    }
+
+    /// The number of a name.
+    pub fn find(&self, kind: Kind, name: &str) -> Option<usize> {
+        let found = self.names.iter().find(|((of, _), given)| *of == kind && *given == name);
+        found.map(|((_, number), _)| *number)
+    }
+
+    /// The number below `count` that is meant by a name or by a plain number;
+    /// if none, what to tell the user.
+    pub fn lookup(&self, kind: Kind, word: &str, count: usize) -> Result<usize, String> {
+        if let Some(number) = self.find(kind, word).filter(|&number| number < count) {
+            return Ok(number);
+        }
+        if let Some(number) = word.parse().ok().filter(|&number| number < count) {
+            return Ok(number);
+        }
+        let known: Vec<String> = (0..count).map(|number| self.name(kind, number)).collect();
+        let hint = did_you_mean(word, known.iter().map(String::as_str));
+        let all = if hint.is_empty() {
+            format!("; there are: {}", known.join(", "))
+        } else {
+            String::new()
+        };
+        Err(format!("no {kind} `{word}`{hint}{all}"))
+    }
+}
+
+/// `; did you mean ...?` for a word that nobody knows, or nothing.
+pub fn did_you_mean<'a>(word: &str, known: impl IntoIterator<Item = &'a str>) -> String {
+    nearest(word, known).map_or_else(String::new, |near| format!("; did you mean `{near}`?"))
+}
+
+/// The known word nearest to a given one, if it is near enough for a slip.
+pub fn nearest<'a>(word: &str, known: impl IntoIterator<Item = &'a str>) -> Option<&'a str> {
+    let letters = word.chars().count();
+    let far = |other: &str| distance(&word.to_lowercase(), &other.to_lowercase());
+    let measured = known.into_iter().map(|other| (far(other), other));
+    let (steps, best) = measured.min_by_key(|&(steps, _)| steps)?;
+    let near = steps <= 1 + letters.max(best.chars().count()) / 4 && steps < letters.max(2);
+    near.then_some(best)
+}
+
+/// How many letters have to be put in, left out, changed or swapped with the
+/// next to make one word of the other.
+fn distance(one: &str, other: &str) -> usize {
+    let (one, other): (Vec<char>, Vec<char>) = (one.chars().collect(), other.chars().collect());
+    let mut rows: Vec<Vec<usize>> = vec![(0..=other.len()).collect()];
+    for i in 1..=one.len() {
+        let mut row = vec![i];
+        for j in 1..=other.len() {
+            let change = rows[i - 1][j - 1] + usize::from(one[i - 1] != other[j - 1]);
+            let mut least = change.min(rows[i - 1][j] + 1).min(row[j - 1] + 1);
+            if i > 1 && j > 1 && one[i - 1] == other[j - 2] && one[i - 2] == other[j - 1] {
+                least = least.min(rows[i - 2][j - 2] + 1);
+            }
+            row.push(least);
+        }
+        rows.push(row);
+    }
+    rows[one.len()][other.len()]
+}
+
+#[cfg(test)]
+mod tests {
+    use super::*;
+
+    const TEXT: &str = "member\t0\tdora\nmember\t1\tpete\nrelation\t0\towns\nevent\t0\tshare\n";
+
+    #[test]
+    fn read_and_written() {
+        let names = Names::read(TEXT).unwrap();
+        assert_eq!(names.write(), TEXT);
+        assert_eq!(names.member(1), "pete");
+        assert_eq!(names.member(2), "member 2");
+        assert_eq!(names.event(4), "event 4");
+    }
+
+    #[test]
+    fn looked_up() {
+        let names = Names::read(TEXT).unwrap();
+        assert_eq!(names.lookup(Kind::Member, "dora", 3), Ok(0));
+        assert_eq!(names.lookup(Kind::Member, "2", 3), Ok(2));
+        let near = names.lookup(Kind::Event, "shrae", 1).unwrap_err();
+        assert_eq!(near, "no event `shrae`; did you mean `share`?");
+        let far = names.lookup(Kind::Member, "xyz", 3).unwrap_err();
+        assert_eq!(far, "no member `xyz`; there are: dora, pete, member 2");
+    }
+
+    #[test]
+    fn mistakes() {
+        let said = |text: &str| Names::read(text).unwrap_err();
+        assert!(said("membr\t0\ta\n").contains("did you mean `member`?"));
+        assert!(said("member 0 a\n").contains("line 1"));
+        assert!(said("member\tx\ta\n").contains("no number"));
+        assert!(said("member\t0\ta\nmember\t1\ta\n").contains("already"));
+    }
+}

@@ -1,0 +1,73 @@
+//! The requests of a folder, made one after the other.
+
+use crate::both::{Both, Verdict};
+use crate::folder::{Folder, Request};
+use crate::stop::Stop;
+
+/// The most bytes a file may have.
+const MOST_BYTES: usize = 65_536;
+
+/// One line of requests.tsv and its answer.
+#[derive(Clone, Copy, Debug, PartialEq, Eq)]
+pub struct Step {
+    /// Its line, from 1.
+    pub line: usize,
+    pub request: Request,
+    pub verdict: Verdict,
+    /// The moment at which it was asked. A grant makes the next.
+    pub moment: usize,
+}
+
+/// All requests answered, and the record they made.
+pub struct Replay {
+    pub both: Both,
+    pub steps: Vec<Step>,
+}
+
+impl Replay {
+    /// Reads the terms and makes all requests.
+    pub fn of(folder: &Folder) -> Result<Replay, Stop> {
+        let mut replay = Replay::before(folder)?;
+        if folder.requests.len() > MOST_BYTES {
+            return Err(Stop::Failed(format!("requests.tsv has more than {MOST_BYTES} bytes")));
+        }
+        for request in folder.requests() {
+            replay.make(request)?;
+        }
+        Ok(replay)
+    }
+
+    /// Reads the terms and makes no request.
+    pub fn before(folder: &Folder) -> Result<Replay, Stop> {
+        Ok(Replay { both: Both::accepted(&folder.terms)?, steps: Vec::new() })
+    }
+
+    /// Makes one request more.
+    pub fn make(&mut self, request: Request) -> Result<Step, Stop> {
+        let moment = self.moment();
+        let verdict = match request {
+            Request::Ask { event, from, to } => self.both.request(event, from, to)?,
+            Request::Malformed => Verdict::Refused(1),
+        };
+        let step = Step { line: self.steps.len() + 1, request, verdict, moment };
+        self.steps.push(step);
+        Ok(step)
+    }
+
+    /// The present moment.
+    pub fn moment(&self) -> usize {
+        self.both.record().graphs().len() - 1
+    }
+
+    /// The requests made at a moment. They stand together.
+    pub fn at(&self, moment: usize) -> &[Step] {
+        let first = self.steps.partition_point(|step| step.moment < moment);
+        let end = self.steps.partition_point(|step| step.moment <= moment);
+        &self.steps[first..end]
+    }
+
+    /// Whether every request was granted.
+    pub fn all_granted(&self) -> bool {
+        self.steps.iter().all(|step| step.verdict == Verdict::Grant)
+    }
+}

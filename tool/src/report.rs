@@ -1,0 +1,67 @@
+//! A folder's story as one page of HTML that needs nothing else.
+//!
+//! * `layout`: members on a circle; `drawing`: graphs as SVG
+//! * `moments`: the strip, and each moment with what was asked at it
+//! * `policies`: the policies read aloud; `tables`: who may do what in the end
+//! * `palette`, `style.css`: colours and everything else that is seen
+//! * `html`: text made safe for a page
+
+mod drawing;
+mod html;
+mod layout;
+mod moments;
+mod palette;
+mod policies;
+mod tables;
+
+use crate::both::Verdict;
+use crate::names::Names;
+use crate::replay::Replay;
+use crate::stop::Stop;
+use crate::words::Words;
+use drawing::Drawing;
+use html::{counted, escaped};
+
+/// The whole page.
+pub fn page(title: &str, replay: &Replay, names: &Names) -> Result<String, Stop> {
+    let words = Words::new(replay.both.terms(), names);
+    let drawing = Drawing::new(&words, replay.both.record().graphs());
+    let title = escaped(title);
+    Ok(format!(
+        "<!DOCTYPE html>\n<html lang=\"en\">\n<head>\n<meta charset=\"utf-8\">\n\
+         <meta name=\"viewport\" content=\"width=device-width, initial-scale=1\">\n\
+         <meta name=\"color-scheme\" content=\"light dark\">\n<title>{title}</title>\n\
+         <style>\n{}{}</style>\n</head>\n<body>\n{}\
+         <header>\n<h1>{title}</h1>\n{}</header>\n<main>\n{}{}{}</main>\n</body>\n</html>\n",
+        include_str!("report/style.css"),
+        palette::style(words.terms.relations),
+        drawing.definitions(),
+        summary(replay),
+        policies::section(&words),
+        moments::section(replay, &words, &drawing)?,
+        tables::section(replay, &words)?,
+    ))
+}
+
+/// How many there are of everything.
+fn summary(replay: &Replay) -> String {
+    let terms = replay.both.terms();
+    let count = |wanted: fn(Verdict) -> bool| {
+        replay.steps.iter().filter(|step| wanted(step.verdict)).count()
+    };
+    let granted = count(|verdict| verdict == Verdict::Grant);
+    let denied = count(|verdict| verdict == Verdict::Deny);
+    let refused = replay.steps.len() - granted - denied;
+    let mut answers = vec![format!("{granted} granted"), format!("{denied} denied")];
+    if refused > 0 {
+        answers.push(format!("{refused} refused"));
+    }
+    format!(
+        "<p class=\"summary\">{}, {}, {}. {}: {}.</p>\n",
+        counted(terms.members, "member"),
+        counted(terms.relations, "relation"),
+        counted(terms.events, "event"),
+        counted(replay.steps.len(), "request"),
+        answers.join(", "),
+    )
+}

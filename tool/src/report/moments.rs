@@ -1,0 +1,191 @@
+//! The strip of answers, and each moment with its graph and what was asked at it.
+
+use super::drawing::Drawing;
+use super::html::{counted, escaped, unbroken};
+use super::palette;
+use crate::both::Verdict;
+use crate::replay::{Replay, Step};
+use crate::stop::Stop;
+use crate::why::reason::Reasons;
+use crate::words::{answered, Words};
+use keeper::record::Graph;
+use keeper::terms::Edge;
+
+pub fn section(replay: &Replay, words: &Words, drawing: &Drawing) -> Result<String, Stop> {
+    let graphs = replay.both.record().graphs();
+    let mut reasons = Reasons::new(replay.both.record());
+    let wide = if drawing.is_wide() { " wide" } else { "" };
+    let mut text = format!(
+        "<section aria-labelledby=\"story\">\n<h2 id=\"story\">What happened</h2>\n{}{}\
+         <ol class=\"moments{wide}\" start=\"0\">\n",
+        strip(replay, words),
+        legend(words, drawing.count(), graphs.len()),
+    );
+    for (moment, graph) in graphs.iter().enumerate() {
+        let heading = match graph.event {
+            None => "the first edges".to_string(),
+            Some((event, from, to)) => words.event(event, from, to),
+        };
+        text.push_str(&format!(
+            "<li class=\"moment\" id=\"moment-{moment}\">\n\
+             <h3><span class=\"number\"><span class=\"away\">Moment </span>{moment}</span> {}</h3>\n",
+            escaped(&heading)
+        ));
+        let pictured = moment < drawing.count();
+        let class = if pictured { "scene" } else { "scene bare" };
+        text.push_str(&format!("<div class=\"{class}\">\n"));
+        if pictured {
+            text.push_str(&figure(graph, moment, words, drawing));
+        }
+        text.push_str(&asked(replay, moment, words, &mut reasons)?);
+        text.push_str("</div>\n</li>\n");
+    }
+    text.push_str("</ol>\n</section>\n");
+    Ok(text)
+}
+
+/// Every moment and every answer in order, each a link to where it is told.
+fn strip(replay: &Replay, words: &Words) -> String {
+    let mut text = String::from("<nav aria-label=\"Moments and answers\"><ol class=\"strip\">\n");
+    let moment_link = |moment: usize| {
+        format!("<li><a class=\"at\" href=\"#moment-{moment}\" title=\"moment {moment}\">{moment}</a></li>\n")
+    };
+    text.push_str(&moment_link(0));
+    for step in &replay.steps {
+        let said = format!("{}: {}", words.request(step.request), answered(step.verdict));
+        text.push_str(&format!(
+            "<li><a class=\"{0}\" href=\"#request-{1}\" title=\"{2}\"><span aria-hidden=\"true\">{3}</span>\
+             <span class=\"away\">request {1}, {0}</span></a></li>\n",
+            answered(step.verdict),
+            step.line,
+            escaped(&said),
+            sign(step.verdict),
+        ));
+        if step.verdict == Verdict::Grant {
+            text.push_str(&moment_link(step.moment + 1));
+        }
+    }
+    text.push_str("</ol></nav>\n");
+    text
+}
+
+fn sign(verdict: Verdict) -> &'static str {
+    match verdict {
+        Verdict::Grant => "✓",
+        Verdict::Deny => "✗",
+        Verdict::Refused(_) => "!",
+    }
+}
+
+/// Which line stands for what, and how many moments are drawn.
+fn legend(words: &Words, pictures: usize, moments: usize) -> String {
+    let mut text = String::from("<ul class=\"legend\" aria-label=\"Lines in the pictures\">\n");
+    for relation in 0..words.terms.relations {
+        text.push_str(&format!(
+            "<li><svg width=\"38\" height=\"12\" viewBox=\"0 0 38 12\" aria-hidden=\"true\">\
+             <path class=\"{}\" d=\"M1 6H28\" marker-end=\"url(#arrow{})\"/></svg>{}</li>\n",
+            palette::classes(relation),
+            palette::colour(relation),
+            escaped(&words.names.relation(relation)),
+        ));
+    }
+    text.push_str(
+        "<li><svg width=\"38\" height=\"14\" viewBox=\"0 0 38 14\" aria-hidden=\"true\">\
+         <path class=\"event-edge\" d=\"M1 7H24\" marker-end=\"url(#arrow)\"/></svg>\
+         the event that made the moment</li>\n</ul>\n",
+    );
+    if pictures < moments {
+        text.push_str(&format!(
+            "<p class=\"quiet\">The first {pictures} of {moments} moments are drawn.</p>\n"
+        ));
+    }
+    text
+}
+
+/// A moment's picture, what changed, and its edges.
+fn figure(graph: &Graph, moment: usize, words: &Words, drawing: &Drawing) -> String {
+    let changes = drawing.changes(moment);
+    let focus = if drawing.is_wide() { " tabindex=\"0\"" } else { "" };
+    format!(
+        "<figure{focus}>\n{}<figcaption>\n{}{}{}</figcaption>\n</figure>\n",
+        drawing.picture(moment),
+        changed("adds", &changes.added, words),
+        changed("deletes", &changes.deleted, words),
+        edges(graph, words),
+    )
+}
+
+/// What the event's effects did to the relations.
+fn changed(verb: &str, edges: &[Edge], words: &Words) -> String {
+    if edges.is_empty() {
+        return String::new();
+    }
+    let edge = |&(relation, from, to): &Edge| words.edge(relation, from, to);
+    let edges: Vec<String> = edges.iter().map(edge).collect();
+    format!("<p>{verb} {}</p>\n", escaped(&edges.join(", ")))
+}
+
+/// The relation edges of a moment, on demand.
+fn edges(graph: &Graph, words: &Words) -> String {
+    if graph.edges.is_empty() {
+        return "<p>no relation edges</p>\n".to_string();
+    }
+    let mut text = format!(
+        "<details><summary>{}</summary>\n<table><thead><tr><th scope=\"col\">relation</th>\
+         <th scope=\"col\">from</th><th scope=\"col\">to</th></tr></thead><tbody>\n",
+        counted(graph.edges.len(), "relation edge")
+    );
+    for &(relation, from, to) in &graph.edges {
+        let cells = [words.names.relation(relation), words.member(from), words.member(to)];
+        let cells: String =
+            cells.iter().map(|cell| format!("<td>{}</td>", escaped(cell))).collect();
+        text.push_str(&format!("<tr>{cells}</tr>\n"));
+    }
+    text.push_str("</tbody></table></details>\n");
+    text
+}
+
+/// The requests made at a moment, with answers and reasons.
+fn asked(
+    replay: &Replay,
+    moment: usize,
+    words: &Words,
+    reasons: &mut Reasons,
+) -> Result<String, Stop> {
+    let steps = replay.at(moment);
+    let Some(first) = steps.first() else {
+        return Ok("<p class=\"quiet\">nothing more was asked</p>\n".to_string());
+    };
+    let mut text = format!("<ol class=\"asked\" start=\"{}\">\n", first.line);
+    for step in steps {
+        let answer = answered(step.verdict);
+        text.push_str(&format!(
+            "<li id=\"request-{0}\" class=\"{answer}\"><p class=\"request\"><span class=\"line\">{0}</span> \
+             <span class=\"what\">{1}</span> <strong><span aria-hidden=\"true\">{2}</span> {answer}</strong></p>\n",
+            step.line,
+            unbroken(&words.request(step.request)),
+            sign(step.verdict),
+        ));
+        text.push_str(&told(step, words, reasons)?);
+        text.push_str("</li>\n");
+    }
+    text.push_str("</ol>\n");
+    Ok(text)
+}
+
+fn told(step: &Step, words: &Words, reasons: &mut Reasons) -> Result<String, Stop> {
+    let paragraph = |line: &String| format!("<p class=\"because\">{}</p>\n", unbroken(line));
+    if let Verdict::Refused(number) = step.verdict {
+        return Ok(paragraph(&words.refusal(step.request, number)));
+    }
+    let Some(because) = reasons.of(words, step, false)? else { return Ok(String::new()) };
+    let mut text: String = because.lines.iter().map(paragraph).collect();
+    if let (Some(rest), Some(all)) = (because.rest(), reasons.of(words, step, true)?) {
+        let item = |line: &String| format!("<li>{}</li>\n", unbroken(line));
+        let items: String = all.lines.iter().map(item).collect();
+        text.push_str(&format!(
+            "<details><summary>{rest}</summary>\n<ul>\n{items}</ul></details>\n"
+        ));
+    }
+    Ok(text)
+}

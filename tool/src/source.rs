@@ -1,0 +1,24 @@
+//! The source language: terms with names, compiled to a terms file, and back.
+//!
+//! * `tokens`, `parse`, `ast`: a text, read
+//! * `resolve`, `said`: names found, definitions and derived forms unfolded
+//! * `tree`: at which member each part is said
+//! * `entries`: variables numbered, equal parts made one entry
+//! * `compile`: all of it, with what is declared
+//! * `print`: a source, written; `decompile`: the way back from terms
+//! * `mistake`: what is wrong, shown at its place
+
+pub mod ast;
+pub mod compile;
+pub mod decompile;
+mod entries;
+pub mod mistake;
+pub mod parse;
+pub mod print;
+mod resolve;
+mod said;
+pub mod tokens;
+mod tree;
+
+pub use compile::{compile, Compiled};
+pub use parse::parse;

@@ -1,0 +1,163 @@
+//! A source as it was written: declarations, definitions and formulas.
+
+/// A stretch of the source text, in bytes. Where a thing was written doesn't
+/// count when two sources are compared.
+#[derive(Clone, Copy, Debug, Default)]
+pub struct Span {
+    pub start: usize,
+    pub end: usize,
+}
+
+impl Span {
+    /// From the start of one stretch to the end of another.
+    pub fn to(self, other: Span) -> Span {
+        Span { start: self.start, end: other.end }
+    }
+}
+
+impl PartialEq for Span {
+    fn eq(&self, _: &Span) -> bool {
+        true
+    }
+}
+
+/// A name that the writer chose.
+#[derive(Clone, Debug, PartialEq)]
+pub struct Name {
+    pub text: String,
+    pub span: Span,
+}
+
+impl Name {
+    /// A name that stands nowhere in a text.
+    pub fn new(text: &str) -> Name {
+        Name { text: text.to_string(), span: Span::default() }
+    }
+}
+
+/// A whole source. Members, relations and events are numbered in this order.
+#[derive(Clone, Debug, Default, PartialEq)]
+pub struct Source {
+    pub members: Vec<Name>,
+    pub relations: Vec<Name>,
+    pub events: Vec<Event>,
+    pub definitions: Vec<Definition>,
+    pub first: Vec<Fact>,
+}
+
+#[derive(Clone, Debug, PartialEq)]
+pub struct Event {
+    pub name: Name,
+    pub policy: Formula,
+    pub effects: Vec<Effect>,
+}
+
+/// One change that a granted event makes to a relation.
+#[derive(Clone, Debug, PartialEq)]
+pub struct Effect {
+    pub add: bool,
+    pub from: Person,
+    pub relation: Name,
+    pub to: Person,
+}
+
+/// A formula with a name and, if it speaks of people, their names in it.
+#[derive(Clone, Debug, PartialEq)]
+pub struct Definition {
+    pub name: Name,
+    pub parameters: Vec<Name>,
+    pub body: Formula,
+}
+
+/// An edge that is there from the start.
+#[derive(Clone, Debug, PartialEq)]
+pub struct Fact {
+    pub from: Name,
+    pub relation: Name,
+    pub to: Name,
+}
+
+/// Somebody a formula speaks of.
+#[derive(Clone, Debug, PartialEq)]
+pub struct Person {
+    pub who: Who,
+    pub span: Span,
+}
+
+#[derive(Clone, Debug, PartialEq, Eq)]
+pub enum Who {
+    /// The initiator of the request.
+    Me,
+    /// The target of the request.
+    Target,
+    /// The member of whom the formula is said.
+    Here,
+    Named(String),
+}
+
+impl Person {
+    /// A person that stands nowhere in a text.
+    pub fn new(who: Who) -> Person {
+        Person { who, span: Span::default() }
+    }
+}
+
+#[derive(Clone, Debug, PartialEq)]
+pub struct Formula {
+    pub kind: Kind,
+    pub span: Span,
+}
+
+impl Formula {
+    /// A formula that stands nowhere in a text.
+    pub fn new(kind: Kind) -> Formula {
+        Formula { kind, span: Span::default() }
+    }
+}
+
+pub type Part = Box<Formula>;
+
+#[derive(Clone, Debug, PartialEq)]
+pub enum Kind {
+    True,
+    False,
+    /// `a is b`; where b names no person: the attribute or definition b of a.
+    Is(Person, Person),
+    /// `a owns b`, the word a relation, an event or a definition of two
+    /// people. None stands for `someone`; never on both sides.
+    Edge(Option<Person>, Name, Option<Person>),
+    /// `name` or `name(a, b)`.
+    Defined(Name, Vec<Person>),
+    Not(Part),
+    And(Part, Part),
+    Or(Part, Part),
+    Since(Part, Part),
+    Once(Part),
+    Always(Part),
+    Never(Part),
+    Previously(Part),
+    Walk(Walk),
+    /// `at a: f`: f said of a.
+    At(Person, Part),
+    /// `as x: f`: f, x naming the member of whom it is said.
+    As(Name, Part),
+}
+
+/// `some`, `every` or `at least k` of those at the other end of the edges that
+/// leave (outwards) or reach a person. The body is said of each of them.
+#[derive(Clone, Debug, PartialEq)]
+pub struct Walk {
+    pub quantifier: Quantifier,
+    pub person: Person,
+    pub label: Name,
+    pub outwards: bool,
+    pub name: Option<Name>,
+    pub body: Part,
+}
+
+#[derive(Clone, Copy, Debug, PartialEq, Eq)]
+pub enum Quantifier {
+    Some,
+    Every,
+    AtLeast(usize),
+}

@@ -1,0 +1,259 @@
+//! Tells entries as formulas of the source.
+
+use super::super::ast::*;
+use super::Words;
+use keeper::terms::{Entry, Terms, Variables, VARIABLES};
+use std::collections::BTreeMap;
+
+/// How an entry is told.
+#[derive(Clone, Copy, Debug, PartialEq, Eq)]
+pub enum Style {
+    /// With names, and without saying where a part about the past stands.
+    Free,
+    /// With names.
+    Named,
+    /// Operator by operator: compiles to the same entry whatever it is.
+    Exact,
+}
+
+impl Style {
+    pub fn stricter(self) -> Style {
+        match self {
+            Style::Free => Style::Named,
+            Style::Named | Style::Exact => Style::Exact,
+        }
+    }
+}
+
+pub struct Teller<'a> {
+    terms: &'a Terms,
+    words: &'a Words,
+    free: Vec<Variables>,
+    /// Which entries are told as definitions, in the exact style.
+    shared: Vec<bool>,
+    defined: BTreeMap<usize, Definition>,
+}
+
+/// Where an entry is told.
+#[derive(Clone)]
+struct Place {
+    style: Style,
+    /// Whom it is said of.
+    here: Who,
+    /// Whom each variable stands for.
+    people: Vec<Who>,
+    /// How many people have got names.
+    named: usize,
+    /// Whether a binding here needs no words: whom it is said of has a name.
+    named_here: bool,
+}
+
+impl<'a> Teller<'a> {
+    pub fn new(terms: &'a Terms, words: &'a Words, shared: Vec<bool>) -> Teller<'a> {
+        Teller { terms, words, free: terms.free(), shared, defined: BTreeMap::new() }
+    }
+
+    /// The definitions that the policies told so far use.
+    pub fn definitions(self) -> Vec<Definition> {
+        self.defined.into_values().collect()
+    }
+
+    pub fn policy(&mut self, entry: usize, style: Style) -> Formula {
+        let exact = style == Style::Exact;
+        let here = if exact { Who::Here } else { Who::Me };
+        self.tell(entry, &Place { style, here, people: standard(), named: 0, named_here: !exact })
+    }
+
+    fn tell(&mut self, entry: usize, place: &Place) -> Formula {
+        if place.style == Style::Exact && self.shared[entry] {
+            return self.call(entry);
+        }
+        self.spell(entry, place)
+    }
+
+    /// A definition's name with the people free in it.
+    fn call(&mut self, entry: usize) -> Formula {
+        let name = Name::new(&self.words.unlike_labels(&format!("part{entry}")));
+        let free = (1..VARIABLES).filter(|x| self.free[entry] >> x & 1 == 1);
+        let parameters: Vec<Name> = free.map(|x| Name::new(&format!("x{x}"))).collect();
+        let person = |name: &Name| Person::new(Who::Named(name.text.clone()));
+        let people = parameters.iter().map(person).collect();
+        if !self.defined.contains_key(&entry) {
+            let (style, here) = (Style::Exact, Who::Here);
+            let place = Place { style, here, people: standard(), named: 0, named_here: false };
+            let body = self.spell(entry, &place);
+            let definition = Definition { name: name.clone(), parameters, body };
+            self.defined.insert(entry, definition);
+        }
+        Formula::new(Kind::Defined(name, people))
+    }
+
+    fn spell(&mut self, entry: usize, place: &Place) -> Formula {
+        // Past the first operator a binding has to be told.
+        let inner = Place { named_here: false, ..place.clone() };
+        Formula::new(match self.terms.entries[entry] {
+            Entry::Top => Kind::True,
+            Entry::Var(x) => Kind::Is(self.here(place), self.person(x, place)),
+            Entry::Not(f) => return self.negation(f, &inner),
+            Entry::Or(f, g) => Kind::Or(self.part(f, &inner), self.part(g, &inner)),
+            Entry::Out(label, f) => self.neighbour(Quantifier::Some, label, true, f, place),
+            Entry::In(label, f) => self.neighbour(Quantifier::Some, label, false, f, place),
+            Entry::Prev(f) => Kind::Previously(self.part(f, &inner)),
+            Entry::Since(f, g) if self.terms.entries[f] == Entry::Top => {
+                Kind::Once(self.part(g, &inner))
+            }
+            Entry::Since(f, g) => Kind::Since(self.part(f, &inner), self.part(g, &inner)),
+            Entry::Bind(x, f) => return self.binding(x, f, place),
+            Entry::At(x, f) => return self.moving(x, f, &inner),
+        })
+    }
+
+    fn part(&mut self, entry: usize, place: &Place) -> Part {
+        Box::new(self.tell(entry, place))
+    }
+
+    fn here(&self, place: &Place) -> Person {
+        Person::new(place.here.clone())
+    }
+
+    fn person(&self, variable: usize, place: &Place) -> Person {
+        Person::new(place.people[variable].clone())
+    }
+
+    fn inside(&self, entry: usize) -> Option<usize> {
+        match self.terms.entries[entry] {
+            Entry::Not(f) => Some(f),
+            _ => None,
+        }
+    }
+
+    /// `not f`, in a derived form where that compiles to the same.
+    fn negation(&mut self, f: usize, place: &Place) -> Formula {
+        // What can be negated without a double negation, told negated.
+        let opposite = |teller: &mut Self, g: usize| match teller.inside(g) {
+            Some(h) => teller.tell(h, place),
+            None => Formula::new(Kind::Not(teller.part(g, place))),
+        };
+        let doubled =
+            |teller: &Self, g: usize| teller.inside(g).is_some_and(|h| teller.inside(h).is_some());
+        let told = place.style == Style::Exact && self.shared[f];
+        Formula::new(match self.terms.entries[f] {
+            Entry::Top => Kind::False,
+            Entry::Or(g, h)
+                if !told
+                    && (self.inside(g).is_some() || self.inside(h).is_some())
+                    && !doubled(self, g)
+                    && !doubled(self, h) =>
+            {
+                Kind::And(Box::new(opposite(self, g)), Box::new(opposite(self, h)))
+            }
+            Entry::Since(g, h) if !told && self.terms.entries[g] == Entry::Top => {
+                match self.inside(h) {
+                    Some(i) if self.inside(i).is_none() => Kind::Always(self.part(i, place)),
+                    _ => Kind::Never(self.part(h, place)),
+                }
+            }
+            Entry::Out(label, g) | Entry::In(label, g) if !told => match self.inside(g) {
+                Some(h) if self.inside(h).is_none() => {
+                    let outwards = matches!(self.terms.entries[f], Entry::Out(..));
+                    self.neighbour(Quantifier::Every, label, outwards, h, place)
+                }
+                _ => Kind::Not(self.part(f, place)),
+            },
+            Entry::Not(g) if !told => {
+                let part = Formula::new(Kind::Not(self.plain(g, place)));
+                Kind::Not(Box::new(part))
+            }
+            _ => Kind::Not(self.part(f, place)),
+        })
+    }
+
+    /// An entry under two negations, in no derived form.
+    fn plain(&mut self, entry: usize, place: &Place) -> Part {
+        match self.inside(entry) {
+            Some(f) if !(place.style == Style::Exact && self.shared[entry]) => {
+                Box::new(Formula::new(Kind::Not(self.plain(f, place))))
+            }
+            _ => self.part(entry, place),
+        }
+    }
+
+    fn neighbour(
+        &mut self,
+        quantifier: Quantifier,
+        label: usize,
+        outwards: bool,
+        f: usize,
+        place: &Place,
+    ) -> Kind {
+        let word = Name::new(&self.words.labels[label]);
+        let person = self.here(place);
+        let end = match self.terms.entries[f] {
+            Entry::Top => Some(None),
+            Entry::Var(x) => Some(Some(self.person(x, place))),
+            _ => None,
+        };
+        if let (Some(end), Quantifier::Some) = (end, quantifier) {
+            let (from, to) = if outwards { (Some(person), end) } else { (end, Some(person)) };
+            return Kind::Edge(from, word, to);
+        }
+        let (name, body) = self.named(f, place);
+        Kind::Walk(Walk { quantifier, person, label: word, outwards, name, body: Box::new(body) })
+    }
+
+    /// What is said of a neighbour, and the neighbour's name.
+    fn named(&mut self, f: usize, place: &Place) -> (Option<Name>, Formula) {
+        if place.style == Style::Exact {
+            return match self.terms.entries[f] {
+                Entry::Bind(x, g) if !self.shared[f] && self.free[g] >> x & 1 == 1 => {
+                    (Some(Name::new(&format!("x{x}"))), self.tell(g, place))
+                }
+                _ => (None, self.tell(f, place)),
+            };
+        }
+        const NAMES: [&str; 6] = ["p", "q", "r", "s", "u", "v"];
+        let wish = match NAMES.get(place.named) {
+            Some(wish) => wish.to_string(),
+            None => format!("p{}", place.named),
+        };
+        let name = self.words.unlike_labels(&wish);
+        let here = Who::Named(name.clone());
+        let place = Place { here, named: place.named + 1, named_here: true, ..place.clone() };
+        (Some(Name::new(&name)), self.tell(f, &place))
+    }
+
+    fn binding(&mut self, x: usize, f: usize, place: &Place) -> Formula {
+        let mut inner = place.clone();
+        if place.named_here && self.free[f] >> x & 1 == 1 {
+            inner.people[x] = place.here.clone();
+            return self.tell(f, &inner);
+        }
+        inner.named_here = false;
+        let name = format!("x{x}");
+        inner.people[x] = Who::Named(name.clone());
+        Formula::new(Kind::As(Name::new(&name), self.part(f, &inner)))
+    }
+
+    fn moving(&mut self, x: usize, f: usize, place: &Place) -> Formula {
+        let person = self.person(x, place);
+        let sentence = match self.terms.entries[f] {
+            Entry::Out(..) | Entry::In(..) | Entry::Var(_) => true,
+            Entry::Prev(_) | Entry::Since(..) => place.style == Style::Free,
+            _ => false,
+        };
+        if place.style == Style::Exact {
+            return Formula::new(Kind::At(person, self.part(f, place)));
+        }
+        let inner = Place { here: person.who.clone(), ..place.clone() };
+        if sentence {
+            return self.tell(f, &inner);
+        }
+        Formula::new(Kind::At(person, self.part(f, &inner)))
+    }
+}
+
+/// The target, and `x1` to `x15`.
+fn standard() -> Vec<Who> {
+    let named = |x: usize| Who::Named(format!("x{x}"));
+    (0..VARIABLES).map(|x| if x == 0 { Who::Target } else { named(x) }).collect()
+}

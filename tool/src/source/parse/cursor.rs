@@ -1,0 +1,104 @@
+//! The tokens ahead, and what to say where another was expected.
+
+use super::*;
+use crate::names::did_you_mean;
+
+impl Parser {
+    pub(super) fn token(&self) -> &Token {
+        self.ahead(0)
+    }
+
+    /// The token some places ahead; the end goes on for ever.
+    pub(super) fn ahead(&self, places: usize) -> &Token {
+        &self.tokens[(self.next + places).min(self.tokens.len() - 1)].0
+    }
+
+    pub(super) fn span(&self) -> Span {
+        self.tokens[self.next.min(self.tokens.len() - 1)].1
+    }
+
+    /// The stretch of the token read last.
+    pub(super) fn last(&self) -> Span {
+        self.tokens[self.next.saturating_sub(1)].1
+    }
+
+    pub(super) fn word_ahead(&self, places: usize) -> Option<&str> {
+        match self.ahead(places) {
+            Token::Word(word) => Some(word),
+            _ => None,
+        }
+    }
+
+    pub(super) fn is_word(&self, word: &str) -> bool {
+        self.word_ahead(0) == Some(word)
+    }
+
+    pub(super) fn is_sign(&self, sign: char) -> bool {
+        *self.token() == Token::Sign(sign)
+    }
+
+    /// Whether a word some places ahead can be a name.
+    pub(super) fn name_ahead(&self, places: usize) -> bool {
+        self.word_ahead(places).is_some_and(|word| !WORDS.contains(&word))
+    }
+
+    /// Reads a word if it comes next.
+    pub(super) fn take(&mut self, word: &str) -> bool {
+        let there = self.is_word(word);
+        self.next += usize::from(there);
+        there
+    }
+
+    pub(super) fn take_sign(&mut self, sign: char) -> bool {
+        let there = self.is_sign(sign);
+        self.next += usize::from(there);
+        there
+    }
+
+    /// The mistake that something else was expected here.
+    pub(super) fn expected(&self, what: &str, known: &[&str]) -> Mistake {
+        let (found, hint) = match self.token() {
+            Token::Word(word) if known.contains(&word.as_str()) => (format!("`{word}`"), "".into()),
+            Token::Word(word) => (format!("`{word}`"), did_you_mean(word, known.iter().copied())),
+            Token::Number(number) => (format!("`{number}`"), String::new()),
+            Token::Sign(sign) => (format!("`{sign}`"), String::new()),
+            Token::End => ("the end of the file".to_string(), String::new()),
+        };
+        Mistake::new(self.span(), format!("expected {what}, found {found}{hint}"))
+    }
+
+    pub(super) fn want_sign(&mut self, sign: char, after: &str) -> Result<(), Mistake> {
+        if self.take_sign(sign) {
+            Ok(())
+        } else {
+            Err(self.expected(&format!("`{sign}` {after}"), &[]))
+        }
+    }
+
+    /// Reads a name, given what it is the name of.
+    pub(super) fn name(&mut self, what: &str) -> Result<Name, Mistake> {
+        let span = self.span();
+        match self.token().clone() {
+            Token::Word(word) if WORDS.contains(&word.as_str()) => {
+                let message = format!(
+                    "expected {what}; `{word}` is a word of the language and can be no name"
+                );
+                Err(Mistake::new(span, message))
+            }
+            Token::Word(text) => {
+                self.next += 1;
+                Ok(Name { text, span })
+            }
+            _ => Err(self.expected(what, &[])),
+        }
+    }
+
+    /// Reads names parted by commas.
+    pub(super) fn names(&mut self, what: &str) -> Result<Vec<Name>, Mistake> {
+        let mut names = vec![self.name(what)?];
+        while self.take_sign(',') {
+            names.push(self.name(what)?);
+        }
+        Ok(names)
+    }
+}

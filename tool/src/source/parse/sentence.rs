@@ -1,0 +1,148 @@
+//! Reads sentences about people: `a owns b`, `a is b`, `some x owns a: f`.
+
+use super::*;
+
+/// The people that have words of their own.
+pub(super) const PEOPLE: [&str; 5] = ["me", "target", "here", "someone", "nobody"];
+
+impl Parser {
+    /// `some`, `every` or `at least k`, if it comes next.
+    pub(super) fn quantifier(&mut self) -> Result<Option<Quantifier>, Mistake> {
+        if self.take("some") {
+            return Ok(Some(Quantifier::Some));
+        }
+        if self.take("every") {
+            return Ok(Some(Quantifier::Every));
+        }
+        if !(self.is_word("at") && self.word_ahead(1) == Some("least")) {
+            return Ok(None);
+        }
+        self.next += 2;
+        match *self.token() {
+            Token::Number(count) if count > 0 => {
+                self.next += 1;
+                Ok(Some(Quantifier::AtLeast(count)))
+            }
+            _ => Err(self.expected("a number from 1 on after `at least`", &[])),
+        }
+    }
+
+    /// `some friend of a as x: f`, `some x owns a: f` or `some owns a: f`.
+    pub(super) fn walk_to(&mut self, quantifier: Quantifier) -> Result<Kind, Mistake> {
+        let first = self.name("a relation, an event, or a name for whom is sought")?;
+        if self.take("of") {
+            let person = self.person("whose")?;
+            let name = if self.take("as") { Some(self.name("a name")?) } else { None };
+            return self.walk(quantifier, person, first, true, name);
+        }
+        let somebody = matches!(self.word_ahead(1), Some("me" | "target" | "here"));
+        let named = self.name_ahead(0) && (somebody || self.name_ahead(1));
+        let (name, label) =
+            if named { (Some(first), self.name("a relation or an event")?) } else { (None, first) };
+        let person = self.person("`of`, a relation or an event, or somebody")?;
+        self.walk(quantifier, person, label, false, name)
+    }
+
+    /// The end of a walk: `: f`, or nothing where anybody will do.
+    fn walk(
+        &mut self,
+        quantifier: Quantifier,
+        person: Person,
+        label: Name,
+        outwards: bool,
+        name: Option<Name>,
+    ) -> Result<Kind, Mistake> {
+        let body = if self.is_sign(':') || quantifier == Quantifier::Every {
+            self.body("and what holds of every one")?
+        } else {
+            Box::new(Formula { kind: Kind::True, span: self.last() })
+        };
+        Ok(Kind::Walk(Walk { quantifier, person, label, outwards, name, body }))
+    }
+
+    /// A sentence about somebody: `a owns b`, `a owns some x: f`, `a is b`.
+    pub(super) fn told(&mut self) -> Result<Kind, Mistake> {
+        let start = self.span();
+        let nobody = self.is_word("nobody");
+        let subject = self.anybody("somebody")?;
+        if let Some(subject) = subject.clone().filter(|_| self.is_word("is")) {
+            self.next += 1;
+            return self.being(subject);
+        }
+        let label = self.name("`is`, a relation, an event or a definition")?;
+        let walking = self.span();
+        let kind = match (self.quantifier()?, subject) {
+            (Some(quantifier), Some(subject)) => {
+                let name = if self.name_ahead(0) { Some(self.name("a name")?) } else { None };
+                return self.walk(quantifier, subject, label, true, name);
+            }
+            (Some(_), None) => {
+                let message = "a walk begins at somebody: `me`, `target`, `here` or a name";
+                return Err(Mistake::new(walking, message));
+            }
+            (None, subject) => {
+                let negative = self.is_word("nobody");
+                let object = self.anybody("whom, or `some` or `every`")?;
+                if subject.is_none() && object.is_none() {
+                    let message =
+                        "one of the two must be somebody: `me`, `target`, `here` or a name";
+                    return Err(Mistake::new(start.to(self.last()), message));
+                }
+                let edge = Kind::Edge(subject, label, object);
+                if nobody || negative {
+                    Kind::Not(Box::new(Formula { kind: edge, span: start.to(self.last()) }))
+                } else {
+                    edge
+                }
+            }
+        };
+        Ok(kind)
+    }
+
+    /// After `a is`: `b`, `not b`, `friend of b`, the name of an attribute or
+    /// of a definition.
+    fn being(&mut self, subject: Person) -> Result<Kind, Mistake> {
+        let negative = self.take("not");
+        let start = subject.span;
+        let named = self.name_ahead(0);
+        let kind = if named && self.word_ahead(1) == Some("of") {
+            let label = self.name("a relation or an event")?;
+            self.next += 1;
+            let other = self.person("whose")?;
+            Kind::Edge(Some(other), label, Some(subject))
+        } else {
+            let other = self.person("who or what")?;
+            Kind::Is(subject, other)
+        };
+        if !negative {
+            return Ok(kind);
+        }
+        let span = start.to(self.last());
+        Ok(Kind::Not(Box::new(Formula { kind, span })))
+    }
+
+    /// A person; none for `someone` and `nobody`.
+    fn anybody(&mut self, what: &str) -> Result<Option<Person>, Mistake> {
+        if self.take("someone") || self.take("nobody") {
+            return Ok(None);
+        }
+        self.person(what).map(Some)
+    }
+
+    pub(super) fn person(&mut self, what: &str) -> Result<Person, Mistake> {
+        let span = self.span();
+        let who = match self.word_ahead(0) {
+            Some("me") => Who::Me,
+            Some("target") => Who::Target,
+            Some("here") => Who::Here,
+            Some(word) if !WORDS.contains(&word) => Who::Named(word.to_string()),
+            _ => {
+                return Err(
+                    self.expected(&format!("{what}: `me`, `target`, `here` or a name"), &PEOPLE)
+                )
+            }
+        };
+        self.next += 1;
+        Ok(Person { who, span })
+    }
+}

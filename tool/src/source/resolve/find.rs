@@ -1,0 +1,94 @@
+//! Finds people, labels and definitions by name, or says what was meant.
+
+use super::super::ast::{Name, Person, Who as Written};
+use super::super::mistake::Mistake;
+use super::super::said::{Who, ME, TARGET};
+use super::{Resolver, Scope};
+use crate::names::did_you_mean;
+
+/// Other words for `me` that one may try.
+const WHO_ASKS: [&str; 7] = ["i", "you", "self", "initiator", "asker", "requester", "subject"];
+
+impl Resolver<'_> {
+    pub(super) fn person(&self, person: &Person, scope: &Scope) -> Result<Who, Mistake> {
+        Ok(match &person.who {
+            Written::Me => Who::Other(ME),
+            Written::Target => Who::Other(TARGET),
+            Written::Here => Who::Here,
+            Written::Named(text) => {
+                let found = scope.iter().rev().find(|(name, _)| name == text);
+                let name = || Name { text: text.clone(), span: person.span };
+                found.ok_or_else(|| self.unknown_person(&name(), scope, false))?.1
+            }
+        })
+    }
+
+    pub(super) fn unknown_person(&self, name: &Name, scope: &Scope, also_defined: bool) -> Mistake {
+        let text = &name.text;
+        if self.source.members.iter().any(|member| member.text == *text) {
+            let message =
+                format!("`{text}` is a member; a formula can't speak of one member by name");
+            let advice = "it can speak of me, target and whom it has named; to single a member out, \
+                          give it an attribute: `relation chief`, `first dora is chief`, `x is chief`";
+            return Mistake::new(name.span, message).advise(advice);
+        }
+        if WHO_ASKS.contains(&text.to_lowercase().as_str()) {
+            let message = format!("nobody is called `{text}` here");
+            return Mistake::new(name.span, message).advise("who makes the request is `me`");
+        }
+        let mut known: Vec<&str> = scope.iter().map(|(name, _)| name.as_str()).collect();
+        known.extend(["me", "target", "here"]);
+        let mut all = known.clone();
+        let what = if also_defined {
+            all.extend(self.source.definitions.iter().map(|known| known.name.text.as_str()));
+            all.extend(self.source.relations.iter().map(|known| known.text.as_str()));
+            "nobody, no attribute and no definition"
+        } else {
+            "nobody"
+        };
+        let hint = did_you_mean(text, all);
+        let mistake = Mistake::new(name.span, format!("{what} is called `{text}` here{hint}"));
+        mistake.advise(format!("names in sight: {}", known.join(", ")))
+    }
+
+    pub(super) fn find_definition(&self, text: &str) -> Option<usize> {
+        self.source.definitions.iter().position(|known| known.name.text == text)
+    }
+
+    pub(super) fn definition(&self, name: &Name, scope: &Scope) -> Result<usize, Mistake> {
+        self.find_definition(&name.text).ok_or_else(|| {
+            let text = &name.text;
+            let people = scope.iter().any(|(known, _)| known == text);
+            if people || self.find_label(text).is_some() {
+                let message = format!("`{text}` alone is no formula");
+                let advice =
+                    "say who does it to whom: `me owns target`, or who is who: `x is target`";
+                return Mistake::new(name.span, message).advise(advice);
+            }
+            let known = self.source.definitions.iter().map(|known| known.name.text.as_str());
+            let hint = did_you_mean(text, known);
+            Mistake::new(name.span, format!("no definition `{text}`{hint}"))
+        })
+    }
+
+    pub(super) fn find_label(&self, text: &str) -> Option<usize> {
+        let relations = &self.source.relations;
+        let relation = relations.iter().position(|known| known.text == text);
+        let event = || self.source.events.iter().position(|known| known.name.text == text);
+        relation.or_else(|| Some(relations.len() + event()?))
+    }
+
+    pub(super) fn label(&self, word: &Name) -> Result<usize, Mistake> {
+        self.find_label(&word.text).ok_or_else(|| {
+            let mut known: Vec<&str> =
+                self.source.relations.iter().map(|known| known.text.as_str()).collect();
+            known.extend(self.source.events.iter().map(|known| known.name.text.as_str()));
+            let defined = self.source.definitions.iter().map(|known| known.name.text.as_str());
+            let all: Vec<&str> = known.iter().copied().chain(defined).collect();
+            let hint = did_you_mean(&word.text, all);
+            let message = format!("no relation or event `{}`{hint}", word.text);
+            let mistake = Mistake::new(word.span, message);
+            mistake.advise(format!("relations and events: {}", known.join(", ")))
+        })
+    }
+}

@@ -1,0 +1,221 @@
+//! Turns what is said into a formula of the terms: decides at which member
+//! each part is said, and binds whom it names.
+
+use super::ast::Span;
+use super::said::{Form, Id, Said, Who, ME};
+use std::collections::HashMap;
+use std::rc::Rc;
+
+/// A formula of the terms, its variables still people.
+#[derive(Debug)]
+pub struct Spelled {
+    pub node: Node,
+    /// The people free in it, rising.
+    pub free: Vec<Id>,
+}
+
+pub type Tree = Rc<Spelled>;
+
+#[derive(Debug)]
+pub enum Node {
+    Top,
+    Var(Id),
+    Not(Tree),
+    Or(Tree, Tree),
+    Out(usize, Tree),
+    In(usize, Tree),
+    Prev(Tree),
+    Since(Tree, Tree),
+    Bind(Id, Tree),
+    At(Id, Tree),
+}
+
+/// A part about the past that speaks of more than two people.
+pub struct Crowd {
+    pub span: Span,
+    /// Whom it speaks of; none for a member that has no name.
+    pub people: Vec<Option<Id>>,
+}
+
+/// The most people that a part about the past can speak of: the member it is
+/// said of, and one variable.
+pub const MOST_PEOPLE: usize = 2;
+
+/// The first of the numbers for people that the source doesn't name.
+const UNNAMED: Id = 1 << 30;
+
+#[derive(Default)]
+pub struct Placer {
+    /// What is placed already, by formula and the names of the member at
+    /// which it stands.
+    known: HashMap<(*const super::said::Fact, Vec<Id>), Tree>,
+    /// Keeps the formulas alive that `known` points at.
+    kept: Vec<Said>,
+    /// How many people were named besides those of the source.
+    named: Id,
+}
+
+impl Placer {
+    /// A policy, said of the initiator.
+    pub fn policy(&mut self, policy: &Said) -> Result<Tree, Crowd> {
+        let body = self.place(policy, &[ME])?;
+        Ok(bound_if_free(ME, body))
+    }
+
+    /// The formula said of a member that has the given names.
+    fn place(&mut self, f: &Said, names: &[Id]) -> Result<Tree, Crowd> {
+        let names: Vec<Id> = names.iter().copied().filter(|id| f.others.contains(id)).collect();
+        let key = (Rc::as_ptr(f), names);
+        if let Some(known) = self.known.get(&key) {
+            return Ok(known.clone());
+        }
+        let placed = self.form(f, &key.1)?;
+        self.kept.push(f.clone());
+        self.known.insert(key, placed.clone());
+        Ok(placed)
+    }
+
+    fn form(&mut self, f: &Said, names: &[Id]) -> Result<Tree, Crowd> {
+        let here = |who: &Who| is_here(who, names);
+        Ok(match &f.form {
+            Form::True => tree(Node::Top),
+            Form::Is(Who::Here, Who::Here) => tree(Node::Top),
+            Form::Is(one, Who::Other(other)) if here(one) => tree(Node::Var(*other)),
+            Form::Is(Who::Other(one), other) if here(other) => tree(Node::Var(*one)),
+            Form::Is(one, other) => self.gone_to(one, other, |var| var),
+            Form::Edge(from, label, to) => self.edge(from, *label, to, names),
+            Form::Not(f) => tree(Node::Not(self.place(f, names)?)),
+            Form::Or(f, g) => tree(Node::Or(self.place(f, names)?, self.place(g, names)?)),
+            Form::Some { from, label, outwards, name, body } => {
+                let body = bound_if_free(*name, self.place(body, &[*name])?);
+                let walk = if *outwards { Node::Out(*label, body) } else { Node::In(*label, body) };
+                match from {
+                    Who::Other(id) if !names.contains(id) => tree(Node::At(*id, tree(walk))),
+                    _ => tree(walk),
+                }
+            }
+            Form::At(Who::Here, body) => self.place(body, names)?,
+            Form::At(Who::Other(id), body) => tree(Node::At(*id, self.place(body, &[*id])?)),
+            Form::As { name, wanted, body } => {
+                let also: Vec<Id> = names.iter().copied().chain([*name]).collect();
+                let body = self.place(body, &also)?;
+                if *wanted {
+                    tree(Node::Bind(*name, body))
+                } else {
+                    bound_if_free(*name, body)
+                }
+            }
+            Form::Previously(part, span) => {
+                self.past(f, &[part], names, *span, |parts| Node::Prev(parts[0].clone()))?
+            }
+            Form::Since(first, second, span) => {
+                self.past(f, &[first, second], names, *span, |parts| {
+                    Node::Since(parts[0].clone(), parts[1].clone())
+                })?
+            }
+        })
+    }
+
+    /// At one person: a formula with a variable for another.
+    fn gone_to(&self, one: &Who, other: &Who, make: impl Fn(Tree) -> Tree) -> Tree {
+        match (one, other) {
+            (Who::Other(one), Who::Other(other)) => {
+                tree(Node::At(*one, make(tree(Node::Var(*other)))))
+            }
+            _ => unreachable!("whoever is here was looked at before"),
+        }
+    }
+
+    fn edge(&mut self, from: &Option<Who>, label: usize, to: &Option<Who>, names: &[Id]) -> Tree {
+        let here = |who: &Who| is_here(who, names);
+        let out = |to: Tree| tree(Node::Out(label, to));
+        let into = |from: Tree| tree(Node::In(label, from));
+        let top = || tree(Node::Top);
+        match (from, to) {
+            (Some(from), None) if here(from) => out(top()),
+            (Some(Who::Other(from)), None) => tree(Node::At(*from, out(top()))),
+            (None, Some(to)) if here(to) => into(top()),
+            (None, Some(Who::Other(to))) => tree(Node::At(*to, into(top()))),
+            (Some(Who::Here), Some(Who::Here)) => {
+                self.named += 1;
+                let name = UNNAMED + self.named;
+                tree(Node::Bind(name, out(tree(Node::Var(name)))))
+            }
+            (Some(from), Some(Who::Other(to))) if here(from) => out(tree(Node::Var(*to))),
+            (Some(Who::Other(from)), Some(to)) if here(to) => into(tree(Node::Var(*from))),
+            (Some(from), Some(to)) => self.gone_to(from, to, out),
+            (None, None) | (Some(Who::Here), None) | (None, Some(Who::Here)) => {
+                unreachable!("somebody stands at one end, and here was looked at before")
+            }
+        }
+    }
+
+    /// A part about the past. It is said of one of the people it speaks of, so
+    /// that at most one other is left for its variable.
+    fn past(
+        &mut self,
+        f: &Said,
+        parts: &[&Said],
+        names: &[Id],
+        span: Span,
+        make: impl Fn(&[Tree]) -> Node,
+    ) -> Result<Tree, Crowd> {
+        let others: Vec<Id> = f.others.iter().copied().filter(|id| !names.contains(id)).collect();
+        let here = f.here || others.len() < f.others.len();
+        if others.len() + usize::from(here) > MOST_PEOPLE {
+            let name = f.others.iter().copied().find(|id| names.contains(id));
+            let first = here.then_some(name);
+            let people = first.into_iter().chain(others.into_iter().map(Some)).collect();
+            return Err(Crowd { span, people });
+        }
+        // Where `at` or `as` is written the writer has chosen the place.
+        let stays = here || others.is_empty() || f.placed && others.len() < MOST_PEOPLE;
+        let names = if stays { names.to_vec() } else { vec![others[0]] };
+        let mut placed = Vec::new();
+        for part in parts {
+            placed.push(self.place(part, &names)?);
+        }
+        let mut free: Vec<Id> = placed.iter().flat_map(|part| part.free.clone()).collect();
+        free.sort_unstable();
+        free.dedup();
+        if free.len() >= MOST_PEOPLE {
+            for part in &mut placed {
+                for name in &names {
+                    *part = bound_if_free(*name, part.clone());
+                }
+            }
+        }
+        let formula = tree(make(&placed));
+        Ok(if stays { formula } else { tree(Node::At(others[0], formula)) })
+    }
+}
+
+/// Whether somebody is the member that has the given names.
+fn is_here(who: &Who, names: &[Id]) -> bool {
+    match who {
+        Who::Here => true,
+        Who::Other(id) => names.contains(id),
+    }
+}
+
+fn bound_if_free(name: Id, body: Tree) -> Tree {
+    if body.free.contains(&name) {
+        tree(Node::Bind(name, body))
+    } else {
+        body
+    }
+}
+
+fn tree(node: Node) -> Tree {
+    let mut free = match &node {
+        Node::Top => Vec::new(),
+        Node::Var(id) => vec![*id],
+        Node::Not(f) | Node::Prev(f) | Node::Out(_, f) | Node::In(_, f) => f.free.clone(),
+        Node::Or(f, g) | Node::Since(f, g) => [&f.free[..], &g.free[..]].concat(),
+        Node::Bind(id, f) => f.free.iter().copied().filter(|other| other != id).collect(),
+        Node::At(id, f) => [&f.free[..], &[*id]].concat(),
+    };
+    free.sort_unstable();
+    free.dedup();
+    Rc::new(Spelled { node, free })
+}

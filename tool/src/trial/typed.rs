@@ -1,0 +1,143 @@
+//! What a typed line asks for.
+
+use crate::names::{did_you_mean, Kind, Names};
+use keeper::terms::Terms;
+
+pub const HELP: &str = "\
+EVENT FROM TO        make a request:  share dora pete
+look EVENT FROM TO   what it would be answered; makes no moment
+why [all]            why the last answer was as it was; all of it
+why EVENT FROM TO    why it would be granted or denied
+who EVENT            who may do it to whom
+list                 the requests so far, with their answers
+members              who and what there is
+undo                 take the last request back
+save [FILE]          write the requests to FILE, or to the folder's requests.tsv
+help                 show this
+quit                 end";
+
+const WORDS: [&str; 9] = ["look", "why", "who", "undo", "list", "members", "save", "help", "quit"];
+
+/// An event, its initiator and its target.
+pub type Call = (usize, usize, usize);
+
+/// A line that was understood.
+#[derive(Clone, Debug, PartialEq, Eq)]
+pub enum Typed {
+    Nothing,
+    Request(Call),
+    Look(Call),
+    /// Why the last answer was as it was; all of it or the beginning.
+    Why(bool),
+    WhyNot(Call),
+    Who(usize),
+    List,
+    Members,
+    Undo,
+    Save(Option<String>),
+    Help,
+    Quit,
+}
+
+/// Understands a line, or says what is wrong with it.
+pub fn read(line: &str, terms: &Terms, names: &Names) -> Result<Typed, String> {
+    let words = split(line);
+    let words: Vec<&str> = words.iter().map(String::as_str).collect();
+    let event = |word: &str| {
+        let known = (0..terms.events).map(|event| names.event(event)).collect::<Vec<_>>();
+        names.lookup(Kind::Event, word, terms.events).map_err(|_| unknown(word, &known))
+    };
+    let call = |of: &str, from: &str, to: &str| {
+        let event = event(of)?;
+        let from = names.lookup(Kind::Member, from, terms.members)?;
+        Ok::<Call, String>((event, from, names.lookup(Kind::Member, to, terms.members)?))
+    };
+    Ok(match words[..] {
+        [] => Typed::Nothing,
+        ["quit" | "exit" | "q"] => Typed::Quit,
+        ["help" | "?"] => Typed::Help,
+        ["list"] => Typed::List,
+        ["members"] => Typed::Members,
+        ["undo"] => Typed::Undo,
+        ["save"] => Typed::Save(None),
+        ["save", file] => Typed::Save(Some(file.to_string())),
+        ["why"] => Typed::Why(false),
+        ["why", "all"] => Typed::Why(true),
+        ["why", of, from, to] => Typed::WhyNot(call(of, from, to)?),
+        ["who", of] => Typed::Who(event(of)?),
+        ["look", of, from, to] => Typed::Look(call(of, from, to)?),
+        [word, ..] if WORDS.contains(&word) => return Err(usage(word)),
+        [of, from, to] => Typed::Request(call(of, from, to)?),
+        [word, ..] => {
+            event(word)?;
+            return Err(format!("like this: {word} FROM TO"));
+        }
+    })
+}
+
+fn unknown(word: &str, events: &[String]) -> String {
+    let known = events.iter().map(String::as_str).chain(WORDS);
+    match did_you_mean(word, known) {
+        hint if hint.is_empty() => {
+            format!(
+                "no event or command `{word}`; events: {}; `help` has the commands",
+                events.join(", ")
+            )
+        }
+        hint => format!("no event or command `{word}`{hint}"),
+    }
+}
+
+/// How a command is used, from the help.
+fn usage(word: &str) -> String {
+    let lines = HELP.lines().filter(|line| line.split(' ').next() == Some(word));
+    let usages: Vec<&str> = lines.filter_map(|line| line.split("  ").next()).collect();
+    format!("like this: {}", usages.join(", or "))
+}
+
+/// The words of a line; what stands in double quotes is one word, arrows are none.
+fn split(line: &str) -> Vec<String> {
+    let mut words = Vec::new();
+    for (index, part) in line.split('"').enumerate() {
+        if index % 2 == 1 {
+            words.push(part.to_string());
+            continue;
+        }
+        let plain = part.split_whitespace().filter(|word| !["→", "->"].contains(word));
+        words.extend(plain.map(str::to_string));
+    }
+    words
+}
+
+#[cfg(test)]
+mod tests {
+    use super::*;
+
+    fn said(line: &str) -> Result<Typed, String> {
+        let terms = Terms { members: 2, events: 1, ..Terms::default() };
+        let names = Names::read("member\t0\tdora\nmember\t1\tthe saw\nevent\t0\tshare\n").unwrap();
+        read(line, &terms, &names)
+    }
+
+    #[test]
+    fn understood() {
+        assert_eq!(said("  \n"), Ok(Typed::Nothing));
+        assert_eq!(said("share dora \"the saw\""), Ok(Typed::Request((0, 0, 1))));
+        assert_eq!(said("share dora → 1"), Ok(Typed::Request((0, 0, 1))));
+        assert_eq!(said("look share 1 -> dora"), Ok(Typed::Look((0, 1, 0))));
+        assert_eq!(said("why all"), Ok(Typed::Why(true)));
+        assert_eq!(said("save a.tsv"), Ok(Typed::Save(Some("a.tsv".into()))));
+    }
+
+    #[test]
+    fn mistakes() {
+        let wrong = |line| said(line).unwrap_err();
+        assert_eq!(wrong("shrae 0 1"), "no event or command `shrae`; did you mean `share`?");
+        assert_eq!(wrong("share dorra 1"), "no member `dorra`; did you mean `dora`?");
+        assert_eq!(wrong("whi"), "no event or command `whi`; did you mean `why`?");
+        assert_eq!(wrong("who"), "like this: who EVENT");
+        assert_eq!(wrong("why share"), "like this: why [all], or why EVENT FROM TO");
+        assert_eq!(wrong("share dora"), "like this: share FROM TO");
+        assert!(wrong("xyzzy").contains("events: share"));
+    }
+}

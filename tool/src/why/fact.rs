@@ -1,0 +1,128 @@
+//! What an explanation is told in: facts about the record, and words for them.
+
+use super::phrase::{Phrase, Speaker};
+use super::reason::{Claim, Place};
+use crate::words::Words;
+use keeper::record::Graph;
+
+/// Something that is so of the record.
+#[derive(Clone, Copy, Debug, PartialEq, Eq)]
+pub enum Fact {
+    /// An edge under a label is there at a moment.
+    Edge { label: usize, from: usize, to: usize, moment: usize },
+    /// No edge under a label is there at a moment; `None` is anybody.
+    NoEdge { label: usize, from: Option<usize>, to: Option<usize>, moment: usize },
+    /// Edges under a label lead from a member, or to it, only to or from these others: a
+    /// bit for each.
+    Only { label: usize, member: usize, out: bool, others: u64, moment: usize },
+    /// The variable stands for the member.
+    Same { member: usize, variable: usize },
+    /// The two are different members.
+    Differ { member: usize, other: usize },
+    /// Moment 0 is the first.
+    NoMomentBefore,
+    /// The place's entry held there at no moment up to the place's.
+    Never(Place),
+    /// The place's entry held there from a moment on, up to the place's.
+    Since { place: Place, first: usize },
+    /// `top`, everywhere.
+    Always,
+    /// Told without going on.
+    Claim(Claim),
+}
+
+impl Fact {
+    /// Words for it, as seen from a later moment.
+    pub fn told(self, words: &Words, graphs: &[Graph], now: usize) -> String {
+        let at = |moment: usize| match moment == now {
+            true => String::new(),
+            false => format!(" at moment {moment}"),
+        };
+        let up_to = |moment: usize| match moment == now {
+            true => String::new(),
+            false => format!(" up to moment {moment}"),
+        };
+        match self {
+            Fact::Edge { label, from, to, moment } if label >= words.terms.relations => {
+                format!("{} at moment {moment}", words.edge(label, from, to))
+            }
+            Fact::Edge { label, from, to, moment } => words.edge(label, from, to) + &at(moment),
+            Fact::NoEdge { label, from, to, moment } => {
+                let end = |member: Option<usize>| {
+                    member.map_or_else(|| "anybody".to_string(), |member| words.member(member))
+                };
+                let edge = words.arrow(label, &end(from), &end(to));
+                match graphs[moment].event {
+                    Some((event, from, to)) if label >= words.terms.relations && moment == now => {
+                        format!("the last event is {}, not {edge}", words.event(event, from, to))
+                    }
+                    _ => format!("no {edge}{}", at(moment)),
+                }
+            }
+            Fact::Only { label, member, out, others, moment } => {
+                let (here, others) = (words.member(member), only(words, others));
+                let (from, to) = if out { (here, others) } else { (others, here) };
+                words.arrow(label, &from, &to) + &at(moment)
+            }
+            Fact::Same { member, variable: 0 } => format!("{} is the target", words.member(member)),
+            Fact::Same { member, .. } => format!("both are {}", words.member(member)),
+            Fact::Differ { member, other } => {
+                format!("{} is not {}", words.member(member), words.member(other))
+            }
+            Fact::NoMomentBefore => "there is no moment before moment 0".to_string(),
+            Fact::Never(place) => never(words, place) + &up_to(place.moment),
+            Fact::Since { place, .. } => {
+                let text = phrase(words, place, true).text;
+                let until = match place.moment == now {
+                    true => "since".to_string(),
+                    false => format!("from then to moment {}", place.moment),
+                };
+                match text.starts_with("no ") {
+                    true => format!("{text} {until}"),
+                    false => format!("always {until}: {text}"),
+                }
+            }
+            Fact::Always => "always".to_string(),
+            Fact::Claim(Claim { place, holds }) => {
+                let verb = if holds { "holds" } else { "fails" };
+                let member = words.member(place.member);
+                format!("entry {} {verb} at {member}{}", place.entry, at(place.moment))
+            }
+        }
+    }
+
+    /// Whether it says only who is whom, or nothing.
+    pub fn is_plain(self) -> bool {
+        matches!(self, Fact::Always | Fact::Same { .. } | Fact::Differ { .. })
+    }
+
+    /// How much of a possibility it shows to be there: the more, the nearer
+    /// the possibility came.
+    pub fn weight(self) -> usize {
+        matches!(self, Fact::Edge { .. }).into()
+    }
+}
+
+fn phrase(words: &Words, place: Place, holds: bool) -> Phrase {
+    Speaker::new(words, place).say(place.entry, holds)
+}
+
+/// `never share dora → pete`, or a clause that was right at no moment.
+fn never(words: &Words, place: Place) -> String {
+    let absent = phrase(words, place, false);
+    match absent.text.strip_prefix("no ") {
+        Some(edge) if absent.is_edge() => format!("never {edge}"),
+        _ => format!("at no moment: {}", phrase(words, place, true).text),
+    }
+}
+
+/// `only ada, bea and cem`.
+fn only(words: &Words, others: u64) -> String {
+    let members = (0..words.terms.members).filter(|member| others >> member & 1 == 1);
+    let names: Vec<String> = members.map(|member| words.member(member)).collect();
+    match &names[..] {
+        [] => "nobody".to_string(),
+        [one] => format!("only {one}"),
+        [first @ .., last] => format!("only {} and {last}", first.join(", ")),
+    }
+}

@@ -1,0 +1,224 @@
+//! One step of a justification: why an entry holds, or doesn't, at a place.
+//!
+//! A reason names the claims it rests on and nothing else. Followed down to
+//! its leaves it decides the policy without any further look at the formulas'
+//! meaning; edges are read off the graphs.
+
+use keeper::record::meaning::{Assigned, Meaning};
+use keeper::record::{Graph, Record};
+use keeper::terms::{Entry, Terms, Variables};
+
+/// Where an entry is said: at a moment, of a member, under an assignment.
+#[derive(Clone, Copy, Debug, PartialEq, Eq)]
+pub struct Place {
+    pub entry: usize,
+    pub moment: usize,
+    pub member: usize,
+    pub assigned: Assigned,
+}
+
+impl Place {
+    /// Where a policy is read: at the initiator, variable 0 for the target.
+    pub fn policy(terms: &Terms, event: usize, from: usize, to: usize, moment: usize) -> Place {
+        let assigned = Assigned::default().with(0, to);
+        Place { entry: terms.policies[event], moment, member: from, assigned }
+    }
+
+    fn entry(self, entry: usize) -> Place {
+        Place { entry, ..self }
+    }
+
+    fn member(self, member: usize) -> Place {
+        Place { member, ..self }
+    }
+
+    fn moment(self, moment: usize) -> Place {
+        Place { moment, ..self }
+    }
+}
+
+/// An entry holds at a place, or doesn't.
+#[derive(Clone, Copy, Debug, PartialEq, Eq)]
+pub struct Claim {
+    pub place: Place,
+    pub holds: bool,
+}
+
+/// Why a claim is right. Every claim inside is needed.
+#[derive(Clone, Debug, PartialEq, Eq)]
+pub enum Reason {
+    /// `top` holds everywhere.
+    Always,
+    /// `var`: the variable stands for this member, who is here, or isn't.
+    StandsFor(usize),
+    /// `not`: the operand has the other value.
+    Opposite(Claim),
+    /// `or` holds by one side.
+    Side(Claim),
+    /// `or` fails: both sides do.
+    Neither(Claim, Claim),
+    /// `out` or `in` holds by an edge to or from this member.
+    Neighbour(Claim),
+    /// `out` or `in` fails: at every neighbour, of whom there may be none.
+    NoNeighbour(Vec<Claim>),
+    /// `prev` fails at moment 0.
+    NoMomentBefore,
+    /// `prev` is decided one moment before.
+    Before(Claim),
+    /// `since` holds: by the second operand at a moment, and by the first at every one after it.
+    Began { began: Claim, after: Vec<Claim> },
+    /// `since` fails: the second operand held last at a moment, the first failed
+    /// after it, and the second has failed at every moment after it.
+    Broken { began: Claim, broke: Claim, after: Vec<Claim> },
+    /// `since` fails: the second operand held at no moment.
+    Never(Vec<Claim>),
+    /// `bind` and `at` are decided where they lead.
+    Follow(Claim),
+}
+
+impl Reason {
+    /// The claims it rests on.
+    pub fn premises(&self) -> Vec<Claim> {
+        match self {
+            Reason::Always | Reason::StandsFor(_) | Reason::NoMomentBefore => Vec::new(),
+            Reason::Opposite(claim) | Reason::Side(claim) | Reason::Neighbour(claim) => {
+                vec![*claim]
+            }
+            Reason::Before(claim) | Reason::Follow(claim) => vec![*claim],
+            Reason::Neither(first, second) => vec![*first, *second],
+            Reason::NoNeighbour(claims) | Reason::Never(claims) => claims.clone(),
+            Reason::Began { began, after } => [&[*began], &after[..]].concat(),
+            Reason::Broken { began, broke, after } => [&[*began, *broke], &after[..]].concat(),
+        }
+    }
+}
+
+/// Finds reasons over one record. What it has found out about the meaning is
+/// remembered as long as it lives.
+pub struct Reasons<'a> {
+    terms: &'a Terms,
+    graphs: &'a [Graph],
+    free: Vec<Variables>,
+    meaning: Meaning<'a>,
+}
+
+impl<'a> Reasons<'a> {
+    pub fn new(record: &'a Record) -> Reasons<'a> {
+        let (terms, graphs) = (record.terms(), record.graphs());
+        let free = terms.free();
+        let meaning = Meaning::new(terms, &free, graphs);
+        Reasons { terms, graphs, free, meaning }
+    }
+
+    pub fn terms(&self) -> &'a Terms {
+        self.terms
+    }
+
+    pub fn graphs(&self) -> &'a [Graph] {
+        self.graphs
+    }
+
+    /// The last moment of the record.
+    pub fn now(&self) -> usize {
+        self.graphs.len() - 1
+    }
+
+    /// The free variables of an entry.
+    pub fn free(&self, entry: usize) -> Variables {
+        self.free[entry]
+    }
+
+    /// What is so at a place.
+    pub fn claim(&mut self, place: Place) -> Claim {
+        let Place { entry, moment, member, assigned } = place;
+        Claim { place, holds: self.meaning.holds(entry, moment, member, assigned) }
+    }
+
+    /// Why a claim that is right is right.
+    pub fn reason(&mut self, claim: Claim) -> Reason {
+        let place = claim.place;
+        match self.terms.entries[place.entry] {
+            Entry::Top => Reason::Always,
+            Entry::Var(x) => Reason::StandsFor(place.assigned.member(x)),
+            Entry::Not(f) => Reason::Opposite(self.claim(place.entry(f))),
+            Entry::Or(f, g) => {
+                let (first, second) = (self.claim(place.entry(f)), self.claim(place.entry(g)));
+                match (first.holds, second.holds) {
+                    (true, _) => Reason::Side(first),
+                    (_, true) => Reason::Side(second),
+                    _ => Reason::Neither(first, second),
+                }
+            }
+            Entry::Out(_, f) | Entry::In(_, f) => self.near(place, f),
+            Entry::Prev(_) if place.moment == 0 => Reason::NoMomentBefore,
+            Entry::Prev(f) => Reason::Before(self.claim(place.entry(f).moment(place.moment - 1))),
+            Entry::Since(f, g) => self.since(place, f, g),
+            Entry::Bind(x, f) => {
+                let assigned = place.assigned.with(x, place.member);
+                Reason::Follow(self.claim(Place { entry: f, assigned, ..place }))
+            }
+            Entry::At(x, f) => {
+                Reason::Follow(self.claim(place.entry(f).member(place.assigned.member(x))))
+            }
+        }
+    }
+
+    fn near(&mut self, place: Place, f: usize) -> Reason {
+        let mut failing = Vec::new();
+        for other in neighbours(self.terms, self.graphs, place) {
+            let claim = self.claim(place.entry(f).member(other));
+            if claim.holds {
+                return Reason::Neighbour(claim);
+            }
+            failing.push(claim);
+        }
+        Reason::NoNeighbour(failing)
+    }
+
+    /// The last moment of the second operand decides, and after it the first
+    /// failure of the first.
+    fn since(&mut self, place: Place, f: usize, g: usize) -> Reason {
+        let mut failing = Vec::new();
+        let began = (0..=place.moment).rev().find_map(|moment| {
+            let claim = self.claim(place.entry(g).moment(moment));
+            if claim.holds {
+                return Some(claim);
+            }
+            failing.push(claim);
+            None
+        });
+        failing.reverse();
+        let Some(began) = began else { return Reason::Never(failing) };
+        let mut after = Vec::new();
+        for moment in began.place.moment + 1..=place.moment {
+            let claim = self.claim(place.entry(f).moment(moment));
+            if !claim.holds {
+                return Reason::Broken { began, broke: claim, after: failing };
+            }
+            after.push(claim);
+        }
+        Reason::Began { began, after }
+    }
+}
+
+/// The members that an `out` or `in` entry leads to from its place.
+pub fn neighbours(terms: &Terms, graphs: &[Graph], place: Place) -> Vec<usize> {
+    let (label, out) = match terms.entries[place.entry] {
+        Entry::Out(label, _) => (label, true),
+        Entry::In(label, _) => (label, false),
+        _ => return Vec::new(),
+    };
+    let leads = |&other: &usize| {
+        let (from, to) = if out { (place.member, other) } else { (other, place.member) };
+        has_edge(terms, &graphs[place.moment], label, from, to)
+    };
+    (0..terms.members).filter(leads).collect()
+}
+
+/// Whether a graph has an edge under a label.
+pub fn has_edge(terms: &Terms, graph: &Graph, label: usize, from: usize, to: usize) -> bool {
+    match label.checked_sub(terms.relations) {
+        None => graph.edges.contains(&(label, from, to)),
+        Some(event) => graph.event == Some((event, from, to)),
+    }
+}

@@ -1,0 +1,232 @@
+//! Stories: the facts that a reason comes down to, in the order of telling.
+
+use super::fact::Fact;
+use super::reason::{neighbours, Claim, Place, Reason, Reasons};
+use keeper::terms::Entry;
+use std::collections::HashSet;
+
+/// So many steps are followed for one request; what is beyond is told by entry
+/// numbers.
+const LONGEST: usize = 4_000;
+
+/// Facts that belong together.
+#[derive(Clone, Debug, Default, PartialEq, Eq)]
+pub struct Story {
+    pub facts: Vec<Fact>,
+    /// The fact that turns the story: `but` stands before it.
+    pub turn: Option<usize>,
+}
+
+impl Story {
+    fn of(fact: Fact) -> Story {
+        Story { facts: vec![fact], turn: None }
+    }
+
+    /// This story, and then others.
+    fn then(mut self, others: Vec<Story>) -> Story {
+        for story in others {
+            let from = self.facts.len();
+            self.turn = story.turn.map(|turn| from + turn).or(self.turn);
+            self.facts.extend(story.facts);
+        }
+        self
+    }
+
+    /// This story, and then others that go against it.
+    fn but(self, others: Vec<Story>) -> Story {
+        let here = self.facts.len();
+        let mut story = self.then(others);
+        if here > 0 && story.turn.is_none_or(|turn| turn < here) {
+            story.turn = Some(here);
+        }
+        story
+    }
+
+    /// How near it came to a grant.
+    fn weight(&self) -> usize {
+        self.facts.iter().map(|fact| fact.weight()).sum()
+    }
+
+    /// Whether it says only who is whom.
+    fn is_plain(&self) -> bool {
+        self.facts.iter().all(|fact| fact.is_plain())
+    }
+
+    /// Whether it comes down to who is whom.
+    pub fn is_slight(&self) -> bool {
+        self.facts.last().is_none_or(|fact| fact.is_plain())
+    }
+
+    /// Whether an event of its own moment is in it.
+    fn has_event(&self, relations: usize) -> bool {
+        let event = |fact: &Fact| matches!(fact, Fact::Edge { label, .. } if *label >= relations);
+        self.facts.iter().any(event)
+    }
+}
+
+/// The stories of a claim. All of them are needed. Those of a denial that came
+/// nearest to a grant stand first, those that only say who is whom last.
+pub fn stories(reasons: &mut Reasons, claim: Claim) -> Vec<Story> {
+    let mut teller = Teller { reasons, granted: claim.holds, left: LONGEST };
+    let mut stories = distinct(teller.tell(claim));
+    if !claim.holds {
+        stories.sort_by_key(|story| std::cmp::Reverse(story.weight()));
+    }
+    stories.sort_by_key(Story::is_slight);
+    let always = Story::of(Fact::Always);
+    if stories.iter().any(|story| *story != always) {
+        stories.retain(|story| *story != always);
+    }
+    stories
+}
+
+/// The stories without those that have the facts of an earlier one.
+fn distinct(mut stories: Vec<Story>) -> Vec<Story> {
+    let mut known = HashSet::new();
+    stories.retain(|story| {
+        let mut facts: Vec<String> = story.facts.iter().map(|fact| format!("{fact:?}")).collect();
+        facts.sort();
+        facts.dedup();
+        known.insert(facts)
+    });
+    stories
+}
+
+/// The stories without those that say only who is whom, if any other is left.
+fn telling(mut stories: Vec<Story>) -> Vec<Story> {
+    if stories.iter().any(|story| !story.is_plain()) {
+        stories.retain(|story| !story.is_plain());
+    }
+    distinct(stories)
+}
+
+struct Teller<'t, 'r> {
+    reasons: &'t mut Reasons<'r>,
+    /// Whether the request is granted: then a neighbour's part does not turn the story.
+    granted: bool,
+    left: usize,
+}
+
+impl Teller<'_, '_> {
+    fn tell(&mut self, claim: Claim) -> Vec<Story> {
+        if self.left == 0 {
+            return vec![Story::of(Fact::Claim(claim))];
+        }
+        self.left -= 1;
+        let place = claim.place;
+        let entry = self.reasons.terms().entries[place.entry];
+        match self.reasons.reason(claim) {
+            Reason::Always => vec![Story::of(Fact::Always)],
+            Reason::StandsFor(other) => vec![Story::of(match entry {
+                Entry::Var(variable) if claim.holds => Fact::Same { member: other, variable },
+                _ => Fact::Differ { member: place.member, other },
+            })],
+            Reason::Opposite(inner) | Reason::Side(inner) => self.tell(inner),
+            Reason::Before(inner) | Reason::Follow(inner) => self.tell(inner),
+            Reason::Neither(first, second) => {
+                let mut stories = self.tell(first);
+                stories.extend(self.tell(second));
+                stories
+            }
+            Reason::Neighbour(inner) => {
+                let edge = Story::of(self.edge(place, inner.place.member));
+                let mut stories = distinct(self.tell(inner));
+                stories.retain(|story| !story.is_plain());
+                vec![edge.then(stories)]
+            }
+            Reason::NoNeighbour(failing) => self.no_neighbour(place, failing),
+            Reason::NoMomentBefore => vec![Story::of(Fact::NoMomentBefore)],
+            Reason::Began { began, after } => vec![self.began(began, after)],
+            Reason::Broken { began, broke, .. } => {
+                let story = Story::default().then(telling(self.tell(began)));
+                vec![story.but(telling(self.tell(broke)))]
+            }
+            Reason::Never(failing) => self.never(failing),
+        }
+    }
+
+    fn began(&mut self, began: Claim, after: Vec<Claim>) -> Story {
+        let story = Story::default().then(telling(self.tell(began)));
+        let (Some(first), Some(last)) = (after.first(), after.last()) else { return story };
+        if self.reasons.terms().entries[last.place.entry] == Entry::Top {
+            return story;
+        }
+        let since = Fact::Since { place: last.place, first: first.place.moment };
+        story.then(vec![Story::of(since)])
+    }
+
+    /// That it never was so; for a denial also the moments whose event came near.
+    fn never(&mut self, failing: Vec<Claim>) -> Vec<Story> {
+        let Some(last) = failing.last() else { return Vec::new() };
+        let mut stories = Vec::new();
+        if !self.granted {
+            for claim in failing.iter().rev() {
+                if self.left < LONGEST / 2 {
+                    break;
+                }
+                let relations = self.reasons.terms().relations;
+                let near = self.tell(*claim).into_iter();
+                stories.extend(near.filter(|story| story.has_event(relations)));
+            }
+        }
+        stories.push(Story::of(Fact::Never(last.place)));
+        stories
+    }
+
+    /// Every neighbour with its own story. Told together are those who are only
+    /// not the one that is asked for, and those who are all somebody else already.
+    fn no_neighbour(&mut self, place: Place, failing: Vec<Claim>) -> Vec<Story> {
+        let (label, f, out) = match self.reasons.terms().entries[place.entry] {
+            Entry::Out(label, f) => (label, f, true),
+            Entry::In(label, f) => (label, f, false),
+            _ => return Vec::new(),
+        };
+        let no_edge = |other: Option<usize>| {
+            let (here, moment) = (Some(place.member), place.moment);
+            let (from, to) = if out { (here, other) } else { (other, here) };
+            Story::of(Fact::NoEdge { label, from, to, moment })
+        };
+        if let Entry::Var(x) = self.reasons.terms().entries[f] {
+            return vec![no_edge(Some(place.assigned.member(x)))];
+        }
+        if failing.is_empty() {
+            return vec![no_edge(None)];
+        }
+        let told: Vec<(usize, Vec<Story>)> = failing
+            .into_iter()
+            .map(|claim| (claim.place.member, distinct(self.tell(claim))))
+            .collect();
+        let named = |story: &Story| matches!(story.facts[..], [Fact::Same { .. }]);
+        if told.iter().all(|(_, stories)| stories.iter().all(named)) {
+            let others = told.iter().fold(0, |others, (member, _)| others | 1 << member);
+            let Place { member, moment, .. } = place;
+            return vec![Story::of(Fact::Only { label, member, out, others, moment })];
+        }
+        let near = neighbours(self.reasons.terms(), self.reasons.graphs(), place);
+        let mut stories = Vec::new();
+        for (neighbour, parts) in told {
+            let edge = Story::of(self.edge(place, neighbour));
+            for story in parts {
+                stories.push(match story.facts[..] {
+                    [Fact::Differ { member, other }]
+                        if member == neighbour && !near.contains(&other) =>
+                    {
+                        no_edge(Some(other))
+                    }
+                    _ if self.granted => edge.clone().then(vec![story]),
+                    _ => edge.clone().but(vec![story]),
+                });
+            }
+        }
+        stories
+    }
+
+    /// The edge by which an `out` or `in` entry leads to a neighbour.
+    fn edge(&self, place: Place, other: usize) -> Fact {
+        let moment = place.moment;
+        match self.reasons.terms().entries[place.entry] {
+            Entry::In(label, _) => Fact::Edge { label, from: other, to: place.member, moment },
+            entry => Fact::Edge { label: entry.parts().1, from: place.member, to: other, moment },
+        }
+    }
+}

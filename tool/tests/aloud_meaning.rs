@@ -1,0 +1,293 @@
+//! What is read aloud means what the entries mean: clauses are evaluated over
+//! random records and held against the keeper, and no two of them sound alike.
+
+use cuckooormolu_tool::aloud::clause::{Clause, Link, Who};
+use cuckooormolu_tool::aloud::form::{Forms, Quantity};
+use cuckooormolu_tool::aloud::{resolve, Aloud};
+use cuckooormolu_tool::names::{Kind, Names};
+use keeper::generate::size::Size;
+use keeper::generate::{calls, formulas, Rng};
+use keeper::record::meaning::Assigned;
+use keeper::record::Record;
+use keeper::terms::{read, write, Entry, Terms, VARIABLES};
+use std::collections::HashMap;
+
+/// One evaluation of clauses over a record.
+struct Evaluation<'a> {
+    record: &'a Record,
+    you: usize,
+    here: usize,
+    assigned: Assigned,
+    guests: Vec<usize>,
+}
+
+impl Evaluation<'_> {
+    fn member(&self, who: Who) -> usize {
+        match who {
+            Who::You => self.you,
+            Who::Target => self.assigned.member(0),
+            Who::Here => self.here,
+            Who::Given(variable) => self.assigned.member(variable),
+            Who::Guest(guest) => self.guests[guest],
+        }
+    }
+
+    fn has_edge(&self, moment: usize, label: usize, from: usize, to: usize) -> bool {
+        let (graph, relations) = (&self.record.graphs()[moment], self.record.terms().relations);
+        match label.checked_sub(relations) {
+            None => graph.edges.contains(&(label, from, to)),
+            Some(event) => graph.event == Some((event, from, to)),
+        }
+    }
+
+    fn holds(&mut self, clause: &Clause, moment: usize) -> bool {
+        match clause {
+            Clause::Constant(value) => *value,
+            Clause::Same { who, other, holds } => {
+                (self.member(*who) == self.member(*other)) == *holds
+            }
+            Clause::Edge { label, from, to, holds } => {
+                self.has_edge(moment, *label, self.member(*from), self.member(*to)) == *holds
+            }
+            Clause::Linked(link) => self.linked(link, moment),
+            Clause::All(parts) => parts.iter().all(|part| self.holds(part, moment)),
+            Clause::Any(parts) => parts.iter().any(|part| self.holds(part, moment)),
+            Clause::Before { holds, then } => {
+                (moment > 0 && self.holds(then, moment - 1)) == *holds
+            }
+            Clause::Once { holds, then } => (0..=moment).any(|i| self.holds(then, i)) == *holds,
+            Clause::Throughout(then) => (0..=moment).all(|i| self.holds(then, i)),
+            Clause::Since { holds, start, hold } => {
+                let since = (0..=moment)
+                    .any(|i| self.holds(start, i) && (i + 1..=moment).all(|j| self.holds(hold, j)));
+                since == *holds
+            }
+            Clause::Apart { entry, of, given, holds } => {
+                let mut assigned = Assigned::default().with(0, self.member(Who::Target));
+                for (variable, who) in given {
+                    assigned = assigned.with(*variable, self.member(*who));
+                }
+                self.record.holds(*entry, moment, self.member(*of), assigned) == *holds
+            }
+        }
+    }
+
+    fn linked(&mut self, link: &Link, moment: usize) -> bool {
+        let near = self.member(link.near);
+        let mut found = Vec::new();
+        for far in 0..self.record.terms().members {
+            let (from, to) = if link.out { (near, far) } else { (far, near) };
+            if self.has_edge(moment, link.label, from, to) {
+                self.guests.resize(self.guests.len().max(link.guest + 1), 0);
+                self.guests[link.guest] = far;
+                found.push(self.holds(&link.that, moment));
+            }
+        }
+        match link.quantity {
+            Quantity::Some => found.contains(&true),
+            Quantity::No => !found.contains(&true),
+            Quantity::Every => !found.contains(&false),
+        }
+    }
+}
+
+fn random_record(seed: u64) -> Record {
+    let mut rng = Rng::new(seed);
+    let size = if rng.percent(60) { Size::small(&mut rng) } else { Size::middle(&mut rng) };
+    let terms = formulas::terms(&mut rng, &size);
+    let calls = calls(&mut rng, &terms, 12, 99);
+    let mut record = Record::new(terms);
+    for call in &calls {
+        record.answer(call);
+    }
+    record
+}
+
+#[test]
+fn clauses_mean_what_entries_mean() {
+    let (mut compared, mut apart) = (0, 0);
+    for seed in 0..3_000 {
+        let record = random_record(seed);
+        let terms = record.terms();
+        let forms = Forms::new(terms);
+        let now = record.graphs().len() - 1;
+        for &entry in &terms.policies {
+            let clause = resolve::of_policy(&forms, entry);
+            for (you, target) in [(0, 0), (0, terms.members - 1), (terms.members - 1, 0)] {
+                let assigned = Assigned::default().with(0, target);
+                let mut evaluation =
+                    Evaluation { record: &record, you, here: 0, assigned, guests: Vec::new() };
+                let meant = record.holds(entry, now, you, assigned);
+                assert_eq!(evaluation.holds(&clause, now), meant, "seed {seed} entry {entry}");
+                compared += 1;
+            }
+        }
+        for entry in 0..terms.entries.len() {
+            if !forms.is_apart(forms.node(entry, true)) {
+                continue;
+            }
+            let entry = forms.node(entry, true).entry;
+            let clause = resolve::of_entry(&forms, entry);
+            let mut rng = Rng::new(seed);
+            let assigned = (0..VARIABLES).fold(Assigned::default(), |assigned, variable| {
+                assigned.with(variable, rng.below(terms.members))
+            });
+            let here = rng.below(terms.members);
+            let mut evaluation =
+                Evaluation { record: &record, you: 0, here, assigned, guests: Vec::new() };
+            let meant = record.holds(entry, now, here, assigned);
+            assert_eq!(evaluation.holds(&clause, now), meant, "seed {seed} entry {entry}");
+            apart += 1;
+        }
+    }
+    assert!(compared > 10_000 && apart > 40, "{compared} {apart}");
+}
+
+/// Names for two relations and three events: verbs with and without a
+/// preposition, nouns of both directions, and neither.
+const NAMES: [[&str; 5]; 3] = [
+    ["own", "friend", "share", "join", "view-all"],
+    ["member-of", "blacklist", "withdraw", "see3", "invite"],
+    ["friend", "rival", "report", "reply", "album"],
+];
+
+fn names(set: [&str; 5]) -> Names {
+    let mut names = Names::default();
+    let kinds = [(Kind::Relation, 0), (Kind::Relation, 1)].into_iter();
+    let kinds = kinds.chain((0..3).map(|event| (Kind::Event, event)));
+    for ((kind, number), name) in kinds.zip(set) {
+        names.set(kind, number, name).unwrap();
+    }
+    names
+}
+
+/// The policies' clauses with all that their numbered clauses say.
+fn sayings(terms: &Terms, names: &Names) -> Vec<(String, String)> {
+    let aloud = Aloud::of(terms, names);
+    let forms = Forms::new(terms);
+    let clauses: Vec<String> = aloud.clauses.iter().map(|sentence| sentence.text()).collect();
+    let mut apart = Vec::new();
+    let mut meanings = Vec::new();
+    for &entry in &terms.policies {
+        meanings.push(resolve::of_policy(&forms, entry));
+    }
+    for meaning in &meanings {
+        gather_apart(meaning, &mut apart);
+    }
+    let mut index = 0;
+    while index < apart.len() {
+        gather_apart(&resolve::of_entry(&forms, apart[index]), &mut apart);
+        index += 1;
+    }
+    let numbered: Vec<Clause> =
+        apart.iter().map(|&entry| resolve::of_entry(&forms, entry)).collect();
+    let renumber = |clause: &Clause| in_order(clause, &apart);
+    let context: Vec<String> = numbered.iter().map(&renumber).collect();
+    let spoken = aloud.events.iter().zip(&meanings);
+    spoken
+        .map(|(spoken, meaning)| {
+            // Sentences name their event; what follows is what is compared.
+            let text = spoken.policy.text();
+            let own = text.split_once(" the target").map_or("", |(_, rest)| rest);
+            let always = text.starts_with("You may always");
+            let has_clauses = text.contains("clause ");
+            let said = format!(
+                "{always} {own} {}",
+                if has_clauses { clauses.join("\n") } else { String::new() }
+            );
+            let meant = format!(
+                "{} {}",
+                renumber(meaning),
+                if has_clauses { context.join("\n") } else { String::new() }
+            );
+            (said, meant)
+        })
+        .collect()
+}
+
+/// A clause shown with guests and numbered clauses counted as they are met.
+fn in_order(clause: &Clause, apart: &[usize]) -> String {
+    let mut shown = format!("{clause:?}");
+    for (number, entry) in apart.iter().enumerate() {
+        let (from, to) =
+            (format!("Apart {{ entry: {entry},"), format!("Apart {{ number {number},"));
+        shown = shown.replace(&from, &to);
+    }
+    let mut met: Vec<String> = Vec::new();
+    for part in shown.split("guest: ").skip(1) {
+        met.push(part.chars().take_while(char::is_ascii_digit).collect());
+    }
+    for (number, guest) in met.iter().enumerate() {
+        shown = shown.replace(&format!("guest: {guest},"), &format!("guest {number},"));
+        shown = shown.replace(&format!("Guest({guest})"), &format!("Guest {number}"));
+    }
+    shown
+}
+
+fn gather_apart(clause: &Clause, apart: &mut Vec<usize>) {
+    match clause {
+        Clause::Apart { entry, .. } => {
+            if !apart.contains(entry) {
+                apart.push(*entry);
+            }
+        }
+        Clause::All(parts) | Clause::Any(parts) => {
+            parts.iter().for_each(|part| gather_apart(part, apart));
+        }
+        Clause::Linked(link) => gather_apart(&link.that, apart),
+        Clause::Before { then, .. } | Clause::Once { then, .. } | Clause::Throughout(then) => {
+            gather_apart(then, apart);
+        }
+        Clause::Since { start, hold, .. } => {
+            gather_apart(start, apart);
+            gather_apart(hold, apart);
+        }
+        Clause::Constant(_) | Clause::Same { .. } | Clause::Edge { .. } => {}
+    }
+}
+
+/// The highest entries that can be policies, as policies.
+fn with_high_policies(mut terms: Terms) -> Option<Terms> {
+    let free = terms.free();
+    let high = (0..terms.entries.len()).rev().filter(|&entry| free[entry] & !1 == 0);
+    terms.policies = high.take(terms.events).collect();
+    (terms.policies.len() == terms.events).then_some(terms)
+}
+
+/// The same terms with one entry changed a little, if they stay accepted.
+fn changed(terms: &Terms, rng: &mut Rng) -> Option<Terms> {
+    let mut terms = terms.clone();
+    let place = rng.below(terms.entries.len());
+    let entry = terms.entries[place];
+    let (operator, a, b) = entry.parts();
+    let changed = match rng.below(4) {
+        0 => Entry::of_parts(operator, b, a),
+        1 => Entry::of_parts(operator ^ 1, a, b),
+        2 => Entry::of_parts(operator, a ^ 1, b),
+        _ => Entry::of_parts(operator, a, b ^ 1),
+    };
+    terms.entries[place] = changed?;
+    read(&write(&terms, &terms.edges)).ok()
+}
+
+#[test]
+fn no_two_meanings_sound_alike() {
+    let mut said: Vec<HashMap<String, String>> = vec![HashMap::new(); NAMES.len()];
+    for seed in 0..8_000 {
+        let mut rng = Rng::new(seed);
+        let size = if rng.percent(90) { Size::small(&mut rng) } else { Size::middle(&mut rng) };
+        let size = Size { relations: 2, events: 3, ..size };
+        let first = with_high_policies(formulas::terms(&mut rng, &size));
+        let Some(first) = first else { continue };
+        let near = (0..4).filter_map(|_| changed(&first, &mut rng)).collect::<Vec<_>>();
+        for terms in near.iter().chain([&first]) {
+            let set = rng.below(NAMES.len());
+            for (sentence, meaning) in sayings(terms, &names(NAMES[set])) {
+                let before = said[set].entry(sentence.clone()).or_insert_with(|| meaning.clone());
+                assert_eq!(*before, meaning, "seed {seed}: {sentence}");
+            }
+        }
+    }
+    let count: usize = said.iter().map(HashMap::len).sum();
+    assert!(count > 10_000, "{count}");
+}

@@ -1,0 +1,112 @@
+//! All small formulas are read aloud, and those that sound alike are the same
+//! but for the laws by which clauses are made.
+
+use cuckooormolu_tool::aloud::clause::Clause;
+use cuckooormolu_tool::aloud::form::Forms;
+use cuckooormolu_tool::aloud::{resolve, Aloud};
+use cuckooormolu_tool::names::{Kind, Names};
+use keeper::terms::{read, write, Entry, Terms};
+use std::collections::HashMap;
+
+/// A formula as the list of its entries; the last one is the whole.
+type Formula = Vec<Entry>;
+
+const MEMBERS: usize = 2;
+const RELATIONS: usize = 1;
+const EVENTS: usize = 1;
+
+fn leaves() -> Vec<Formula> {
+    vec![vec![Entry::Top], vec![Entry::Var(0)], vec![Entry::Var(1)]]
+}
+
+fn unary(formula: &Formula) -> Vec<Formula> {
+    let f = formula.len() - 1;
+    let above = [
+        Entry::Not(f),
+        Entry::Out(0, f),
+        Entry::In(0, f),
+        Entry::Out(1, f),
+        Entry::In(1, f),
+        Entry::Prev(f),
+        Entry::Bind(1, f),
+        Entry::At(0, f),
+        Entry::At(1, f),
+    ];
+    above.iter().map(|&entry| [&formula[..], &[entry]].concat()).collect()
+}
+
+fn binary(one: &Formula, other: &Formula) -> Vec<Formula> {
+    let first = one.len() - 1;
+    let moved = other.iter().map(|entry| entry.with_operands(|f| f + one.len()));
+    let both: Formula = one.iter().copied().chain(moved).collect();
+    let second = both.len() - 1;
+    let above = [Entry::Or(first, second), Entry::Since(first, second)];
+    above.iter().map(|&entry| [&both[..], &[entry]].concat()).collect()
+}
+
+/// A formula with variable 1 for the initiator as the one policy, if it is
+/// accepted.
+fn policy(formula: &Formula) -> Option<Terms> {
+    let whole = formula.len() - 1;
+    let entries = [&formula[..], &[Entry::Bind(1, whole)]].concat();
+    let terms = Terms {
+        members: MEMBERS,
+        relations: RELATIONS,
+        events: EVENTS,
+        policies: vec![entries.len() - 1],
+        entries,
+        effects: vec![Vec::new()],
+        ..Terms::default()
+    };
+    read(&write(&terms, &terms.edges)).ok()
+}
+
+#[test]
+fn small_formulas_that_sound_alike_are_the_same() {
+    let leaves = leaves();
+    let mut first = leaves.clone();
+    first.extend(leaves.iter().flat_map(unary));
+    for one in &leaves {
+        first.extend(leaves.iter().flat_map(|other| binary(one, other)));
+    }
+    let mut second = first.clone();
+    second.extend(first.iter().flat_map(unary));
+    for one in &first {
+        second.extend(first.iter().flat_map(|other| binary(one, other)));
+    }
+    let third = second.iter().flat_map(unary).step_by(3);
+    let all = second.iter().cloned().chain(third);
+
+    for (relation, event) in [("own", "share"), ("friend", "join"), ("member-of", "album")] {
+        let mut names = Names::default();
+        names.set(Kind::Relation, 0, relation).unwrap();
+        names.set(Kind::Event, 0, event).unwrap();
+        sound_different(all.clone(), &names);
+    }
+}
+
+fn sound_different(all: impl Iterator<Item = Formula>, names: &Names) {
+    let mut said: HashMap<String, String> = HashMap::new();
+    for terms in all.filter_map(|formula| policy(&formula)) {
+        let clause = resolve::of_policy(&Forms::new(&terms), terms.policies[0]);
+        let aloud = Aloud::of(&terms, names);
+        assert!(aloud.clauses.is_empty(), "small formulas have no parts of their own");
+        let (sentence, clause) = (aloud.events[0].policy.text(), guests_in_order(&clause));
+        let before = said.entry(sentence.clone()).or_insert_with(|| clause.clone());
+        assert_eq!(*before, clause, "{sentence}");
+    }
+    assert!(said.len() > 5_000, "{}", said.len());
+}
+
+/// A clause shown with its guests counted as they are met.
+fn guests_in_order(clause: &Clause) -> String {
+    let mut shown = format!("{clause:?}");
+    let met = shown.split("guest: ").skip(1);
+    let met: Vec<String> =
+        met.map(|part| part.chars().take_while(char::is_ascii_digit).collect()).collect();
+    for (number, guest) in met.iter().enumerate() {
+        shown = shown.replace(&format!("guest: {guest},"), &format!("guest {number},"));
+        shown = shown.replace(&format!("Guest({guest})"), &format!("Guest {number}"));
+    }
+    shown
+}

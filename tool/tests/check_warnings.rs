@@ -1,0 +1,84 @@
+//! What is accepted and yet seldom meant.
+
+use cuckooormolu_tool::check::{check, Checked, Warning};
+use cuckooormolu_tool::folder::Folder;
+use cuckooormolu_tool::names::Names;
+use keeper::generate::case;
+
+/// The warnings for lines whose fields are parted by spaces.
+fn warnings(lines: &str, names: &str, requests: &str) -> Vec<Warning> {
+    let bytes = |text: &str| text.replace(' ', "\t").into_bytes();
+    let names = Names::read(&names.replace(' ', "\t")).unwrap();
+    let (terms, requests) = (bytes(lines), bytes(requests));
+    let folder = Folder { terms, names, requests, ..Folder::default() };
+    match check(&folder).unwrap() {
+        Checked::Accepted(_, warnings) => warnings,
+        Checked::Refused(fault) => panic!("{fault:?}"),
+    }
+}
+
+/// Their kinds and lines.
+fn told(lines: &str) -> Vec<(&'static str, usize)> {
+    warnings(lines, "", "").iter().map(|warning| (warning.kind, warning.line)).collect()
+}
+
+#[test]
+fn entries_nobody_uses() {
+    let lines = "M 2\nL 0 1\nF 0 top 0 0\nF 1 var 0 0\nF 2 not 1 0\nP 0 0\n";
+    assert_eq!(told(lines), [("unused", 5)]);
+}
+
+#[test]
+fn relations_without_edges() {
+    let lines = "M 2\nL 1 1\nF 0 var 0 0\nF 1 out 0 0\nF 2 not 1 0\nP 0 2\n";
+    assert_eq!(told(lines), [("edgeless", 4), ("always", 6)]);
+    assert_eq!(told(&format!("{lines}E 0 add 0 fwd\n")), []);
+    assert_eq!(told(&format!("{lines}G 0 0 0\n")), []);
+}
+
+#[test]
+fn policies_that_ask_for_nothing() {
+    let lines = "M 2\nL 0 1\nF 0 var 0 0\nF 1 not 0 0\nF 2 or 0 1\nP 0 2\n";
+    assert_eq!(told(lines), [("always", 6)]);
+    let lines = "M 2\nL 0 1\nF 0 var 0 0\nF 1 not 0 0\nF 2 or 0 1\nF 3 not 2 0\nP 0 3\n";
+    assert_eq!(told(lines), [("never", 7)]);
+    assert_eq!(told("M 2\nL 0 1\nF 0 top 0 0\nP 0 0\n"), []);
+}
+
+#[test]
+fn requests_that_are_all_denied() {
+    let lines = "M 2\nL 0 1\nF 0 var 0 0\nP 0 0\n";
+    let kinds = |requests: &str| {
+        let warnings = warnings(lines, "", requests);
+        warnings.iter().map(|warning| warning.kind).collect::<Vec<_>>()
+    };
+    assert_eq!(kinds("R 0 0 1\nR 0 1 0\n"), ["denied"]);
+    assert_eq!(kinds("R 0 0 1\nR 0 1 1\n"), [""; 0]);
+}
+
+#[test]
+fn names_of_what_there_is_not() {
+    let lines = "M 2\nL 0 1\nF 0 top 0 0\nP 0 0\n";
+    let warnings = warnings(lines, "member 1 pete\nmember 2 dora\n", "");
+    let what = "names.tsv calls member 2 dora, but there is no such member";
+    assert_eq!(warnings.iter().map(|warning| &warning.what[..]).collect::<Vec<_>>(), [what]);
+}
+
+#[test]
+fn terms_that_take_long() {
+    let nested = "L 1 1\nF 0 var 1 0\nF 1 var 2 0\nF 2 var 3 0\nF 3 or 0 1\nF 4 or 2 3\nF 5 out 0 4\n\
+        F 6 bind 3 5\nF 7 out 0 6\nF 8 bind 2 7\nF 9 out 0 8\nF 10 bind 1 9\nF 11 out 0 10\nP 0 11\nG 0 0 0\n";
+    assert_eq!(told(&format!("M 64\n{nested}")), [("long", 8)]);
+    assert_eq!(
+        told(&format!("M 8\n{nested}")).iter().filter(|(kind, _)| *kind == "long").count(),
+        0
+    );
+}
+
+#[test]
+fn any_accepted_terms_are_checked() {
+    for seed in 0..100 {
+        let folder = Folder { terms: case(seed, 99).text, ..Folder::default() };
+        assert!(matches!(check(&folder).unwrap(), Checked::Accepted(_, _)), "seed {seed}");
+    }
+}

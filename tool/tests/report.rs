@@ -1,0 +1,121 @@
+//! `report`: what is on the page, and what must not be.
+
+mod run_support;
+
+use run_support::{example, preset, run, Folder};
+
+/// Tags that have no end.
+const EMPTY: [&str; 2] = ["meta", "!DOCTYPE"];
+
+/// Panics unless every tag is closed in its order; gives how often each begins.
+fn tags(page: &str) -> Vec<(String, usize)> {
+    let mut open: Vec<String> = Vec::new();
+    let mut counts: Vec<(String, usize)> = Vec::new();
+    for piece in page.split('<').skip(1) {
+        let tag = piece.split('>').next().unwrap();
+        let name = tag.split([' ', '/', '\n']).find(|part| !part.is_empty()).unwrap().to_string();
+        if tag.starts_with('/') {
+            assert_eq!(open.pop().as_deref(), Some(name.as_str()), "in {tag}");
+            continue;
+        }
+        match counts.iter_mut().find(|(known, _)| *known == name) {
+            Some((_, count)) => *count += 1,
+            None => counts.push((name.clone(), 1)),
+        }
+        if !tag.ends_with('/') && !EMPTY.contains(&name.as_str()) {
+            open.push(name);
+        }
+    }
+    assert!(open.is_empty(), "{open:?}");
+    counts
+}
+
+fn page(folder: &Folder) -> String {
+    let said = run(&["report", folder.path(), "-o", folder.file("page.html").to_str().unwrap()]);
+    assert_eq!((said.status, said.err.as_str()), (0, ""));
+    folder.read("page.html").replace('\u{a0}', " ")
+}
+
+#[test]
+fn everything_is_on_the_page() {
+    let folder = preset();
+    let page = page(&folder);
+    let count =
+        |tag: &str| tags(&page).iter().find(|(name, _)| name == tag).map_or(0, |found| found.1);
+    assert_eq!(count("figure"), 4);
+    assert_eq!(
+        page.matches("class=\"event-edge\" d").count(),
+        3 + 1,
+        "three moments and the legend"
+    );
+    for wanted in [
+        "<html lang=\"en\">",
+        "6 requests: 3 granted, 2 denied, 1 refused.",
+        "You may always share with the target.",
+        "id=\"request-6\" class=\"refused\"",
+        "own dora → saw, share dora → pete at moment 1, but withdraw dora → pete at moment 3",
+        "<title id=\"title3\">Moment 3: withdraw dora → pete</title>",
+        "<desc id=\"desc0\">Relation edges: own dora → saw.</desc>",
+        "prefers-color-scheme:dark",
+        "@media print",
+    ] {
+        assert!(page.contains(wanted), "{wanted}");
+    }
+}
+
+#[test]
+fn nothing_is_loaded_and_no_script_is_run() {
+    let folder = preset();
+    let page = page(&folder);
+    for unwanted in ["<script", "http:", "https:", "src=", "@import", "url(h", "onload", "<link"] {
+        assert!(!page.contains(unwanted), "{unwanted}");
+    }
+}
+
+#[test]
+fn names_are_made_safe() {
+    let folder = preset();
+    let names = "member\t0\t<b>&\"x\nevent\t2\tload</title><script>alert(1)</script>\n";
+    folder.write("names.tsv", names);
+    let page = page(&folder);
+    assert!(!page.contains("<script") && !page.contains("<b>&\""));
+    assert!(page.contains("&lt;b&gt;&amp;&quot;x"));
+    tags(&page);
+}
+
+#[test]
+fn the_examples_have_pages() {
+    let names = ["blacklist", "blacklist-table", "coauthors", "friends", "groups", "invitations"];
+    for name in names {
+        let said = run(&["report", example(name).to_str().unwrap(), "-o", "-", "--title", "A & B"]);
+        assert_eq!(said.status, 0, "{name}");
+        assert!(said.out.contains("<h1>A &amp; B</h1>"));
+        tags(&said.out);
+    }
+}
+
+#[test]
+fn long_stories_stay_light() {
+    let folder = Folder::new();
+    let mut terms = String::from("M\t64\nL\t1\t2\nF\t0\ttop\t0\t0\nP\t0\t0\nP\t1\t0\n");
+    terms.push_str("E\t0\tadd\t0\tfwd\nE\t1\tdel\t0\tfwd\n");
+    for from in 0..64 {
+        (0..32).for_each(|to| terms.push_str(&format!("G\t0\t{from}\t{to}\n")));
+    }
+    folder.write("terms.tsv", &terms);
+    let requests = (0..1_000).map(|n| format!("R\t{}\t{}\t{}\n", n % 2, n % 64, n / 64));
+    folder.write("requests.tsv", &requests.collect::<String>());
+    let page = page(&folder);
+    assert!(page.len() < 8_000_000, "{}", page.len());
+    assert!(page.contains("of 1001 moments are drawn."));
+    tags(&page);
+}
+
+#[test]
+fn mistakes() {
+    let folder = preset();
+    assert_eq!(run(&["report", folder.path()]).status, 2);
+    assert_eq!(run(&["report", "-o", "x.html"]).status, 2);
+    let nowhere = folder.file("no/such/folder.html");
+    assert_eq!(run(&["report", folder.path(), "-o", nowhere.to_str().unwrap()]).status, 1);
+}

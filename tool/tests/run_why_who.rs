@@ -1,0 +1,170 @@
+//! `run`, `why` and `who`, from the command line.
+
+mod run_support;
+
+use run_support::{example, preset, run, Folder};
+
+#[test]
+fn run_says_what_the_proved_program_prints() {
+    let folder = preset();
+    let said = run(&["run", folder.path()]);
+    assert_eq!(said.status, 1);
+    assert_eq!(
+        said.out,
+        "1  load pete → saw       denied
+2  share dora → pete     granted
+3  load pete → saw       granted
+4  withdraw dora → pete  granted
+5  load pete → saw       denied
+6  event 9: dora → dora  refused: there is no event 9: events are 0 to 2
+"
+    );
+}
+
+#[test]
+fn run_for_programs() {
+    let folder = preset();
+    folder.write("requests.tsv", "R\t0\t0\t1\nR\t0\t7\t1\nR 0 0 1\n");
+    let said = run(&["run", folder.path(), "--json"]);
+    let lines: Vec<&str> = said.out.lines().collect();
+    assert_eq!(
+        lines[0],
+        r#"{"line":1,"request":[0,0,1],"event":"share","from":"dora","to":"pete","answer":"grant"}"#
+    );
+    assert!(
+        lines[1].contains(r#""number":9,"because":["there is no member 7: members are 0 to 2"]"#)
+    );
+    assert!(lines[2].starts_with(r#"{"line":3,"answer":"refuse","number":1,"#));
+}
+
+#[test]
+fn run_answers_the_examples() {
+    for name in ["preset", "just-shared", "groups", "coauthors", "blacklist-table"] {
+        let expected = std::fs::read_to_string(example(name).join("expected.tsv")).unwrap();
+        let said = run(&["run", example(name).to_str().unwrap(), "--json"]);
+        assert_eq!(said.out.lines().count(), expected.lines().count());
+        for (line, answer) in said.out.lines().zip(expected.lines()) {
+            let answer = answer.split('\t').nth(1).unwrap();
+            assert!(line.contains(&format!(r#""answer":"{answer}""#)), "{name}: {line}");
+        }
+    }
+}
+
+#[test]
+fn granted_requests_are_well() {
+    let folder = preset();
+    folder.write("requests.tsv", "R\t0\t0\t1\n");
+    assert_eq!(run(&["run", folder.path()]).status, 0);
+    assert_eq!(run(&["why", folder.path()]).status, 0);
+}
+
+#[test]
+fn why_names_the_moments_that_decide() {
+    let folder = preset();
+    let said = run(&["why", folder.path()]);
+    assert_eq!(said.status, 1);
+    assert_eq!(
+        said.out,
+        "1  load pete → saw       denied
+     own dora → saw, but never share dora → pete
+2  share dora → pete     granted
+     it is always allowed
+3  load pete → saw       granted
+     own dora → saw, share dora → pete at moment 1
+4  withdraw dora → pete  granted
+     it is always allowed
+5  load pete → saw       denied
+     own dora → saw, share dora → pete at moment 1, but withdraw dora → pete at moment 3
+6  event 9: dora → dora  refused: there is no event 9: events are 0 to 2
+"
+    );
+}
+
+#[test]
+fn why_of_one_line() {
+    let folder = preset();
+    let said = run(&["why", folder.path(), "3"]);
+    assert_eq!(said.status, 0);
+    assert_eq!(said.out.lines().count(), 2);
+    assert_eq!(run(&["why", folder.path(), "7"]).status, 2);
+    assert_eq!(run(&["why", folder.path(), "x"]).status, 2);
+    let said = run(&["why", folder.path(), "5", "--json"]);
+    assert!(said.out.contains(r#""moment":3,"because":["own dora → saw, share dora → pete at moment 1, but withdraw dora → pete at moment 3"],"more":0"#));
+}
+
+/// The moments that the examples' READMEs name.
+#[test]
+fn why_in_the_examples() {
+    let because = |name: &str, line: &str| {
+        let said = run(&["why", example(name).to_str().unwrap(), line, "--json"]).out;
+        said.split_once("\"because\":[\"").unwrap().1.split_once('"').unwrap().0.to_string()
+    };
+    let last_to_share = because("just-shared", "24");
+    assert!(last_to_share.contains("at moment 9, but "), "{last_to_share}");
+    assert!(last_to_share.ends_with("at moment 15"), "{last_to_share}");
+    let left_before = because("groups", "12");
+    for moment in ["at moment 6, ", "at moment 1, but ", "at moment 5"] {
+        assert!(left_before.contains(moment), "{left_before}");
+    }
+}
+
+#[test]
+fn a_denial_tells_the_nearest_possibility_first() {
+    let folder = example("friends");
+    let few = run(&["why", folder.to_str().unwrap(), "12"]).out;
+    let all = run(&["why", folder.to_str().unwrap(), "12", "--all"]).out;
+    assert!(few.contains("possibilit") && few.contains("(--all)"));
+    assert!(!all.contains("(--all)"));
+    assert!(all.lines().count() >= few.lines().count());
+}
+
+#[test]
+fn who_shows_a_table() {
+    let folder = preset();
+    let said = run(&["who", folder.path(), "load", "--first"]);
+    assert_eq!(said.status, 0);
+    assert!(said.out.starts_with("load at moment 0: 0 of 9 pairs may"));
+    folder.write("requests.tsv", "R\t0\t0\t1\n");
+    let said = run(&["who", folder.path(), "load"]);
+    let table: Vec<&str> = said.out.lines().skip(2).collect();
+    assert_eq!(
+        table,
+        [
+            "      d p",
+            "      o e s",
+            "      r t a",
+            "      a e w",
+            "dora  · · ·",
+            "pete  · · ●",
+            " saw  · · ·"
+        ]
+    );
+    let said = run(&["who", folder.path(), "2", "--json"]);
+    let line = r#"{"event":"load","moment":1,"from":"pete","to":["saw"]}"#;
+    assert_eq!(said.out.lines().nth(1), Some(line));
+}
+
+#[test]
+fn who_at_64_members_fits_a_terminal() {
+    let folder = Folder::new();
+    folder.write("terms.tsv", "M\t64\nL\t0\t1\nF\t0\tvar\t0\t0\nP\t0\t0\n");
+    let said = run(&["who", folder.path(), "0"]);
+    assert!(said.out.contains("64 of 4096"));
+    assert!(said.out.lines().skip(1).all(|line| line.chars().count() <= 80));
+    assert_eq!(said.out.lines().count(), 2 + 2 + 64);
+}
+
+#[test]
+fn mistakes_on_the_command_line() {
+    let folder = preset();
+    let said = run(&["who", folder.path(), "lod"]);
+    assert_eq!(said.status, 2);
+    assert!(said.err.contains("did you mean `load`?"), "{}", said.err);
+    assert_eq!(run(&["run"]).status, 2);
+    assert_eq!(run(&["run", folder.path(), "--jsn"]).status, 2);
+    assert_eq!(run(&["run", "no-such-folder"]).status, 1);
+    folder.write("terms.tsv", "M\t3\n");
+    let said = run(&["why", folder.path()]);
+    assert_eq!(said.status, 1);
+    assert!(said.err.contains("refused with 1 at line 2"), "{}", said.err);
+}

@@ -1,0 +1,206 @@
+//! What is said of sources with mistakes.
+
+use cuckooormolu_tool::source::compile;
+
+const START: &str = "members dora, pete, saw\nrelation owns\nevent share, withdraw by anyone\n";
+
+/// What is said of a source that begins with `START`.
+fn said(rest: &str) -> String {
+    let text = format!("{START}{rest}\n");
+    match compile(&text) {
+        Ok(_) => panic!("accepted: {rest}"),
+        Err(mistake) => mistake.render("f", &text),
+    }
+}
+
+/// What is said of a policy.
+fn policy(formula: &str) -> String {
+    said(&format!("event load when {formula}"))
+}
+
+#[test]
+fn shown_at_its_place() {
+    let shown = "\
+f:4:28: no relation or event `own`; did you mean `owns`?
+ 4 | event load when some owner own target: owner share me
+   |                            ^^^
+   = relations and events: owns, share, withdraw, load
+";
+    assert_eq!(policy("some owner own target: owner share me"), shown);
+}
+
+/// A part of the message for each mistake.
+#[test]
+fn named_precisely() {
+    let cases = [
+        (
+            "some owner owns target: ownr share me",
+            "4:41: nobody is called `ownr` here; did you mean `owner`?",
+        ),
+        (
+            "me owns target and me share target or true",
+            "4:52: `or` after `and`: which of the two goes first?",
+        ),
+        ("true since true since true", "`since` after `since`"),
+        ("dora owns target", "`dora` is a member; a formula can't speak of one member by name"),
+        ("initiator owns target", "who makes the request is `me`"),
+        ("me owns target && true", "write `and`"),
+        ("me owns target -> true", "dora owns saw"),
+        ("me owns", "expected whom"),
+        ("me target", "`target` is a word of the language and can be no name"),
+        ("(me owns target", "expected `and`, `or`, `since` or `)`, found the end of the file"),
+        ("me owns target an true", "found `an`; did you mean `and`?"),
+        ("owns", "`owns` alone is no formula"),
+        ("someone owns someone", "one of the two must be somebody"),
+        ("someone owns some x: true", "a walk begins at somebody"),
+        ("nonsense", "no definition `nonsense`"),
+        ("me is friendly", "nobody, no attribute and no definition is called `friendly` here"),
+        ("me likes target", "no relation or event `likes`"),
+        ("at least 0 owns of me", "expected a number from 1 on after `at least`, found `0`"),
+        ("at least 16 owns of me", "at least 16 take 16 names at once"),
+        ("every x owns target", "expected `:` and what holds of every one"),
+        ("some x owns target: 3", "expected a formula, found `3`"),
+        ("3rd owns target", "`3rd` is neither a number nor a name"),
+    ];
+    for (formula, part) in cases {
+        let message = policy(formula);
+        assert!(message.contains(part), "{formula}:\n{message}");
+    }
+}
+
+#[test]
+fn in_statements() {
+    let cases = [
+        ("evnt load by anyone", "4:1: expected `and`, `or`, `since` or the next statement, found `evnt`; did you mean `event`?"),
+        ("relation likes evnt load", "4:16: expected a statement: members, relation, event, define or first, found `evnt`; did you mean `event`?"),
+        ("event load", "expected `when` and who may do it, or `by anyone`"),
+        ("event load by everyone", "expected `anyone` after `by`, found `everyone`"),
+        ("event first by anyone", "`first` is a word of the language and can be no name"),
+        ("event load by anyone then add me own target", "no relation `own`; did you mean `owns`?"),
+        ("event load by anyone then add dora owns target", "an effect is between `me` and `target`"),
+        ("event load by anyone then give me owns target", "expected `add` or `remove`, found `give`"),
+        ("first dora owns swa", "no member `swa`; did you mean `saw`?"),
+        ("first dora owns saw both", "expected `ways` after `both`"),
+        ("members dora", "a member `dora` was declared before"),
+        ("relation share", "4:10: `share` is the name of another relation, event or definition"),
+        ("define x likes y: x owns y event load when me likes someone", "it is said of two people"),
+        ("define x likes y: y likes x", "`likes` is defined by itself"),
+        ("define x is odd: x is y", "nobody, no attribute and no definition is called `y`"),
+        ("define x likes y: x owns y event load when some x likes me: true", "nobody can be sought along it"),
+        ("define x is odd: true event load when odd(me, target)", "`odd` is said of one person, here of 2 people"),
+    ];
+    for (rest, part) in cases {
+        let message = said(rest);
+        assert!(message.contains(part), "{rest}:\n{message}");
+    }
+}
+
+#[test]
+fn the_past_may_speak_of_two() {
+    let message = policy("some x owns target: once (x share me and x share target)");
+    let part = "`once (x share me and x share target)` speaks of 3 people: x, me and target; the past may speak of 2";
+    assert!(message.contains(part), "{message}");
+    // Two are accepted wherever the part stands, and a third may be sought in it.
+    for formula in [
+        "some x owns target: once me share target",
+        "some x owns target: some y owns x: not me share target since target share me",
+        "once (me owns some x: x share target)",
+        "previously (me share target and target share me)",
+    ] {
+        assert!(compile(&format!("{START}event load when {formula}")).is_ok(), "{formula}");
+    }
+}
+
+#[test]
+fn limits() {
+    let numbered = |count: usize, kind: &str| {
+        let names: Vec<String> = (0..count).map(|n| format!("{kind}{n}")).collect();
+        names.join(", ")
+    };
+    assert!(said(&format!("members {}", numbered(62, "m")))
+        .contains("65 members are declared; 64 is the most"));
+    assert!(said(&format!("relation {}", numbered(16, "r")))
+        .contains("17 relations are declared; 16 is the most"));
+    assert!(said(&format!("event {} by anyone", numbered(15, "e")))
+        .contains("17 events are declared; 16 is the most"));
+    let effects = ["add me owns target"; 5].join(", ");
+    assert!(said(&format!("event load by anyone then {effects}"))
+        .contains("`load` has more than 4 effects"));
+    let past: Vec<String> =
+        (0..33).map(|n| "previously ".repeat(n + 1) + "me owns target").collect();
+    let message = policy(&past.join(" or "));
+    assert!(message.contains("the terms have 33 parts about the past"), "{message}");
+    let long: Vec<String> = (0..300).map(|n| "not ".repeat(n % 150) + "me owns target").collect();
+    let message = policy(&long.join(" or "));
+    assert!(message.contains("entries") && message.contains("256 is the most"), "{message}");
+    let deep = "(".repeat(500) + "true" + &")".repeat(500);
+    assert!(policy(&deep).contains("more than 200 deep"));
+    let empty = compile("").unwrap_err().message;
+    assert_eq!(empty, "no member is declared; at least one is due");
+}
+
+/// Whatever is done to a source, it compiles or a place in it is shown.
+#[test]
+fn damaged_sources_are_answered() {
+    let text = include_str!("../../../examples/coauthors/terms.say");
+    let letters: Vec<char> = text.chars().collect();
+    let pieces = [
+        "(",
+        ")",
+        ":",
+        ",",
+        "not ",
+        "some ",
+        "é",
+        "\t",
+        "#",
+        "at least 3 ",
+        "as x: ",
+        "\n",
+        "9",
+        "\u{feff}",
+    ];
+    let mut dice = crate::generate::Dice::new(7);
+    for _ in 0..4_000 {
+        let mut damaged = letters.clone();
+        for _ in 0..1 + dice.below(3) {
+            let place = dice.below(damaged.len());
+            let end = (place + dice.below(12)).min(damaged.len());
+            let piece: Vec<char> = pieces[dice.below(pieces.len())].chars().collect();
+            match dice.below(3) {
+                0 => drop(damaged.drain(place..end)),
+                1 => drop(damaged.splice(place..place, piece)),
+                _ => drop(damaged.splice(place..end, piece)),
+            }
+        }
+        let damaged: String = damaged.into_iter().collect();
+        if let Err(mistake) = compile(&damaged) {
+            let (line, column) = mistake.place(&damaged);
+            let shown = mistake.render("f", &damaged);
+            assert!(shown.starts_with(&format!("f:{line}:{column}: ")), "{shown}");
+        }
+    }
+}
+
+#[test]
+fn definitions_that_use_one_another_without_end() {
+    let chain = |order: &mut dyn Iterator<Item = usize>| {
+        let lines: Vec<String> =
+            order.map(|n| format!("define d{n}: not not d{}", n + 1)).collect();
+        said(&format!("{}\ndefine d900: me owns target", lines.join("\n")))
+    };
+    // The first unfolds all the others, or each is unfolded when it is its turn.
+    assert!(chain(&mut (0..900)).contains("unfold more than 1000 deep"));
+    assert!(chain(&mut (0..900).rev()).contains("unfold more than 1000 deep"));
+    let doubled = |n: usize| {
+        format!(
+            "define a is d{n}: some r of a as b: b is d{0} or (some s of b as c: c is d{0})",
+            n + 1
+        )
+    };
+    let lines: Vec<String> = (0..60).map(doubled).collect();
+    let text = format!("{}\ndefine a is d60: true\nrelation r, s", lines.join("\n"));
+    assert!(said(&text).contains("unfold to more than"));
+    let wide = vec!["me owns target"; 700].join(" or ");
+    assert!(policy(&wide).contains("more than 600 parts stand side by side"));
+}

@@ -1,0 +1,120 @@
+//! The meaning of what is written, worked out straight from it, is that of the
+//! compiled terms in the keeper: for random sources and for tricky ones.
+
+use crate::evaluate::World;
+use crate::generate::{source, Dice};
+use cuckooormolu_tool::both::Both;
+use cuckooormolu_tool::source::ast::Source;
+use cuckooormolu_tool::source::print::print;
+use cuckooormolu_tool::source::{compile, parse, Compiled};
+use keeper::record::Record;
+use keeper::terms::memory::SCRATCH_WORDS;
+
+const SOURCES: u64 = 6_000;
+const MOMENTS: usize = 6;
+
+#[test]
+fn compiled_terms_mean_what_is_written() {
+    let (mut done, mut past, mut tally) = (0, 0, Tally::default());
+    for seed in 0..SOURCES {
+        let mut dice = Dice::new(seed);
+        let written = source(&mut dice);
+        let text = print(&written);
+        let read = parse(&text).unwrap_or_else(|m| panic!("{}", m.render("random", &text)));
+        assert_eq!(read, written, "seed {seed}:\n{text}");
+        let compiled = match compile(&text) {
+            Ok(compiled) => compiled,
+            Err(mistake) => {
+                let known = ["; the past may speak of", "names at once"];
+                let expected = known.iter().any(|part| mistake.message.contains(part));
+                assert!(expected, "seed {seed}:\n{}", mistake.render("random", &text));
+                continue;
+            }
+        };
+        done += 1;
+        past += usize::from(!compiled.terms.past().is_empty());
+        assert!(Both::read(&compiled.text()).unwrap().is_ok(), "seed {seed}:\n{text}");
+        compare(&written, compiled, &mut dice, &mut tally);
+    }
+    println!("{done} compiled, {past} with a past, {tally:?}");
+    assert!(done > SOURCES as usize / 2 && past > done / 3, "{done} {past}");
+    assert!(tally.granted > 10_000 && tally.denied > 10_000, "{tally:?}");
+}
+
+/// Names that hide others, and definitions used where their own names are taken.
+#[test]
+fn names_are_kept_apart() {
+    let start = "members a, b, c\nrelations r, s\nevents give by anyone then add me r target\n
+        event drop by anyone then remove me r target
+        event mark by anyone then add me s target\n";
+    let policies = [
+        "event go when some r of me as x1: x1 is odd\ndefine a is odd: a r some x1: x1 s a",
+        "event go when as x1: some r of me as x2: odd(x2, x1)\ndefine odd(x1, x2): as x3: x1 r x2 and x2 s x1",
+        "event go when me r some x: x s some x: x r me",
+        "event go when as x1: me r some x1: x1 s some x1: x1 r x1",
+        "event go when as x: at target: as x: x r x",
+        "event go when me r some x: here is odd\ndefine a is odd: target r some y: y s a and a r y",
+        "event go when at target: once (here r some x: previously here r x)",
+        "event go when me r some x: not x give me since (as y: some z give y: z r x)",
+        "event go when me r at least 2: at least 2 s of here as y: y is not me",
+        "event go when some x r target: some y r x: once (x give y or y mark x)",
+        "event go when me r every x: always (x r target or not x mark target)",
+    ];
+    for policy in policies {
+        let text = format!("{start}{policy}\n");
+        let shown =
+            |mistake: cuckooormolu_tool::source::mistake::Mistake| mistake.render("f", &text);
+        let written = parse(&text).unwrap_or_else(|mistake| panic!("{}", shown(mistake)));
+        let mut tally = Tally::default();
+        for seed in 0..60 {
+            let compiled = compile(&text).unwrap_or_else(|mistake| panic!("{}", shown(mistake)));
+            compare(&written, compiled, &mut Dice::new(seed), &mut tally);
+        }
+        assert!(tally.granted > 0 && tally.denied > 0, "{policy}");
+    }
+}
+
+#[derive(Debug, Default)]
+struct Tally {
+    granted: usize,
+    denied: usize,
+}
+
+/// Some moments at random; at each, everybody may do the same by both.
+fn compare(written: &Source, compiled: Compiled, dice: &mut Dice, tally: &mut Tally) {
+    let mut world = World::new(written);
+    let mut record = Record::new(compiled.terms);
+    let calls = calls(written);
+    for _ in 0..MOMENTS {
+        let mut allowed = Vec::new();
+        for &(event, from, to) in &calls {
+            let permitted = world.permits(event, from, to);
+            let same = record.permits(event, from, to) == permitted;
+            assert!(same, "event {event} from {from} to {to}:\n{}", print(written));
+            if permitted {
+                allowed.push((event, from, to));
+            }
+        }
+        tally.granted += allowed.len();
+        tally.denied += calls.len() - allowed.len();
+        if allowed.is_empty() {
+            return;
+        }
+        let (event, from, to) = allowed[dice.below(allowed.len())];
+        world.request(event, from, to);
+        record.call(false, event, from, to, SCRATCH_WORDS);
+        let name = |relation: usize| written.relations[relation].text.clone();
+        let edges = record.last().edges.iter();
+        let kept = edges.map(|&(relation, from, to)| (name(relation), from, to)).collect();
+        assert_eq!(world.moments.last().unwrap().edges, kept, "{}", print(written));
+    }
+}
+
+/// Every event between every two members.
+fn calls(source: &Source) -> Vec<(usize, usize, usize)> {
+    let members = source.members.len();
+    let pairs = (0..members).flat_map(|from| (0..members).map(move |to| (from, to)));
+    let pairs: Vec<(usize, usize)> = pairs.collect();
+    let events = 0..source.events.len();
+    events.flat_map(|event| pairs.iter().map(move |&(from, to)| (event, from, to))).collect()
+}

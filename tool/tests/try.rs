@@ -1,0 +1,88 @@
+//! `try`, with the lines piped in.
+
+mod run_support;
+
+use run_support::{preset, run_with};
+
+#[test]
+fn requests_looks_and_reasons() {
+    let folder = preset();
+    let typed = "load pete saw\nwhy\nshare dora pete\nlook load pete saw\nload pete → saw\n\
+                 withdraw dora pete\nwhy load pete saw\nquit\nnever read\n";
+    let said = run_with(&["try", folder.path(), "--first"], typed);
+    assert_eq!(
+        said.out,
+        "denied
+load pete → saw: denied
+  own dora → saw, but never share dora → pete
+granted; moment 1
+would be granted
+granted; moment 2
+granted; moment 3
+load pete → saw: denied
+  own dora → saw, share dora → pete at moment 1, but withdraw dora → pete at moment 3
+"
+    );
+    assert_eq!(said.status, 0);
+}
+
+#[test]
+fn undo_takes_back_one_by_one() {
+    let folder = preset();
+    let typed =
+        "share dora pete\nwithdraw dora pete\nundo\nload pete saw\nundo\nundo\nundo\nlist\n";
+    let said = run_with(&["try", folder.path(), "--first"], typed);
+    assert_eq!(
+        said.out,
+        "granted; moment 1
+granted; moment 2
+took back withdraw dora → pete, which was granted; moment 1
+granted; moment 2
+took back load pete → saw, which was granted; moment 1
+took back share dora → pete, which was granted; moment 0
+? there is nothing to take back
+no requests so far
+"
+    );
+    assert_eq!(said.status, 1);
+}
+
+#[test]
+fn it_begins_after_the_folders_requests() {
+    let folder = preset();
+    let said = run_with(&["try", folder.path()], "list\nlook load pete saw\n");
+    assert_eq!(said.out.lines().count(), 7);
+    assert!(said.out.ends_with("would be denied\n"));
+}
+
+#[test]
+fn saved_requests_are_run_again() {
+    let folder = preset();
+    let file = folder.file("saved.tsv");
+    let typed = format!("load pete saw\nshare dora pete\nsave\nsave {}\n", file.display());
+    let said = run_with(&["try", folder.path(), "--first"], &typed);
+    assert!(said.out.contains("? the folder's requests.tsv has more than this"), "{}", said.out);
+    assert_eq!(folder.read("saved.tsv"), "R\t2\t1\t2\nR\t0\t0\t1\n");
+    folder.write("requests.tsv", "R\t0\t0\t1\n");
+    let said = run_with(&["try", folder.path()], "load pete saw\nsave\n");
+    assert!(said.out.contains("wrote 2 requests to"), "{}", said.out);
+    assert_eq!(folder.read("requests.tsv"), "R\t0\t0\t1\nR\t2\t1\t2\n");
+}
+
+#[test]
+fn mistakes_are_answered() {
+    let folder = preset();
+    let typed = "laod pete saw\nload pete swa\nwhi\nwho\nload pete\nhelp\n\n";
+    let said = run_with(&["try", folder.path(), "--first"], typed);
+    for wanted in [
+        "? no event or command `laod`; did you mean `load`?",
+        "? no member `swa`; did you mean `saw`?",
+        "? no event or command `whi`; did you mean `why`?",
+        "? like this: who EVENT",
+        "? like this: load FROM TO",
+        "take the last request back",
+    ] {
+        assert!(said.out.contains(wanted), "{wanted}: {}", said.out);
+    }
+    assert_eq!(said.status, 1);
+}

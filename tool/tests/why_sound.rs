@@ -1,0 +1,220 @@
+//! Reasons hold up: truth is rebuilt from them alone and compared with the
+//! record at every node, over random terms and requests.
+
+use cuckooormolu_tool::why::fact::Fact;
+use cuckooormolu_tool::why::reason::{has_edge, Claim, Place, Reason, Reasons};
+use cuckooormolu_tool::why::story::stories;
+use keeper::generate;
+use keeper::record::meaning::Meaning;
+use keeper::record::{Answer, Graph, Record};
+use keeper::terms::{self, Entry, Terms, VARIABLES};
+use std::collections::HashMap;
+
+/// So many random terms, and at most so many nodes of each.
+const CASES: u64 = 10_000;
+const NODES: usize = 5_000;
+
+type Key = (usize, usize, usize, Vec<usize>);
+
+fn key(place: Place) -> Key {
+    let assigned = (0..VARIABLES).map(|x| place.assigned.member(x)).collect();
+    (place.entry, place.moment, place.member, assigned)
+}
+
+/// Rebuilds truth from reasons.
+struct Rebuilt<'a> {
+    reasons: Reasons<'a>,
+    meaning: Meaning<'a>,
+    known: HashMap<Key, bool>,
+}
+
+impl<'a> Rebuilt<'a> {
+    fn new(record: &'a Record) -> Rebuilt<'a> {
+        let meaning = Meaning::new(record.terms(), &record.terms().free(), record.graphs());
+        Rebuilt { reasons: Reasons::new(record), meaning, known: HashMap::new() }
+    }
+
+    /// The truth at a claim's place, by the reason for the claim and by nothing
+    /// else. None where too many nodes have been seen.
+    fn truth(&mut self, claim: Claim) -> Option<bool> {
+        let place = claim.place;
+        if let Some(&value) = self.known.get(&key(place)) {
+            return Some(value);
+        }
+        if self.known.len() > NODES {
+            return None;
+        }
+        let reason = self.reasons.reason(claim);
+        let premises = reason.premises();
+        let mut values = Vec::new();
+        for premise in &premises {
+            values.push(self.truth(*premise)?);
+        }
+        let (terms, graphs) = (self.reasons.terms(), self.reasons.graphs());
+        let value = conclusion(terms, graphs, place, &reason, &values);
+        let Place { entry, moment, member, assigned } = place;
+        assert_eq!(value, self.meaning.holds(entry, moment, member, assigned), "{reason:?}");
+        assert_eq!(value, claim.holds, "{reason:?}");
+        self.known.insert(key(place), value);
+        Some(value)
+    }
+}
+
+/// What a reason shows at a place, given the truth of its premises. Panics if
+/// the premises are not those that the operator asks for.
+fn conclusion(
+    terms: &Terms,
+    graphs: &[Graph],
+    place: Place,
+    reason: &Reason,
+    values: &[bool],
+) -> bool {
+    let at = |entry, moment, member| Place { entry, moment, member, ..place };
+    let Place { moment, member, .. } = place;
+    let all = |wanted: bool| values.iter().all(|&value| value == wanted);
+    match (terms.entries[place.entry], reason) {
+        (Entry::Top, Reason::Always) => true,
+        (Entry::Var(x), Reason::StandsFor(other)) => {
+            assert_eq!(*other, place.assigned.member(x));
+            member == *other
+        }
+        (Entry::Not(f), Reason::Opposite(claim)) => {
+            assert_eq!(claim.place, at(f, moment, member));
+            !values[0]
+        }
+        (Entry::Or(f, g), Reason::Side(claim)) => {
+            assert!([f, g].map(|side| at(side, moment, member)).contains(&claim.place));
+            assert!(values[0]);
+            true
+        }
+        (Entry::Or(f, g), Reason::Neither(first, second)) => {
+            assert_eq!(first.place, at(f, moment, member));
+            assert_eq!(second.place, at(g, moment, member));
+            assert!(all(false));
+            false
+        }
+        (Entry::Out(label, f) | Entry::In(label, f), Reason::Neighbour(claim)) => {
+            let other = claim.place.member;
+            assert_eq!(claim.place, at(f, moment, other));
+            let out = matches!(terms.entries[place.entry], Entry::Out(..));
+            let (from, to) = if out { (member, other) } else { (other, member) };
+            assert!(has_edge(terms, &graphs[moment], label, from, to));
+            assert!(values[0]);
+            true
+        }
+        (Entry::Out(label, f) | Entry::In(label, f), Reason::NoNeighbour(claims)) => {
+            let out = matches!(terms.entries[place.entry], Entry::Out(..));
+            for other in 0..terms.members {
+                let (from, to) = if out { (member, other) } else { (other, member) };
+                let told = claims.iter().any(|claim| claim.place == at(f, moment, other));
+                assert_eq!(told, has_edge(terms, &graphs[moment], label, from, to));
+            }
+            assert!(all(false));
+            false
+        }
+        (Entry::Prev(_), Reason::NoMomentBefore) => {
+            assert_eq!(moment, 0);
+            false
+        }
+        (Entry::Prev(f), Reason::Before(claim)) => {
+            assert_eq!(claim.place, at(f, moment - 1, member));
+            values[0]
+        }
+        (Entry::Since(f, g), Reason::Began { began, after }) => {
+            let first = began.place.moment;
+            assert_eq!(began.place, at(g, first, member));
+            let due: Vec<Place> = (first + 1..=moment).map(|j| at(f, j, member)).collect();
+            assert_eq!(after.iter().map(|claim| claim.place).collect::<Vec<_>>(), due);
+            assert!(all(true));
+            true
+        }
+        (Entry::Since(f, g), Reason::Broken { began, broke, after }) => {
+            let (first, broken) = (began.place.moment, broke.place.moment);
+            assert_eq!(began.place, at(g, first, member));
+            assert_eq!(broke.place, at(f, broken, member));
+            assert!(first < broken && broken <= moment);
+            let due: Vec<Place> = (first + 1..=moment).map(|j| at(g, j, member)).collect();
+            assert_eq!(after.iter().map(|claim| claim.place).collect::<Vec<_>>(), due);
+            assert!(values[0] && values[1..].iter().all(|&value| !value));
+            false
+        }
+        (Entry::Since(_, g), Reason::Never(claims)) => {
+            let due: Vec<Place> = (0..=moment).map(|j| at(g, j, member)).collect();
+            assert_eq!(claims.iter().map(|claim| claim.place).collect::<Vec<_>>(), due);
+            assert!(all(false));
+            false
+        }
+        (Entry::Bind(x, f), Reason::Follow(claim)) => {
+            let assigned = place.assigned.with(x, member);
+            assert_eq!(claim.place, Place { entry: f, assigned, ..place });
+            values[0]
+        }
+        (Entry::At(x, f), Reason::Follow(claim)) => {
+            assert_eq!(claim.place, at(f, moment, place.assigned.member(x)));
+            values[0]
+        }
+        (entry, reason) => panic!("{entry:?} is not decided by {reason:?}"),
+    }
+}
+
+/// Whether a fact is so.
+fn is_so(terms: &Terms, graphs: &[Graph], meaning: &mut Meaning, fact: Fact) -> bool {
+    let mut holds =
+        |place: Place, moment| meaning.holds(place.entry, moment, place.member, place.assigned);
+    match fact {
+        Fact::Edge { label, from, to, moment } => has_edge(terms, &graphs[moment], label, from, to),
+        Fact::NoEdge { label, from, to, moment } => {
+            let ends = |end: Option<usize>| match end {
+                Some(member) => member..member + 1,
+                None => 0..terms.members,
+            };
+            ends(from).all(|a| ends(to).all(|b| !has_edge(terms, &graphs[moment], label, a, b)))
+        }
+        Fact::Only { label, member, out, others, moment } => (0..terms.members).all(|other| {
+            let (from, to) = if out { (member, other) } else { (other, member) };
+            others >> other & 1 == 1 || !has_edge(terms, &graphs[moment], label, from, to)
+        }),
+        Fact::Same { member, .. } => member < terms.members,
+        Fact::Differ { member, other } => member != other,
+        Fact::NoMomentBefore | Fact::Always => true,
+        Fact::Never(place) => (0..=place.moment).all(|moment| !holds(place, moment)),
+        Fact::Since { place, first } => (first..=place.moment).all(|moment| holds(place, moment)),
+        Fact::Claim(Claim { place, holds: value }) => holds(place, place.moment) == value,
+    }
+}
+
+#[test]
+fn truth_is_rebuilt_from_reasons() {
+    let (mut nodes, mut grants, mut denials) = (0, 0, 0);
+    for seed in 0..CASES {
+        let case = generate::case(seed, 99_999);
+        let mut record = Record::new(terms::read(&case.text).unwrap());
+        let mut asked = Vec::new();
+        for call in &case.calls {
+            let moment = record.graphs().len() - 1;
+            match record.call(call.look, call.event, call.from, call.to, call.scratch_words) {
+                Answer::Refused(_) => {}
+                answer => asked.push((call, moment, answer == Answer::Grant)),
+            }
+        }
+        let terms = record.terms();
+        let mut rebuilt = Rebuilt::new(&record);
+        for (call, moment, granted) in asked {
+            let place = Place::policy(terms, call.event, call.from, call.to, moment);
+            let claim = rebuilt.reasons.claim(place);
+            assert_eq!(claim.holds, granted, "seed {seed}");
+            *if granted { &mut grants } else { &mut denials } += 1;
+            if let Some(truth) = rebuilt.truth(claim) {
+                assert_eq!(truth, granted, "seed {seed}");
+            }
+            let told = stories(&mut rebuilt.reasons, claim);
+            assert!(!told.is_empty(), "seed {seed}");
+            for fact in told.iter().flat_map(|story| &story.facts) {
+                let so = is_so(terms, record.graphs(), &mut rebuilt.meaning, *fact);
+                assert!(so, "seed {seed}: {fact:?}");
+            }
+        }
+        nodes += rebuilt.known.len();
+    }
+    assert!(nodes > 100_000 && grants > 3_000 && denials > 3_000, "{nodes} {grants} {denials}");
+}

@@ -1,0 +1,128 @@
+//! The words of reasons, shape by shape.
+
+use cuckooormolu_tool::folder::Folder;
+use cuckooormolu_tool::names::Names;
+use cuckooormolu_tool::replay::Replay;
+use cuckooormolu_tool::why::reason::Reasons;
+use cuckooormolu_tool::words::Words;
+
+const NAMES: &str = "member\t0\tann\nmember\t1\tben\nmember\t2\tcem\nmember\t3\tx\n\
+                     relation\t0\tfriend\nevent\t0\task\nevent\t1\tdo\n";
+
+/// The reason of the last request in terms with a relation and two events: `ask` is always
+/// allowed and makes friends, `do` is decided by the last entry. Blanks stand for tabs.
+fn why(entries: &[&str], requests: &[&str]) -> Vec<String> {
+    let mut text = String::from("M 4\nL 1 2\nF 0 top 0 0\nF 1 var 0 0\n");
+    for (index, entry) in entries.iter().enumerate() {
+        text.push_str(&format!("F {} {entry}\n", index + 2));
+    }
+    text.push_str(&format!("P 0 0\nP 1 {}\nE 0 add 0 fwd\nG 0 1 2\n", entries.len() + 1));
+    let requests: String = requests.iter().map(|request| format!("R {request}\n")).collect();
+    let tabs = |text: &str| text.replace(' ', "\t").into_bytes();
+    let names = Names::read(NAMES).unwrap();
+    let folder =
+        Folder { terms: tabs(&text), requests: tabs(&requests), names, ..Folder::default() };
+    let replay = Replay::of(&folder).unwrap();
+    let words = Words::new(replay.both.terms(), &folder.names);
+    let step = replay.steps.last().unwrap();
+    let because = Reasons::new(replay.both.record()).of(&words, step, false).unwrap().unwrap();
+    because.lines.into_iter().collect()
+}
+
+#[test]
+fn always_and_never() {
+    assert_eq!(why(&["not 1 0", "or 1 2"], &["1 0 1"]), ["ann is not ben"]);
+    assert_eq!(why(&["not 0 0"], &["1 0 1"]), ["it is never allowed"]);
+    assert_eq!(why(&["or 1 0"], &["1 0 1"]), ["it is always allowed"]);
+}
+
+#[test]
+fn edges_that_are_there_and_are_not() {
+    assert_eq!(why(&["out 0 1"], &["1 1 2"]), ["friend ben → cem"]);
+    assert_eq!(why(&["out 0 1"], &["1 2 1"]), ["no friend cem → ben"]);
+    assert_eq!(why(&["in 0 0"], &["1 0 1"]), ["no friend anybody → ann"]);
+    assert_eq!(
+        why(&["out 0 1", "out 0 2"], &["1 1 0"]),
+        ["friend ben → cem, but no friend cem → ann"]
+    );
+}
+
+#[test]
+fn events_of_the_last_moment() {
+    let just = ["in 1 1"];
+    assert_eq!(why(&just, &["0 1 0", "1 0 1"]), ["ask ben → ann at moment 1"]);
+    assert_eq!(
+        why(&just, &["0 2 0", "1 0 1"]),
+        ["the last event is ask cem → ann, not ask ben → ann"]
+    );
+    assert_eq!(why(&just, &["1 0 1"]), ["no ask ben → ann"]);
+}
+
+#[test]
+fn one_moment_before() {
+    let before = ["in 1 1", "prev 2 0"];
+    assert_eq!(why(&before, &["1 0 1"]), ["there is no moment before moment 0"]);
+    assert_eq!(why(&before, &["0 1 0", "1 0 1"]), ["no ask ben → ann at moment 0"]);
+    assert_eq!(why(&before, &["0 1 0", "0 2 2", "1 0 1"]), ["ask ben → ann at moment 1"]);
+}
+
+#[test]
+fn since_a_moment() {
+    // Ben asked me, and I have not asked him since.
+    let since = ["in 1 1", "out 1 1", "not 3 0", "since 4 2"];
+    assert_eq!(why(&since, &["1 0 1"]), ["never ask ben → ann"]);
+    assert_eq!(why(&since, &["0 1 0", "1 0 1"]), ["ask ben → ann at moment 1"]);
+    let kept = why(&since, &["0 1 0", "0 2 2", "1 0 1"]);
+    assert_eq!(kept, ["ask ben → ann at moment 1, no ask ann → ben since"]);
+    let broken = why(&since, &["0 1 0", "0 0 1", "1 0 1"]);
+    assert_eq!(broken, ["ask ben → ann at moment 1, but ask ann → ben at moment 2"]);
+    // Asked by ben, and friends with somebody ever since.
+    let with_friend = ["in 1 1", "out 0 0", "since 3 2"];
+    let kept = why(&with_friend, &["0 0 3", "0 1 0", "0 2 2", "1 0 1"]);
+    assert_eq!(kept, ["ask ben → ann at moment 2, always since: friend ann → somebody"]);
+}
+
+#[test]
+fn a_moment_that_came_near() {
+    // Somebody asked me who was then a friend of the target.
+    let entries = ["out 0 1", "in 1 2", "since 0 3"];
+    let near = why(&entries, &["0 2 0", "0 3 3", "1 0 1"]);
+    assert_eq!(
+        near,
+        [
+            "ask cem → ann at moment 1, but no friend cem → ben at moment 1",
+            "at no moment: ask y → ann with friend y → ben",
+        ]
+    );
+}
+
+#[test]
+fn neighbours_that_are_named_already() {
+    // Two friends: a friend, and a friend that is not that one.
+    let two =
+        ["var 1 0", "var 2 0", "not 2 0", "out 0 4", "at 2 5", "bind 1 6", "out 0 7", "bind 2 8"];
+    assert_eq!(why(&two, &["1 1 0"]), ["friend ben → cem, but friend ben → only cem"]);
+    assert_eq!(why(&two, &["0 1 0", "1 1 0"]), ["friend ben → ann, friend ben → cem"]);
+}
+
+#[test]
+fn alternatives_are_told_nearest_first() {
+    // A friend of a friend is the target, or the target asked me just now.
+    let either = ["out 0 1", "out 0 2", "in 1 1", "or 4 3"];
+    assert_eq!(
+        why(&either, &["1 1 0"]),
+        ["friend ben → cem, but no friend cem → ann", "no ask ann → ben"]
+    );
+}
+
+/// Parts that are used twice at every level would be told 16,384 times.
+#[test]
+fn shared_parts_are_not_told_for_ever() {
+    let mut entries = vec!["in 1 1".to_string(), "since 0 2".to_string()];
+    for entry in 4..18 {
+        entries.push(format!("or {} {}", entry - 1, entry - 1));
+    }
+    let entries: Vec<&str> = entries.iter().map(String::as_str).collect();
+    let told = why(&entries, &["0 2 2", "1 0 1"]);
+    assert!((1..=3).contains(&told.len()), "{told:?}");
+}
