@@ -21,7 +21,5 @@ pub const AT: usize = 9;
 
 pub const REACH: usize = 10;
 
-pub const REACH: usize = 10;
-
 // How many there are.
 pub const OPERATORS: usize = 11;
