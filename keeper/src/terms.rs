@@ -53,6 +53,7 @@ pub enum Entry {
     Since(usize, usize),
     Bind(usize, usize),
     At(usize, usize),
+    Reach(usize, usize, usize),
 }
 
 /// What a field of an F line stands for.
@@ -65,39 +66,59 @@ pub enum Field {
     Entry,
 }
 
-/// The ten operators by number: word, first field, second field.
-pub const OPERATORS: [(&str, Field, Field); 10] = [
-    ("top", Field::Unused, Field::Unused),
-    ("var", Field::Variable, Field::Unused),
-    ("not", Field::Entry, Field::Unused),
-    ("or", Field::Entry, Field::Entry),
-    ("out", Field::Label, Field::Entry),
-    ("in", Field::Label, Field::Entry),
-    ("prev", Field::Entry, Field::Unused),
-    ("since", Field::Entry, Field::Entry),
-    ("bind", Field::BoundVariable, Field::Entry),
-    ("at", Field::Variable, Field::Entry),
+/// An operator: its word and what its fields stand for.
+#[derive(Clone, Copy, Debug)]
+pub struct Operator {
+    pub word: &'static str,
+    pub fields: [Field; 3],
+}
+
+impl Operator {
+    /// Whether its F lines carry a third field.
+    pub fn is_long(&self) -> bool {
+        self.fields[2] != Field::Unused
+    }
+}
+
+const fn operator(word: &'static str, first: Field, second: Field, third: Field) -> Operator {
+    Operator { word, fields: [first, second, third] }
+}
+
+/// The operators by number.
+pub const OPERATORS: [Operator; 11] = [
+    operator("top", Field::Unused, Field::Unused, Field::Unused),
+    operator("var", Field::Variable, Field::Unused, Field::Unused),
+    operator("not", Field::Entry, Field::Unused, Field::Unused),
+    operator("or", Field::Entry, Field::Entry, Field::Unused),
+    operator("out", Field::Label, Field::Entry, Field::Unused),
+    operator("in", Field::Label, Field::Entry, Field::Unused),
+    operator("prev", Field::Entry, Field::Unused, Field::Unused),
+    operator("since", Field::Entry, Field::Entry, Field::Unused),
+    operator("bind", Field::BoundVariable, Field::Entry, Field::Unused),
+    operator("at", Field::Variable, Field::Entry, Field::Unused),
+    operator("reach", Field::Variable, Field::Entry, Field::Entry),
 ];
 
 impl Entry {
-    /// The entry's operator number and its two fields.
-    pub fn parts(self) -> (usize, usize, usize) {
+    /// The entry's operator number and its three fields.
+    pub fn parts(self) -> (usize, [usize; 3]) {
         match self {
-            Entry::Top => (0, 0, 0),
-            Entry::Var(x) => (1, x, 0),
-            Entry::Not(f) => (2, f, 0),
-            Entry::Or(f, g) => (3, f, g),
-            Entry::Out(l, f) => (4, l, f),
-            Entry::In(l, f) => (5, l, f),
-            Entry::Prev(f) => (6, f, 0),
-            Entry::Since(f, g) => (7, f, g),
-            Entry::Bind(x, f) => (8, x, f),
-            Entry::At(x, f) => (9, x, f),
+            Entry::Top => (0, [0, 0, 0]),
+            Entry::Var(x) => (1, [x, 0, 0]),
+            Entry::Not(f) => (2, [f, 0, 0]),
+            Entry::Or(f, g) => (3, [f, g, 0]),
+            Entry::Out(l, f) => (4, [l, f, 0]),
+            Entry::In(l, f) => (5, [l, f, 0]),
+            Entry::Prev(f) => (6, [f, 0, 0]),
+            Entry::Since(f, g) => (7, [f, g, 0]),
+            Entry::Bind(x, f) => (8, [x, f, 0]),
+            Entry::At(x, f) => (9, [x, f, 0]),
+            Entry::Reach(x, f, g) => (10, [x, f, g]),
         }
     }
 
-    /// The entry of an operator number and two fields; unused fields are dropped.
-    pub fn of_parts(operator: usize, a: usize, b: usize) -> Option<Entry> {
+    /// The entry of an operator number and three fields; unused fields are dropped.
+    pub fn of_parts(operator: usize, [a, b, c]: [usize; 3]) -> Option<Entry> {
         Some(match operator {
             0 => Entry::Top,
             1 => Entry::Var(a),
@@ -109,6 +130,7 @@ impl Entry {
             7 => Entry::Since(a, b),
             8 => Entry::Bind(a, b),
             9 => Entry::At(a, b),
+            10 => Entry::Reach(a, b, c),
             _ => return None,
         })
     }
@@ -120,11 +142,9 @@ impl Entry {
 
     /// The entries this one is built from.
     pub fn operands(self) -> Vec<usize> {
-        let (operator, a, b) = self.parts();
-        let (_, first, second) = OPERATORS[operator];
-        let fields = [(first, a), (second, b)];
-        let chosen = fields.iter().filter(|(field, _)| *field == Field::Entry);
-        chosen.map(|&(_, value)| value).collect()
+        let (operator, values) = self.parts();
+        let fields = OPERATORS[operator].fields.into_iter().zip(values);
+        fields.filter(|(field, _)| *field == Field::Entry).map(|(_, value)| value).collect()
     }
 
     /// The same entry with its operands renamed.
@@ -139,6 +159,7 @@ impl Entry {
             Entry::Since(f, g) => Entry::Since(rename(f), rename(g)),
             Entry::Bind(x, f) => Entry::Bind(x, rename(f)),
             Entry::At(x, f) => Entry::At(x, rename(f)),
+            Entry::Reach(x, f, g) => Entry::Reach(x, rename(f), rename(g)),
         }
     }
 
@@ -152,6 +173,7 @@ impl Entry {
             Entry::Or(f, g) | Entry::Since(f, g) => lower[f] | lower[g],
             Entry::Bind(x, f) => lower[f] & !(1 << x),
             Entry::At(x, f) => lower[f] | (1 << x),
+            Entry::Reach(_, _, g) => lower[g],
         }
     }
 }

@@ -1,4 +1,4 @@
-// What the two operands of an operator are (docs/SCOPE.md, Meaning), and which numbers they may be.
+// What the three operands of an operator are (docs/SCOPE.md, Meaning), and which numbers they may be.
 use crate::limits::VARIABLES;
 use theory::operators::AT;
 use theory::operators::BIND;
@@ -7,11 +7,12 @@ use theory::operators::NOT;
 use theory::operators::OR;
 use theory::operators::OUT;
 use theory::operators::PREV;
+use theory::operators::REACH;
 use theory::operators::SINCE;
 use theory::operators::TOP;
 use theory::operators::VAR;
 ghost use mathlib.Core.Path.{_≡_};
-ghost use Rattle.theory.specs.Formula.{firstOperand, secondOperand};
+ghost use Rattle.theory.specs.Formula.{firstOperand, secondOperand, thirdOperand};
 ghost use Rattle.theory.specs.Fit.{operandFits};
 ghost use Rattle.memory.specs.Operands.{kindOf};
 
@@ -27,49 +28,65 @@ pub enum Kind {
 pub struct Operands {
     pub first: Kind,
     pub second: Kind,
+    pub third: Kind,
 }
 
 // The table of operands. What is no operator uses none.
 pub fn operands_of(op: usize) -> Operands
     ensures { λ r. ⌜ kindOf (r .first) ≡ firstOperand op ⌝ }
     ensures { λ r. ⌜ kindOf (r .second) ≡ secondOperand op ⌝ }
+    ensures { λ r. ⌜ kindOf (r .third) ≡ thirdOperand op ⌝ }
 {
     match op {
         TOP => Operands {
             first: Kind::Unused,
             second: Kind::Unused,
+            third: Kind::Unused,
         },
         VAR => Operands {
             first: Kind::Variable,
             second: Kind::Unused,
+            third: Kind::Unused,
         },
         NOT | PREV => Operands {
             first: Kind::Entry,
             second: Kind::Unused,
+            third: Kind::Unused,
         },
         OR | SINCE => Operands {
             first: Kind::Entry,
             second: Kind::Entry,
+            third: Kind::Unused,
         },
         OUT => Operands {
             first: Kind::Label,
             second: Kind::Entry,
+            third: Kind::Unused,
         },
         IN => Operands {
             first: Kind::Label,
             second: Kind::Entry,
+            third: Kind::Unused,
         },
         BIND => Operands {
             first: Kind::Binder,
             second: Kind::Entry,
+            third: Kind::Unused,
         },
         AT => Operands {
             first: Kind::Variable,
             second: Kind::Entry,
+            third: Kind::Unused,
+        },
+        REACH => Operands {
+            first: Kind::Variable,
+            second: Kind::Entry,
+            third: Kind::Entry,
         },
         _ => Operands {
             first: Kind::Unused,
             second: Kind::Unused,
+            third: Kind::Unused,
         },
     }
 }

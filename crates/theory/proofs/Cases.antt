@@ -15,7 +15,7 @@ use Rattle.theory.specs.Moment.{affectAll}
 use Rattle.theory.specs.Keeper.{Call, Answer, keep, keepAll, keeper}
 use Rattle.theory.specs.Keeper.Answer.{refused}
 use Rattle.theory.specs.Tables.{State, holdsNow, prevTables, sinceTables, opening, decideNow, advance}
-use Rattle.theory.specs.Cases.{line, requests, looks, yes, no, preset, own, cases, keptAnswers, expected, Anywhere}
+use Rattle.theory.specs.Cases.{line, requests, looks, yes, no, preset, circle, own, cases, keptAnswers, expected, Anywhere}
 use Rattle.theory.proofs.Record.{since-unfolds}
 
 -- ---- the preset's requests
@@ -41,7 +41,7 @@ anywhere N γ i g m = record {
 -- The keeper answers every call of the table as it says; and what is marked as holding always, or with where it holds, does so for every
 -- number of members, record, moment, assignment and member.
 pub marked-cases : (keptAnswers cases ≡ expected cases) × ((N : ℕ) (γ : Record) (i : ℕ) (g : Assignment) (m : ℕ) → Anywhere N γ i g m)
-unfolding cases keptAnswers expected preset own keep keepAll holds anyBelow allBelow node number below spelled affectAll
+unfolding cases keptAnswers expected preset circle own keep keepAll holds anyBelow allBelow node number below spelled affectAll
 marked-cases = (refl, anywhere)
 
 -- ---- nested past-time terms, by the keeper and by the tables

@@ -7,7 +7,7 @@ use mathlib.Core.List.{List, [], _∷_, _++_}
 use lib.Dec.{eqb, ltb, leb}
 use borrow.Author.Tests.{ltb-true, leb-false}
 use Rattle.sets.proofs.Finite.{and-under}
-use Rattle.theory.specs.Formula.{Formula, Entry, node, firstOperand, secondOperand, isPast, number, below, spelled, highest}
+use Rattle.theory.specs.Formula.{Formula, Entry, node, firstOperand, secondOperand, thirdOperand, isPast, number, below, spelled, highest}
 use Rattle.theory.specs.Meaning.{Graph, standing, holds}
 use Rattle.theory.specs.Terms.{Terms, Effect, formula}
 use Rattle.theory.specs.Moment.{Relations, Moment, graph, affectAll, first}
@@ -16,9 +16,9 @@ use Rattle.theory.specs.Keeper.{Call, Answer, recordOf, last, lastMoment
 use Rattle.theory.specs.Keeper.Verdict.{grant, deny}
 use Rattle.theory.specs.Keeper.Answer.{decided, refused}
 use Rattle.theory.specs.Terms.{tables, pastEntry}
-use Rattle.theory.specs.Fit.{operandFits, lone, targetOnly}
+use Rattle.theory.specs.Fit.{operandFits, lone, onlyFree, reachFits}
 use Rattle.theory.specs.Tables.{Tables, store, holdsNow, sinceTables, opening}
-use Rattle.theory.proofs.Good.{Good, GoodEntry, Within}
+use Rattle.theory.proofs.Good.{Good, GoodEntry, Within, second-lower, third-lower}
 use Rattle.theory.proofs.Past.{past-entry}
 
 -- ---- tables of entries that agree: the formula of an entry depends on the entries up to it
@@ -37,7 +37,7 @@ module _ (g h : ℕ → Entry) where
       let p = number-agree n (λ k l. e k (omega arith)) in
       let q = below-agree n (λ k l. e k (omega arith)) in
       let r = e n (omega arith) in
-      λ i k. elim (eqb k n) [ true ↦ node (p i) (q i) (r i .op) (r i .a) (r i .b) | false ↦ q i k ]
+      λ i k. elim (eqb k n) [ true ↦ node (p i) (q i) (r i .op) (r i .a) (r i .b) (r i .c) | false ↦ q i k ]
 
   pub spelled-agree : (n : ℕ) → ((k : ℕ) → k ≤ n → g k ≡ h k) → spelled g n ≡ spelled h n
   unfolding spelled
@@ -45,7 +45,7 @@ module _ (g h : ℕ → Entry) where
       let p = number-agree n (λ k l. e k (omega arith)) in
       let q = below-agree n (λ k l. e k (omega arith)) in
       let r = e n (omega arith) in
-      λ i. node (p i) (q i) (r i .op) (r i .a) (r i .b)
+      λ i. node (p i) (q i) (r i .op) (r i .a) (r i .b) (r i .c)
 
 -- ---- terms
 
@@ -117,7 +117,7 @@ module _ (T U : Terms) (a : Alike T U) where
     few-tables = subst (λ n. n < 33) (same-number (T .entries) (omega arith)) (g .few-tables);
     entry = λ n l. entry n l (g .entry n l);
     policy-exists = λ j l. subst (λ n. n < T .entries) (a .policy j l) (g .policy-exists j l);
-    policy-free = λ j l. subst (λ φ. targetOnly φ ≡ true) (same-policy g j l) (g .policy-free j l);
+    policy-free = λ j l. subst (λ φ. onlyFree 0 φ ≡ true) (same-policy g j l) (g .policy-free j l);
     effects = λ j l. subst (Within (T .relations)) (a .effects j l) (g .effects j l);
   }
     where
@@ -125,10 +125,18 @@ module _ (T U : Terms) (a : Alike T U) where
       entry n l h =
           let same : T .entry n ≡ W .entry n = a .entry n l in
           record {
-            known = subst (λ (e : Entry). e .op < 10) same (h .known);
+            known = subst (λ (e : Entry). e .op < 11) same (h .known);
             first = subst (λ (e : Entry). operandFits (firstOperand (e .op)) (T .relations + T .events) n (e .a) ≡ true) same (h .first);
             second = subst (λ (e : Entry). operandFits (secondOperand (e .op)) (T .relations + T .events) n (e .b) ≡ true) same (h .second);
+            third = subst (λ (e : Entry). operandFits (thirdOperand (e .op)) (T .relations + T .events) n (e .c) ≡ true) same (h .third);
             one-free = λ p. subst (λ φ. lone φ ≡ true) (same-formula n l) (h .one-free (subst (λ (e : Entry). isPast (e .op) ≡ true) (sym same) p));
+            reaches = λ p.
+                let op-is : T .entry n .op ≡ 10 = ap (λ (e : Entry). e .op) same ∙ p in
+                let lb : T .entry n .b < T .entries = (let q = second-lower h (ap secondOperand op-is) in omega arith) in
+                let lc : T .entry n .c < T .entries = (let q = third-lower h (ap thirdOperand op-is) in omega arith) in
+                subst (λ (e : Entry). reachFits (e .a) (formula W (e .b)) (formula W (e .c)) ≡ true) same
+                (subst (λ φ. reachFits (T .entry n .a) φ (formula W (T .entry n .c)) ≡ true) (same-formula (T .entry n .b) lb)
+                (subst (λ φ. reachFits (T .entry n .a) (formula T (T .entry n .b)) φ ≡ true) (same-formula (T .entry n .c) lc) (h .reaches op-is)));
           }
 
   -- ---- the keeper

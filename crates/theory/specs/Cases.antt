@@ -16,7 +16,10 @@ use Rattle.theory.specs.Keeper.Verdict.{grant, deny}
 use Rattle.theory.specs.Keeper.Answer.{decided}
 
 abbrev pub line : ℕ → ℕ → ℕ → Entry
-line o a b = record { op = o; a = a; b = b }
+line o a b = record { op = o; a = a; b = b; c = 0 }
+
+abbrev pub reaching : (x f g : ℕ) → Entry
+reaching x f g = record { op = 10; a = x; b = f; c = g }
 
 abbrev pub requests : ℕ → ℕ → ℕ → Call
 requests j u v = record { look = false; event = j; from = u; to = v; scratch = 2048 }
@@ -48,6 +51,21 @@ preset = record {
 -- G 0 0 2
 unfoldable pub own : Relations
 own k a b = eqb k 0 && eqb a 0 && eqb b 2
+
+-- ---- whoever I once shared with: events are 0 share, always granted; 1 goes one such step to the target, 2 two steps
+
+unfoldable pub circle : Terms
+circle = record {
+  members = 3;
+  relations = 1;
+  events = 3;
+  entries = 7;
+  entry = λ n. getD (
+      line 0 0 0 ∷ line 1 1 0 ∷ line 4 1 1 ∷ line 7 0 2 ∷ line 1 0 0 ∷ reaching 1 3 4 ∷ reaching 1 3 5 ∷ []
+      ) n (line 0 0 0);
+  policy = λ j. getD (0 ∷ 5 ∷ 6 ∷ []) j 0;
+  effects = λ j. [];
+}
 
 -- ---- the table
 
@@ -113,6 +131,10 @@ cases =
     ∷ case (small 3 (line 1 0 0 ∷ line 4 0 1 ∷ []) (adds ∷ dels ∷ [])) (looks 1 0 2 ∷ requests 0 0 2 ∷ looks 1 0 2 ∷ []) (yes ∷ yes ∷ no ∷ [])
     ∷ case (small 3 (line 1 0 0 ∷ line 4 0 1 ∷ []) (dels ∷ adds ∷ [])) (looks 1 1 2 ∷ requests 0 1 2 ∷ looks 1 1 2 ∷ []) (no ∷ yes ∷ yes ∷ [])
     ∷ case (small 3 (line 1 0 0 ∷ line 4 0 1 ∷ []) (dels ∷ adds ∷ [])) (requests 0 0 2 ∷ looks 1 0 2 ∷ []) (yes ∷ yes ∷ [])
+    -- whoever I once shared with: nobody at first; after share 0 1 it is 1 for 0, and not 0 for 1
+    ∷ case circle (looks 1 0 1 ∷ requests 0 0 1 ∷ looks 1 0 1 ∷ looks 1 1 0 ∷ looks 1 0 2 ∷ []) (no ∷ yes ∷ yes ∷ no ∷ no ∷ [])
+    -- after share 0 1, share 1 2 it still is; 2 is two such steps from 0, and 1 is not
+    ∷ case circle (requests 0 0 1 ∷ requests 0 1 2 ∷ looks 1 0 1 ∷ looks 1 0 2 ∷ looks 2 0 2 ∷ looks 2 0 1 ∷ []) (yes ∷ yes ∷ yes ∷ no ∷ yes ∷ no ∷ [])
     ∷ []
 
 -- The keeper's answers to the calls of each case, and those that the table has.

@@ -19,5 +19,7 @@ pub const BIND: usize = 8;
 
 pub const AT: usize = 9;
 
+pub const REACH: usize = 10;
+
 // How many there are.
-pub const OPERATORS: usize = 10;
+pub const OPERATORS: usize = 11;

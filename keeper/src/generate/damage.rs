@@ -37,10 +37,11 @@ fn put_in(terms: &mut Terms, place: usize, new: &[Entry]) {
 /// Breaks a rule of the terms themselves.
 fn damage_terms(rng: &mut Rng, terms: &mut Terms) {
     let place = rng.below(terms.entries.len() + 1);
-    match rng.below(12) {
+    match rng.below(15) {
         0 | 1 => operand_not_lower(rng, terms, place),
         2 | 3 => two_free_variables(rng, terms, place),
         4 | 5 => free_policy(rng, terms, place),
+        12..=14 => bad_reach(rng, terms, place),
         6 => too_many_past(rng, terms),
         7 => too_many_entries(rng, terms),
         8 => too_many_effects(rng, terms),
@@ -54,7 +55,7 @@ fn operand_not_lower(rng: &mut Rng, terms: &mut Terms, place: usize) {
     let high = rng.pick(&[place, place, place + 1, place + 7, 255, 256, 65_535, 65_536, 99_999]);
     let high = high.max(place);
     let low = rng.below(place.max(1));
-    let entry = match rng.below(9) {
+    let entry = match rng.below(11) {
         0 => Entry::Not(high),
         1 => Entry::Or(low, high),
         2 => Entry::Or(high, low),
@@ -63,6 +64,8 @@ fn operand_not_lower(rng: &mut Rng, terms: &mut Terms, place: usize) {
         5 => Entry::Prev(high),
         6 => Entry::Since(low, high),
         7 => Entry::Bind(rng.between(1, 15), high),
+        8 => Entry::Reach(rng.below(16), low, high),
+        9 => Entry::Reach(rng.below(16), high, low),
         _ => Entry::At(rng.below(16), high),
     };
     put_in(terms, place, &[entry]);
@@ -98,6 +101,27 @@ fn free_policy(rng: &mut Rng, terms: &mut Terms, place: usize) {
     put_in(terms, place, &new);
     let event = rng.below(terms.policies.len());
     terms.policies[event] = place + new.len() - 1;
+}
+
+/// A reach that binds variable 0, whose first formula has another variable
+/// free, or whose second has the bound one free; or one that just does not.
+fn bad_reach(rng: &mut Rng, terms: &mut Terms, place: usize) {
+    let x = rng.below(4);
+    let y = if rng.percent(50) { x } else { rng.below(16) };
+    let (first, second) = (Entry::Var(x), Entry::Var(y));
+    let new = match rng.below(6) {
+        0 => vec![first, second, Entry::Reach(x, place, place + 1)],
+        1 => vec![first, second, Entry::Reach(x, place + 1, place)],
+        2 => vec![first, Entry::Top, Entry::Reach(y, place, place + 1)],
+        3 => vec![first, Entry::Out(0, place), Entry::Reach(y, place + 1, place)],
+        4 => vec![first, Entry::At(y, place), Entry::Top, Entry::Reach(x, place + 1, place + 2)],
+        _ => {
+            // A since over it: then 4 may come before 10.
+            let or = Entry::Or(place, place + 1);
+            vec![first, second, or, Entry::Since(place, place + 2), Entry::Reach(x, place, place)]
+        }
+    };
+    put_in(terms, place, &new);
 }
 
 fn too_many_past(rng: &mut Rng, terms: &mut Terms) {
@@ -150,8 +174,9 @@ fn bad_number(rng: &mut Rng, terms: &mut Terms, place: usize) {
     let labels = terms.relations + terms.events;
     let label = rng.pick(&[labels - 1, labels, labels + 1, 31, 32, 33, 99_999]);
     let f = if rng.percent(70) { place } else { place + 1 };
-    let entry = match rng.below(5) {
+    let entry = match rng.below(6) {
         0 => Entry::Var(variable),
+        5 => Entry::Reach(variable, f, f),
         1 => Entry::Bind(variable, f),
         2 => Entry::At(variable, f),
         3 => Entry::Out(label, f),

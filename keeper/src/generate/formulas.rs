@@ -77,9 +77,15 @@ impl<'a> Builder<'a> {
             }
             Entry::Out(_, _) | Entry::In(_, _) => (scan + inner, 0),
             Entry::Prev(_) | Entry::Since(_, _) => (1, self.size.members.pow(2) * (1 + inner)),
+            Entry::Reach(_, _, _) => (self.size.members * (1 + inner), 0),
             _ => (1 + inner, 0),
         };
-        let sound = !entry.is_past() || (self.past < self.size.past && free.count_ones() < 2);
+        let sound = match entry {
+            Entry::Reach(x, f, g) => {
+                x > 0 && self.free[f] & !(1 << x) == 0 && self.free[g] & 1 << x == 0
+            }
+            _ => !entry.is_past() || (self.past < self.size.past && free.count_ones() < 2),
+        };
         let bounded = self.entries.len() < self.bound
             && steps <= self.size.entry_steps
             && self.table_steps + table <= self.size.table_steps;
@@ -184,7 +190,7 @@ impl<'a> Builder<'a> {
             return if self.rng.percent(30) { Entry::Top } else { Entry::Var(variable) };
         }
         let (f, label) = (self.operand(), self.label());
-        match self.rng.below(13) {
+        match self.rng.below(14) {
             0 | 1 => Entry::Not(f),
             2 | 3 => Entry::Or(f, self.operand()),
             4 | 5 => Entry::Out(label, f),
@@ -195,8 +201,29 @@ impl<'a> Builder<'a> {
                 Entry::Since(first, self.past_operand(self.free[first]))
             }
             11 => Entry::Bind(self.bound(f), f),
+            12 => self.reach(),
             _ => Entry::At(variable, f),
         }
+    }
+
+    /// A reach whose first formula has one free variable, where one is found.
+    fn reach(&mut self) -> Entry {
+        let mut f = self.operand();
+        for _ in 0..8 {
+            if (self.free[f] & !1).count_ones() == 1 && self.free[f] & 1 == 0 {
+                break;
+            }
+            f = self.operand();
+        }
+        let x = self.bound(f);
+        let mut g = self.operand();
+        for _ in 0..8 {
+            if self.free[g] & 1 << x == 0 {
+                break;
+            }
+            g = self.operand();
+        }
+        Entry::Reach(x, f, g)
     }
 
     /// One entry for each event, none with a free variable other than 0.

@@ -79,8 +79,8 @@ fn ill_formed(rng: &mut Rng, old: &str) -> String {
 
 fn other_word(rng: &mut Rng, old: &str) -> String {
     let words = [
-        "top", "var", "not", "or", "out", "in", "prev", "since", "bind", "at", "add", "del", "fwd",
-        "back", "and", "once", "0", "",
+        "top", "var", "not", "or", "out", "in", "prev", "since", "bind", "at", "reach", "add",
+        "del", "fwd", "back", "and", "once", "0", "",
     ];
     match rng.below(6) {
         0 => format!("{old}x"),

@@ -6,11 +6,12 @@ use crate::terms::Entry;
 impl Builder<'_> {
     /// One pattern, as far as the bounds allow.
     pub fn pattern(&mut self) {
-        match self.rng.below(8) {
+        match self.rng.below(12) {
             0 | 1 => self.once_and_not_since(),
             2 | 3 => self.bind_again(),
             4 | 5 => self.before_the_past(),
             6 => self.both(),
+            7..=9 => self.reached(),
             _ => self.shown(),
         };
     }
@@ -27,6 +28,30 @@ impl Builder<'_> {
         let entered = self.push(Entry::In(from, since))?;
         let target = self.push(Entry::At(0, entered))?;
         self.push(Entry::Bind(x, target))
+    }
+
+    /// "Whoever this once came to, and not that since", as a step; now and then twice.
+    fn reached(&mut self) -> Option<usize> {
+        let (x, once, ended) = (self.rng.between(1, 3), self.label(), self.label());
+        let who = self.push(Entry::Var(x))?;
+        let begun = self.push(Entry::Out(once, who))?;
+        let over = self.push(Entry::In(ended, who))?;
+        let lasting = self.push(Entry::Not(over))?;
+        let near = match self.rng.below(4) {
+            0 => self.push(Entry::Or(begun, over))?,
+            1 => self.push(Entry::Prev(begun))?,
+            _ => self.push(Entry::Since(lasting, begun))?,
+        };
+        let end = match self.rng.below(4) {
+            0 | 1 => self.push(Entry::Var(0))?,
+            2 => self.push(Entry::Top)?,
+            _ => self.operand(),
+        };
+        let step = self.push(Entry::Reach(x, near, end))?;
+        if self.rng.percent(50) {
+            return Some(step);
+        }
+        self.push(Entry::Reach(x, near, step))
     }
 
     /// A variable bound, bound again further in, and used in both places.

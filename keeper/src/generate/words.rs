@@ -12,8 +12,8 @@ pub fn damage_terms(rng: &mut Rng, words: &mut [u16]) {
         let effect = effect_place(event, rng.below(MOST_EFFECTS));
         let place = match rng.below(8) {
             0 => rng.below(4),
-            1 | 2 => FIRST_ENTRY + rng.below(3 * count),
-            3 => FIRST_ENTRY + rng.below(3 * 256),
+            1 | 2 => FIRST_ENTRY + rng.below(4 * count),
+            3 => FIRST_ENTRY + rng.below(4 * 256),
             4 => FIRST_POLICY + event,
             5 => FIRST_POLICY + rng.below(usize::from(words[2])).min(15),
             6 => effect + rng.below(3),
@@ -21,7 +21,7 @@ pub fn damage_terms(rng: &mut Rng, words: &mut [u16]) {
         };
         let old = words[place];
         let close = [old.wrapping_add(1), old.wrapping_sub(1), old ^ 1, old << 8, 0];
-        let fixed = [0, 1, 2, 3, 9, 10, 15, 16, 17, 64, 65, 255, 256, 257, 65_535];
+        let fixed = [0, 1, 2, 3, 9, 10, 11, 15, 16, 17, 64, 65, 255, 256, 257, 65_535];
         words[place] = match rng.below(3) {
             0 => rng.pick(&close),
             1 => rng.pick(&fixed),

@@ -78,6 +78,10 @@ impl<'a> Meaning<'a> {
             Entry::Since(f, g) => self.since(f, g, i, m, assigned),
             Entry::Bind(x, f) => self.holds(f, i, m, assigned.with(x, m)),
             Entry::At(x, f) => self.holds(f, i, assigned.member(x), assigned),
+            Entry::Reach(x, f, g) => members.into_iter().any(|other| {
+                let alone = Assigned::default().with(x, other);
+                self.holds(f, i, m, alone) && self.holds(g, i, other, assigned)
+            }),
         }
     }
 

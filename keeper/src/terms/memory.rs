@@ -1,23 +1,28 @@
-//! The lent memory: terms as 980 words of 16 bits, state as 3,073 of 64.
+//! The lent memory: terms as 1,236 words of 16 bits, state as 3,073 of 64.
 
 use super::*;
 
-pub const TERMS_WORDS: usize = 980;
+pub const TERMS_WORDS: usize = 1_236;
 pub const STATE_WORDS: usize = 3_073;
 pub const SCRATCH_WORDS: usize = 2_048;
 
 pub const FIRST_ENTRY: usize = 4;
-pub const FIRST_POLICY: usize = FIRST_ENTRY + 3 * MOST_ENTRIES;
+pub const FIRST_POLICY: usize = entry_place(MOST_ENTRIES);
 pub const FIRST_EFFECT: usize = FIRST_POLICY + MOST_EVENTS;
 pub const FIRST_TABLE: usize = 1_024;
 pub const EVENT_WORD: usize = 3_072;
+
+/// The place of an entry among the words of terms.
+pub const fn entry_place(entry: usize) -> usize {
+    FIRST_ENTRY + 4 * entry
+}
 
 /// The place of an effect among the words of terms.
 pub fn effect_place(event: usize, effect: usize) -> usize {
     FIRST_EFFECT + 3 * (MOST_EFFECTS * event + effect)
 }
 
-/// The 980 words of accepted terms.
+/// The 1,236 words of accepted terms.
 pub fn terms_words(terms: &Terms) -> Vec<u16> {
     let mut words = vec![0; TERMS_WORDS];
     let mut put = |place: usize, value: usize| {
@@ -28,10 +33,11 @@ pub fn terms_words(terms: &Terms) -> Vec<u16> {
     put(2, terms.events);
     put(3, terms.entries.len());
     for (index, entry) in terms.entries.iter().enumerate() {
-        let (operator, a, b) = entry.parts();
-        put(FIRST_ENTRY + 3 * index, operator);
-        put(FIRST_ENTRY + 3 * index + 1, a);
-        put(FIRST_ENTRY + 3 * index + 2, b);
+        let (operator, fields) = entry.parts();
+        put(entry_place(index), operator);
+        for (offset, field) in fields.into_iter().enumerate() {
+            put(entry_place(index) + 1 + offset, field);
+        }
     }
     for (event, entry) in terms.policies.iter().enumerate() {
         put(FIRST_POLICY + event, *entry);
@@ -67,8 +73,9 @@ fn guess_terms(words: &[u16]) -> Option<Terms> {
     }
     let mut terms = Terms { members: word(0), relations: word(1), events, ..Terms::default() };
     for index in 0..count {
-        let place = FIRST_ENTRY + 3 * index;
-        terms.entries.push(Entry::of_parts(word(place), word(place + 1), word(place + 2))?);
+        let place = entry_place(index);
+        let fields = [1, 2, 3].map(|offset| word(place + offset));
+        terms.entries.push(Entry::of_parts(word(place), fields)?);
     }
     for event in 0..events {
         terms.policies.push(word(FIRST_POLICY + event));

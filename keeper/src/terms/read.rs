@@ -87,8 +87,8 @@ impl Reader {
         match &fields(line)[..] {
             [b"M", n] if self.terms.members == 0 => self.members(n),
             [b"L", r, e] if self.terms.members > 0 && self.terms.events == 0 => self.labels(r, e),
-            [b"F", index, word, a, b] if head && self.terms.policies.is_empty() => {
-                self.entry(index, word, a, b)
+            [b"F", index, word, fields @ ..] if head && self.terms.policies.is_empty() => {
+                self.entry(index, word, fields)
             }
             [b"P", event, entry] if head && !complete => self.policy(event, entry),
             [b"E", event, action, relation, direction]
@@ -118,24 +118,43 @@ impl Reader {
         Ok(())
     }
 
-    fn entry(&mut self, index: &[u8], word: &[u8], a: &[u8], b: &[u8]) -> Checked<()> {
-        let [index, a, b] = numbers([index, a, b])?;
-        let operator = OPERATORS.iter().position(|(name, _, _)| name.as_bytes() == word);
-        let operator = operator.ok_or(1u16)?;
+    fn entry(&mut self, index: &[u8], word: &[u8], fields: &[&[u8]]) -> Checked<()> {
+        let number = OPERATORS.iter().position(|operator| operator.word.as_bytes() == word);
+        let number = number.ok_or(1u16)?;
+        let operator = OPERATORS[number];
+        let values = match fields {
+            [a, b] if !operator.is_long() => numbers([a, b, b"0"])?,
+            [a, b, c] if operator.is_long() => numbers([a, b, c])?,
+            _ => return Err(1),
+        };
+        let [index] = numbers([index])?;
         require(index == self.terms.entries.len(), 1)?;
 
-        let (_, first, second) = OPERATORS[operator];
-        let entry = Entry::of_parts(operator, a, b).ok_or(1u16)?;
+        let entry = Entry::of_parts(number, values).ok_or(1u16)?;
         require(index < MOST_ENTRIES, 2)?;
         require(!entry.is_past() || self.terms.past().len() < MOST_PAST, 2)?;
-        require(self.in_range(first, a) && self.in_range(second, b), 2)?;
+        let mut each = operator.fields.into_iter().zip(values);
+        require(each.all(|(field, value)| self.in_range(field, value)), 2)?;
         require(entry.operands().iter().all(|&operand| operand < index), 3)?;
 
         let free = entry.free(&self.free);
         require(!entry.is_past() || free.count_ones() < 2, 4)?;
+        require(self.reaches(entry), 10)?;
         self.terms.entries.push(entry);
         self.free.push(free);
         Ok(())
+    }
+
+    /// Whether a reach binds a variable other than 0, which alone may be free
+    /// in its first formula and must not be free in its second.
+    fn reaches(&self, entry: Entry) -> bool {
+        match entry {
+            Entry::Reach(x, f, g) => {
+                let alone: Variables = 1 << x;
+                x != 0 && self.free[f] & !alone == 0 && self.free[g] & alone == 0
+            }
+            _ => true,
+        }
     }
 
     /// Whether a field is in its range. Operands are looked at apart.

@@ -8,8 +8,10 @@ pub fn write(terms: &Terms, edges: &BTreeSet<Edge>) -> Vec<u8> {
     let mut lines =
         vec![format!("M\t{}", terms.members), format!("L\t{}\t{}", terms.relations, terms.events)];
     for (index, entry) in terms.entries.iter().enumerate() {
-        let (operator, a, b) = entry.parts();
-        lines.push(format!("F\t{index}\t{}\t{a}\t{b}", OPERATORS[operator].0));
+        let (number, [a, b, c]) = entry.parts();
+        let operator = OPERATORS[number];
+        let third = if operator.is_long() { format!("\t{c}") } else { String::new() };
+        lines.push(format!("F\t{index}\t{}\t{a}\t{b}{third}", operator.word));
     }
     for (event, entry) in terms.policies.iter().enumerate() {
         lines.push(format!("P\t{event}\t{entry}"));

@@ -112,7 +112,7 @@ fn a_faithful_one_passes() {
         let result = compare::case(&mut Mirror::new(Fault::None), &case);
         assert_eq!(result, Ok(()), "{case}");
         let text = generate::damaged_text(seed);
-        for (terms, state) in [(980, 3_073), (979, 3_073), (980, 3_072), (2_000, 4_000)] {
+        for (terms, state) in [(1_236, 3_073), (1_235, 3_073), (1_236, 3_072), (2_000, 4_000)] {
             let result = compare::read(&mut Mirror::new(Fault::None), &text, terms, state);
             assert_eq!(result, Ok(()), "seed {seed}");
         }
@@ -139,7 +139,7 @@ fn impostors_are_caught() {
     }
     let named = |seed| {
         let text = generate::damaged_text(seed);
-        compare::read(&mut Mirror::new(FixedLine), &text, 980, 3_073).is_err()
+        compare::read(&mut Mirror::new(FixedLine), &text, 1_236, 3_073).is_err()
     };
     assert!((0..60).filter(|&seed| named(seed)).count() > 20);
 }

@@ -8,8 +8,8 @@ use std::collections::BTreeSet;
 
 #[test]
 fn each_refusal_of_reading_is_hit_at_varied_lines() {
-    let mut counts = [0; 10];
-    let mut lines = vec![BTreeSet::new(); 10];
+    let mut counts = [0; 11];
+    let mut lines = vec![BTreeSet::new(); 11];
     for seed in 0..6_000 {
         match terms::read(&generate::damaged_text(seed)) {
             Ok(_) => counts[0] += 1,
@@ -20,17 +20,17 @@ fn each_refusal_of_reading_is_hit_at_varied_lines() {
         }
     }
     println!("{counts:?} {:?}", lines.iter().map(BTreeSet::len).collect::<Vec<_>>());
-    for number in 1..=5 {
+    for number in [1, 2, 3, 4, 5, 10] {
         assert!(counts[number] > 200, "refusal {number}: {}", counts[number]);
         assert!(lines[number].len() > 8, "refusal {number}: {:?}", lines[number]);
     }
-    assert_eq!(counts[6..], [0; 4]);
+    assert_eq!(counts[6..10], [0; 4]);
     assert!(counts[0] < 2_000, "{}", counts[0]);
 }
 
 #[test]
 fn damaged_memory_hits_7_and_8() {
-    let mut counts = [0; 10];
+    let mut counts = [0; 11];
     for seed in 0..1_500 {
         let (terms, state) = generate::damaged_memory(seed);
         let number = match expect::calling(&terms, &state, &Call::request(0, 0, 0)) {

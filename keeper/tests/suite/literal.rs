@@ -39,6 +39,11 @@ impl Literal<'_> {
                 self.holds(f, i, m, bound)
             }
             Entry::At(x, f) => self.holds(f, i, s[x], s),
+            Entry::Reach(x, f, g) => (0..n).any(|o| {
+                let mut alone = [0; 16];
+                alone[x] = o;
+                self.holds(f, i, m, alone) && self.holds(g, i, o, s)
+            }),
         }
     }
 }

@@ -13,11 +13,11 @@ const SEEDS: std::ops::Range<u64> = 0..600;
 fn words_of_the_preset() {
     let mut record = preset();
     let words = terms_words(record.terms());
-    assert_eq!(words.len(), 980);
-    assert_eq!(words[..10], [3, 1, 3, 9, 1, 1, 0, 4, 1, 0]);
-    assert_eq!(words[16..19], [7, 3, 1]);
-    assert_eq!(words[772..776], [8, 8, 7, 0]);
-    assert!(words[776..].iter().all(|&word| word == 0));
+    assert_eq!(words.len(), 1_236);
+    assert_eq!(words[..12], [3, 1, 3, 9, 1, 1, 0, 0, 4, 1, 0, 0]);
+    assert_eq!(words[20..24], [7, 3, 1, 0]);
+    assert_eq!(words[1_028..1_032], [8, 8, 7, 0]);
+    assert!(words[1_032..].iter().all(|&word| word == 0));
     assert_eq!(record.state_words().iter().filter(|&&word| word != 0).count(), 1);
     assert_eq!(record.state_words()[0], 0b100);
 
@@ -34,8 +34,8 @@ fn words_of_the_preset() {
 fn words_of_effects() {
     let text = "M 2/L 2 2/F 0 top 0 0/P 0 0/P 1 0/E 0 add 0 back/E 0 del 1 fwd/E 1 del 1 back";
     let words = terms_words(&accepted(&slashes(text)));
-    assert_eq!(words[788..797], [1, 0, 1, 2, 1, 0, 0, 0, 0]);
-    assert_eq!(words[800..806], [2, 1, 1, 0, 0, 0]);
+    assert_eq!(words[1_044..1_053], [1, 0, 1, 2, 1, 0, 0, 0, 0]);
+    assert_eq!(words[1_056..1_062], [2, 1, 1, 0, 0, 0]);
 }
 
 #[test]
@@ -95,16 +95,16 @@ fn terms_words_that_no_file_yields() {
     };
     assert!(broken(0, 0) && broken(0, 65) && broken(1, 17) && broken(2, 0) && broken(2, 17));
     assert!(broken(3, 0) && broken(3, 8) && broken(3, 257) && broken(3, 65_535));
-    assert!(broken(4, 10), "an operator that does not exist");
-    assert!(broken(6, 1), "an unused field");
-    assert!(broken(4 + 3 * 9, 1), "an unused entry");
-    assert!(broken(775, 1), "an unused policy");
-    assert!(broken(774, 6), "a policy with a free variable");
-    assert!(broken(788, 3), "an action that does not exist");
-    assert!(broken(789, 1), "a relation without an action");
-    assert!(broken(791, 1), "effects with a gap");
-    assert!(broken(979, 1), "the last word");
-    assert!(!broken(788, 1), "an effect in the first place");
+    assert!(broken(4, 11), "an operator that does not exist");
+    assert!(broken(6, 1) && broken(7, 1), "an unused field");
+    assert!(broken(4 + 4 * 9, 1), "an unused entry");
+    assert!(broken(1_031, 1), "an unused policy");
+    assert!(broken(1_030, 6), "a policy with a free variable");
+    assert!(broken(1_044, 3), "an action that does not exist");
+    assert!(broken(1_045, 1), "a relation without an action");
+    assert!(broken(1_047, 1), "effects with a gap");
+    assert!(broken(1_235, 1), "the last word");
+    assert!(!broken(1_044, 1), "an effect in the first place");
     assert!(!broken(0, 4), "a member more");
     assert!(!broken(3, 10), "one more entry, top");
 }
@@ -114,7 +114,7 @@ fn refusals_over_lent_memory_come_in_order() {
     let record = preset();
     let (terms, state) = (terms_words(record.terms()), record.state_words());
     let (mut bad_terms, mut bad_state) = (terms.clone(), state.clone());
-    bad_terms[979] = 1;
+    bad_terms[1_235] = 1;
     bad_state[3_072] = 1 + 3 * 4_096;
     let good = Call::request(0, 0, 0);
     let far = Call::request(3, 0, 0);
@@ -123,7 +123,7 @@ fn refusals_over_lent_memory_come_in_order() {
         expect::calling(terms, state, call).map_or_else(|refusal| refusal.number, |_| 0)
     };
     assert_eq!(number(&bad_terms, &bad_state, &short), 6);
-    assert_eq!(number(&bad_terms[..979], &bad_state, &far), 6);
+    assert_eq!(number(&bad_terms[..1_235], &bad_state, &far), 6);
     assert_eq!(number(&bad_terms, &bad_state[..3_072], &far), 6);
     assert_eq!(number(&bad_terms, &bad_state, &far), 7);
     assert_eq!(number(&terms, &bad_state, &far), 8);

@@ -25,6 +25,8 @@ enum Fault {
     OneNeighbour,
     TargetForgotten,
     OrdersSwapped,
+    ReachStays,
+    ReachBackwards,
 }
 
 type Members = [usize; 16];
@@ -100,6 +102,16 @@ impl Faulty<'_> {
                 let there = if fault == Fault::AtStays { m } else { s[x] };
                 self.holds(f, i, there, s)
             }
+            Entry::Reach(x, f, g) => (0..self.terms.members).any(|other| {
+                let (near, named) = match fault {
+                    Fault::ReachBackwards => (other, m),
+                    _ => (m, other),
+                };
+                let far = if fault == Fault::ReachStays { m } else { other };
+                let mut alone = [0; 16];
+                alone[x] = named;
+                self.holds(f, i, near, &mut alone) && self.holds(g, i, far, s)
+            }),
         }
     }
 
@@ -175,9 +187,11 @@ fn faults_show() {
         OneNeighbour,
         TargetForgotten,
         OrdersSwapped,
+        ReachStays,
+        ReachBackwards,
     ];
-    let count = |fault| (0..800).filter(|&seed| shows(fault, seed) == Some(true)).count();
-    let tried = (0..800).filter(|&seed| shows(None, seed).is_some()).count();
+    let count = |fault| (0..1_200).filter(|&seed| shows(fault, seed) == Some(true)).count();
+    let tried = (0..1_200).filter(|&seed| shows(None, seed).is_some()).count();
     assert_eq!(count(None), 0);
     for fault in faults {
         let shown = count(fault);

@@ -166,3 +166,29 @@ fn thirty_third_past_entry_beats_later_faults() {
     assert_eq!(text(&format!("{full}/F 33 at 2 0/F 34 prev 33 0")), (2, 37));
     assert_eq!(text(&format!("{full}/F 33 not 33 0")), (3, 36));
 }
+
+#[test]
+fn reach() {
+    // Entries 0 to 4: var 1, top, out 0 of var 1, var 0, var 2.
+    let lines = "F 0 var 1 0/F 1 top 0 0/F 2 out 0 0/F 3 var 0 0/F 4 var 2 0";
+    let after = |line: &str| after_head(&format!("{lines}/{line}"));
+    let sound = |line: &str| {
+        accepted(&slashes(&format!("{HEAD}/{lines}/F 5 {line}/F 6 bind 2 5/P 0 6/P 1 1")));
+    };
+    for line in ["reach 1 2 3", "reach 1 2 4", "reach 15 1 3", "reach 1 0 1"] {
+        sound(line);
+    }
+    assert_eq!(after("F 5 reach 1 2"), (1, 8));
+    assert_eq!(after("F 5 reach 1 2 3 0"), (1, 8));
+    assert_eq!(after("F 5 reach 1 2 x"), (1, 8));
+    assert_eq!(after("F 5 top 0 0 0"), (1, 8));
+    assert_eq!(after("F 5 reach 16 9 9"), (2, 8));
+    assert_eq!(after("F 5 reach 0 5 3"), (3, 8));
+    assert_eq!(after("F 5 reach 0 2 5"), (3, 8));
+    assert_eq!(after("F 5 reach 0 1 1"), (10, 8));
+    assert_eq!(after("F 5 reach 1 3 1"), (10, 8));
+    assert_eq!(after("F 5 reach 2 2 1"), (10, 8));
+    assert_eq!(after("F 5 reach 1 2 0"), (10, 8));
+    assert_eq!(after("F 5 reach 1 2 4/P 0 5"), (5, 9));
+    assert_eq!(after("F 5 reach 1 2 4/F 6 since 5 3"), (4, 9));
+}

@@ -2,32 +2,33 @@ use Prim.Native.Nat.{ℕ}
 use mathlib.Core.Path.{_≡_, refl}
 use mathlib.Core.Logic.{_⊎_, inl, inr, ⊎-elim}
 use borrow.Author.Needs.{needs}
-use Rattle.theory.specs.Formula.{firstOperand, secondOperand}
+use Rattle.theory.specs.Formula.{firstOperand, secondOperand, thirdOperand}
 use Rattle.theory.specs.Formula.Operand.{unused}
 use Rattle.memory.proofs.FreeSets.{each-operator}
 use Rattle.memory.proofs.operands.operands_of.Statement.{statement}
 use Rattle.memory.proofs.operands.operands_of.Tie as tie
 
--- a number that is none of the ten operators
+-- a number that is none of the eleven operators
 abbrev None : ℕ → Type 0
 None op =
     (op ≡ 0 → ⊥) → (op ≡ 1 → ⊥) → ((op ≡ 2) ⊎ (op ≡ 6) → ⊥) → ((op ≡ 3) ⊎ (op ≡ 7) → ⊥) → (op ≡ 4 → ⊥) → (op ≡ 5 → ⊥) → (op ≡ 8 → ⊥) → (op ≡ 9 → ⊥) →
-    (unused ≡ firstOperand op) × (unused ≡ secondOperand op)
+    (op ≡ 10 → ⊥) → (unused ≡ firstOperand op) × ((unused ≡ secondOperand op) × (unused ≡ thirdOperand op))
 
 none : (op : ℕ) → None op
 none =
     each-operator None
-    (λ a b c d e f g h. absurd (a refl))
-    (λ a b c d e f g h. absurd (b refl))
-    (λ a b c d e f g h. absurd (c (inl refl)))
-    (λ a b c d e f g h. absurd (d (inl refl)))
-    (λ a b c d e f g h. absurd (e refl))
-    (λ a b c d e f g h. absurd (f refl))
-    (λ a b c d e f g h. absurd (c (inr refl)))
-    (λ a b c d e f g h. absurd (d (inr refl)))
-    (λ a b c d e f g h. absurd (g refl))
-    (λ a b c d e f g h. absurd (h refl))
-    (λ k a b c d e f g h. (refl, refl))
+    (λ a b c d e f g h i. absurd (a refl))
+    (λ a b c d e f g h i. absurd (b refl))
+    (λ a b c d e f g h i. absurd (c (inl refl)))
+    (λ a b c d e f g h i. absurd (d (inl refl)))
+    (λ a b c d e f g h i. absurd (e refl))
+    (λ a b c d e f g h i. absurd (f refl))
+    (λ a b c d e f g h i. absurd (c (inr refl)))
+    (λ a b c d e f g h i. absurd (d (inr refl)))
+    (λ a b c d e f g h i. absurd (g refl))
+    (λ a b c d e f g h i. absurd (h refl))
+    (λ a b c d e f g h i. absurd (i refl))
+    (λ k a b c d e f g h i. (refl, (refl, refl)))
 
 returns : tie.Need-returns
 returns c = search needs
@@ -36,10 +37,10 @@ returns-2 : tie.Need-returns-2
 returns-2 c = search needs
 
 returns-3 : tie.Need-returns-3
-returns-3 c = ⊎-elim (λ e. rw e (refl, refl)) (λ e. rw e (refl, refl)) (c .match .keys3)
+returns-3 c = ⊎-elim (λ e. rw e (refl, (refl, refl))) (λ e. rw e (refl, (refl, refl))) (c .match .keys3)
 
 returns-4 : tie.Need-returns-4
-returns-4 c = ⊎-elim (λ e. rw e (refl, refl)) (λ e. rw e (refl, refl)) (c .match .keys4)
+returns-4 c = ⊎-elim (λ e. rw e (refl, (refl, refl))) (λ e. rw e (refl, (refl, refl))) (c .match .keys4)
 
 returns-5 : tie.Need-returns-5
 returns-5 c = search needs
@@ -54,10 +55,13 @@ returns-8 : tie.Need-returns-8
 returns-8 c = search needs
 
 returns-9 : tie.Need-returns-9
-returns-9 c =
+returns-9 c = search needs
+
+returns-10 : tie.Need-returns-10
+returns-10 c =
     let r = c .match .rest in
-    none (c .before .args .op) (r .0 .0 .0 .0 .0 .0 .0 .1) (r .0 .0 .0 .0 .0 .0 .1) (r .0 .0 .0 .0 .0 .1) (r .0 .0 .0 .0 .1) (r .0 .0 .0 .1) (r .0 .0 .1) (r .0 .1) (r .1)
+    none (c .before .args .op) (r .0 .0 .0 .0 .0 .0 .0 .0 .1) (r .0 .0 .0 .0 .0 .0 .0 .1) (r .0 .0 .0 .0 .0 .0 .1) (r .0 .0 .0 .0 .0 .1) (r .0 .0 .0 .0 .1) (r .0 .0 .0 .1) (r .0 .0 .1) (r .0 .1) (r .1)
 
 pub operands-of-spec : {M : Type 1} → statement M
 operands-of-spec =
-    tie.close (tie.spec returns returns-2 returns-3 returns-4 returns-5 returns-6 returns-7 returns-8 returns-9)
+    tie.close (tie.spec returns returns-2 returns-3 returns-4 returns-5 returns-6 returns-7 returns-8 returns-9 returns-10)
