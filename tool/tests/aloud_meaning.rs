@@ -1,7 +1,7 @@
 //! What is read aloud means what the entries mean: clauses are evaluated over
 //! random records and held against the keeper, and no two of them sound alike.
 
-use cuckooormolu_tool::aloud::clause::{Clause, Link, Who};
+use cuckooormolu_tool::aloud::clause::{Clause, Link, Reached, Who};
 use cuckooormolu_tool::aloud::form::{Forms, Quantity};
 use cuckooormolu_tool::aloud::{resolve, Aloud};
 use cuckooormolu_tool::names::{Kind, Names};
@@ -50,6 +50,7 @@ impl Evaluation<'_> {
                 self.has_edge(moment, *label, self.member(*from), self.member(*to)) == *holds
             }
             Clause::Linked(link) => self.linked(link, moment),
+            Clause::Reached(reached) => self.reached(reached, moment),
             Clause::All(parts) => parts.iter().all(|part| self.holds(part, moment)),
             Clause::Any(parts) => parts.iter().any(|part| self.holds(part, moment)),
             Clause::Before { holds, then } => {
@@ -83,11 +84,29 @@ impl Evaluation<'_> {
                 found.push(self.holds(&link.that, moment));
             }
         }
-        match link.quantity {
-            Quantity::Some => found.contains(&true),
-            Quantity::No => !found.contains(&true),
-            Quantity::Every => !found.contains(&false),
+        agree(link.quantity, &found)
+    }
+
+    fn reached(&mut self, reached: &Reached, moment: usize) -> bool {
+        let mut found = Vec::new();
+        for far in 0..self.record.terms().members {
+            self.guests.resize(self.guests.len().max(reached.guest + 1), 0);
+            self.guests[reached.guest] = far;
+            if self.holds(&reached.step, moment) {
+                self.guests[reached.guest] = far;
+                found.push(self.holds(&reached.that, moment));
+            }
         }
+        agree(reached.quantity, &found)
+    }
+}
+
+/// Whether what was found is so of as many as it should be.
+fn agree(quantity: Quantity, found: &[bool]) -> bool {
+    match quantity {
+        Quantity::Some => found.contains(&true),
+        Quantity::No => !found.contains(&true),
+        Quantity::Every => !found.contains(&false),
     }
 }
 
@@ -235,6 +254,10 @@ fn gather_apart(clause: &Clause, apart: &mut Vec<usize>) {
             parts.iter().for_each(|part| gather_apart(part, apart));
         }
         Clause::Linked(link) => gather_apart(&link.that, apart),
+        Clause::Reached(reached) => {
+            gather_apart(&reached.step, apart);
+            gather_apart(&reached.that, apart);
+        }
         Clause::Before { then, .. } | Clause::Once { then, .. } | Clause::Throughout(then) => {
             gather_apart(then, apart);
         }
@@ -259,12 +282,13 @@ fn changed(terms: &Terms, rng: &mut Rng) -> Option<Terms> {
     let mut terms = terms.clone();
     let place = rng.below(terms.entries.len());
     let entry = terms.entries[place];
-    let (operator, a, b) = entry.parts();
-    let changed = match rng.below(4) {
-        0 => Entry::of_parts(operator, b, a),
-        1 => Entry::of_parts(operator ^ 1, a, b),
-        2 => Entry::of_parts(operator, a ^ 1, b),
-        _ => Entry::of_parts(operator, a, b ^ 1),
+    let (operator, [a, b, c]) = entry.parts();
+    let changed = match rng.below(5) {
+        0 => Entry::of_parts(operator, [b, a, c]),
+        1 => Entry::of_parts(operator ^ 1, [a, b, c]),
+        2 => Entry::of_parts(operator, [a ^ 1, b, c]),
+        3 => Entry::of_parts(operator, [a, c, b]),
+        _ => Entry::of_parts(operator, [a, b ^ 1, c]),
     };
     terms.entries[place] = changed?;
     read(&write(&terms, &terms.edges)).ok()
