@@ -159,7 +159,7 @@ fn clauses_mean_what_entries_mean() {
             apart += 1;
         }
     }
-    assert!(compared > 10_000 && apart > 40, "{compared} {apart}");
+    assert!(compared > 10_000 && apart > 25, "{compared} {apart}");
 }
 
 /// Names for two relations and three events: verbs with and without a

@@ -78,11 +78,10 @@ pub struct Link {
     pub that: Box<Clause>,
 }
 
-/// Some, no or every guest to whom a step leads from a member, such that.
+/// Some, no or every guest to whom a step leads, such that.
 #[derive(Clone, Debug, PartialEq, Eq, Hash, PartialOrd, Ord)]
 pub struct Reached {
     pub quantity: Quantity,
-    pub near: Who,
     pub guest: usize,
     pub step: Box<Clause>,
     pub that: Box<Clause>,

@@ -134,7 +134,7 @@ impl Resolver<'_> {
             Clause::Edge { label, from, to, holds: true } if (from, to) == (far, near) => {
                 Clause::Linked(Link { quantity, label, near, out: false, guest, that })
             }
-            _ => Clause::Reached(Reached { quantity, near, guest, step, that }),
+            _ => Clause::Reached(Reached { quantity, guest, step, that }),
         }
     }
 

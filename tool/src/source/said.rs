@@ -114,8 +114,9 @@ pub fn said(form: Form) -> Said {
             placed = body.placed;
         }
         Form::Step { name, leads, body, .. } => {
-            here = leads.here;
             others = without(&leads.others, *name);
+            // A step that names nobody else is taken from here.
+            here = leads.here || others.is_empty();
             add(&mut others, &without(&body.others, *name));
             placed = leads.placed || body.placed;
         }

@@ -122,7 +122,7 @@ impl<'a> Speaker<'a> {
 
     fn reach(&mut self, x: usize, f: usize, g: usize, holds: bool) -> Phrase {
         let letter = self.letter();
-        let step = self.step(x, f, &letter);
+        let step = self.step(x, f, &letter).inside(Shape::And);
         let there = match self.words.terms.entries[g] {
             Entry::Top => String::new(),
             _ => format!(" and {}", self.at(letter.clone(), g, true).inside(Shape::And)),
@@ -132,9 +132,9 @@ impl<'a> Speaker<'a> {
     }
 
     /// A step's first part, said of somebody.
-    fn step(&mut self, x: usize, f: usize, whom: &str) -> String {
+    fn step(&mut self, x: usize, f: usize, whom: &str) -> Phrase {
         let hidden = std::mem::replace(&mut self.variables[x], whom.to_string());
-        let step = self.say(f, true).inside(Shape::And);
+        let step = self.say(f, true);
         self.variables[x] = hidden;
         step
     }
@@ -142,7 +142,7 @@ impl<'a> Speaker<'a> {
     /// That the step of a reach leads to nobody.
     pub fn no_step(&mut self, x: usize, f: usize) -> String {
         let letter = self.letter();
-        let step = self.step(x, f, &letter);
+        let step = self.step(x, f, &letter).text;
         format!("nobody is {letter} with {step}")
     }
 

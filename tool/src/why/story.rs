@@ -166,6 +166,14 @@ impl Teller<'_, '_> {
     /// That it never was so; for a denial also the moments whose event came near.
     fn never(&mut self, failing: Vec<Claim>) -> Vec<Story> {
         let Some(last) = failing.last() else { return Vec::new() };
+        let last = last.place;
+        let mut stories = self.near(&failing);
+        stories.push(Story::of(Fact::Never(last)));
+        stories
+    }
+
+    /// For a denial, the failing claims whose event came near, the last first.
+    fn near(&mut self, failing: &[Claim]) -> Vec<Story> {
         let mut stories = Vec::new();
         if !self.granted {
             for claim in failing.iter().rev() {
@@ -177,7 +185,6 @@ impl Teller<'_, '_> {
                 stories.extend(near.filter(|story| story.has_event(relations)));
             }
         }
-        stories.push(Story::of(Fact::Never(last.place)));
         stories
     }
 
@@ -188,7 +195,7 @@ impl Teller<'_, '_> {
             return Vec::new();
         };
         let mut stories = Vec::new();
-        for claim in failing.into_iter().filter(|claim| claim.place.entry == g) {
+        for claim in failing.iter().copied().filter(|claim| claim.place.entry == g) {
             let assigned = Assigned::default().with(x, claim.place.member);
             let step = self.reasons.claim(Place { entry: f, assigned, ..place });
             if !step.holds {
@@ -203,6 +210,7 @@ impl Teller<'_, '_> {
             }
         }
         if stories.is_empty() {
+            stories = self.near(&failing);
             stories.push(Story::of(Fact::NoStep(place)));
         }
         stories
