@@ -81,7 +81,15 @@ impl Reader<'_> {
             return Err(Fault::new(FORM, kind.place(), what).right(right));
         }
         let long = *word == "F" && fields.get(2).is_some_and(is_long);
-        counted(&fields, if long { &LONG_ENTRY } else { due }, line.len())?;
+        let counted = counted(&fields, if long { &LONG_ENTRY } else { due }, line.len());
+        counted.map_err(|fault| {
+            match *word == "F" && !long && fields.len() == LONG_ENTRY.len() {
+                true => {
+                    Fault { right: format!("{}; only reach has one more", fault.right), ..fault }
+                }
+                false => fault,
+            }
+        })?;
         match fields[1..] {
             [n] => self.members(n),
             [relations, events] if *word == "L" => self.labels(relations, events),
