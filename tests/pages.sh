@@ -26,18 +26,18 @@ cp "$work/terms" "$work/case/terms.tsv"
 hold 'FORMAT, requests and answers'
 
 # `faulty after earlier`: the earlier line goes before the faulty one.
-number=0
 column FORMAT.md 'When a terms file is refused' 3 >"$work/lines"
-while IFS=';' read -r faulty earlier; do
-    number=$((number + 1))
+sed -n '/^## When a terms file is refused$/,/^## /s/^| \([0-9][0-9]*\) |.*/\1/p' "$docs/FORMAT.md" | paste -d ';' - "$work/lines" >"$work/refusals"
+while IFS=';' read -r number faulty earlier; do
     awk -v faulty="$faulty" -v earlier="$earlier" '
         /^P/ && !put++ { if (earlier != "") print earlier; print faulty }
         { print }' "$work/terms" >"$work/case/terms.tsv"
     line=$(awk -v faulty="$faulty" '$0 == faulty { print NR }' "$work/case/terms.tsv")
     printf 'terms\t%s\t%s\n' "$number" "$line" >"$work/wanted"
     hold "FORMAT, refusal $number"
-done <"$work/lines"
-[ "$number" -eq 5 ] || { echo "FAIL FORMAT: $number refusals" && failed=$((failed + 1)); }
+done <"$work/refusals"
+numbers=$(cut -d ';' -f 1 "$work/refusals" | tr '\n' ' ')
+[ "$numbers" = '1 2 3 4 5 10 ' ] || { echo "FAIL FORMAT: refusals $numbers" && failed=$((failed + 1)); }
 
 sed -n '/^## The preset$/,/^## Cases$/s/^    //p' "$docs/SCOPE.md" | tr ' ' '\t' >"$work/case/terms.tsv"
 column SCOPE.md 'The preset' 1 >"$work/case/requests.tsv"

@@ -4,7 +4,7 @@
 use crate::archives::{self, Archive};
 use crate::measure::{in_turn, timed, Batch};
 use crate::stack;
-use crate::workload::{chains, named, Request, Workload};
+use crate::workload::{chains, Request, Workload};
 use cuckooormolu::{SCRATCH_WORDS, STATE_WORDS, TERMS_WORDS};
 use std::hint::black_box;
 use std::path::PathBuf;
@@ -17,6 +17,8 @@ const LEVELS: usize = 255;
 /// A chain is grown to its levels; where a request takes longer than this on
 /// the way, its time doubles with the levels, and the chain is left out.
 const SLOW: Duration = Duration::from_millis(50);
+
+const ACCEPTED: &str = "every archive accepts chains";
 
 /// Makes the calls of a kind, over a start.
 type Make = for<'a> fn(&'a Start, &'a Archive) -> Batch<'a>;
@@ -33,28 +35,27 @@ struct Start {
 }
 
 impl Start {
-    fn of(workload: &Workload) -> Start {
-        let mut monitor = workload.monitor();
+    /// A record of the workload, made by the archive; none where it refuses
+    /// the terms, since it doesn't know an operator.
+    fn of(workload: &Workload, archive: &Archive) -> Option<Start> {
+        let mut start = Start::read(archive, &workload.text)?;
+        let mut scratch = vec![0; SCRATCH_WORDS];
         let mut moments = 0;
-        for [event, from, to] in (1_000..).flat_map(|seed| workload.requests(seed, 400)) {
+        for request in (1_000..).flat_map(|seed| workload.requests(seed, 400)) {
             if moments == MOMENTS {
                 break;
             }
-            let answer = monitor.request(named([event, from, to]));
-            moments += usize::from(answer.is_ok_and(|answer| answer.is_grant()));
+            let code = archive.request(&start.terms, &mut start.state, &mut scratch, request);
+            moments += usize::from(archives::is_granted(code));
         }
-        Start {
-            terms: monitor.terms().words().to_vec(),
-            state: monitor.state().words().to_vec(),
-            calls: workload.requests(11, CALLS),
-        }
+        Some(Start { calls: workload.requests(11, CALLS), ..start })
     }
 
-    fn read(archive: &Archive, text: &[u8]) -> Start {
+    fn read(archive: &Archive, text: &[u8]) -> Option<Start> {
         let (mut terms, mut state) = (vec![0; TERMS_WORDS], vec![0; STATE_WORDS]);
         let code = archive.read(text, &mut terms, &mut state);
-        assert!(archives::is_done(code), "the terms are accepted");
-        Start { terms, state, calls: vec![[0, 1, 2], [1, 1, 2]] }
+        let start = Start { terms, state, calls: vec![[0, 1, 2], [1, 1, 2]] };
+        archives::is_done(code).then_some(start)
     }
 
     fn requests<'a>(&'a self, archive: &'a Archive) -> Batch<'a> {
@@ -95,7 +96,8 @@ impl Start {
     }
 }
 
-/// The calls of an archive, or none where they would take too long.
+/// The calls of an archive, or none where they would take too long or the terms
+/// are refused.
 type Calls<'a> = Option<Vec<Batch<'a>>>;
 
 /// One line: the least ns of each archive's calls, and the ratios to the first.
@@ -111,7 +113,7 @@ fn row(name: &str, calls: Vec<Calls>) {
         match (time, least[0]) {
             (Some(time), Some(first)) => print!(" {time:>9.0} {:>6.3}", time / first),
             (Some(time), None) => print!(" {time:>9.0} {:>6}", ""),
-            (None, _) => print!(" {:>9} {:>6}", "2^n", ""),
+            (None, _) => print!(" {:>9} {:>6}", "-", ""),
         }
     }
     println!();
@@ -124,27 +126,33 @@ pub fn print(others: &[String]) {
     paths.push(archives::built());
     let archives: Vec<[Archive; 4]> = paths.iter().map(|path| Archive::open(path)).collect();
     println!("least ns of a call at {MEMBERS} members, and its ratio to the first archive's:");
-    for make in [Workload::preset, Workload::large, Workload::random] {
+    for make in [Workload::preset, Workload::reach, Workload::large, Workload::random] {
         let workload = make(MEMBERS);
-        let start = Start::of(&workload);
+        // Each archive has its own words for the terms.
+        let starts: Vec<Option<Start>> =
+            archives.iter().map(|places| Start::of(&workload, &places[0])).collect();
         let kinds = [
             ("request", Start::requests as Make),
             ("look", Start::looks as Make),
             ("check", Start::checks as Make),
         ];
         for (call, make) in kinds {
-            let calls = archives.iter().map(|places| Some(batches(make, &start, places)));
+            let calls = archives
+                .iter()
+                .zip(&starts)
+                .map(|(places, start)| start.as_ref().map(|start| batches(make, start, places)));
             row(&format!("{}: {call}", workload.name), calls.collect());
         }
     }
     let quick: Vec<[bool; 3]> = archives.iter().map(|places| are_quick(&places[0])).collect();
     for (kind, (name, text)) in chains(LEVELS).into_iter().enumerate() {
-        let start = Start::read(&archives[paths.len() - 1][0], &text);
+        let read = |places: &[Archive; 4]| Start::read(&places[0], &text).expect(ACCEPTED);
+        let starts: Vec<Start> = archives.iter().map(read).collect();
         for (call, make) in [("request", Start::requests as Make), ("look", Start::looks as Make)] {
-            let calls = archives
-                .iter()
-                .zip(&quick)
-                .map(|(places, quick)| quick[kind].then(|| batches(make, &start, places)));
+            let calls =
+                archives.iter().zip(&starts).zip(&quick).map(|((places, start), quick)| {
+                    quick[kind].then(|| batches(make, start, places))
+                });
             row(&format!("{name}: {call}"), calls.collect());
         }
     }
@@ -159,7 +167,7 @@ pub fn print(others: &[String]) {
 fn are_quick(archive: &Archive) -> [bool; 3] {
     [0, 1, 2].map(|kind| {
         (8..=LEVELS).step_by(4).all(|levels| {
-            let start = Start::read(archive, &chains(levels)[kind].1);
+            let start = Start::read(archive, &chains(levels)[kind].1).expect(ACCEPTED);
             let (mut state, mut scratch) = (start.state.clone(), vec![0; SCRATCH_WORDS]);
             let mut request = |call| archive.request(&start.terms, &mut state, &mut scratch, call);
             let mut calls = || start.calls.iter().for_each(|&call| _ = request(call));

@@ -3,6 +3,9 @@
 
 use keeper::terms::memory::*;
 
+/// Words of an entry.
+const ENTRY: usize = 4;
+
 /// Whether terms and state would be accepted.
 pub fn passes(terms: &[u16], state: &[u64]) -> bool {
     if terms.len() < TERMS_WORDS || state.len() < STATE_WORDS {
@@ -25,12 +28,12 @@ fn check_terms(terms: &[u16], free: &mut [u16; 256]) -> Option<usize> {
     if !right {
         return None;
     }
-    let (entries, rest) = terms[FIRST_ENTRY..].split_at(3 * 256);
+    let (entries, rest) = terms[FIRST_ENTRY..].split_at(ENTRY * 256);
     let (policies, effects) = rest.split_at(16);
-    let past = check_entries(&entries[..3 * count], relations + events, free)?;
+    let past = check_entries(&entries[..ENTRY * count], relations + events, free)?;
     let policy = |&entry: &u16| usize::from(entry) < count && free[usize::from(entry)] & !1 == 0;
     let effect = |words: &[u16]| check_effects(words, relations);
-    let right = zero(&entries[3 * count..])
+    let right = zero(&entries[ENTRY * count..])
         && policies[..events].iter().all(policy)
         && zero(&policies[events..])
         && effects[..12 * events].chunks_exact(12).all(effect)
@@ -44,8 +47,8 @@ fn zero(words: &[u16]) -> bool {
 
 fn check_entries(entries: &[u16], labels: usize, free: &mut [u16; 256]) -> Option<usize> {
     let mut past = 0;
-    for (index, entry) in entries.chunks_exact(3).enumerate() {
-        let (a, b) = (usize::from(entry[1]), usize::from(entry[2]));
+    for (index, entry) in entries.chunks_exact(ENTRY).enumerate() {
+        let [a, b, c] = [1, 2, 3].map(|place| usize::from(entry[place]));
         let (right, own) = match entry[0] {
             0 => (a | b == 0, 0),
             1 => (a < 16 && b == 0, 1 << (a & 15)),
@@ -59,10 +62,15 @@ fn check_entries(entries: &[u16], labels: usize, free: &mut [u16; 256]) -> Optio
             }
             8 => ((1..16).contains(&a) && b < index, free[b & 255] & !(1 << (a & 15))),
             9 => (a < 16 && b < index, free[b & 255] | 1 << (a & 15)),
+            10 => {
+                let (x, to) = (1 << (a & 15), free[c & 255]);
+                let lower = b < index && c < index;
+                ((1..16).contains(&a) && lower && free[b & 255] & !x == 0 && to & x == 0, to)
+            }
             _ => (false, 0),
         };
         past += usize::from(entry[0] == 6 || entry[0] == 7);
-        if !right {
+        if !right || entry[0] != 10 && c != 0 {
             return None;
         }
         free[index] = own;
@@ -107,14 +115,16 @@ fn union(words: &[u64]) -> u64 {
 fn level(terms: &[u16], free: &[u16; 256], tables: &[u64], full: u64) -> bool {
     let count = usize::from(terms[3]);
     let mut tables = tables.chunks_exact(64);
-    terms[FIRST_ENTRY..FIRST_ENTRY + 3 * count].chunks_exact(3).zip(free).all(|(entry, &free)| {
-        if entry[0] != 6 && entry[0] != 7 {
-            return true;
-        }
-        let table = tables.next().unwrap_or(&[]);
-        let uneven = |word: &u64| word ^ (word & 1).wrapping_neg() & full;
-        free != 0 || table.iter().fold(0, |union, word| union | uneven(word)) == 0
-    })
+    terms[FIRST_ENTRY..FIRST_ENTRY + ENTRY * count].chunks_exact(ENTRY).zip(free).all(
+        |(entry, &free)| {
+            if entry[0] != 6 && entry[0] != 7 {
+                return true;
+            }
+            let table = tables.next().unwrap_or(&[]);
+            let uneven = |word: &u64| word ^ (word & 1).wrapping_neg() & full;
+            free != 0 || table.iter().fold(0, |union, word| union | uneven(word)) == 0
+        },
+    )
 }
 
 fn names(word: u64, events: usize, members: usize) -> bool {

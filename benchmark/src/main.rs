@@ -62,7 +62,7 @@ fn table() {
     }
     println!("{}", rows::HEAD);
     let mut all = Vec::new();
-    for make in [Workload::preset, Workload::large, Workload::random] {
+    for make in [Workload::preset, Workload::reach, Workload::large, Workload::random] {
         for members in MEMBERS {
             for row in rows::measured(&make(members)) {
                 println!("{row}");

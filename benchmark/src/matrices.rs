@@ -159,6 +159,7 @@ impl Matrices {
                     row.iter_mut().zip(own).for_each(|(o, f)| *o = *f);
                 }
             }
+            Entry::Reach(_, f, g) => step(out, &lower[f], &lower[g], n),
         }
     }
 
@@ -198,6 +199,8 @@ impl Matrices {
         let operands = match formula {
             Entry::Not(f) | Entry::Out(_, f) | Entry::In(_, f) | Entry::At(_, f) => [Some(f), None],
             Entry::Or(f, g) => [Some(f), Some(g)],
+            // Its first operand has a matrix.
+            Entry::Reach(_, _, g) => [Some(g), None],
             _ => [None, None],
         };
         operands.into_iter().flatten().for_each(|f| self.top_down(f, assigned));
@@ -212,7 +215,20 @@ impl Matrices {
             Entry::Out(l, f) => gather(out, &lower[f], &self.ahead[l], 1),
             Entry::In(l, f) => gather(out, &lower[f], &self.behind[l], 1),
             Entry::At(x, f) => out.fill(lower[f][assigned[x]]),
+            Entry::Reach(_, f, g) => step(out, &self.matrices[f], &lower[g], 1),
             _ => unreachable!("no other entry has two free variables"),
+        }
+    }
+}
+
+/// Leaves in each row the union of the rows of g of those that f leads to: f has
+/// a row of members for each member.
+fn step(out: &mut [u8], f: &[u8], g: &[u8], width: usize) {
+    let members = out.len() / width;
+    for (row, leads) in out.chunks_exact_mut(width).zip(f.chunks_exact(members)) {
+        row.fill(0);
+        for (other, _) in leads.iter().enumerate().filter(|(_, leads)| **leads == 1) {
+            row.iter_mut().zip(&g[other * width..]).for_each(|(o, g)| *o |= g);
         }
     }
 }

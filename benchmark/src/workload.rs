@@ -68,6 +68,25 @@ impl Workload {
         Workload::new("preset", terms, ALL_LENGTHS)
     }
 
+    /// The preset's events, owners and answers, the load policy the other way
+    /// round: a step to whoever has shared with the player and has not
+    /// withdrawn since, who must own the target.
+    pub fn reach(members: usize) -> Workload {
+        let preset = Workload::preset(members).terms;
+        let entries = vec![
+            Entry::Var(1),
+            Entry::In(1, 0),
+            Entry::In(2, 0),
+            Entry::Not(2),
+            Entry::Since(3, 1),
+            Entry::Var(0),
+            Entry::Out(0, 5),
+            Entry::Reach(1, 4, 6),
+            Entry::Top,
+        ];
+        Workload::new("reach", Terms { entries, ..preset }, ALL_LENGTHS)
+    }
+
     /// 256 entries, 32 of them past-time: 31 policies of the preset's kind
     /// over other labels, an or of some, and what each moment has before it.
     /// Events 0 to 7 are always granted, the others by a policy each.
@@ -134,7 +153,12 @@ impl Workload {
         Monitor::read(&self.text).expect("the terms are accepted")
     }
 
-    /// A list of requests. On the preset each four are a share, a load that
+    /// Whether its events are the preset's.
+    fn shares(&self) -> bool {
+        self.is_preset() || self.name == "reach"
+    }
+
+    /// A list of requests. With the preset's events each four are a share, a load that
     /// is then granted, a withdrawal and a load that is then denied.
     pub fn requests(&self, seed: u64, count: usize) -> Vec<Request> {
         let mut rng = Rng::new(seed);
@@ -142,7 +166,7 @@ impl Workload {
         let mut list = Vec::new();
         while list.len() < count {
             let (one, two) = (rng.below(members), rng.below(members));
-            if self.is_preset() {
+            if self.shares() {
                 let owned = if members == 3 { 2 } else { two };
                 let from = owner(members, owned);
                 let (share, withdraw, load) = ([0, from, one], [1, from, one], [2, one, owned]);

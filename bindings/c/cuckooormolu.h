@@ -2,7 +2,7 @@
  * The sharing-terms reference monitor, over memory that the host lends.
  *
  * Machine   x86-64 Linux only: the archive is machine code for it.
- * RAM       terms 1,960 bytes, state 24,584 bytes, scratch 16,384 bytes. The
+ * RAM       terms 2,472 bytes, state 24,584 bytes, scratch 16,384 bytes. The
  *           library allocates nothing and has no state of its own.
  * Stack     measured, not proved: reading takes 181 KiB, an opening, look or
  *           request 169 KiB, and each 1.05 KiB more for every level by which
@@ -54,17 +54,17 @@ extern "C" {
 #endif
 
 #define CUCKOOORMOLU_VERSION_MAJOR 0
-#define CUCKOOORMOLU_VERSION_MINOR 2
+#define CUCKOOORMOLU_VERSION_MINOR 3
 #define CUCKOOORMOLU_VERSION_PATCH 0
-#define CUCKOOORMOLU_VERSION "0.2.0"
+#define CUCKOOORMOLU_VERSION "0.3.0"
 
 /* The named words of each memory. */
-#define CUCKOOORMOLU_TERMS_WORDS 980
+#define CUCKOOORMOLU_TERMS_WORDS 1236
 #define CUCKOOORMOLU_STATE_WORDS 3073
 #define CUCKOOORMOLU_SCRATCH_WORDS 2048
 
 /* No written text is longer than this many bytes. */
-#define CUCKOOORMOLU_TEXT_BYTES 727261
+#define CUCKOOORMOLU_TEXT_BYTES 728029
 
 /* More stack than any call was measured to take. */
 #define CUCKOOORMOLU_STACK_BYTES (512 * 1024)
@@ -95,6 +95,9 @@ typedef enum cuckooormolu_code {
     CUCKOOORMOLU_REFUSED_STATE = 8,
     /* An event or a member that does not exist. */
     CUCKOOORMOLU_REFUSED_NAME = 9,
+    /* A reach whose variable is 0, whose first formula has another free
+     * variable, or whose second has that variable free. */
+    CUCKOOORMOLU_REFUSED_REACH = 10,
     /* A reading, writing, check or opening that is done. */
     CUCKOOORMOLU_DONE = 100,
     /* A look or request whose policy does not hold. */
@@ -124,10 +127,10 @@ struct cuckooormolu {
 };
 
 CUCKOOORMOLU_ASSERT(sizeof(size_t) == 8, "lengths and codes have 64 bits");
-CUCKOOORMOLU_ASSERT(sizeof(struct cuckooormolu) == 1960 + 24584 + 16384,
+CUCKOOORMOLU_ASSERT(sizeof(struct cuckooormolu) == 2472 + 24584 + 16384,
                     "no padding between the memories");
 CUCKOOORMOLU_ASSERT(CUCKOOORMOLU_REFUSED_FORM > 0, "no code is 0");
-CUCKOOORMOLU_ASSERT(CUCKOOORMOLU_REFUSED_NAME < 100,
+CUCKOOORMOLU_ASSERT(CUCKOOORMOLU_REFUSED_REACH < 100,
                     "refusals are below 100");
 CUCKOOORMOLU_ASSERT(CUCKOOORMOLU_DONE >= 100, "done is no refusal");
 CUCKOOORMOLU_ASSERT(CUCKOOORMOLU_DENIED > CUCKOOORMOLU_DONE,
@@ -176,6 +179,9 @@ static inline const char *cuckooormolu_words(size_t code)
         return "state that breaks the memory layout";
     case CUCKOOORMOLU_REFUSED_NAME:
         return "no such event or member";
+    case CUCKOOORMOLU_REFUSED_REACH:
+        return "reach whose variable is 0, whose first formula has another "
+               "free variable, or whose second has that variable free";
     case CUCKOOORMOLU_DONE:
         return "done";
     case CUCKOOORMOLU_DENIED:
@@ -241,8 +247,8 @@ size_t cuckooormolu_raw_request(const uint16_t *terms, size_t terms_length,
 
 /*
  * Reads a terms text. Done: the named words of terms and state are filled, the
- * state at moment 0, and *line is 0. Refused with 1 to 5: *line is the first
- * faulty line, from 1. Refused with 6: *line is 0. `line` may be null.
+ * state at moment 0, and *line is 0. Refused with 1 to 5 or 10: *line is
+ * the first faulty line, from 1. Refused with 6: *line is 0. `line` may be null.
  */
 CUCKOOORMOLU_USED static inline struct cuckooormolu_result
 cuckooormolu_read(const uint8_t *text, size_t text_length,

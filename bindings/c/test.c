@@ -36,13 +36,15 @@ static void codes(void)
         EXPECT(cuckooormolu_granted(code) == (code == 300));
         EXPECT(cuckooormolu_denied(code) == (code == 200));
         EXPECT(cuckooormolu_done(code) == (code == 100));
-        bool known = (code >= 1 && code <= 9) || code == 100 || code == 200 ||
+        bool known = (code >= 1 && code <= 10) || code == 100 || code == 200 ||
                      code == 300;
         EXPECT((strcmp(cuckooormolu_words(code),
                        "not a code of the monitor") != 0) == known);
     }
     EXPECT(strcmp(cuckooormolu_words(CUCKOOORMOLU_REFUSED_NAME),
                   "no such event or member") == 0);
+    EXPECT(strncmp(cuckooormolu_words(CUCKOOORMOLU_REFUSED_REACH),
+                   "reach whose variable is 0", 25) == 0);
 }
 
 static void version(void)
@@ -90,6 +92,32 @@ static void calls(void)
            CUCKOOORMOLU_REFUSED_FORM);
     EXPECT(line == 2);
     EXPECT(cuckooormolu_granted(cuckooormolu_monitor_look(&m, 1, 0, 2).code));
+}
+
+/* Event 0 is always granted; event 1 is for whoever once did it to somebody
+ * that is the target. */
+static const char reach[] =
+    "M\t3\nL\t0\t2\nF\t0\ttop\t0\t0\nF\t1\tvar\t1\t0\nF\t2\tout\t0\t1\n"
+    "F\t3\tsince\t0\t2\nF\t4\tvar\t0\t0\nF\t5\treach\t1\t3\t4\nP\t0\t0\n"
+    "P\t1\t5\n";
+
+static void reaching(void)
+{
+    size_t line = 77;
+    char faulty[sizeof reach];
+    EXPECT(cuckooormolu_done(
+        cuckooormolu_monitor_read(&m, reach, sizeof reach - 1, NULL).code));
+    EXPECT(
+        cuckooormolu_granted(cuckooormolu_monitor_request(&m, 0, 0, 1).code));
+    EXPECT(
+        cuckooormolu_granted(cuckooormolu_monitor_request(&m, 0, 2, 0).code));
+    EXPECT(cuckooormolu_granted(cuckooormolu_monitor_look(&m, 1, 0, 1).code));
+    EXPECT(cuckooormolu_denied(cuckooormolu_monitor_look(&m, 1, 1, 0).code));
+    memcpy(faulty, reach, sizeof reach);
+    *strstr(faulty, "1\t3\t4") = '0';
+    EXPECT(cuckooormolu_monitor_read(&m, faulty, sizeof reach - 1, &line)
+               .code == CUCKOOORMOLU_REFUSED_REACH);
+    EXPECT(line == 8);
 }
 
 /* An output of the size that is told takes the whole text, a byte less none
@@ -172,6 +200,7 @@ int main(void)
     version();
     zeroed();
     calls();
+    reaching();
     size();
     nulls();
     lengths();

@@ -5,7 +5,7 @@ use cuckooormolu_tool::why::fact::Fact;
 use cuckooormolu_tool::why::reason::{has_edge, Claim, Place, Reason, Reasons};
 use cuckooormolu_tool::why::story::stories;
 use keeper::generate;
-use keeper::record::meaning::Meaning;
+use keeper::record::meaning::{Assigned, Meaning};
 use keeper::record::{Answer, Graph, Record};
 use keeper::terms::{self, Entry, Terms, VARIABLES};
 use std::collections::HashMap;
@@ -153,6 +153,24 @@ fn conclusion(
             assert_eq!(claim.place, at(f, moment, place.assigned.member(x)));
             values[0]
         }
+        (Entry::Reach(x, f, g), Reason::Reached { step, there }) => {
+            let other = there.place.member;
+            let assigned = Assigned::default().with(x, other);
+            assert_eq!(step.place, Place { entry: f, assigned, ..place });
+            assert_eq!(there.place, at(g, moment, other));
+            assert!(all(true));
+            true
+        }
+        (Entry::Reach(x, f, g), Reason::NobodyReached(claims)) => {
+            assert_eq!(claims.len(), terms.members);
+            for (other, claim) in claims.iter().enumerate() {
+                let assigned = Assigned::default().with(x, other);
+                let step = Place { entry: f, assigned, ..place };
+                assert!(claim.place == step || claim.place == at(g, moment, other));
+            }
+            assert!(all(false));
+            false
+        }
         (entry, reason) => panic!("{entry:?} is not decided by {reason:?}"),
     }
 }
@@ -177,6 +195,13 @@ fn is_so(terms: &Terms, graphs: &[Graph], meaning: &mut Meaning, fact: Fact) -> 
         Fact::Same { member, .. } => member < terms.members,
         Fact::Differ { member, other } => member != other,
         Fact::NoMomentBefore | Fact::Always => true,
+        Fact::NoStep(place) => match terms.entries[place.entry] {
+            Entry::Reach(x, f, _) => (0..terms.members).all(|other| {
+                let assigned = Assigned::default().with(x, other);
+                !holds(Place { entry: f, assigned, ..place }, place.moment)
+            }),
+            _ => false,
+        },
         Fact::Never(place) => (0..=place.moment).all(|moment| !holds(place, moment)),
         Fact::Since { place, first } => (first..=place.moment).all(|moment| holds(place, moment)),
         Fact::Claim(Claim { place, holds: value }) => holds(place, place.moment) == value,

@@ -4,7 +4,7 @@ use crate::Refusal;
 use alloc::boxed::Box;
 
 /// Words of 16 bits that terms fill.
-pub const TERMS_WORDS: usize = 980;
+pub const TERMS_WORDS: usize = 1_236;
 /// Words of 64 bits that a state fills.
 pub const STATE_WORDS: usize = 3_073;
 /// Words of 64 bits that a call is lent besides.
@@ -12,11 +12,11 @@ pub const SCRATCH_WORDS: usize = 2_048;
 
 /// Where the entries of terms begin, and the words of each.
 pub(crate) const FIRST_ENTRY: usize = 4;
-pub(crate) const ENTRY_WORDS: usize = 3;
-pub(crate) const FIRST_POLICY: usize = 772;
+pub(crate) const ENTRY_WORDS: usize = 4;
+pub(crate) const FIRST_POLICY: usize = 1_028;
 /// Where the effects begin, how many places an event has, and the words of
 /// each.
-pub(crate) const FIRST_EFFECT: usize = 788;
+pub(crate) const FIRST_EFFECT: usize = 1_044;
 pub(crate) const EFFECTS: usize = 4;
 pub(crate) const EFFECT_WORDS: usize = 3;
 

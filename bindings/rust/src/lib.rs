@@ -1,7 +1,7 @@
 //! The sharing-terms reference monitor.
 //!
 //! * **x86-64 Linux only.** The static library is machine code for it.
-//! * **Memory**: terms have 1,960 bytes, a state 24,584, scratch 16,384. This
+//! * **Memory**: terms have 2,472 bytes, a state 24,584, scratch 16,384. This
 //!   crate puts them on the heap; the library allocates nothing.
 //! * **Stack**: measured, not proved. Reading takes 181 KiB, an opening, look
 //!   or request 169 KiB, and each 1.05 KiB more for every level by which

@@ -32,10 +32,13 @@ pub enum Refusal {
     BadState,
     /// 9: an event or a member that doesn't exist.
     NoSuchName,
+    /// 10: a reach whose variable is 0, whose first formula has another free
+    /// variable, or whose second has that variable free.
+    ReachVariables,
 }
 
 impl Refusal {
-    pub const ALL: [Refusal; 9] = [
+    pub const ALL: [Refusal; 10] = [
         Refusal::Form,
         Refusal::Range,
         Refusal::Operand,
@@ -45,9 +48,10 @@ impl Refusal {
         Refusal::BadTerms,
         Refusal::BadState,
         Refusal::NoSuchName,
+        Refusal::ReachVariables,
     ];
 
-    /// The refusal's number, 1 to 9.
+    /// The refusal's number, 1 to 10.
     pub fn number(self) -> usize {
         self as usize + 1
     }
@@ -75,6 +79,10 @@ impl Refusal {
             Refusal::BadTerms => "terms that no accepted text yields",
             Refusal::BadState => "state that breaks the memory layout",
             Refusal::NoSuchName => "no such event or member",
+            Refusal::ReachVariables => {
+                "reach whose variable is 0, whose first formula has another free variable, or \
+                 whose second has that variable free"
+            }
         }
     }
 }

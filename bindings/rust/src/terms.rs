@@ -18,6 +18,7 @@ pub enum Entry {
     Since(usize, usize),
     Bind(Variable, usize),
     At(Variable, usize),
+    Reach(Variable, usize, usize),
 }
 
 /// The label of an edge that an entry looks along.
@@ -63,6 +64,7 @@ impl Entry {
             Entry::Since(..) => "since",
             Entry::Bind(..) => "bind",
             Entry::At(..) => "at",
+            Entry::Reach(..) => "reach",
         }
     }
 
@@ -165,6 +167,7 @@ impl Terms {
             7 => Entry::Since(a, b),
             8 => Entry::Bind(variable, b),
             9 => Entry::At(variable, b),
+            10 => Entry::Reach(variable, b, usize::from(words[3])),
             operator => unreachable!("checked terms with operator {operator}"),
         }
     }

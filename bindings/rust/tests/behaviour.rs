@@ -163,10 +163,7 @@ fn a_text_comes_back_byte_by_byte() {
 #[test]
 fn the_longest_text_is_written() {
     let mut text = "M 64\nL 16 16\nF 0 top 0 0\n".to_string();
-    text.extend((1..256).map(|n| match n {
-        1..=32 => format!("F {n} since {} {}\n", n - 1, n - 1),
-        _ => format!("F {n} bind 15 {}\n", n - 1),
-    }));
+    text.extend((1..256).map(|n| format!("F {n} reach 15 {0} {0}\n", n - 1)));
     text.extend((0..16).map(|event| format!("P {event} 255\n")));
     for event in 0..16 {
         text.push_str(&format!("E {event} add 15 back\n").repeat(4));
@@ -176,6 +173,7 @@ fn the_longest_text_is_written() {
     }
     let monitor = Monitor::read(&tabs(&text)).unwrap();
     assert_eq!(monitor.state().edges().count(), 65_536);
+    assert!(text.len() <= defined("CUCKOOORMOLU_TEXT_BYTES"));
     assert!(monitor.write() == tabs(&text));
 }
 
@@ -242,6 +240,8 @@ fn each_refusal_of_a_text_names_its_line() {
     let two = "M 1\nL 0 1\nF 0 var 1 0\nF 1 var 2 0\nF 2 since 0 1\n";
     assert_eq!(refused(two), (4, 5));
     assert_eq!(refused("M 1\nL 0 1\nF 0 var 1 0\nP 0 0\n"), (5, 4));
+    assert_eq!(refused("M 1\nL 0 1\nF 0 top 0 0\nF 1 reach 0 0 0\n"), (10, 4));
+    assert_eq!(refused("M 1\nL 0 1\nF 0 var 1 0\nF 1 reach 1 0 0\n"), (10, 4));
 }
 
 #[test]
@@ -264,7 +264,7 @@ fn refusals_have_numbers_and_words() {
         assert_eq!(Refusal::of_number(index + 1), Some(refusal));
         assert!(refusal.to_string().ends_with(&format!("(refusal {})", index + 1)));
     }
-    assert_eq!((Refusal::of_number(0), Refusal::of_number(10)), (None, None));
+    assert_eq!((Refusal::of_number(0), Refusal::of_number(11)), (None, None));
 }
 
 #[test]
@@ -319,6 +319,25 @@ fn raw_reading_and_writing_keep_to_their_memory() {
     assert_eq!((&output[..text.len()], output[text.len()]), (&text[..], 9));
 }
 
+/// Event 0 is always granted. Event 1 is for whoever at some time did it to
+/// somebody that is the target, by a step along the past.
+const ONCE: &str = "M 3\nL 0 2\nF 0 top 0 0\nF 1 var 1 0\nF 2 out 0 1\nF 3 since 0 2\n\
+                    F 4 var 0 0\nF 5 reach 1 3 4\nP 0 0\nP 1 5\n";
+
+#[test]
+fn a_step_goes_along_the_past() {
+    let mut monitor = Monitor::read(&tabs(ONCE)).unwrap();
+    let entry = monitor.terms().entry(5);
+    assert_eq!(entry, Some(Entry::Reach(Variable(1), 3, 4)));
+    assert_eq!(entry.map(Entry::word), Some("reach"));
+    assert_eq!(monitor.look(asked(Event(1), 0, 1)), Ok(Answer::Deny));
+    monitor.request(asked(Event(0), 0, 1)).unwrap();
+    monitor.request(asked(Event(0), 2, 0)).unwrap();
+    assert_eq!(monitor.look(asked(Event(1), 0, 1)), Ok(Answer::Grant));
+    assert_eq!(monitor.look(asked(Event(1), 1, 0)), Ok(Answer::Deny));
+    assert_eq!(monitor.write(), tabs(ONCE));
+}
+
 /// The number that the C header defines a name as.
 fn defined(name: &str) -> usize {
     let header = include_str!("../../c/cuckooormolu.h");
@@ -336,7 +355,7 @@ fn the_c_header_has_the_same_numbers() {
     assert_eq!(defined("CUCKOOORMOLU_STATE_WORDS"), STATE_WORDS);
     assert_eq!(defined("CUCKOOORMOLU_SCRATCH_WORDS"), SCRATCH_WORDS);
     let refusals =
-        ["FORM", "RANGE", "OPERAND", "PAST", "POLICY", "SHORT", "TERMS", "STATE", "NAME"];
+        ["FORM", "RANGE", "OPERAND", "PAST", "POLICY", "SHORT", "TERMS", "STATE", "NAME", "REACH"];
     for (name, refusal) in refusals.into_iter().zip(Refusal::ALL) {
         assert_eq!(defined(&format!("CUCKOOORMOLU_REFUSED_{name}")), refusal.number());
     }

@@ -45,6 +45,7 @@ fn plain(entry: Entry, relations: usize) -> terms::Entry {
         Entry::Since(f, g) => terms::Entry::Since(f, g),
         Entry::Bind(x, f) => terms::Entry::Bind(x.into(), f),
         Entry::At(x, f) => terms::Entry::At(x.into(), f),
+        Entry::Reach(x, f, g) => terms::Entry::Reach(x.into(), f, g),
     }
 }
 

@@ -4,7 +4,7 @@ use crate::help::accepted;
 use keeper::generate;
 use keeper::record::{Answer, Call, Record};
 use keeper::shrink::{drop_parts, shrink};
-use keeper::terms::{self, Entry};
+use keeper::terms::{self, Entry, Refusal};
 
 #[test]
 fn parts_are_dropped() {
@@ -43,6 +43,7 @@ fn refused_texts_lose_lines() {
         |text: &[u8], _: &[Call]| terms::read(text).is_err_and(|refusal| refusal.number == 3);
     let seed = (0..).find(|&seed| refused(&generate::damaged_text(seed), &[])).unwrap();
     let (text, _) = shrink(&generate::damaged_text(seed), &[], refused);
-    assert!(refused(&text, &[]));
-    assert!(text.iter().filter(|&&byte| byte == b'\n').count() < 12);
+    // Nothing stands after the faulty line.
+    let lines = text.iter().filter(|&&byte| byte == b'\n').count();
+    assert_eq!(terms::read(&text), Err(Refusal { number: 3, line: lines }));
 }

@@ -36,6 +36,7 @@ pub enum Clause {
         holds: bool,
     },
     Linked(Link),
+    Reached(Reached),
     All(Vec<Clause>),
     Any(Vec<Clause>),
     /// There is a moment before, and at it.
@@ -74,6 +75,15 @@ pub struct Link {
     /// The edge leaves the near member.
     pub out: bool,
     pub guest: usize,
+    pub that: Box<Clause>,
+}
+
+/// Some, no or every guest to whom a step leads, such that.
+#[derive(Clone, Debug, PartialEq, Eq, Hash, PartialOrd, Ord)]
+pub struct Reached {
+    pub quantity: Quantity,
+    pub guest: usize,
+    pub step: Box<Clause>,
     pub that: Box<Clause>,
 }
 

@@ -40,6 +40,7 @@ pub enum Form {
     Since { holds: bool, start: Node, hold: Node },
     Bind { variable: usize, here: Node },
     At { variable: usize, there: Node },
+    Reach { quantity: Quantity, variable: usize, step: Node, there: Node },
 }
 
 /// Shared parts larger than this are said once and numbered.
@@ -108,6 +109,10 @@ impl<'a> Forms<'a> {
             Entry::Since(f, g) => self.since(self.node(f, true), self.node(g, true), holds),
             Entry::Bind(variable, f) => Form::Bind { variable, here: self.node(f, holds) },
             Entry::At(variable, f) => Form::At { variable, there: self.node(f, holds) },
+            Entry::Reach(variable, f, g) => {
+                let (quantity, there) = self.quantified(g, holds);
+                Form::Reach { quantity, variable, step: self.node(f, true), there }
+            }
         }
     }
 
@@ -123,13 +128,18 @@ impl<'a> Forms<'a> {
     }
 
     fn edge(&self, label: usize, out: bool, f: usize, holds: bool) -> Form {
+        let (quantity, there) = self.quantified(f, holds);
+        Form::Edge { quantity, label, out, there }
+    }
+
+    /// Of how many something is said, and what.
+    fn quantified(&self, f: usize, holds: bool) -> (Quantity, Node) {
         let there = self.node(f, true);
-        let (quantity, there) = match holds {
+        match holds {
             true => (Quantity::Some, there),
             false if self.is_negative(there) => (Quantity::Every, there.negated()),
             false => (Quantity::No, there),
-        };
-        Form::Edge { quantity, label, out, there }
+        }
     }
 
     fn since(&self, hold: Node, start: Node, holds: bool) -> Form {

@@ -2,6 +2,7 @@
 
 mod linked;
 mod past;
+mod reached;
 
 use super::clause::{Clause, Who};
 use super::grammar::{be, Linking, Time};
@@ -36,6 +37,7 @@ impl Speaker<'_> {
                 self.edge(*label, *from, *to, time, manner, focus)
             }
             Clause::Linked(link) => self.linked(link, time, focus),
+            Clause::Reached(reached) => self.reached(reached, time),
             Clause::All(parts) => {
                 let parts = parts.iter().map(|part| self.say(part, time, focus)).collect();
                 join(parts, false, held)

@@ -1,6 +1,6 @@
 //! Clauses made of entries: of whom each part is said is worked out.
 
-use super::clause::{Clause, Link, Who};
+use super::clause::{Clause, Link, Reached, Who};
 use super::form::{Form, Forms, Node, Quantity};
 use keeper::terms::VARIABLES;
 
@@ -72,6 +72,9 @@ impl Resolver<'_> {
             }
             Form::Bind { variable, here: f } => self.node(f, here, named.with(variable, here)),
             Form::At { variable, there } => self.node(there, named.0[variable], named),
+            Form::Reach { quantity, variable, step, there } => {
+                self.reach(quantity, (variable, step), there, here, named)
+            }
         }
     }
 
@@ -108,6 +111,31 @@ impl Resolver<'_> {
         self.guests += 1;
         let that = self.boxed(there, Who::Guest(guest), named);
         Clause::Linked(Link { quantity, label, near: here, out, guest, that })
+    }
+
+    /// A step along an edge is said as that edge.
+    fn reach(
+        &mut self,
+        quantity: Quantity,
+        (variable, step): (usize, Node),
+        there: Node,
+        near: Who,
+        named: Named,
+    ) -> Clause {
+        let guest = self.guests;
+        self.guests += 1;
+        let far = Who::Guest(guest);
+        let step = self.boxed(step, near, named.with(variable, far));
+        let that = self.boxed(there, far, named);
+        match *step {
+            Clause::Edge { label, from, to, holds: true } if (from, to) == (near, far) => {
+                Clause::Linked(Link { quantity, label, near, out: true, guest, that })
+            }
+            Clause::Edge { label, from, to, holds: true } if (from, to) == (far, near) => {
+                Clause::Linked(Link { quantity, label, near, out: false, guest, that })
+            }
+            _ => Clause::Reached(Reached { quantity, guest, step, that }),
+        }
     }
 
     /// If what is asked of an edge's far end says who it is: who, and what else

@@ -46,7 +46,7 @@ const DERIVED: &[(&[&str], &str)] = &[
 pub fn no_word(word: Field, operands: [Field; 2], entry: usize) -> Fault {
     let shown = word.shown();
     let fault = |what: String| Fault::new(FORM, word.place(), what);
-    let words = OPERATORS.map(|(name, _, _)| name);
+    let words = OPERATORS.map(|operator| operator.word);
     let all = format!("the words are {}", words.join(", "));
     let lower = shown.to_lowercase();
     if shown.is_empty() {

@@ -13,14 +13,21 @@ use keeper::terms::{Entry, Field, Variables, MOST_ENTRIES, MOST_PAST, OPERATORS,
 const OPERAND: u16 = 3;
 /// The refusal of a past-time entry with two free variables.
 const PAST_VARIABLES: u16 = 4;
+/// The refusal of a reach whose variables don't fit.
+const REACH_VARIABLES: u16 = 10;
 
 impl Reader<'_> {
-    pub fn entry(&mut self, i: Part, word: Part, first: Part, second: Part) -> Result<(), Fault> {
+    /// An F line with two operands, or with three where its word takes them.
+    pub fn entry(&mut self, i: Part, word: Part, operands: &[Part]) -> Result<(), Fault> {
         let due = self.terms.entries.len();
-        let known = OPERATORS.iter().position(|(name, _, _)| name.as_bytes() == word.bytes);
-        let operator = known.ok_or_else(|| no_word(word, [first, second], due))?;
-        let (index, a, b) = (number(i)?, number(first)?, number(second)?);
-        let entry = Entry::of_parts(operator, a, b).unwrap_or(Entry::Top);
+        let known = OPERATORS.iter().position(|known| known.word.as_bytes() == word.bytes);
+        let operator = known.ok_or_else(|| no_word(word, [operands[0], operands[1]], due))?;
+        let index = number(i)?;
+        let mut values = [0; 3];
+        for (value, field) in values.iter_mut().zip(operands) {
+            *value = number(*field)?;
+        }
+        let entry = Entry::of_parts(operator, values).unwrap_or(Entry::Top);
         if index != due {
             return Err(other_entry_due(i, index, due));
         }
@@ -32,12 +39,12 @@ impl Reader<'_> {
             let what = format!("a {}rd prev or since", MOST_PAST + 1);
             return Err(out_of_range(word, what, format!("at most {MOST_PAST} of them")));
         }
-        let (name, kind, other) = OPERATORS[operator];
-        let parts = [(kind, a, first), (other, b, second)];
-        for (kind, value, field) in parts {
-            self.in_range(name, kind, value, field)?;
+        let (name, kinds) = (OPERATORS[operator].word, OPERATORS[operator].fields);
+        let parts = || kinds.into_iter().zip(values).zip(operands);
+        for ((kind, value), field) in parts() {
+            self.in_range(name, kind, value, *field)?;
         }
-        for (kind, value, field) in parts {
+        for ((kind, value), field) in parts() {
             if kind == Field::Entry && value >= index {
                 let what = format!("operand {value} is not below entry {index}");
                 let right = "a formula's parts come before it: entries name lower ones only";
@@ -48,9 +55,35 @@ impl Reader<'_> {
         if entry.is_past() && free.count_ones() > 1 {
             return Err(self.two_free(name, entry, free, word));
         }
+        if let Entry::Reach(x, f, g) = entry {
+            self.reach(x, f, g, operands)?;
+        }
         self.terms.entries.push(entry);
         self.free.push(free);
         Ok(())
+    }
+
+    /// What a reach asks of its variable and of the variables free below it.
+    fn reach(&self, x: usize, f: usize, g: usize, operands: &[Part]) -> Result<(), Fault> {
+        let others = self.free[f] & !(1 << x);
+        let (field, what, right) = if x == 0 {
+            let right =
+                format!("variable 0 is always the target; reach along 1 to {}", VARIABLES - 1);
+            (operands[0], "variable 0 in a reach".to_string(), right)
+        } else if others != 0 {
+            let what = format!("entry {f} has {} free; here it may have {x} alone", shown(others));
+            let right = "the step is between the member it starts from and whom it leads to; \
+                         what concerns others belongs to the third operand, or is bound inside";
+            (operands[1], what, right.to_string())
+        } else if self.free[g] >> x & 1 == 1 {
+            let what =
+                format!("entry {g} has {x} free, and is said of the member that was reached");
+            let right = format!("put `bind {x}` above entry {g} to call that member {x}");
+            (operands[2], what, right)
+        } else {
+            return Ok(());
+        };
+        Err(Fault::new(REACH_VARIABLES, field.place(), what).right(right))
     }
 
     fn in_range(&self, name: &str, kind: Field, value: usize, field: Part) -> Result<(), Fault> {

@@ -53,6 +53,11 @@ fn deepest(terms: &Terms) -> (usize, usize) {
                 waiting.push((f, others | Variables::from(away) << x, away));
             }
             Entry::At(x, f) => waiting.push((f, wandering, wandering >> x & 1 == 1)),
+            // Its first operand is worked out for every member.
+            Entry::Reach(x, f, g) => {
+                waiting.push((f, 1 << x, away));
+                waiting.push((g, wandering, true));
+            }
             // A table has every member for here and for its free variable.
             Entry::Prev(_) | Entry::Since(_, _) => {
                 for f in terms.entries[entry].operands() {

@@ -3,7 +3,7 @@
 use super::fault::Fault;
 use super::line::{counted, fields, form, Field, FORM};
 use crate::names::{did_you_mean, Names};
-use keeper::terms::{Terms, Variables};
+use keeper::terms::{Terms, Variables, OPERATORS};
 
 /// The first cause for which a text is refused; none if it is accepted.
 pub fn diagnose(text: &[u8], names: &Names) -> Option<Fault> {
@@ -57,6 +57,15 @@ const KINDS: [(&str, &[&str]); 6] = [
     ("G", &["kind G", "relation", "from", "to"]),
 ];
 
+/// The fields of an F line whose word takes a third operand.
+const LONG_ENTRY: [&str; 6] =
+    ["kind F", "entry number", "word", "first operand", "second operand", "third operand"];
+
+/// Whether a field is the word of an operator that takes a third operand.
+fn is_long(word: &Field) -> bool {
+    OPERATORS.iter().any(|known| known.is_long() && known.word.as_bytes() == word.bytes)
+}
+
 impl Reader<'_> {
     /// Reads one line, or finds what is wrong with it. What has the lowest
     /// number is looked for first.
@@ -71,13 +80,23 @@ impl Reader<'_> {
         if let Some((what, right)) = self.out_of_order(word) {
             return Err(Fault::new(FORM, kind.place(), what).right(right));
         }
-        counted(&fields, due, line.len())?;
+        let long = *word == "F" && fields.get(2).is_some_and(is_long);
+        let counted = counted(&fields, if long { &LONG_ENTRY } else { due }, line.len());
+        counted.map_err(|fault| {
+            match *word == "F" && !long && fields.len() == LONG_ENTRY.len() {
+                true => {
+                    Fault { right: format!("{}; only reach has one more", fault.right), ..fault }
+                }
+                false => fault,
+            }
+        })?;
         match fields[1..] {
             [n] => self.members(n),
             [relations, events] if *word == "L" => self.labels(relations, events),
             [event, entry] => self.policy(event, entry),
             [relation, from, to] => self.edge(relation, from, to),
-            [index, word, a, b] if kind.bytes == b"F" => self.entry(index, word, a, b),
+            [index, word, a, b, c] => self.entry(index, word, &[a, b, c]),
+            [index, word, a, b] if kind.bytes == b"F" => self.entry(index, word, &[a, b]),
             [event, action, relation, direction] => self.effect(event, action, relation, direction),
             _ => Ok(()),
         }

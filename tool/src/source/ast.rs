@@ -137,6 +137,7 @@ pub enum Kind {
     Never(Part),
     Previously(Part),
     Walk(Walk),
+    Step(Step),
     /// `at a: f`: f said of a.
     At(Person, Part),
     /// `as x: f`: f, x naming the member of whom it is said.
@@ -152,6 +153,16 @@ pub struct Walk {
     pub label: Name,
     pub outwards: bool,
     pub name: Option<Name>,
+    pub body: Part,
+}
+
+/// `some` or `every x such that f: g`: a step to whom f holds of, whatever it
+/// says; the body is said of each of them.
+#[derive(Clone, Debug, PartialEq)]
+pub struct Step {
+    pub every: bool,
+    pub name: Name,
+    pub leads: Part,
     pub body: Part,
 }
 

@@ -148,7 +148,8 @@ fn too_many(event: &Name, what: &str, most: usize, own: usize) -> Mistake {
     ))
 }
 
-/// A part about the past that speaks of too many people.
+/// A part about the past, or one that leads to somebody, that speaks of too
+/// many people.
 fn crowded(crowd: &Crowd, resolver: &Resolver, text: &str) -> Mistake {
     let name = |id: &Option<_>| id.map_or("whom it is said of", |id| resolver.name(id));
     let mut people: Vec<&str> = crowd.people.iter().map(name).collect();
@@ -156,11 +157,16 @@ fn crowded(crowd: &Crowd, resolver: &Resolver, text: &str) -> Mistake {
     let part = text.get(crowd.span.start..crowd.span.end).unwrap_or("");
     let part: Vec<&str> = part.split_whitespace().collect();
     let part = part.join(" ");
-    let message = format!(
-        "`{part}` speaks of {} people: {} and {last}; the past may speak of {MOST_PEOPLE}",
-        people.len() + 1,
-        people.join(", ")
-    );
+    let speaks =
+        format!("`{part}` speaks of {} people: {} and {last}", people.len() + 1, people.join(", "));
+    if let Some(to) = crowd.to {
+        let to = resolver.name(to);
+        let message = format!("{speaks}; what leads to `{to}` may speak of `{to}` and one other");
+        let advice =
+            format!("say after the `:` what concerns others than `{to}` and whom it starts from");
+        return Mistake::new(crowd.span, message).advise(advice);
+    }
+    let message = format!("{speaks}; the past may speak of {MOST_PEOPLE}");
     let advice = "split it with `and` or `or` into parts about two people each, or seek the third \
                   inside it with `some`";
     Mistake::new(crowd.span, message).advise(advice)

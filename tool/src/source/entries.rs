@@ -15,7 +15,7 @@ type Variables = Vec<usize>;
 #[derive(Default)]
 pub struct Entries {
     pub list: Vec<Entry>,
-    places: HashMap<(usize, usize, usize), usize>,
+    places: HashMap<(usize, [usize; 3]), usize>,
     known: HashMap<(*const Spelled, Variables), usize>,
     kept: Vec<Tree>,
 }
@@ -58,6 +58,11 @@ impl Entries {
                 Entry::Since(self.entry(g, &inside(g), wish)?, self.entry(h, &inside(h), wish)?)
             }
             Node::At(id, g) => Entry::At(of(*id), self.entry(g, &inside(g), wish)?),
+            Node::Reach(id, g, h) => {
+                let variable = free_variable(variables, wish(*id))?;
+                let first = self.entry(g, &vec![variable; g.free.len()], wish)?;
+                Entry::Reach(variable, first, self.entry(h, &inside(h), wish)?)
+            }
             Node::Bind(id, g) => {
                 let variable = free_variable(variables, wish(*id))?;
                 let inner = |other: &Id| if other == id { variable } else { of(*other) };

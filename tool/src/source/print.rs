@@ -89,6 +89,7 @@ pub fn flat(formula: &Formula) -> String {
         }
         Kind::Walk(walk) if goes_without_saying(walk) => head(walk),
         Kind::Walk(walk) => format!("{}: {}", head(walk), flat(&walk.body)),
+        Kind::Step(step) => format!("{}: {}", start(step), flat(&step.body)),
         Kind::At(whom, f) => format!("at {}: {}", person(whom), flat(f)),
         Kind::As(name, f) => format!("as {}: {}", name.text, flat(f)),
     }
@@ -113,6 +114,9 @@ fn laid(formula: &Formula, indent: usize) -> String {
             format!("{word} {}", laid_operand(f, indent + word.len() + 1))
         }
         Kind::Walk(walk) => format!("{}:{start}  {}", head(walk), laid(&walk.body, indent + 2)),
+        Kind::Step(step) => {
+            format!("{}:{start}  {}", self::start(step), laid(&step.body, indent + 2))
+        }
         Kind::At(whom, f) => format!("at {}:{start}  {}", person(whom), laid(f, indent + 2)),
         Kind::As(name, f) => format!("as {}:{start}  {}", name.text, laid(f, indent + 2)),
         _ => line,
@@ -151,7 +155,8 @@ fn same(inner: &Kind, outer: &Kind) -> bool {
 /// Whether a formula can be part of another without parentheses.
 fn stands_alone(formula: &Formula) -> bool {
     match &formula.kind {
-        Kind::And(..) | Kind::Or(..) | Kind::Since(..) | Kind::At(..) | Kind::As(..) => false,
+        Kind::And(..) | Kind::Or(..) | Kind::Since(..) => false,
+        Kind::At(..) | Kind::As(..) | Kind::Step(_) => false,
         Kind::Walk(walk) => goes_without_saying(walk),
         _ => true,
     }
@@ -159,6 +164,14 @@ fn stands_alone(formula: &Formula) -> bool {
 
 fn goes_without_saying(walk: &Walk) -> bool {
     walk.body.kind == Kind::True && walk.quantifier != Quantifier::Every
+}
+
+/// A step up to its colon. What has a colon of its own gets parentheses.
+fn start(step: &Step) -> String {
+    let quantifier = if step.every { "every" } else { "some" };
+    let leads = flat(&step.leads);
+    let leads = if leads.contains(':') { format!("({leads})") } else { leads };
+    format!("{quantifier} {} such that {leads}", step.name.text)
 }
 
 fn head(walk: &Walk) -> String {

@@ -127,6 +127,7 @@ impl<'a> Resolver<'a> {
             Kind::Always(f) => negated(once(negated(self.formula(f, scope)?), span)),
             Kind::Previously(f) => said(Form::Previously(self.formula(f, scope)?, span)),
             Kind::Walk(walk) => self.walk(walk, scope)?,
+            Kind::Step(step) => self.step(step, scope)?,
             Kind::At(person, f) => {
                 let who = self.person(person, scope)?;
                 said(Form::At(who, self.formula(f, scope)?))
@@ -257,6 +258,7 @@ fn derived(kind: &Kind) -> bool {
     match kind {
         Kind::And(..) | Kind::Never(_) | Kind::Always(_) | Kind::False => true,
         Kind::Walk(walk) => walk.quantifier == Quantifier::Every,
+        Kind::Step(step) => step.every,
         _ => false,
     }
 }

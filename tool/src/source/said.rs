@@ -40,6 +40,13 @@ pub enum Form {
         name: Id,
         body: Said,
     },
+    /// Somebody that the first formula leads to, of whom the body holds.
+    Step {
+        name: Id,
+        leads: Said,
+        body: Said,
+        span: Span,
+    },
     At(Who, Said),
     /// The member it is said of gets a name. A wanted one is kept even where
     /// nobody uses it.
@@ -74,6 +81,7 @@ pub fn said(form: Form) -> Said {
     let height = 1 + match &form {
         Form::True | Form::Is(..) | Form::Edge(..) => 0,
         Form::Or(f, g) | Form::Since(f, g, _) => f.height.max(g.height),
+        Form::Step { leads, body, .. } => leads.height.max(body.height),
         Form::Not(f) | Form::Previously(f, _) | Form::At(_, f) => f.height,
         Form::Some { body, .. } | Form::As { body, .. } => body.height,
     };
@@ -104,6 +112,13 @@ pub fn said(form: Form) -> Said {
             meet(*from, &mut others);
             add(&mut others, &without(&body.others, *name));
             placed = body.placed;
+        }
+        Form::Step { name, leads, body, .. } => {
+            others = without(&leads.others, *name);
+            // A step that names nobody else is taken from here.
+            here = leads.here || others.is_empty();
+            add(&mut others, &without(&body.others, *name));
+            placed = leads.placed || body.placed;
         }
         Form::At(who, body) => {
             meet(*who, &mut others);

@@ -28,17 +28,21 @@ pub enum Node {
     Since(Tree, Tree),
     Bind(Id, Tree),
     At(Id, Tree),
+    Reach(Id, Tree, Tree),
 }
 
-/// A part about the past that speaks of more than two people.
+/// A part about the past, or one that leads to somebody, that speaks of more
+/// than two people.
 pub struct Crowd {
     pub span: Span,
+    /// Whom it leads to; none for a part about the past.
+    pub to: Option<Id>,
     /// Whom it speaks of; none for a member that has no name.
     pub people: Vec<Option<Id>>,
 }
 
-/// The most people that a part about the past can speak of: the member it is
-/// said of, and one variable.
+/// The most people that such a part can speak of: the member it is said of,
+/// and one variable.
 pub const MOST_PEOPLE: usize = 2;
 
 /// The first of the numbers for people that the source doesn't name.
@@ -93,6 +97,9 @@ impl Placer {
                     Who::Other(id) if !names.contains(id) => tree(Node::At(*id, tree(walk))),
                     _ => tree(walk),
                 }
+            }
+            Form::Step { name, leads, body, span } => {
+                self.step(*name, leads, body, names, *span)?
             }
             Form::At(Who::Here, body) => self.place(body, names)?,
             Form::At(Who::Other(id), body) => tree(Node::At(*id, self.place(body, &[*id])?)),
@@ -150,6 +157,40 @@ impl Placer {
         }
     }
 
+    /// A step. It is taken from the one person that it speaks of besides whom
+    /// it leads to, so that nobody else is free where it leads.
+    fn step(
+        &mut self,
+        name: Id,
+        leads: &Said,
+        body: &Said,
+        names: &[Id],
+        span: Span,
+    ) -> Result<Tree, Crowd> {
+        let near = |id: &Id| names.contains(id) && *id != name;
+        let here = leads.here || leads.others.iter().any(near);
+        let mut others = leads.others.iter().copied().filter(|id| *id != name && !near(id));
+        let from = others.next();
+        if from.is_some() && here || others.next().is_some() {
+            let named = leads.others.iter().copied().find(near);
+            let first = here.then_some(named);
+            let others = leads.others.iter().copied().filter(|id| !near(id));
+            let people = first.into_iter().chain(others.map(Some)).collect();
+            return Err(Crowd { span, to: Some(name), people });
+        }
+        let names: Vec<Id> = match from {
+            Some(from) => vec![from],
+            None => names.iter().copied().filter(|id| *id != name).collect(),
+        };
+        let mut leads = self.place(leads, &names)?;
+        for name in &names {
+            leads = bound_if_free(*name, leads);
+        }
+        let body = bound_if_free(name, self.place(body, &[name])?);
+        let reach = tree(Node::Reach(name, leads, body));
+        Ok(from.map_or(reach.clone(), |from| tree(Node::At(from, reach))))
+    }
+
     /// A part about the past. It is said of one of the people it speaks of, so
     /// that at most one other is left for its variable.
     fn past(
@@ -166,7 +207,7 @@ impl Placer {
             let name = f.others.iter().copied().find(|id| names.contains(id));
             let first = here.then_some(name);
             let people = first.into_iter().chain(others.into_iter().map(Some)).collect();
-            return Err(Crowd { span, people });
+            return Err(Crowd { span, to: None, people });
         }
         // Where `at` or `as` is written the writer has chosen the place.
         let stays = here || others.is_empty() || f.placed && others.len() < MOST_PEOPLE;
@@ -214,6 +255,7 @@ fn tree(node: Node) -> Tree {
         Node::Or(f, g) | Node::Since(f, g) => [&f.free[..], &g.free[..]].concat(),
         Node::Bind(id, f) => f.free.iter().copied().filter(|other| other != id).collect(),
         Node::At(id, f) => [&f.free[..], &[*id]].concat(),
+        Node::Reach(_, _, g) => g.free.clone(),
     };
     free.sort_unstable();
     free.dedup();

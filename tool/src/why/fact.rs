@@ -4,6 +4,7 @@ use super::phrase::{Phrase, Speaker};
 use super::reason::{Claim, Place};
 use crate::words::Words;
 use keeper::record::Graph;
+use keeper::terms::Entry;
 
 /// Something that is so of the record.
 #[derive(Clone, Copy, Debug, PartialEq, Eq)]
@@ -25,6 +26,8 @@ pub enum Fact {
     Never(Place),
     /// The place's entry held there from a moment on, up to the place's.
     Since { place: Place, first: usize },
+    /// The step of the place's reach leads to nobody.
+    NoStep(Place),
     /// `top`, everywhere.
     Always,
     /// Told without going on.
@@ -82,6 +85,7 @@ impl Fact {
                     false => format!("always {until}: {text}"),
                 }
             }
+            Fact::NoStep(place) => no_step(words, place) + &at(place.moment),
             Fact::Always => "always".to_string(),
             Fact::Claim(Claim { place, holds }) => {
                 let verb = if holds { "holds" } else { "fails" };
@@ -105,6 +109,14 @@ impl Fact {
 
 fn phrase(words: &Words, place: Place, holds: bool) -> Phrase {
     Speaker::new(words, place).say(place.entry, holds)
+}
+
+/// `nobody is x with once share dora → x`.
+fn no_step(words: &Words, place: Place) -> String {
+    match words.terms.entries[place.entry] {
+        Entry::Reach(x, f, _) => Speaker::new(words, place).no_step(x, f),
+        _ => String::new(),
+    }
 }
 
 /// `never share dora → pete`, or a clause that was right at no moment.

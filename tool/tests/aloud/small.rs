@@ -40,7 +40,8 @@ fn binary(one: &Formula, other: &Formula) -> Vec<Formula> {
     let moved = other.iter().map(|entry| entry.with_operands(|f| f + one.len()));
     let both: Formula = one.iter().copied().chain(moved).collect();
     let second = both.len() - 1;
-    let above = [Entry::Or(first, second), Entry::Since(first, second)];
+    let above =
+        [Entry::Or(first, second), Entry::Since(first, second), Entry::Reach(2, first, second)];
     above.iter().map(|&entry| [&both[..], &[entry]].concat()).collect()
 }
 

@@ -152,6 +152,20 @@ impl<'a> World<'a> {
                     Quantifier::AtLeast(count) => neighbours.filter(fits).count() >= count,
                 }
             }
+            Kind::Step(step) => {
+                let reached = members.filter(|&other| {
+                    self.holds(&step.leads, now, &people.with(&step.name.text, other))
+                });
+                let mut fits = reached.map(|other| {
+                    let inner = people.moved(other).with(&step.name.text, other);
+                    self.holds(&step.body, now, &inner)
+                });
+                if step.every {
+                    fits.all(|fits| fits)
+                } else {
+                    fits.any(|fits| fits)
+                }
+            }
             Kind::At(person, f) => self.holds(f, now, &people.moved(people.find(person))),
             Kind::As(name, f) => self.holds(f, now, &people.with(&name.text, people.here)),
         }

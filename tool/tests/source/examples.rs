@@ -15,7 +15,8 @@ use std::path::{Path, PathBuf};
 const COMPILED: [&str; 5] = ["charities", "chinese-wall", "cliques", "consent", "policy-20"];
 
 /// Examples whose policies are the same formulas, listed in another order.
-const REORDERED: [&str; 5] = ["groups", "groups-now", "invitations", "just-shared", "preset"];
+const REORDERED: [&str; 6] =
+    ["groups", "groups-now", "groups-reach", "invitations", "just-shared", "preset"];
 
 /// The example folders that have a source, with what it compiles to.
 fn examples() -> Vec<(PathBuf, String, Compiled)> {

@@ -121,6 +121,8 @@ impl Maker<'_> {
                 let inner = self.seeing(sight, name);
                 Kind::As(Name::new(name), Box::new(self.formula(depth - 1, &inner)))
             }
+            13 | 14 => self.step(depth, sight),
+            _ if self.dice.below(4) == 0 => self.step(depth, sight),
             _ => self.walk(depth, sight),
         })
     }
@@ -172,6 +174,28 @@ impl Maker<'_> {
             3 => Kind::Previously(part(self)),
             _ => Kind::Since(part(self), part(self)),
         }
+    }
+
+    /// A step: what leads to somebody mostly speaks of them and one other.
+    fn step(&mut self, depth: usize, sight: &Sight) -> Kind {
+        let name = self.dice.pick(&["x1", "x2", "p", "q"]);
+        let whom = Who::Named(name.to_string());
+        let mut near = sight.clone();
+        near.people.retain(|other| *other != whom);
+        if self.dice.below(8) > 0 && !near.people.is_empty() {
+            near.people = vec![self.dice.pick(&near.people)];
+        }
+        near.people.push(whom.clone());
+        let mut there = self.seeing(sight, name);
+        if !there.people.contains(&Who::Here) {
+            there.people.push(Who::Here);
+        }
+        Kind::Step(Step {
+            every: self.dice.below(3) == 0,
+            name: Name::new(name),
+            leads: Box::new(self.formula(depth - 1, &near)),
+            body: Box::new(self.formula(depth - 1, &there)),
+        })
     }
 
     fn walk(&mut self, depth: usize, sight: &Sight) -> Kind {

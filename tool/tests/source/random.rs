@@ -25,7 +25,7 @@ fn compiled_terms_mean_what_is_written() {
         let compiled = match compile(&text) {
             Ok(compiled) => compiled,
             Err(mistake) => {
-                let known = ["; the past may speak of", "names at once"];
+                let known = ["; the past may speak of", "; what leads to", "names at once"];
                 let expected = known.iter().any(|part| mistake.message.contains(part));
                 assert!(expected, "seed {seed}:\n{}", mistake.render("random", &text));
                 continue;
@@ -59,6 +59,11 @@ fn names_are_kept_apart() {
         "event go when me r at least 2: at least 2 s of here as y: y is not me",
         "event go when some x r target: some y r x: once (x give y or y mark x)",
         "event go when me r every x: always (x r target or not x mark target)",
+        "event go when some x such that once me give x: x r target",
+        "event go when every x such that (once target give x): once x mark me",
+        "event go when some x such that (some y r x: once y give me): x is target",
+        "event go when some x1 such that once me give x1: some x1 such that once x1 mark here: x1 r target",
+        "event go when me r some x: some y such that (not x give y since x mark y): y r me",
     ];
     for policy in policies {
         let text = format!("{start}{policy}\n");

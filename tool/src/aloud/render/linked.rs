@@ -159,7 +159,7 @@ fn asked(link: &Link) -> &[Clause] {
     }
 }
 
-fn determiner(quantity: Quantity) -> &'static str {
+pub(super) fn determiner(quantity: Quantity) -> &'static str {
     match quantity {
         Quantity::Some => "some",
         Quantity::No => "no",

@@ -105,6 +105,7 @@ impl<'a> Teller<'a> {
             Entry::Since(f, g) => Kind::Since(self.part(f, &inner), self.part(g, &inner)),
             Entry::Bind(x, f) => return self.binding(x, f, place),
             Entry::At(x, f) => return self.moving(x, f, &inner),
+            Entry::Reach(x, f, g) => self.step(false, x, f, g, place),
         })
     }
 
@@ -160,6 +161,10 @@ impl<'a> Teller<'a> {
                 }
                 _ => Kind::Not(self.part(f, place)),
             },
+            Entry::Reach(x, g, h) if !told => match self.inside(h) {
+                Some(i) if self.inside(i).is_none() => self.step(true, x, g, i, place),
+                _ => Kind::Not(self.part(f, place)),
+            },
             Entry::Not(g) if !told => {
                 let part = Formula::new(Kind::Not(self.plain(g, place)));
                 Kind::Not(Box::new(part))
@@ -201,6 +206,31 @@ impl<'a> Teller<'a> {
         Kind::Walk(Walk { quantifier, person, label: word, outwards, name, body: Box::new(body) })
     }
 
+    /// A step to whomever the first entry holds of, the second said of them.
+    fn step(&mut self, every: bool, x: usize, f: usize, g: usize, place: &Place) -> Kind {
+        let mut there = Place { named_here: false, ..place.clone() };
+        let name = match place.style {
+            Style::Exact => format!("x{x}"),
+            _ => self.name(place.named),
+        };
+        there.named += 1;
+        there.people[x] = Who::Named(name.clone());
+        let leads = self.part(f, &there);
+        let mut body = Place { named: there.named, named_here: false, ..place.clone() };
+        if place.style != Style::Exact {
+            (body.here, body.named_here) = (Who::Named(name.clone()), true);
+        }
+        let body = self.part(g, &body);
+        Kind::Step(Step { every, name: Name::new(&name), leads, body })
+    }
+
+    /// A name for the next that is given one.
+    fn name(&self, named: usize) -> String {
+        const NAMES: [&str; 6] = ["p", "q", "r", "s", "u", "v"];
+        let wish = NAMES.get(named).map_or_else(|| format!("p{named}"), |wish| wish.to_string());
+        self.words.unlike_labels(&wish)
+    }
+
     /// What is said of a neighbour, and the neighbour's name.
     fn named(&mut self, f: usize, place: &Place) -> (Option<Name>, Formula) {
         if place.style == Style::Exact {
@@ -211,12 +241,7 @@ impl<'a> Teller<'a> {
                 _ => (None, self.tell(f, place)),
             };
         }
-        const NAMES: [&str; 6] = ["p", "q", "r", "s", "u", "v"];
-        let wish = match NAMES.get(place.named) {
-            Some(wish) => wish.to_string(),
-            None => format!("p{}", place.named),
-        };
-        let name = self.words.unlike_labels(&wish);
+        let name = self.name(place.named);
         let here = Who::Named(name.clone());
         let place = Place { here, named: place.named + 1, named_here: true, ..place.clone() };
         (Some(Name::new(&name)), self.tell(f, &place))

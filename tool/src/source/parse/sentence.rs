@@ -30,6 +30,9 @@ impl Parser {
     /// `some friend of a as x: f`, `some x owns a: f` or `some owns a: f`.
     pub(super) fn walk_to(&mut self, quantifier: Quantifier) -> Result<Kind, Mistake> {
         let first = self.name("a relation, an event, or a name for whom is sought")?;
+        if self.is_word("such") {
+            return self.step(quantifier, first);
+        }
         if self.take("of") {
             let person = self.person("whose")?;
             let name = if self.take("as") { Some(self.name("a name")?) } else { None };
@@ -41,6 +44,22 @@ impl Parser {
             if named { (Some(first), self.name("a relation or an event")?) } else { (None, first) };
         let person = self.person("`of`, a relation or an event, or somebody")?;
         self.walk(quantifier, person, label, false, name)
+    }
+
+    /// `some x such that f: g`, from `such` on.
+    fn step(&mut self, quantifier: Quantifier, name: Name) -> Result<Kind, Mistake> {
+        if let Quantifier::AtLeast(_) = quantifier {
+            let message = "`at least` counts along a relation or an event, not along `such that`";
+            return Err(Mistake::new(self.span(), message).advise("write `some` or `every`"));
+        }
+        self.next += 1;
+        if !self.take("that") {
+            return Err(self.expected("`that` after `such`", &["that"]));
+        }
+        let leads = Box::new(self.formula()?);
+        let body = self.body("after whom it leads to, and what holds of them")?;
+        let every = quantifier == Quantifier::Every;
+        Ok(Kind::Step(Step { every, name, leads, body }))
     }
 
     /// The end of a walk: `: f`, or nothing where anybody will do.

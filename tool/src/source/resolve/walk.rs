@@ -1,6 +1,6 @@
-//! Unfolds `some`, `every` and `at least`.
+//! Unfolds `some`, `every` and `at least`, and steps.
 
-use super::super::ast::{Quantifier, Walk};
+use super::super::ast::{Quantifier, Step, Walk};
 use super::super::mistake::Mistake;
 use super::super::said::{conjunction, negated, said, Form, Id, Said, Who};
 use super::{Resolver, Scope};
@@ -39,6 +39,20 @@ impl Resolver<'_> {
                 Err(Mistake::new(walk.label.span, message).advise(advice))
             }
         }
+    }
+
+    pub(super) fn step(&mut self, step: &Step, scope: &mut Scope) -> Result<Said, Mistake> {
+        let (span, name) = (step.leads.span, self.bound(&step.name.text, scope));
+        scope.push((step.name.text.clone(), Who::Other(name)));
+        let leads = self.formula(&step.leads, scope);
+        let body = leads.and_then(|leads| Ok((leads, self.formula(&step.body, scope)?)));
+        scope.pop();
+        let (leads, body) = body?;
+        Ok(if step.every {
+            negated(said(Form::Step { name, leads, body: negated(body), span }))
+        } else {
+            said(Form::Step { name, leads, body, span })
+        })
     }
 
     /// Some neighbour other than those before of whom the body holds, and,
