@@ -139,7 +139,7 @@ pub fn print(others: &[String]) {
     }
     let quick: Vec<[bool; 3]> = archives.iter().map(|places| are_quick(&places[0])).collect();
     for (kind, (name, text)) in chains(LEVELS).into_iter().enumerate() {
-        let start = Start::read(&archives[0][0], &text);
+        let start = Start::read(&archives[paths.len() - 1][0], &text);
         for (call, make) in [("request", Start::requests as Make), ("look", Start::looks as Make)] {
             let calls = archives
                 .iter()

@@ -85,17 +85,20 @@ left-after-left-after-requires-3 t c κs = (omega (arith, c .before .before .bef
 left-after-returns-4 : (t : ℕ) → here t left-after-lts.Need-returns-4
 left-after-returns-4 t c = omega (arith, c .left-after3 .ensures, c .before .left-after2 .ensures)
 
-left-after-left-after-requires-4 : (t : ℕ) → here t left-after-lts.Need-left-after-requires-4
-left-after-left-after-requires-4 t c κs = (omega (arith, c .before .before .before .before .before .before .before .before .before .before .pre .0, c .before .before .before .before .before .cost .ensures, c .before .before .before .before .if2 .left), tt)
-
 left-after-returns-5 : (t : ℕ) → here t left-after-lts.Need-returns-5
-left-after-returns-5 t c = omega (arith, c .left-after4 .ensures)
+left-after-returns-5 t c = omega arith
+
+left-after-left-after-requires-4 : (t : ℕ) → here t left-after-lts.Need-left-after-requires-4
+left-after-left-after-requires-4 t c κs = (omega (arith, c .before .before .before .before .before .before .before .before .before .before .before .pre .0, c .before .before .before .before .before .before .cost .ensures, c .before .before .before .before .before .if2 .left), tt)
+
+left-after-returns-6 : (t : ℕ) → here t left-after-lts.Need-returns-6
+left-after-returns-6 t c = omega (arith, c .left-after4 .ensures)
 
 left-after-left-after-requires-5 : (t : ℕ) → here t left-after-lts.Need-left-after-requires-5
 left-after-left-after-requires-5 t c κs = (omega (arith, c .before .before .before .before .before .before .before .before .before .before .pre .0, c .before .before .before .before .before .cost .ensures, c .before .before .before .before .if2 .left), tt)
 
-left-after-returns-6 : (t : ℕ) → here t left-after-lts.Need-returns-6
-left-after-returns-6 t c = omega (arith, c .left-after5 .ensures)
+left-after-returns-7 : (t : ℕ) → here t left-after-lts.Need-returns-7
+left-after-returns-7 t c = omega (arith, c .left-after5 .ensures)
 
 pub +left-after-spec : {M : Type 1} → statement M
 +left-after-spec = close μ-left-after λ t. left-after-lts.spec (callees t) (left-after-at t) left-after.Post
@@ -112,7 +115,8 @@ pub +left-after-spec : {M : Type 1} → statement M
     (left-after-left-after-requires-2 t)
     (left-after-left-after-requires-3 t)
     (left-after-returns-4 t)
-    (left-after-left-after-requires-4 t)
     (left-after-returns-5 t)
-    (left-after-left-after-requires-5 t)
+    (left-after-left-after-requires-4 t)
     (left-after-returns-6 t)
+    (left-after-left-after-requires-5 t)
+    (left-after-returns-7 t)
