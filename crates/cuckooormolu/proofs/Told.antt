@@ -137,7 +137,7 @@ low-tests : (f : File) (l : Line) → lowTests (tests f l) ≡ true
 unfolding tests lowTests
 low-tests f (Members n) = refl
 low-tests f (Labels r e) = refl
-low-tests f (Entry n o a b) = refl
+low-tests f (Entry n o a b c) = refl
 low-tests f (Policy j n) = refl
 low-tests f (Effect j c k d) = refl
 low-tests f (Edge k a b) = refl

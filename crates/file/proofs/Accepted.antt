@@ -5,7 +5,8 @@ use mathlib.Core.List.{List, []}
 use mathlib.Core.Bool.{true}
 use native.Mathlib.Omega.{arith}
 use lib.ListN.{length}
-use borrow.Author.Tests.{lt-ltb}
+use lib.Dec.{eqb}
+use borrow.Author.Tests.{eqb-true, lt-ltb}
 use Rattle.theory.specs.Terms.{Terms}
 use Rattle.theory.specs.Moment.{Relations}
 use Rattle.theory.specs.Formula.{isPast}
@@ -38,7 +39,14 @@ pub record Accepted (f : File) : Type 0 where
 entry-passes : {T : Terms} {n : ℕ} → GoodEntry T n → every (entryTests T n) ≡ true
 unfolding every
 entry-passes {T} {n} g =
-    rw (lt-ltb (T .entry n .op) 10 (g .known), g .first, g .second, implies (isPast (T .entry n .op)) (g .one-free)) refl
+    rw (
+      lt-ltb (T .entry n .op) 11 (g .known),
+      g .first,
+      g .second,
+      g .third,
+      implies (isPast (T .entry n .op)) (g .one-free),
+      implies (eqb (T .entry n .op) 10) (λ e. g .reaches (eqb-true (T .entry n .op) 10 e)),
+    ) refl
 
 going-good : (f : File) → complete f ≡ true → Going f → Good (f .terms) × Tidy (f .terms)
 going-good f c g =
@@ -55,7 +63,14 @@ going-good f c g =
         few-events = l .2;
         few-entries = g .entries .few;
         few-tables = g .entries .few-tables;
-        entry = λ n i. let t = g .entries .fit n i in record { known = t .known; first = t .first; second = t .second; one-free = t .one-free };
+        entry = λ n i. let t = g .entries .fit n i in record {
+          known = t .known;
+          first = t .first;
+          second = t .second;
+          third = t .third;
+          one-free = t .one-free;
+          reaches = t .reaches;
+        };
         policy-exists = q .exists;
         policy-free = q .free;
         effects = λ j i. g .effects .within j;

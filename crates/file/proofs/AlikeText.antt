@@ -12,7 +12,7 @@ module _ (T U : Terms) (a : Alike T U) where
   written-met : (R : Relations) → written T R ≡ written (met T U) R
   unfolding written allLines
   written-met R = λ d. printedAll (Members (T .members) ∷ Labels (T .relations) (T .events)
-      ∷ (listed-agree (T .entries) _ _ (λ n l d. Entry n (a .entry n l d .op) (a .entry n l d .a) (a .entry n l d .b) ∷ []) d
+      ∷ (listed-agree (T .entries) _ _ (λ n l d. Entry n (a .entry n l d .op) (a .entry n l d .a) (a .entry n l d .b) (a .entry n l d .c) ∷ []) d
       ++ (listed-agree (T .events) _ _ (λ j l d. Policy j (a .policy j l d) ∷ []) d
       ++ (listed-agree (T .events) _ _ (λ j l d. effectLines j (a .effects j l d)) d
       ++ listed 65536 (edgeAt R)))))

@@ -7,13 +7,13 @@ use mathlib.Core.Bool.{true, _||_}
 use native.Mathlib.Omega.{arith}
 use native.Mathlib.Numerals.{add-one}
 use lib.Dec.{eqb, ltb, leb}
-use borrow.Author.Tests.{eq-eqb, ltb-true, ltb-false, lt-ltb, le-leb}
+use borrow.Author.Tests.{eqb-true, eq-eqb, ltb-true, ltb-false, lt-ltb, le-leb}
 use Rattle.sets.proofs.Finite.{true-or-false, and-both, or-left, or-right}
-use Rattle.theory.specs.Formula.{Formula, firstOperand, secondOperand, number, isPast}
+use Rattle.theory.specs.Formula.{Formula, firstOperand, secondOperand, thirdOperand, number, isPast}
 use Rattle.theory.specs.Formula.Operand.{entry}
 use Rattle.theory.specs.Formula as formulas
 use Rattle.theory.specs.Terms.{Terms}
-use Rattle.theory.specs.Fit.{lone, targetOnly}
+use Rattle.theory.specs.Fit.{lone, onlyFree}
 use Rattle.theory.proofs.Good.{Good, implies}
 use Rattle.theory.proofs.Spelled.{number-lt}
 use Rattle.file.specs.File.{File, nothing, update, after, tests, inRange}
@@ -27,7 +27,7 @@ use Rattle.file.specs.Refused.Passed.{none, pass}
 use Rattle.file.proofs.Taken.Taken.{one}
 use Rattle.theory.proofs.Like.{number-agree, spelled-agree}
 use Rattle.file.proofs.Update.{update-cases}
-use Rattle.file.proofs.Fit.{in-range, is-lower, operand-small}
+use Rattle.file.proofs.Fit.{in-range, is-lower, operand-small, reach-kept, unused-fits, third-unused}
 use Rattle.file.proofs.Going.{Going, going-first, going}
 use Rattle.file.proofs.Accepted.{Tidy}
 
@@ -100,7 +100,7 @@ module _ (T : Terms) (good : Good T) (tidy : Tidy T) where
 
   module _ (n : ℕ) (l : n < T .entries) (g : File) (t : Entered n g) where
     abbrev v : formulas.Entry
-    v = record { op = T .entry n .op; a = T .entry n .a; b = T .entry n .b }
+    v = record { op = T .entry n .op; a = T .entry n .a; b = T .entry n .b; c = T .entry n .c }
 
     agrees : (k : ℕ) → k < suc n → update (g .terms .entry) n v k ≡ T .entry k
     agrees k h =
@@ -129,12 +129,17 @@ module _ (T : Terms) (good : Good T) (tidy : Tidy T) where
         (in-range (firstOperand (T .entry n .op)) labels n (T .entry n .a) (q .first)))
         (pass (subst (λ (m : ℕ). inRange (secondOperand (T .entry n .op)) m (T .entry n .b) ≡ true) (sym labels-are)
         (in-range (secondOperand (T .entry n .op)) labels n (T .entry n .b) (q .second)))
+        (pass (subst (λ (m : ℕ). inRange (thirdOperand (T .entry n .op)) m (T .entry n .c) ≡ true) (sym labels-are)
+        (in-range (thirdOperand (T .entry n .op)) labels n (T .entry n .c) (q .third)))
         (pass (implies (isPast (T .entry n .op)) (λ p. lt-ltb _ 32 (tables-few p)))
         (pass (is-lower (firstOperand (T .entry n .op)) labels n (T .entry n .a) (q .first))
         (pass (is-lower (secondOperand (T .entry n .op)) labels n (T .entry n .b) (q .second))
+        (pass (is-lower (thirdOperand (T .entry n .op)) labels n (T .entry n .c) (q .third))
         (pass (implies (isPast (T .entry n .op)) (λ p. subst (λ (φ : Formula). lone φ ≡ true)
         (sym (spelled-agree (update (g .terms .entry) n v) (T .entry) n (λ k h. agrees k (omega arith)))) (q .one-free p)))
-        none))))))))
+        (pass (implies (eqb (T .entry n .op) 10) (λ p. let o = eqb-true (T .entry n .op) 10 p in
+        reach-kept labels n (T .entry) (g .terms .entry) (T .entry n) (λ k h. sym (t .entry k h)) o (q .second) (q .third) (q .reaches o)))
+        none)))))))))))
 
     entry-ranged : Ranged (lineOfEntry T n)
     entry-ranged =
@@ -144,6 +149,8 @@ module _ (T : Terms) (good : Good T) (tidy : Tidy T) where
         Ranged.entry {n = n} (omega arith) (q .known)
         (operand-small (firstOperand (T .entry n .op)) labels n (T .entry n .a) (omega arith) (omega arith) (q .first))
         (operand-small (secondOperand (T .entry n .op)) labels n (T .entry n .b) (omega arith) (omega arith) (q .second))
+        (operand-small (thirdOperand (T .entry n .op)) labels n (T .entry n .c) (omega arith) (omega arith) (q .third))
+        (λ z. unused-fits labels n (T .entry n .c) (thirdOperand (T .entry n .op)) (q .third) (third-unused (T .entry n .op) z))
 
     entry-entered : Entered (suc n) (after g (lineOfEntry T n))
     unfolding after
@@ -201,7 +208,7 @@ module _ (T : Terms) (good : Good T) (tidy : Tidy T) where
         (pass (eq-eqb n (g .policies) (sym (t .policies)))
         (pass (lt-ltb n (g .terms .events) (omega arith))
         (pass (lt-ltb (T .policy n) (g .terms .entries) (omega arith))
-        (pass (subst (λ (φ : Formula). targetOnly φ ≡ true)
+        (pass (subst (λ (φ : Formula). onlyFree 0 φ ≡ true)
         (sym (spelled-agree (g .terms .entry) (T .entry) (T .policy n) (λ k h. t .entry k))) (good .policy-free n l))
         none))))
 

@@ -1,22 +1,23 @@
 -- What the tests have made sure of so far, part by part: the entries, the policies, the effects, the edges; and that one line more keeps it so.
-use Prim.Native.Nat.{ℕ, _+_, _*_, _≤_, _<_}
-use mathlib.Core.Path.{_≡_, refl, sym, subst, _∙_}
+use Prim.Native.Nat.{ℕ, zero, suc, _+_, _*_, _≤_, _<_}
+use mathlib.Core.Path.{_≡_, refl, sym, ap, subst, subst₂, _∙_}
 use mathlib.Core.Logic.{_⊎_, inl, inr, ⊎-elim}
 use mathlib.Core.List.{List, [], _∷_, _++_}
-use mathlib.Core.Bool.{true, false, cond, _&&_, false≢true}
+use mathlib.Core.Bool.{true, false, cond, _&&_, true≢false, false≢true}
 use native.Mathlib.Omega.{arith}
 use native.Mathlib.Numerals.{add-one}
 use lib.Dec.{eqb, ltb}
 use lib.ListN.{length, length-append}
 use borrow.Author.Tests.{eqb-true, ltb-true}
 use Rattle.sets.proofs.Finite.{true-or-false, and-left, and-right, last-or-below}
-use Rattle.theory.specs.Formula.{Formula, Entry, Operand, firstOperand, secondOperand, number, spelled, isPast}
+use Rattle.theory.specs.Formula.{Formula, Entry, Operand, firstOperand, secondOperand, thirdOperand, number, spelled, isPast}
 use Rattle.theory.specs.Formula.Operand.{unused, variable, binder, label, entry}
 use Rattle.theory.specs.Terms.{Effect}
 use Rattle.theory.specs.Moment.{Relations}
-use Rattle.theory.specs.Fit.{operandFits, lone, targetOnly}
-use Rattle.theory.proofs.Good.{Within}
+use Rattle.theory.specs.Fit.{operandFits, lone, onlyFree, reachFits}
+use Rattle.theory.proofs.Good.{Within, fits-entry}
 use Rattle.theory.proofs.Good.Within.{none, more}
+use Rattle.file.specs.Line.{hasThird}
 use Rattle.file.specs.File.{update, inRange, isLower}
 use Rattle.theory.proofs.Like.{number-agree, spelled-agree}
 use Rattle.file.proofs.Update.{update-same, update-other, update-cases}
@@ -24,13 +25,15 @@ use Rattle.file.proofs.Update.{update-same, update-other, update-cases}
 -- ---- entries
 
 abbrev pub noEntry : Entry
-noEntry = record { op = 0; a = 0; b = 0 }
+noEntry = record { op = 0; a = 0; b = 0; c = 0 }
 
 pub record EntryFits (labels : ℕ) (g : ℕ → Entry) (n : ℕ) : Type 0 where
-  pub known : g n .op < 10
+  pub known : g n .op < 11
   pub first : operandFits (firstOperand (g n .op)) labels n (g n .a) ≡ true
   pub second : operandFits (secondOperand (g n .op)) labels n (g n .b) ≡ true
+  pub third : operandFits (thirdOperand (g n .op)) labels n (g n .c) ≡ true
   pub one-free : isPast (g n .op) ≡ true → lone (spelled g n) ≡ true
+  pub reaches : g n .op ≡ 10 → reachFits (g n .a) (spelled g (g n .b)) (spelled g (g n .c)) ≡ true
 
 pub record EntriesFit (labels entries : ℕ) (g : ℕ → Entry) : Type 0 where
   pub few : entries < 257
@@ -72,15 +75,48 @@ operand-small binder labels n v p q h = let e = ltb-true v 16 (and-right (ltb 0 
 operand-small label labels n v p q h = let e = ltb-true v labels h in omega arith
 operand-small entry labels n v p q h = let e = ltb-true v n h in omega arith
 
+-- an operand that is not used is 0, and reach alone uses its third
+pub unused-fits : (labels n v : ℕ) (k : Operand) → operandFits k labels n v ≡ true → k ≡ unused → v ≡ 0
+unfolding operandFits
+unused-fits labels n v k h e = eqb-true v 0 (rw e at h)
+
+pub third-unused : (o : ℕ) → hasThird o ≡ false → thirdOperand o ≡ unused
+third-unused zero h = refl
+third-unused (suc zero) h = refl
+third-unused (suc (suc zero)) h = refl
+third-unused (suc (suc (suc zero))) h = refl
+third-unused (suc (suc (suc (suc zero)))) h = refl
+third-unused (suc (suc (suc (suc (suc zero))))) h = refl
+third-unused (suc (suc (suc (suc (suc (suc zero)))))) h = refl
+third-unused (suc (suc (suc (suc (suc (suc (suc zero))))))) h = refl
+third-unused (suc (suc (suc (suc (suc (suc (suc (suc zero)))))))) h = refl
+third-unused (suc (suc (suc (suc (suc (suc (suc (suc (suc zero))))))))) h = refl
+third-unused (suc (suc (suc (suc (suc (suc (suc (suc (suc (suc zero)))))))))) h = absurd (true≢false h)
+third-unused (suc (suc (suc (suc (suc (suc (suc (suc (suc (suc (suc o))))))))))) h = refl
+
+-- the formulas of a reach are those of entries below it
+pub reach-kept : (labels n : ℕ) (g h : ℕ → Entry) (v : Entry) → ((k : ℕ) → k < n → g k ≡ h k) → v .op ≡ 10
+    → operandFits (secondOperand (v .op)) labels n (v .b) ≡ true → operandFits (thirdOperand (v .op)) labels n (v .c) ≡ true
+    → reachFits (v .a) (spelled g (v .b)) (spelled g (v .c)) ≡ true → reachFits (v .a) (spelled h (v .b)) (spelled h (v .c)) ≡ true
+reach-kept labels n g h v e o p q r =
+    let b = fits-entry labels n (v .b) (secondOperand (v .op)) p (ap secondOperand o) in
+    let c = fits-entry labels n (v .c) (thirdOperand (v .op)) q (ap thirdOperand o) in
+    subst₂ (λ (φ ψ : Formula). reachFits (v .a) φ ψ ≡ true)
+    (spelled-agree g h (v .b) (λ k l. e k (omega arith))) (spelled-agree g h (v .c) (λ k l. e k (omega arith))) r
+
 entry-kept : (labels : ℕ) (g h : ℕ → Entry) (n : ℕ) → ((k : ℕ) → k ≤ n → g k ≡ h k) → EntryFits labels g n → EntryFits labels h n
 entry-kept labels g h n e t =
     let r = e n (omega arith) in
     record {
-      known = subst (λ (x : Entry). x .op < 10) r (t .known);
+      known = subst (λ (x : Entry). x .op < 11) r (t .known);
       first = subst (λ (x : Entry). operandFits (firstOperand (x .op)) labels n (x .a) ≡ true) r (t .first);
       second = subst (λ (x : Entry). operandFits (secondOperand (x .op)) labels n (x .b) ≡ true) r (t .second);
+      third = subst (λ (x : Entry). operandFits (thirdOperand (x .op)) labels n (x .c) ≡ true) r (t .third);
       one-free = λ p. subst (λ (φ : Formula). lone φ ≡ true) (spelled-agree g h n e)
           (t .one-free (subst (λ (x : Entry). isPast (x .op) ≡ true) (sym r) p));
+      reaches = λ p. let q = subst (λ (x : Entry). x .op ≡ 10) (sym r) p in
+          subst (λ (x : Entry). reachFits (x .a) (spelled h (x .b)) (spelled h (x .c)) ≡ true) r
+          (reach-kept labels n g h (g n) (λ k l. e k (omega arith)) q (t .second) (t .third) (t .reaches q));
     }
 
 -- an entry put at n
@@ -88,15 +124,20 @@ module _ (labels n : ℕ) (g : ℕ → Entry) (v : Entry) where
   abbrev now : ℕ → Entry
   now = update g n v
 
-  pub entry-put : v .op < 10 → operandFits (firstOperand (v .op)) labels n (v .a) ≡ true → operandFits (secondOperand (v .op)) labels n (v .b) ≡ true
-      → (isPast (v .op) ≡ true → lone (spelled now n) ≡ true) → EntryFits labels now n
-  entry-put p q r s =
+  pub entry-put : v .op < 11 → operandFits (firstOperand (v .op)) labels n (v .a) ≡ true → operandFits (secondOperand (v .op)) labels n (v .b) ≡ true
+      → operandFits (thirdOperand (v .op)) labels n (v .c) ≡ true → (isPast (v .op) ≡ true → lone (spelled now n) ≡ true)
+      → (v .op ≡ 10 → reachFits (v .a) (spelled g (v .b)) (spelled g (v .c)) ≡ true) → EntryFits labels now n
+  entry-put p q r u s m =
       let e = sym (update-same g n v) in
       record {
-        known = subst (λ (x : Entry). x .op < 10) e p;
+        known = subst (λ (x : Entry). x .op < 11) e p;
         first = subst (λ (x : Entry). operandFits (firstOperand (x .op)) labels n (x .a) ≡ true) e q;
         second = subst (λ (x : Entry). operandFits (secondOperand (x .op)) labels n (x .b) ≡ true) e r;
+        third = subst (λ (x : Entry). operandFits (thirdOperand (x .op)) labels n (x .c) ≡ true) e u;
         one-free = λ t. s (subst (λ (x : Entry). isPast (x .op) ≡ true) (sym e) t);
+        reaches = λ t. let o = subst (λ (x : Entry). x .op ≡ 10) (sym e) t in
+            subst (λ (x : Entry). reachFits (x .a) (spelled now (x .b)) (spelled now (x .c)) ≡ true) e
+            (reach-kept labels n g now v (λ k l. sym (update-other g n v k (λ z. omega arith))) o r u (m o));
       }
 
   tables-put : number g n < 33 → (isPast (v .op) ≡ true → number g n < 32) → number now (n + 1) < 33
@@ -123,7 +164,7 @@ module _ (labels n : ℕ) (g : ℕ → Entry) (v : Entry) where
 pub record PoliciesFit (policies events entries : ℕ) (g : ℕ → Entry) (policy : ℕ → ℕ) : Type 0 where
   pub few : policies ≤ events
   pub exists : (j : ℕ) → j < policies → policy j < entries
-  pub free : (j : ℕ) → j < policies → targetOnly (spelled g (policy j)) ≡ true
+  pub free : (j : ℕ) → j < policies → onlyFree 0 (spelled g (policy j)) ≡ true
   pub blank : (j : ℕ) → policies ≤ j → policy j ≡ 0
 
 -- before the first policy, events and entries may change
@@ -135,12 +176,12 @@ policies-none z t = record {
   blank = t .blank;
 }
 
-pub policy-more : {e m : ℕ} {g : ℕ → Entry} {policy : ℕ → ℕ} (j n : ℕ) → j < e → n < m → targetOnly (spelled g n) ≡ true
+pub policy-more : {e m : ℕ} {g : ℕ → Entry} {policy : ℕ → ℕ} (j n : ℕ) → j < e → n < m → onlyFree 0 (spelled g n) ≡ true
     → PoliciesFit j e m g policy → PoliciesFit (j + 1) e m g (update policy j n)
 policy-more {m = m} {g = g} {policy = policy} j n h i q t = record {
   few = omega arith;
   exists = λ k l. update-cases policy j n (λ x. x < m) k (λ z. i) (λ z. t .exists k (omega arith));
-  free = λ k l. update-cases policy j n (λ x. targetOnly (spelled g x) ≡ true) k (λ z. q) (λ z. t .free k (omega arith));
+  free = λ k l. update-cases policy j n (λ x. onlyFree 0 (spelled g x) ≡ true) k (λ z. q) (λ z. t .free k (omega arith));
   blank = λ k l. update-other policy j n k (λ z. omega arith) ∙ t .blank k (omega arith);
 }
 

@@ -9,7 +9,7 @@ use lib.Dec.{eqb, ltb, leb}
 use lib.ListN.{length}
 use borrow.Author.Tests.{eq-eqb, eqb-true, ltb-true, leb-true, le-leb}
 use Rattle.sets.proofs.Finite.{and-left, and-right, and-both, or-cases}
-use Rattle.theory.specs.Formula.{firstOperand, secondOperand, number, isPast}
+use Rattle.theory.specs.Formula.{firstOperand, secondOperand, thirdOperand, number, isPast}
 use Rattle.theory.proofs.Good.{implied}
 use Rattle.file.specs.File.{File, nothing, after, tests, complete, rises}
 use Rattle.file.specs.declared.line.Line.{Line}
@@ -144,20 +144,22 @@ going {f} (labels {r = r} {e = e} h i) p g =
       no-event = λ l. g .no-event (omega arith);
       no-edges = λ l. g .no-edges (omega arith);
     }
-going {f} (entry {n = n} {o = o} {a = a} {b = b} h i j k) p g =
+going {f} (entry {n = n} {o = o} {a = a} {b = b} {c = c} h i j k m y) p g =
     let test = passed-at p in
     let z = entry-phase f (test 0) in
     let z0 = z .0 in let z1 = z .1 in
     let labels : ℕ = f .terms .relations + f .terms .events in
     record {
-      entries = entry-more labels n (f .terms .entry) (record { op = o; a = a; b = b })
+      entries = entry-more labels n (f .terms .entry) (record { op = o; a = a; b = b; c = c })
           (subst (λ (m : ℕ). EntriesFit labels m (f .terms .entry)) (sym (eqb-true n (f .terms .entries) (test 1))) (g .entries))
           (ltb-true n 256 (test 2))
-          (λ q. ltb-true (number (f .terms .entry) n) 32 (implied (isPast o) _ (test 5) q))
-          (entry-put labels n (f .terms .entry) (record { op = o; a = a; b = b }) i
-          (operand-fits (firstOperand o) labels n a (test 3) (test 6))
-          (operand-fits (secondOperand o) labels n b (test 4) (test 7))
-          (λ q. implied (isPast o) _ (test 8) q));
+          (λ q. ltb-true (number (f .terms .entry) n) 32 (implied (isPast o) _ (test 6) q))
+          (entry-put labels n (f .terms .entry) (record { op = o; a = a; b = b; c = c }) i
+          (operand-fits (firstOperand o) labels n a (test 3) (test 7))
+          (operand-fits (secondOperand o) labels n b (test 4) (test 8))
+          (operand-fits (thirdOperand o) labels n c (test 5) (test 9))
+          (λ q. implied (isPast o) _ (test 10) q)
+          (λ q. implied (eqb o 10) _ (test 11) (eq-eqb o 10 q)));
       policies = policies-none (g .no-policies z1) (g .policies);
       effects = g .effects;
       edges = g .edges;

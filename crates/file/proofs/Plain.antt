@@ -1,19 +1,20 @@
 -- Bytes that are no separator: fields without tabs and lines without line feeds come apart again as they were put together.
 use Prim.Native.Nat.{ℕ, zero, suc, _<_}
 use mathlib.Core.Path.{_≡_, refl, ap, _∙_}
+use mathlib.Core.Logic.{⊎-elim}
 use mathlib.Core.List.{List, [], _∷_, _++_, map}
 use mathlib.Core.Bool.{Bool, true, false, not, _&&_}
 use native.Mathlib.Omega.{arith}
 use lib.Dec.{eqb, leb}
 use lib.ListN.{length, getD}
 use borrow.Author.Tests.{not-true, leb-true, eq-eqb, ne-eqb}
-use Rattle.sets.proofs.Finite.{and-left, and-right, and-both}
+use Rattle.sets.proofs.Finite.{true-or-false, and-left, and-right, and-both}
 use Rattle.theory.specs.Fit.{every}
 use Rattle.fields.specs.Split.{Lines, split, join, lines}
 use Rattle.fields.specs.Split.Lines.{done, line}
 use Rattle.fields.specs.Number.{isDigit, allDigits, digits}
 use Rattle.file.specs.Words.{operatorWords, actionWords, directionWords, kindWords}
-use Rattle.file.specs.Line.{fieldsOf, printed}
+use Rattle.file.specs.Line.{hasThird, fieldsOf, printed}
 use Rattle.file.specs.Writing.{printedAll}
 use Rattle.file.specs.declared.line.Line.{Line}
 use Rattle.file.specs.declared.line.Line.the-variants.{Members, Labels, Entry, Policy, Effect, Edge, Malformed}
@@ -129,8 +130,9 @@ fields-without : {c : ℕ} → Separator c → (l : Line) → every (map (withou
 unfolding fieldsOf every
 fields-without {c} s (Members n) = rw (kind-without s 0, digits-without c n (small s)) refl
 fields-without {c} s (Labels r e) = rw (kind-without s 1, digits-without c r (small s), digits-without c e (small s)) refl
-fields-without {c} s (Entry n o a b) =
-    rw (kind-without s 2, digits-without c n (small s), operator-without s o, digits-without c a (small s), digits-without c b (small s)) refl
+fields-without {c} s (Entry n o a b d) =
+    rw (kind-without s 2, digits-without c n (small s), operator-without s o, digits-without c a (small s), digits-without c b (small s))
+    (⊎-elim (λ e. rw e (rw (digits-without c d (small s)) refl)) (λ e. rw e refl) (true-or-false (hasThird o)))
 fields-without {c} s (Policy j n) = rw (kind-without s 3, digits-without c j (small s), digits-without c n (small s)) refl
 fields-without {c} s (Effect j a k d) =
     rw (kind-without s 4, digits-without c j (small s), action-without s a, digits-without c k (small s), direction-without s d) refl

@@ -3,19 +3,19 @@ use Prim.Native.Nat.{ℕ, zero, suc, _+_, _<_}
 use mathlib.Core.Path.{_≡_, refl, sym, ap, ap₂, subst, _∙_}
 use mathlib.Core.Logic.{_⊎_, inl, inr, ⊎-elim}
 use mathlib.Core.List.{List, [], _∷_, map}
-use mathlib.Core.Bool.{Bool, true, cond, not}
+use mathlib.Core.Bool.{Bool, true, false, cond, not}
 use native.Mathlib.Omega.{arith}
 use lib.Dec.{eqb, ltb, lit<}
 use lib.ListN.{length, getD}
 use lib.Seq.{ext-getD}
 use borrow.Author.Tests.{not-true, eqb-true, ltb-true, lt-ltb}
-use Rattle.sets.proofs.Finite.{true-or-false}
+use Rattle.sets.proofs.Finite.{true-or-false, not-both}
 use Rattle.theory.specs.Fit.{every}
 use Rattle.theory.proofs.Good.{every-at}
 use Rattle.fields.specs.Split.{split}
 use Rattle.fields.specs.Number.{isNumber, isDigit, allDigits, padded, valueOf, digits}
 use Rattle.file.specs.Words.{operatorWords, actionWords, directionWords, kindWords, indexOf, operatorOf, actionOf, directionOf, kindOf}
-use Rattle.file.specs.Line.{num, isNum, membersLine, labelsLine, entryLine, policyLine, effectLine, edgeLine, lineOf, parsed, fieldsOf, printed}
+use Rattle.file.specs.Line.{num, isNum, membersLine, labelsLine, shortEntryLine, longEntryLine, hasThird, entryLine, policyLine, effectLine, edgeLine, lineOf, parsed, fieldsOf, printed}
 use Rattle.file.specs.Normal.{normalField}
 use Rattle.file.specs.declared.line.Line.{Line}
 use Rattle.file.specs.declared.line.Line.the-variants.{Members, Labels, Entry, Policy, Effect, Edge, Malformed}
@@ -28,7 +28,7 @@ use Rattle.file.proofs.Plain.{word-all, split-printed}
 pub data Ranged : Line → Type 0 where
   members : {n : ℕ} → n < 100000 → Ranged (Members n)
   labels : {r e : ℕ} → r < 100000 → e < 100000 → Ranged (Labels r e)
-  entry : {n o a b : ℕ} → n < 100000 → o < 10 → a < 100000 → b < 100000 → Ranged (Entry n o a b)
+  entry : {n o a b c : ℕ} → n < 100000 → o < 11 → a < 100000 → b < 100000 → c < 100000 → (hasThird o ≡ false → c ≡ 0) → Ranged (Entry n o a b c)
   policy : {j n : ℕ} → j < 100000 → n < 100000 → Ranged (Policy j n)
   effect : {j c k d : ℕ} → j < 100000 → 0 < c → c < 3 → k < 100000 → d < 2 → Ranged (Effect j c k d)
   edge : {k a b : ℕ} → k < 100000 → a < 100000 → b < 100000 → Ranged (Edge k a b)
@@ -44,22 +44,39 @@ action-word (suc c) p h = action-at c (unfold actionWords in omega arith) ∙ (o
 
 -- a line's fields say the line
 pub parsed-printed : {l : Line} → Ranged l → parsed (fieldsOf l) ≡ l
-unfolding parsed fieldsOf lineOf membersLine labelsLine entryLine policyLine effectLine edgeLine every
+unfolding parsed fieldsOf lineOf membersLine labelsLine shortEntryLine longEntryLine entryLine policyLine effectLine edgeLine every
 parsed-printed (members {n = n} h) = rw (kind-word 0 (lit< tt), digits-number n h, valueOf-digits n h) refl
 parsed-printed (labels {r = r} {e = e} h i) =
     rw (kind-word 1 (lit< tt), digits-number r h, digits-number e i, valueOf-digits r h, valueOf-digits e i) refl
-parsed-printed (entry {n = n} {o = o} {a = a} {b = b} h i j k) =
-    rw (
+parsed-printed (entry {n = n} {o = o} {a = a} {b = b} {c = c} h i j k m z) =
+    ⊎-elim
+    (λ e. rw e (rw (
       kind-word 2 (lit< tt),
-      digits-number n h,
       operator-at o (unfold operatorWords in i),
-      lt-ltb o 10 i,
+    ) (rw e (rw (
+      digits-number n h,
+      digits-number a j,
+      digits-number b k,
+      digits-number c m,
+      valueOf-digits n h,
+      valueOf-digits a j,
+      valueOf-digits b k,
+      valueOf-digits c m,
+    ) refl))))
+    (λ e. rw e (rw (
+      kind-word 2 (lit< tt),
+      operator-at o (unfold operatorWords in i),
+    ) (rw e (rw (
+      digits-number n h,
+      lt-ltb o 11 i,
       digits-number a j,
       digits-number b k,
       valueOf-digits n h,
       valueOf-digits a j,
       valueOf-digits b k,
-    ) refl
+      z e,
+    ) refl))))
+    (true-or-false (hasThird o))
 parsed-printed (policy {j = j} {n = n} h i) =
     rw (kind-word 3 (lit< tt), digits-number j h, digits-number n i, valueOf-digits j h, valueOf-digits n i) refl
 parsed-printed (effect {j = j} {c = c} {k = k} {d = d} h p i m n) =
@@ -82,7 +99,7 @@ pub split-ranged : {l : Line} → Ranged l → split 9 (printed l) ≡ fieldsOf 
 unfolding fieldsOf
 split-ranged (members {n = n} h) = split-printed (Members n) (omega arith)
 split-ranged (labels {r = r} {e = e} h i) = split-printed (Labels r e) (omega arith)
-split-ranged (entry {n = n} {o = o} {a = a} {b = b} h i j k) = split-printed (Entry n o a b) (omega arith)
+split-ranged (entry {n = n} {o = o} {a = a} {b = b} {c = c} h i j k m z) = split-printed (Entry n o a b c) (omega arith)
 split-ranged (policy {j = j} {n = n} h i) = split-printed (Policy j n) (omega arith)
 split-ranged (effect {j = j} {c = c} {k = k} {d = d} h p i m n) = split-printed (Effect j c k d) (omega arith)
 split-ranged (edge {k = k} {a = a} {b = b} h i j) = split-printed (Edge k a b) (omega arith)
@@ -125,7 +142,7 @@ kind-normal f k e h =
     (subst (λ (m : ℕ). m < 6 → f ≡ getD kindWords m []) e (kind-back f) h)
     (word-all (λ w. not (isNumber w)) kindWords refl refl k)
 
-operator-normal : (f : List ℕ) → operatorOf f < 10 → getD operatorWords (operatorOf f) [] ≡ normalField f
+operator-normal : (f : List ℕ) → operatorOf f < 11 → getD operatorWords (operatorOf f) [] ≡ normalField f
 unfolding isNumber isDigit allDigits padded operatorWords every
 operator-normal f h =
     word-normal f (getD operatorWords (operatorOf f) []) (operator-back f h) (word-all (λ w. not (isNumber w)) operatorWords refl refl (operatorOf f))
@@ -166,7 +183,7 @@ module _ (fs : List (List ℕ)) where
   small k h = value-small (field k) h
 
   said : (k : ℕ) → kindOf (field 0) ≡ k → Says fs (lineOf k fs)
-  unfolding lineOf membersLine labelsLine entryLine policyLine effectLine edgeLine fieldsOf
+  unfolding lineOf membersLine labelsLine shortEntryLine longEntryLine entryLine policyLine effectLine edgeLine fieldsOf
   said zero e = tested fs _ _ (λ t. record {
     ranged = members (small 1 (t 1));
     fields = rw (kind-normal (field 0) 0 e (lit< tt), number-normal (field 1) (t 1)) (all 2 (t 0));
@@ -175,10 +192,17 @@ module _ (fs : List (List ℕ)) where
     ranged = labels (small 1 (t 1)) (small 2 (t 2));
     fields = rw (kind-normal (field 0) 1 e (lit< tt), number-normal (field 1) (t 1), number-normal (field 2) (t 2)) (all 3 (t 0));
   })
-  said (suc (suc zero)) e = tested fs _ _ (λ t. let o = ltb-true (operatorOf (field 2)) 10 (t 2) in record {
-    ranged = entry (small 1 (t 1)) o (small 3 (t 3)) (small 4 (t 4));
-    fields = rw (kind-normal (field 0) 2 e (lit< tt), number-normal (field 1) (t 1), operator-normal (field 2) o, number-normal (field 3) (t 3), number-normal (field 4) (t 4)) (all 5 (t 0));
-  })
+  said (suc (suc zero)) e =
+      ⊎-elim
+      (λ h. rw h (tested fs _ _ (λ t. let o : operatorOf (field 2) < 11 = (let q = eqb-true (operatorOf (field 2)) 10 h in omega arith) in record {
+        ranged = entry (small 1 (t 1)) o (small 3 (t 2)) (small 4 (t 3)) (small 5 (t 4)) (λ z. absurd (not-both _ h z));
+        fields = rw (kind-normal (field 0) 2 e (lit< tt), number-normal (field 1) (t 1), operator-normal (field 2) o, h, number-normal (field 3) (t 2), number-normal (field 4) (t 3), number-normal (field 5) (t 4)) (all 6 (t 0));
+      })))
+      (λ h. rw h (tested fs _ _ (λ t. let o = ltb-true (operatorOf (field 2)) 11 (t 2) in record {
+        ranged = entry (small 1 (t 1)) o (small 3 (t 3)) (small 4 (t 4)) (lit< tt) (λ z. refl);
+        fields = rw (kind-normal (field 0) 2 e (lit< tt), number-normal (field 1) (t 1), operator-normal (field 2) o, h, number-normal (field 3) (t 3), number-normal (field 4) (t 4)) (all 5 (t 0));
+      })))
+      (true-or-false (hasThird (operatorOf (field 2))))
   said (suc (suc (suc zero))) e = tested fs _ _ (λ t. record {
     ranged = policy (small 1 (t 1)) (small 2 (t 2));
     fields = rw (kind-normal (field 0) 3 e (lit< tt), number-normal (field 1) (t 1), number-normal (field 2) (t 2)) (all 3 (t 0));

@@ -27,7 +27,7 @@ pub tests-rise : (f : File) (l : Line) → numbersRise 1 (tests f l) ≡ true
 unfolding tests numbersRise
 tests-rise f (Members n) = refl
 tests-rise f (Labels r e) = refl
-tests-rise f (Entry n o a b) = refl
+tests-rise f (Entry n o a b c) = refl
 tests-rise f (Policy j n) = refl
 tests-rise f (Effect j c k d) = refl
 tests-rise f (Edge k a b) = refl

@@ -92,11 +92,11 @@ line-more {f} (labels {r = r} {e = e} h i) p g =
     let T = f .terms in
     let z = eqb-true (f .phase) 1 (passed-at p 0) in
     to-heads (Ranged.labels h i) p g (head-second (f .phase) (T .members) r e (T .relations) (T .events) z) (omega arith) (omega arith)
-line-more {f} (entry {n = n} {o = o} {a = a} {b = b} h i j k) p g =
+line-more {f} (entry {n = n} {o = o} {a = a} {b = b} {c = c} h i j k m y) p g =
     let z = entry-phase f (passed-at p 0) in
     let e = eqb-true n (f .terms .entries) (passed-at p 1) in
-    to-entries (Ranged.entry h i j k) p g (heads-same f 3 (z .0) (omega arith))
-    (entries-more n (f .terms .entry) o a b ∙ ap (λ (m : ℕ). entryLines m (f .terms .entry) ++ (Entry n o a b ∷ [])) e) (z .1) (omega arith)
+    to-entries (Ranged.entry h i j k m y) p g (heads-same f 3 (z .0) (omega arith))
+    (entries-more n (f .terms .entry) o a b c ∙ ap (λ (m : ℕ). entryLines m (f .terms .entry) ++ (Entry n o a b c ∷ [])) e) (z .1) (omega arith)
 line-more {f} (policy {j = j} {n = n} h i) p g =
     let z = policy-phase f (passed-at p 0) in
     let e = eqb-true j (f .policies) (passed-at p 1) in

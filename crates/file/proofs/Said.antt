@@ -74,10 +74,10 @@ plus-line : (f : File) {l : Line} → Ranged l → Passed (tests f l) → (ls : 
 unfolding plus tests after membersSaid relationsSaid eventsSaid entriesSaid policiesSaid effectsSaid
 plus-line f (members {n = n} h) p ls = rw (eqb-true (f .phase) 0 (passed-at p 0)) refl
 plus-line f (labels {r = r} {e = e} h i) p ls = rw (eqb-true (f .phase) 1 (passed-at p 0)) refl
-plus-line f (entry {n = n} {o = o} {a = a} {b = b} h i j k) p ls =
+plus-line f (entry {n = n} {o = o} {a = a} {b = b} {c = c} h i j k m y) p ls =
     let z = entry-phase f (passed-at p 0) .0 in
     let e = eqb-true n (f .terms .entries) (passed-at p 1) in
-    let v : formulas.Entry = record { op = o; a = a; b = b } in
+    let v : formulas.Entry = record { op = o; a = a; b = b; c = c } in
     let count : n + 1 + length (entriesSaid ls) ≡ f .terms .entries + suc (length (entriesSaid ls)) = omega arith in
     let all : extend (n + 1) (update (f .terms .entry) n v) (entriesSaid ls) noEntry ≡ extend (f .terms .entries) (f .terms .entry) (v ∷ entriesSaid ls) noEntry =
     fun-ext (extend-more (f .terms .entry) noEntry n v (entriesSaid ls)) ∙ ap (λ (m : ℕ). extend m (f .terms .entry) (v ∷ entriesSaid ls) noEntry) e in
@@ -134,7 +134,7 @@ edges-line : (f : File) (l : Line) (ls : List Line) (k a b : ℕ) → plus-edges
 unfolding plus-edges after edgesSaid
 edges-line f (Members n) ls k a b = refl
 edges-line f (Labels r e) ls k a b = refl
-edges-line f (Entry n o x y) ls k a b = refl
+edges-line f (Entry n o x y z) ls k a b = refl
 edges-line f (Policy j n) ls k a b = refl
 edges-line f (Effect j c x d) ls k a b = refl
 edges-line f (Edge l c d) ls k a b =

@@ -25,7 +25,7 @@ headLines (suc zero) N r e = Members N ∷ []
 headLines (suc (suc p)) N r e = Members N ∷ Labels r e ∷ []
 
 unfoldable pub entryLines : ℕ → (ℕ → formulas.Entry) → List Line
-entryLines n g = listed n (λ k. Entry k (g k .op) (g k .a) (g k .b) ∷ [])
+entryLines n g = listed n (λ k. Entry k (g k .op) (g k .a) (g k .b) (g k .c) ∷ [])
 
 unfoldable pub policyLines : ℕ → (ℕ → ℕ) → List Line
 policyLines n p = listed n (λ j. Policy j (p j) ∷ [])
@@ -86,12 +86,12 @@ pub entries-none : (n : ℕ) (g : ℕ → formulas.Entry) → n ≡ 0 → entryL
 unfolding entryLines
 entries-none n g e = listed-none n _ (λ i l. absurd (omega arith))
 
-pub entries-more : (n : ℕ) (g : ℕ → formulas.Entry) (o a b : ℕ)
-    → entryLines (n + 1) (update g n (record { op = o; a = a; b = b })) ≡ entryLines n g ++ (Entry n o a b ∷ [])
+pub entries-more : (n : ℕ) (g : ℕ → formulas.Entry) (o a b c : ℕ)
+    → entryLines (n + 1) (update g n (record { op = o; a = a; b = b; c = c })) ≡ entryLines n g ++ (Entry n o a b c ∷ [])
 unfolding entryLines
-entries-more n g o a b =
-    let v : formulas.Entry = record { op = o; a = a; b = b } in
-    let line : ℕ → formulas.Entry → List Line = λ k x. Entry k (x .op) (x .a) (x .b) ∷ [] in
+entries-more n g o a b c =
+    let v : formulas.Entry = record { op = o; a = a; b = b; c = c } in
+    let line : ℕ → formulas.Entry → List Line = λ k x. Entry k (x .op) (x .a) (x .b) (x .c) ∷ [] in
     listed-more n (λ k. line k (g k)) (λ k. line k (update g n v k)) (λ i l. ap (line i) (update-other g n v i (λ z. omega arith)))
     ∙ ap (λ (x : formulas.Entry). entryLines n g ++ line n x) (update-same g n v)
 

@@ -5,12 +5,12 @@ use mathlib.Core.List.{List, [], _∷_, _++_}
 use lib.Dec.{eqb, ltb, leb}
 use lib.ListN.{length}
 use Rattle.theory.specs.Formula as formula
-use Rattle.theory.specs.Formula.{Operand, firstOperand, secondOperand, number, isPast}
+use Rattle.theory.specs.Formula.{Operand, firstOperand, secondOperand, thirdOperand, number, isPast}
 use Rattle.theory.specs.Formula.Operand.{unused, variable, binder, label, entry}
 use Rattle.theory.specs.Terms.{Terms, formula}
 use Rattle.theory.specs.Terms as terms
 use Rattle.theory.specs.Moment.{Relations}
-use Rattle.theory.specs.Fit.{_⇒_, lone, targetOnly}
+use Rattle.theory.specs.Fit.{_⇒_, lone, onlyFree, reachFits}
 use Rattle.fields.specs.Split.{Lines, split, lines}
 use Rattle.fields.specs.Split.Lines.{done, cut, line}
 use Rattle.file.specs.Line.{parsed}
@@ -37,7 +37,7 @@ nothing = record {
     relations = 0;
     events = 0;
     entries = 0;
-    entry = λ n. record { op = 0; a = 0; b = 0 };
+    entry = λ n. record { op = 0; a = 0; b = 0; c = 0 };
     policy = λ j. 0;
     effects = λ j. [];
   };
@@ -54,13 +54,13 @@ abbrev pub update : {A : Type 0} → (ℕ → A) → ℕ → A → ℕ → A
 update g n v k = cond (eqb k n) v (g k)
 
 -- The terms with one entry more; with the policy of event j; with one effect more of event j.
-abbrev pub withEntry : Terms → (n o a b : ℕ) → Terms
-withEntry T n o a b = record {
+abbrev pub withEntry : Terms → (n o a b c : ℕ) → Terms
+withEntry T n o a b c = record {
   members = T .members;
   relations = T .relations;
   events = T .events;
   entries = n + 1;
-  entry = update (T .entry) n (record { op = o; a = a; b = b });
+  entry = update (T .entry) n (record { op = o; a = a; b = b; c = c });
   policy = T .policy;
   effects = T .effects;
 }
@@ -125,9 +125,9 @@ after f (Labels r e) = record {
   from = f .from;
   to = f .to;
 }
-after f (Entry n o a b) = record {
+after f (Entry n o a b c) = record {
   phase = 3;
-  terms = withEntry (f .terms) n o a b;
+  terms = withEntry (f .terms) n o a b c;
   edges = f .edges;
   policies = f .policies;
   event = f .event;
@@ -213,23 +213,26 @@ tests f (Labels r e) =
     ∷ test 2 (ltb 0 e)
     ∷ test 2 (ltb e 17)
     ∷ []
-tests f (Entry n o a b) =
+tests f (Entry n o a b c) =
     test 1 (eqb (f .phase) 2 || eqb (f .phase) 3)
     ∷ test 1 (eqb n (f .terms .entries))
     ∷ test 2 (ltb n 256)
     ∷ test 2 (inRange (firstOperand o) (f .terms .relations + f .terms .events) a)
     ∷ test 2 (inRange (secondOperand o) (f .terms .relations + f .terms .events) b)
+    ∷ test 2 (inRange (thirdOperand o) (f .terms .relations + f .terms .events) c)
     ∷ test 2 (isPast o ⇒ ltb (number (f .terms .entry) n) 32)
     ∷ test 3 (isLower (firstOperand o) n a)
     ∷ test 3 (isLower (secondOperand o) n b)
-    ∷ test 4 (isPast o ⇒ lone (formula (withEntry (f .terms) n o a b) n))
+    ∷ test 3 (isLower (thirdOperand o) n c)
+    ∷ test 4 (isPast o ⇒ lone (formula (withEntry (f .terms) n o a b c) n))
+    ∷ test 10 (eqb o 10 ⇒ reachFits a (formula (f .terms) b) (formula (f .terms) c))
     ∷ []
 tests f (Policy j n) =
     test 1 (leb 2 (f .phase) && leb (f .phase) 4)
     ∷ test 1 (eqb j (f .policies))
     ∷ test 1 (ltb j (f .terms .events))
     ∷ test 2 (ltb n (f .terms .entries))
-    ∷ test 5 (targetOnly (formula (f .terms) n))
+    ∷ test 5 (onlyFree 0 (formula (f .terms) n))
     ∷ []
 tests f (Effect j c k d) =
     test 1 (complete f)

@@ -25,10 +25,23 @@ membersLine fs = cond (every (eqb (length fs) 2 ∷ isNum fs 1 ∷ [])) (Members
 unfoldable pub labelsLine : List (List ℕ) → Line
 labelsLine fs = cond (every (eqb (length fs) 3 ∷ isNum fs 1 ∷ isNum fs 2 ∷ [])) (Labels (num fs 1) (num fs 2)) Malformed
 
+-- An F line of five fields, its third operand 0; and one of six.
+unfoldable pub shortEntryLine : List (List ℕ) → Line
+shortEntryLine fs =
+    cond (every (eqb (length fs) 5 ∷ isNum fs 1 ∷ ltb (operatorOf (getD fs 2 [])) 11 ∷ isNum fs 3 ∷ isNum fs 4 ∷ []))
+    (Entry (num fs 1) (operatorOf (getD fs 2 [])) (num fs 3) (num fs 4) 0) Malformed
+
+unfoldable pub longEntryLine : List (List ℕ) → Line
+longEntryLine fs =
+    cond (every (eqb (length fs) 6 ∷ isNum fs 1 ∷ isNum fs 3 ∷ isNum fs 4 ∷ isNum fs 5 ∷ []))
+    (Entry (num fs 1) (operatorOf (getD fs 2 [])) (num fs 3) (num fs 4) (num fs 5)) Malformed
+
+-- Only reach has a third operand, and lines of six fields.
+abbrev pub hasThird : ℕ → Bool
+hasThird o = eqb o 10
+
 unfoldable pub entryLine : List (List ℕ) → Line
-entryLine fs =
-    cond (every (eqb (length fs) 5 ∷ isNum fs 1 ∷ ltb (operatorOf (getD fs 2 [])) 10 ∷ isNum fs 3 ∷ isNum fs 4 ∷ []))
-    (Entry (num fs 1) (operatorOf (getD fs 2 [])) (num fs 3) (num fs 4)) Malformed
+entryLine fs = cond (hasThird (operatorOf (getD fs 2 []))) (longEntryLine fs) (shortEntryLine fs)
 
 unfoldable pub policyLine : List (List ℕ) → Line
 policyLine fs = cond (every (eqb (length fs) 3 ∷ isNum fs 1 ∷ isNum fs 2 ∷ [])) (Policy (num fs 1) (num fs 2)) Malformed
@@ -60,7 +73,7 @@ parsed fs = lineOf (kindOf (getD fs 0 [])) fs
 unfoldable pub fieldsOf : Line → List (List ℕ)
 fieldsOf (Members n) = getD kindWords 0 [] ∷ digits n ∷ []
 fieldsOf (Labels r e) = getD kindWords 1 [] ∷ digits r ∷ digits e ∷ []
-fieldsOf (Entry n o a b) = getD kindWords 2 [] ∷ digits n ∷ getD operatorWords o [] ∷ digits a ∷ digits b ∷ []
+fieldsOf (Entry n o a b c) = getD kindWords 2 [] ∷ digits n ∷ getD operatorWords o [] ∷ digits a ∷ digits b ∷ cond (hasThird o) (digits c ∷ []) []
 fieldsOf (Policy j n) = getD kindWords 3 [] ∷ digits j ∷ digits n ∷ []
 fieldsOf (Effect j c k d) = getD kindWords 4 [] ∷ digits j ∷ getD ([] ∷ actionWords) c [] ∷ digits k ∷ getD directionWords d [] ∷ []
 fieldsOf (Edge k a b) = getD kindWords 5 [] ∷ digits k ∷ digits a ∷ digits b ∷ []

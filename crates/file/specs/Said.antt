@@ -25,7 +25,7 @@ records (line l r) = parsed (split 9 l) ∷ records r
 abbrev pub membersIn : Line → ℕ → ℕ
 membersIn (Members n) rest = n
 membersIn (Labels r e) rest = rest
-membersIn (Entry n o a b) rest = rest
+membersIn (Entry n o a b c) rest = rest
 membersIn (Policy j n) rest = rest
 membersIn (Effect j c k d) rest = rest
 membersIn (Edge k a b) rest = rest
@@ -34,7 +34,7 @@ membersIn Malformed rest = rest
 abbrev pub relationsIn : Line → ℕ → ℕ
 relationsIn (Members n) rest = rest
 relationsIn (Labels r e) rest = r
-relationsIn (Entry n o a b) rest = rest
+relationsIn (Entry n o a b c) rest = rest
 relationsIn (Policy j n) rest = rest
 relationsIn (Effect j c k d) rest = rest
 relationsIn (Edge k a b) rest = rest
@@ -43,7 +43,7 @@ relationsIn Malformed rest = rest
 abbrev pub eventsIn : Line → ℕ → ℕ
 eventsIn (Members n) rest = rest
 eventsIn (Labels r e) rest = e
-eventsIn (Entry n o a b) rest = rest
+eventsIn (Entry n o a b c) rest = rest
 eventsIn (Policy j n) rest = rest
 eventsIn (Effect j c k d) rest = rest
 eventsIn (Edge k a b) rest = rest
@@ -52,7 +52,7 @@ eventsIn Malformed rest = rest
 abbrev pub entryIn : Line → List formulas.Entry → List formulas.Entry
 entryIn (Members n) rest = rest
 entryIn (Labels r e) rest = rest
-entryIn (Entry n o a b) rest = record { op = o; a = a; b = b } ∷ rest
+entryIn (Entry n o a b c) rest = record { op = o; a = a; b = b; c = c } ∷ rest
 entryIn (Policy j n) rest = rest
 entryIn (Effect j c k d) rest = rest
 entryIn (Edge k a b) rest = rest
@@ -61,7 +61,7 @@ entryIn Malformed rest = rest
 abbrev pub policyIn : Line → List ℕ → List ℕ
 policyIn (Members n) rest = rest
 policyIn (Labels r e) rest = rest
-policyIn (Entry n o a b) rest = rest
+policyIn (Entry n o a b c) rest = rest
 policyIn (Policy j n) rest = n ∷ rest
 policyIn (Effect j c k d) rest = rest
 policyIn (Edge k a b) rest = rest
@@ -71,7 +71,7 @@ policyIn Malformed rest = rest
 abbrev pub effectIn : ℕ → Line → List terms.Effect → List terms.Effect
 effectIn i (Members n) rest = rest
 effectIn i (Labels r e) rest = rest
-effectIn i (Entry n o a b) rest = rest
+effectIn i (Entry n o a b c) rest = rest
 effectIn i (Policy j n) rest = rest
 effectIn i (Effect j c k d) rest = cond (eqb i j) (record { adds = eqb c 1; relation = k; back = eqb d 1 } ∷ rest) rest
 effectIn i (Edge k a b) rest = rest
@@ -80,7 +80,7 @@ effectIn i Malformed rest = rest
 abbrev pub edgeIn : Line → Relations
 edgeIn (Members n) l c d = false
 edgeIn (Labels r e) l c d = false
-edgeIn (Entry n o a b) l c d = false
+edgeIn (Entry n o a b c′) l c d = false
 edgeIn (Policy j n) l c d = false
 edgeIn (Effect j c' k d') l c d = false
 edgeIn (Edge k a b) l c d = eqb l k && (eqb c a && eqb d b)
@@ -123,7 +123,7 @@ termsSaid ls = record {
   relations = relationsSaid ls;
   events = eventsSaid ls;
   entries = length (entriesSaid ls);
-  entry = λ n. getD (entriesSaid ls) n (record { op = 0; a = 0; b = 0 });
+  entry = λ n. getD (entriesSaid ls) n (record { op = 0; a = 0; b = 0; c = 0 });
   policy = λ j. getD (policiesSaid ls) j 0;
   effects = λ j. effectsSaid j ls;
 }

@@ -18,6 +18,7 @@ operatorWords =
     ∷ (115 ∷ 105 ∷ 110 ∷ 99 ∷ 101 ∷ [])  -- since
     ∷ (98 ∷ 105 ∷ 110 ∷ 100 ∷ [])  -- bind
     ∷ (97 ∷ 116 ∷ [])  -- at
+    ∷ (114 ∷ 101 ∷ 97 ∷ 99 ∷ 104 ∷ [])  -- reach
     ∷ []
 
 unfoldable pub actionWords : List (List ℕ)

@@ -15,7 +15,7 @@ listed zero f = []
 listed (suc n) f = listed n f ++ f n
 
 abbrev pub lineOfEntry : Terms → ℕ → Line
-lineOfEntry T n = Entry n (T .entry n .op) (T .entry n .a) (T .entry n .b)
+lineOfEntry T n = Entry n (T .entry n .op) (T .entry n .a) (T .entry n .b) (T .entry n .c)
 
 -- The effects of event j, in listed order.
 unfoldable pub effectLines : ℕ → List terms.Effect → List Line

@@ -8,18 +8,20 @@ use fields::field::pieces;
 use fields::number::Number;
 use fields::number::read_number;
 use theory::operators::OPERATORS;
+use theory::operators::REACH;
 ghost use mathlib.Core.Path.{_≡_};
 ghost use mathlib.Core.List.{[]};
 ghost use lib.ListN.{getD};
 ghost use Rattle.fields.specs.Split.{split};
 ghost use Rattle.fields.specs.Number.{numberOf};
-ghost use Rattle.file.specs.Line.{membersLine, labelsLine, entryLine, policyLine, effectLine, edgeLine, parsed};
+ghost use Rattle.file.specs.Words.{operatorOf};
+ghost use Rattle.file.specs.Line.{membersLine, labelsLine, shortEntryLine, longEntryLine, entryLine, policyLine, effectLine, edgeLine, parsed};
 
 // One line of a terms file, as what it says.
 pub enum Line {
     Members(usize),
     Labels(usize, usize),
-    Entry(usize, usize, usize, usize),
+    Entry(usize, usize, usize, usize, usize),
     Policy(usize, usize),
     Effect(usize, usize, usize, usize),
     Edge(usize, usize, usize),
@@ -63,8 +65,9 @@ fn labels_line(l: &[u8]) -> Line
 }
 
 // A line `F` entry word a b.
-fn entry_line(l: &[u8]) -> Line
-    ensures { λ r. ⌜ r ≡ entryLine (split 9 (now (l .entry))) ⌝ }
+fn short_entry_line(l: &[u8], o: usize) -> Line
+    requires { ⌜ o ≡ operatorOf (getD (split 9 (now l)) 2 []) ⌝ }
+    ensures { λ r. ⌜ r ≡ shortEntryLine (split 9 (now (l .entry))) ⌝ }
 {
     if pieces(l, 9) != 5 {
         return Line::Malformed;
@@ -72,7 +75,6 @@ fn entry_line(l: &[u8]) -> Line
     let Number::Value(n) = number_at(l, 1) else {
         return Line::Malformed;
     };
-    let o = read_operator(piece(l, 9, 2));
     if OPERATORS <= o {
         return Line::Malformed;
     }
@@ -82,7 +84,42 @@ fn entry_line(l: &[u8]) -> Line
     let Number::Value(b) = number_at(l, 4) else {
         return Line::Malformed;
     };
-    Line::Entry(n, o, a, b)
+    Line::Entry(n, o, a, b, 0)
+}
+
+// A line `F` entry word a b c.
+fn long_entry_line(l: &[u8], o: usize) -> Line
+    requires { ⌜ o ≡ operatorOf (getD (split 9 (now l)) 2 []) ⌝ }
+    ensures { λ r. ⌜ r ≡ longEntryLine (split 9 (now (l .entry))) ⌝ }
+{
+    if pieces(l, 9) != 6 {
+        return Line::Malformed;
+    }
+    let Number::Value(n) = number_at(l, 1) else {
+        return Line::Malformed;
+    };
+    let Number::Value(a) = number_at(l, 3) else {
+        return Line::Malformed;
+    };
+    let Number::Value(b) = number_at(l, 4) else {
+        return Line::Malformed;
+    };
+    let Number::Value(c) = number_at(l, 5) else {
+        return Line::Malformed;
+    };
+    Line::Entry(n, o, a, b, c)
+}
+
+// An `F` line, which has a sixth field where its operator has a third operand.
+fn entry_line(l: &[u8]) -> Line
+    ensures { λ r. ⌜ r ≡ entryLine (split 9 (now (l .entry))) ⌝ }
+{
+    let o = read_operator(piece(l, 9, 2));
+    if o == REACH {
+        long_entry_line(l, o)
+    } else {
+        short_entry_line(l, o)
+    }
 }
 
 // A line `P` event entry.

@@ -8,6 +8,7 @@ use theory::operators::OPERATORS;
 use theory::operators::OR;
 use theory::operators::OUT;
 use theory::operators::PREV;
+use theory::operators::REACH;
 use theory::operators::SINCE;
 use theory::operators::TOP;
 use theory::operators::VAR;
@@ -18,7 +19,8 @@ ghost use Rattle.file.specs.Words.{operatorOf, actionOf, directionOf, ki
 pub fn read_operator(f: &[u8]) -> usize
     ensures { λ r. ⌜ r ≡ operatorOf (now (f .entry)) ⌝ }
 {
-    let at = pick(f, b"at", AT, OPERATORS);
+    let reach = pick(f, b"reach", REACH, OPERATORS);
+    let at = pick(f, b"at", AT, reach);
     let bind = pick(f, b"bind", BIND, at);
     let since = pick(f, b"since", SINCE, bind);
     let prev = pick(f, b"prev", PREV, since);

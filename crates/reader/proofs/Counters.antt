@@ -13,19 +13,19 @@ use lib.Seq.{getD-set-same, getD-set-other}
 use borrow.Author.Tests.{eqb-true, eqb-false, ltb-true, leb-true}
 use Rattle.sets.specs.Sets.{bit}
 use Rattle.sets.proofs.Finite.{true-or-false, and-right, last-or-below}
-use Rattle.theory.specs.Formula.{Formula, Operand, node, number, below, spelled, free, firstOperand, secondOperand, isPast}
+use Rattle.theory.specs.Formula.{Formula, Operand, node, number, below, spelled, free, firstOperand, secondOperand, thirdOperand, isPast}
 use Rattle.theory.specs.Formula as formulas
 use Rattle.theory.specs.Formula.Operand.{unused, variable, binder, label, entry}
 use Rattle.theory.specs.Terms.{formula}
 use Rattle.theory.specs.Terms.{tables}
-use Rattle.theory.specs.Fit.{_⇒_, lone}
-use Rattle.memory.specs.Plan.{Masked}
+use Rattle.theory.specs.Fit.{_⇒_, lone, reachFits}
+use Rattle.memory.specs.Plan.{Masked, reachSets}
 use Rattle.theory.proofs.Spelled.{below-spelled, small-below, small-node}
 use Rattle.theory.proofs.Good.{fits-variable}
-use Rattle.memory.proofs.FreeSets.{lone-set, target-set}
+use Rattle.memory.proofs.FreeSets.{lone-set, target-set, reach-set}
 use Rattle.file.specs.File.{File, update, withEntry, after, inRange, isLower, tests}
 use Rattle.reader.specs.Memory.{memoryOf, relationsMemory}
-use Rattle.reader.specs.Stepping.{slot, contextTests, FreeIn, Ranges, stepped}
+use Rattle.reader.specs.Stepping.{slot, contextTests, FreeIn, reachIn, Ranges, stepped}
 use Rattle.reader.specs.Storing.{storedTerms, storedEdges, storedSets}
 use Rattle.file.specs.declared.line.Line.{Line}
 use Rattle.file.specs.declared.line.Line.the-variants.{Members, Labels, Entry, Policy, Effect, Edge, Malformed}
@@ -72,11 +72,11 @@ module _ (f : File) (g : Going f) where
   small-policy : (n : ℕ) → n < f .terms .entries → (x : ℕ) → free (formula (f .terms) n) x ≡ true → x < 16
   unfolding spelled
   small-policy n l x e =
-      small-node (number (f .terms .entry) n) (below (f .terms .entry) n) (f .terms .entry n .op) (f .terms .entry n .a) (f .terms .entry n .b)
+      small-node (number (f .terms .entry) n) (below (f .terms .entry) n) (f .terms .entry n .op) (f .terms .entry n .a) (f .terms .entry n .b) (f .terms .entry n .c)
       (small-entries n (omega arith)) (first-small n l) x e
 
 -- one entry more
-module _ (f : File) (o a b : ℕ) where
+module _ (f : File) (o a b c : ℕ) where
   abbrev n : ℕ
   n = f .terms .entries
 
@@ -84,26 +84,27 @@ module _ (f : File) (o a b : ℕ) where
   e = f .terms .entry
 
   abbrev e' : ℕ → formulas.Entry
-  e' = update e n (record { op = o; a = a; b = b })
+  e' = update e n (record { op = o; a = a; b = b; c = c })
 
   old : (k : ℕ) → k < n → e' k ≡ e k
-  old k l = update-other e n (record { op = o; a = a; b = b }) k (λ z. omega arith)
+  old k l = update-other e n (record { op = o; a = a; b = b; c = c }) k (λ z. omega arith)
 
   tables-new : number e' (n + 1) ≡ cond (isPast o) (suc (number e n)) (number e n)
   unfolding number
-  tables-new = rw (add-one n, number-agree e' e n old, update-same e n (record { op = o; a = a; b = b }))
+  tables-new = rw (add-one n, number-agree e' e n old, update-same e n (record { op = o; a = a; b = b; c = c }))
 
-  spelled-new : spelled e' n ≡ node (number e' n) (below e' n) o a b
+  spelled-new : spelled e' n ≡ node (number e' n) (below e' n) o a b c
   unfolding spelled
-  spelled-new = let s = update-same e n (record { op = o; a = a; b = b }) in λ i. node (number e' n) (below e' n) (s i .op) (s i .a) (s i .b)
+  spelled-new = let s = update-same e n (record { op = o; a = a; b = b; c = c }) in λ i. node (number e' n) (below e' n) (s i .op) (s i .a) (s i .b) (s i .c)
 
   -- the entries before it stay
   formula-old : (k : ℕ) → k < n → spelled e' k ≡ spelled e k
   formula-old k l = spelled-agree e' e k (λ j m. old j (omega arith))
 
-  module _ (g : Going f) (masks : List ℕ) (masked : Masked (f .terms) masks) (m : ℕ) (is : FreeIn masks (Entry n o a b) m)
+  module _ (g : Going f) (masks : List ℕ) (masked : Masked (f .terms) masks) (m : ℕ) (is : FreeIn masks (Entry n o a b c) m)
       (ra : inRange (firstOperand o) (f .terms .relations + f .terms .events) a ≡ true)
       (la : isLower (firstOperand o) n a ≡ true) (lb : isLower (secondOperand o) n b ≡ true)
+      (lc : isLower (thirdOperand o) n c ≡ true)
     where
       variable-small : firstOperand o ≡ variable → a < 16
       variable-small = fits-variable (f .terms .relations + f .terms .events) n a (firstOperand o) (operand-fits (firstOperand o) _ n a ra la)
@@ -115,10 +116,11 @@ module _ (f : File) (o a b : ℕ) where
       -- m is the set of its free variables, which are below 16
       free-new : (x : ℕ) → bit m x ≡ free (spelled e' n) x
       free-new x =
-          is (number e' n) b x (below e' n)
+          is (number e' n) b c x (below e' n)
           (λ z. omega (arith, variable-small z))
           (λ z. lower a (below-entry (firstOperand o) a la z))
           (λ z. lower b (below-entry (secondOperand o) b lb z))
+          (λ z. lower c (below-entry (thirdOperand o) c lc z))
           ∙ ap (λ φ. free φ x) (sym spelled-new)
         where
           lower : (k : ℕ) → k < n → bit (getD masks k 0) x ≡ free (below e' n k) x
@@ -126,14 +128,26 @@ module _ (f : File) (o a b : ℕ) where
 
       small-new : (x : ℕ) → free (spelled e' n) x ≡ true → x < 16
       small-new x p =
-          small-node (number e' n) (below e' n) o a b
+          small-node (number e' n) (below e' n) o a b c
           (subst (λ (h : ℕ → Formula). (k x : ℕ) → free (h k) x ≡ true → x < 16) (sym (below-agree e' e n old)) (small-entries f g n (omega arith)))
           variable-small x (sym (ap (λ φ. free φ x) spelled-new) ∙ p)
 
       lone-new : m < 2 ^ 64 → eqb (bitAnd m (m - 1)) 0 ≡ lone (spelled e' n)
       lone-new fits = lone-set m fits (spelled e' n) free-new small-new
 
-      masked-new : n < 256 → Masked (withEntry (f .terms) n o a b) (set masks n m)
+      -- the test of a reach by sets is that by formulas
+      reach-new : (eqb o 10 ⇒ reachSets a (getD masks b 0) (getD masks c 0)) ≡ (eqb o 10 ⇒ reachFits a (formula (f .terms) b) (formula (f .terms) c))
+      reach-new =
+          ⊎-elim
+          (λ z. let e : o ≡ 10 = eqb-true o 10 z in
+          let bl : b < n = below-entry (secondOperand o) b lb (ap secondOperand e) in
+          let cl : c < n = below-entry (thirdOperand o) c lc (ap thirdOperand e) in
+          ap (_⇒_ (eqb o 10)) (reach-set a (getD masks b 0) (getD masks c 0) (formula (f .terms) b) (formula (f .terms) c)
+          (λ y. masked .bits b y bl) (masked .bits c a cl) (small-policy f g b bl)))
+          (λ z. rw z refl)
+          (true-or-false (eqb o 10))
+
+      masked-new : n < 256 → Masked (withEntry (f .terms) n o a b c) (set masks n m)
       masked-new l = record {
         long = length-set masks n m ∙ masked .long;
         bits = λ k x h. ⊎-elim
@@ -159,31 +173,33 @@ module _ (f : File) (g : Going f) (j : ℕ) (l : f .event ≤ j) where
 -- ---- the tests come to the same
 
 module _ (f : File) (g : Going f) (masks : List ℕ) (masked : Masked (f .terms) masks) (m : ℕ) (fits : m < 2 ^ 64) where
-  entry-tests : (o a b : ℕ) → FreeIn masks (Entry (f .terms .entries) o a b) m →
-      Same (drop 2 (contextTests (contextOf f) m (Entry (f .terms .entries) o a b))) (drop 2 (tests f (Entry (f .terms .entries) o a b)))
+  entry-tests : (r : Bool) (o a b c : ℕ) → FreeIn masks (Entry (f .terms .entries) o a b c) m → r ≡ reachIn masks (Entry (f .terms .entries) o a b c) →
+      Same (drop 2 (contextTests (contextOf f) m r (Entry (f .terms .entries) o a b c))) (drop 2 (tests f (Entry (f .terms .entries) o a b c)))
   unfolding contextTests tests
-  entry-tests o a b is =
-      same-test refl (λ _. same-test refl (λ ra. same-test refl (λ _. same-test refl (λ _. same-test refl (λ la. same-test refl (λ lb.
-      same-test (ap (_⇒_ (isPast o)) (lone-new f o a b g masks masked m is ra la lb fits)) (λ _. same-all [])))))))
+  entry-tests r o a b c is reach =
+      same-test refl (λ _. same-test refl (λ ra. same-test refl (λ _. same-test refl (λ _. same-test refl (λ _.
+      same-test refl (λ la. same-test refl (λ lb. same-test refl (λ lc.
+      same-test (ap (_⇒_ (isPast o)) (lone-new f o a b c g masks masked m is ra la lb lc fits)) (λ _.
+      same-test (reach ∙ reach-new f o a b c g masks masked m is ra la lb lc) (λ _. same-all []))))))))))
 
-  pub tests-same : (l : Line) → FreeIn masks l m → Same (contextTests (contextOf f) m l) (tests f l)
+  pub tests-same : (r : Bool) (l : Line) → FreeIn masks l m → r ≡ reachIn masks l → Same (contextTests (contextOf f) m r l) (tests f l)
   unfolding contextTests tests
-  tests-same (Members n) is = same-all _
-  tests-same (Labels r e) is = same-all _
-  tests-same (Entry n o a b) is =
+  tests-same q (Members n) is reach = same-all _
+  tests-same q (Labels r e) is reach = same-all _
+  tests-same q (Entry n o a b c) is reach =
       same-test refl (λ _. same-test refl (λ p.
-      subst (λ (n : ℕ). Same (drop 2 (contextTests (contextOf f) m (Entry n o a b))) (drop 2 (tests f (Entry n o a b))))
-      (sym (eqb-true n (f .terms .entries) p)) (entry-tests o a b is)))
-  tests-same (Policy j n) is =
+      subst (λ (n : ℕ). Same (drop 2 (contextTests (contextOf f) m q (Entry n o a b c))) (drop 2 (tests f (Entry n o a b c))))
+      (sym (eqb-true n (f .terms .entries) p)) (entry-tests q o a b c is reach)))
+  tests-same q (Policy j n) is reach =
       same-test refl (λ _. same-test refl (λ _. same-test refl (λ _. same-test refl (λ p.
       let l : n < f .terms .entries = ltb-true n (f .terms .entries) p in
       same-test (target-set m fits (formula (f .terms) n) (λ x. ap (λ (w : ℕ). bit w x) is ∙ masked .bits n x l) (small-policy f g n l))
       (λ _. same-all [])))))
-  tests-same (Effect j a k d) is =
+  tests-same q (Effect j a k d) is reach =
       same-test refl (λ _. same-test refl (λ _. same-test refl (λ p. same-test refl (λ _.
       same-test (ap (λ (s : ℕ). ltb s 4) (slot-is f g j (leb-true (f .event) j p))) (λ _. same-all _)))))
-  tests-same (Edge k a b) is = same-all _
-  tests-same Malformed is = same-all _
+  tests-same q (Edge k a b) is reach = same-all _
+  tests-same q Malformed is reach = same-all _
 
 -- ---- a line that passes
 
@@ -200,15 +216,16 @@ pub in-ranges : {f : File} {l : Line} → Ranged l → Going f → Passed (tests
 unfolding tests
 in-ranges (members {n = n} h) g p = ltb-true n 65 (passed-at p 2)
 in-ranges (labels {r = r} {e = e} h i) g p = (ltb-true r 17 (passed-at p 1), ltb-true e 17 (passed-at p 3))
-in-ranges {f} (entryLine {n = n} {o = o} {a = a} {b = b} h i j k) g p =
+in-ranges {f} (entryLine {n = n} {o = o} {a = a} {b = b} {c = c} h i j k m y) g p =
     let few = g .labels (entry-phase f (passed-at p 0) .0) in
     let r : f .terms .relations < 17 = few .0 in
     let e : f .terms .events < 17 = few .2 in
     let l : n < 256 = ltb-true n 256 (passed-at p 2) in (
       l,
       i,
-      operand-low (firstOperand o) (f .terms .relations + f .terms .events) n a (omega arith) l (passed-at p 3) (passed-at p 6),
-      operand-low (secondOperand o) (f .terms .relations + f .terms .events) n b (omega arith) l (passed-at p 4) (passed-at p 7),
+      operand-low (firstOperand o) (f .terms .relations + f .terms .events) n a (omega arith) l (passed-at p 3) (passed-at p 7),
+      operand-low (secondOperand o) (f .terms .relations + f .terms .events) n b (omega arith) l (passed-at p 4) (passed-at p 8),
+      operand-low (thirdOperand o) (f .terms .relations + f .terms .events) n c (omega arith) l (passed-at p 5) (passed-at p 9),
     )
 in-ranges {f} (policy {j = j} {n = n} h i) g p =
     let e : f .terms .events < 17 = g .labels (policy-phase f (passed-at p 0) .0) .2 in (
@@ -239,9 +256,9 @@ pub context-after : {f : File} {l : Line} → Ranged l → Going f → Passed (t
 unfolding tests stepped after
 context-after (members h) g p = refl
 context-after (labels h i) g p = refl
-context-after {f} (entryLine {n = n} {o = o} {a = a} {b = b} h i j k) g p =
-    subst (λ (n : ℕ). stepped (contextOf f) (Entry n o a b) ≡ contextOf (after f (Entry n o a b)))
-    (sym (eqb-true n (f .terms .entries) (passed-at p 1))) (rw (tables-new f o a b) refl)
+context-after {f} (entryLine {n = n} {o = o} {a = a} {b = b} {c = c} h i j k m y) g p =
+    subst (λ (n : ℕ). stepped (contextOf f) (Entry n o a b c) ≡ contextOf (after f (Entry n o a b c)))
+    (sym (eqb-true n (f .terms .entries) (passed-at p 1))) (rw (tables-new f o a b c) refl)
 context-after (policy h i) g p = refl
 context-after {f} (effect {j = j} {c = c} {k = k} {d = d} h i q m n) g p =
     rw (
@@ -257,10 +274,10 @@ pub masked-after : {f : File} {l : Line} → Ranged l → Going f → Passed (te
 unfolding tests after storedSets
 masked-after (members h) g p masks k m is = record { long = k .long; bits = k .bits }
 masked-after (labels h i) g p masks k m is = record { long = k .long; bits = k .bits }
-masked-after {f} (entryLine {n = n} {o = o} {a = a} {b = b} h i j q) g p masks k m is =
+masked-after {f} (entryLine {n = n} {o = o} {a = a} {b = b} {c = c} h i j q r y) g p masks k m is =
     let e : n ≡ f .terms .entries = eqb-true n (f .terms .entries) (passed-at p 1) in
-    subst (λ (n : ℕ). Passed (tests f (Entry n o a b)) → Masked (withEntry (f .terms) n o a b) (set masks n m)) (sym e)
-    (λ p. masked-new f o a b g masks k m is (passed-at p 3) (passed-at p 6) (passed-at p 7) (ltb-true (f .terms .entries) 256 (passed-at p 2))) p
+    subst (λ (n : ℕ). Passed (tests f (Entry n o a b c)) → Masked (withEntry (f .terms) n o a b c) (set masks n m)) (sym e)
+    (λ p. masked-new f o a b c g masks k m is (passed-at p 3) (passed-at p 7) (passed-at p 8) (passed-at p 9) (ltb-true (f .terms .entries) 256 (passed-at p 2))) p
 masked-after (policy h i) g p masks k m is = record { long = k .long; bits = k .bits }
 masked-after (effect h i q r n) g p masks k m is = record { long = k .long; bits = k .bits }
 masked-after (edge h i j) g p masks k m is = k
@@ -271,7 +288,7 @@ pub terms-after : {f : File} {l : Line} → Ranged l → Going f → Passed (tes
 unfolding tests after storedTerms
 terms-after {f} (members {n = n} h) g p = members-stored (f .terms) n
 terms-after {f} (labels {r = r} {e = e} h i) g p = labels-stored (f .terms) r e
-terms-after {f} (entryLine {n = n} {o = o} {a = a} {b = b} h i j k) g p = entry-stored (f .terms) n o a b (ltb-true n 256 (passed-at p 2))
+terms-after {f} (entryLine {n = n} {o = o} {a = a} {b = b} {c = c} h i j k m y) g p = entry-stored (f .terms) n o a b c (ltb-true n 256 (passed-at p 2))
 terms-after {f} (policy {j = j} {n = n} h i) g p = policy-stored (f .terms) j n (in-ranges {l = Policy j n} (policy h i) g p .0)
 terms-after {f} (effect {j = j} {c = c} {k = k} {d = d} h i q m n) g p =
     rw (slot-is f g j (leb-true (f .event) j (passed-at p 2)))
@@ -294,7 +311,7 @@ pub relations-after : {f : File} {l : Line} → Ranged l → Going f → Passed 
 unfolding after storedEdges
 relations-after (members h) g p = refl
 relations-after (labels h i) g p = refl
-relations-after (entryLine h i j k) g p = refl
+relations-after (entryLine h i j k m y) g p = refl
 relations-after (policy h i) g p = refl
 relations-after (effect h i q m n) g p = refl
 relations-after {f} (edge {k = k} {a = a} {b = b} h i j) g p =

@@ -22,7 +22,7 @@ use Rattle.memory.specs.Layout.{termsWords, entryAt, policyAt, effectAt, relati
 use Rattle.memory.proofs.Row.{length-tabulate, getD-tabulate}
 use Rattle.file.specs.File.{update, withEntry, withPolicy, withEffect}
 use Rattle.reader.specs.Memory.{effectWord, termsWord, memoryOf, relationsMemory}
-use Rattle.reader.specs.Storing.{three, withEdgeBit}
+use Rattle.reader.specs.Storing.{three, four, withEdgeBit}
 use Rattle.file.proofs.Fit.{withEdge}
 
 -- ---- lists made of words
@@ -116,8 +116,26 @@ module _ (T : Terms) where
   of-three g at x y z i (suc (suc zero)) e h = rw (eq-eqb i (at + 2) (omega arith))
   of-three g at x y z i (suc (suc (suc c))) e h = absurd (omega arith)
 
-  module _ (n o a b : ℕ) (l : n < 256) where
-    entry-low : (i : ℕ) → i < 4 → update (termsWord T) 3 (n + 1) i ≡ termsWord (withEntry T n o a b) i
+  -- one word of four
+  abbrev fourfold : (ℕ → ℕ) → (at x y z v : ℕ) → ℕ → ℕ
+  fourfold g at x y z v = update (thrice g at x y z) (at + 3) v
+
+  four-tabulate : (g : ℕ → ℕ) (at x y z v : ℕ) → four (tabulate termsWords g) at x y z v ≡ tabulate termsWords (fourfold g at x y z v)
+  four-tabulate g at x y z v =
+      ap (λ w. set w (at + 3) v) (three-tabulate g at x y z) ∙ set-tabulate termsWords (thrice g at x y z) (at + 3) v
+
+  not-four : (g : ℕ → ℕ) (at x y z v i : ℕ) → (i ≡ at → ⊥) → (i ≡ at + 1 → ⊥) → (i ≡ at + 2 → ⊥) → (i ≡ at + 3 → ⊥) → fourfold g at x y z v i ≡ g i
+  not-four g at x y z v i p q r s = rw (ne-eqb i (at + 3) s) (not-three g at x y z i p q r)
+
+  of-four : (g : ℕ → ℕ) (at x y z v i c : ℕ) → i ≡ at + c → c < 4 → fourfold g at x y z v i ≡ cond (eqb c 0) x (cond (eqb c 1) y (cond (eqb c 2) z v))
+  of-four g at x y z v i zero e h = rw (ne-eqb i (at + 3) (λ f. omega arith)) (of-three g at x y z i 0 e (omega arith))
+  of-four g at x y z v i (suc zero) e h = rw (ne-eqb i (at + 3) (λ f. omega arith)) (of-three g at x y z i 1 e (omega arith))
+  of-four g at x y z v i (suc (suc zero)) e h = rw (ne-eqb i (at + 3) (λ f. omega arith)) (of-three g at x y z i 2 e (omega arith))
+  of-four g at x y z v i (suc (suc (suc zero))) e h = rw (eq-eqb i (at + 3) (omega arith))
+  of-four g at x y z v i (suc (suc (suc (suc c)))) e h = absurd (omega arith)
+
+  module _ (n o a b c : ℕ) (l : n < 256) where
+    entry-low : (i : ℕ) → i < 4 → update (termsWord T) 3 (n + 1) i ≡ termsWord (withEntry T n o a b c) i
     unfolding termsWord
     entry-low zero h = refl
     entry-low (suc zero) h = refl
@@ -125,54 +143,54 @@ module _ (T : Terms) where
     entry-low (suc (suc (suc zero))) h = refl
     entry-low (suc (suc (suc (suc i)))) h = absurd (omega arith)
 
-    entry-word : (i : ℕ) → thrice (update (termsWord T) 3 (n + 1)) (entryAt n) o a b i ≡ termsWord (withEntry T n o a b) i
+    entry-word : (i : ℕ) → fourfold (update (termsWord T) 3 (n + 1)) (entryAt n) o a b c i ≡ termsWord (withEntry T n o a b c) i
     unfolding termsWord
     entry-word i =
         ⊎-elim
         (λ p. let q : i < 4 = ltb-true i 4 p in
-        not-three g (entryAt n) o a b i (λ e. omega arith) (λ e. omega arith) (λ e. omega arith) ∙ entry-low i q)
+        not-four g (entryAt n) o a b c i (λ e. omega arith) (λ e. omega arith) (λ e. omega arith) (λ e. omega arith) ∙ entry-low i q)
         (λ p. let q : 4 ≤ i = ltb-false i 4 p in
         ⊎-elim
-        (λ r. let s : i < 772 = ltb-true i 772 r in middle q s)
-        (λ r. let s : 772 ≤ i = ltb-false i 772 r in
-        not-three g (entryAt n) o a b i (λ e. omega arith) (λ e. omega arith) (λ e. omega arith)
+        (λ r. let s : i < 1028 = ltb-true i 1028 r in middle q s)
+        (λ r. let s : 1028 ≤ i = ltb-false i 1028 r in
+        not-four g (entryAt n) o a b c i (λ e. omega arith) (λ e. omega arith) (λ e. omega arith) (λ e. omega arith)
         ∙ rw (ne-eqb i 3 (λ e. omega arith), p, r))
-        (true-or-false (ltb i 772)))
+        (true-or-false (ltb i 1028)))
         (true-or-false (ltb i 4))
       where
         g : ℕ → ℕ
         g = update (termsWord T) 3 (n + 1)
 
-        middle : 4 ≤ i → i < 772 → thrice g (entryAt n) o a b i ≡ termsWord (withEntry T n o a b) i
+        middle : 4 ≤ i → i < 1028 → fourfold g (entryAt n) o a b c i ≡ termsWord (withEntry T n o a b c) i
         middle q s =
             ⊎-elim
-            (λ e. let k : (i - 4) / 3 ≡ n = eqb-true ((i - 4) / 3) n e in
-            of-three g (entryAt n) o a b i ((i - 4) % 3) (omega arith) (omega arith) ∙ rw (le-ltb i 4 q, lt-ltb i 772 s, e))
-            (λ e. let k : (i - 4) / 3 ≡ n → ⊥ = eqb-false ((i - 4) / 3) n e in
-            not-three g (entryAt n) o a b i (λ z. k (omega arith)) (λ z. k (omega arith)) (λ z. k (omega arith))
-            ∙ rw (ne-eqb i 3 (λ z. omega arith), le-ltb i 4 q, lt-ltb i 772 s, e))
-            (true-or-false (eqb ((i - 4) / 3) n))
+            (λ e. let k : (i - 4) / 4 ≡ n = eqb-true ((i - 4) / 4) n e in
+            of-four g (entryAt n) o a b c i ((i - 4) % 4) (omega arith) (omega arith) ∙ rw (le-ltb i 4 q, lt-ltb i 1028 s, e))
+            (λ e. let k : (i - 4) / 4 ≡ n → ⊥ = eqb-false ((i - 4) / 4) n e in
+            not-four g (entryAt n) o a b c i (λ z. k (omega arith)) (λ z. k (omega arith)) (λ z. k (omega arith)) (λ z. k (omega arith))
+            ∙ rw (ne-eqb i 3 (λ z. omega arith), le-ltb i 4 q, lt-ltb i 1028 s, e))
+            (true-or-false (eqb ((i - 4) / 4) n))
 
-    pub entry-stored : three (set (memoryOf T) 3 (n + 1)) (entryAt n) o a b ≡ memoryOf (withEntry T n o a b)
+    pub entry-stored : four (set (memoryOf T) 3 (n + 1)) (entryAt n) o a b c ≡ memoryOf (withEntry T n o a b c)
     unfolding memoryOf
     entry-stored =
-        ap (λ w. three w (entryAt n) o a b) (set-tabulate termsWords (termsWord T) 3 (n + 1))
-        ∙ three-tabulate (update (termsWord T) 3 (n + 1)) (entryAt n) o a b ∙ tabulate-cong termsWords _ _ (λ i l. entry-word i)
+        ap (λ w. four w (entryAt n) o a b c) (set-tabulate termsWords (termsWord T) 3 (n + 1))
+        ∙ four-tabulate (update (termsWord T) 3 (n + 1)) (entryAt n) o a b c ∙ tabulate-cong termsWords _ _ (λ i l. entry-word i)
 
   module _ (j n : ℕ) (l : j < 16) where
     policy-word : (i : ℕ) → update (termsWord T) (policyAt j) n i ≡ termsWord (withPolicy T j n) i
     unfolding termsWord
     policy-word i =
         ⊎-elim
-        (λ p. let q : i < 772 = ltb-true i 772 p in rw (ne-eqb i (policyAt j) (λ e. omega arith), p))
-        (λ p. let q : 772 ≤ i = ltb-false i 772 p in
+        (λ p. let q : i < 1028 = ltb-true i 1028 p in rw (ne-eqb i (policyAt j) (λ e. omega arith), p))
+        (λ p. let q : 1028 ≤ i = ltb-false i 1028 p in
         ⊎-elim
         (λ e. let s : i ≡ policyAt j = eqb-true i (policyAt j) e in
-        rw (e, le-ltb i 4 (omega arith), p, lt-ltb i 788 (omega arith), eq-eqb (i - 772) j (omega arith)))
+        rw (e, le-ltb i 4 (omega arith), p, lt-ltb i 1044 (omega arith), eq-eqb (i - 1028) j (omega arith)))
         (λ e. let s : i ≡ policyAt j → ⊥ = eqb-false i (policyAt j) e in
-        rw (e, ne-eqb (i - 772) j (λ z. s (omega arith))))
+        rw (e, ne-eqb (i - 1028) j (λ z. s (omega arith))))
         (true-or-false (eqb i (policyAt j))))
-        (true-or-false (ltb i 772))
+        (true-or-false (ltb i 1028))
 
     pub policy-stored : set (memoryOf T) (policyAt j) n ≡ memoryOf (withPolicy T j n)
     unfolding memoryOf
@@ -198,46 +216,46 @@ module _ (T : Terms) where
     unfolding termsWord
     effect-word i =
         ⊎-elim
-        (λ p. let q : i < 788 = ltb-true i 788 p in
+        (λ p. let q : i < 1044 = ltb-true i 1044 p in
         not-three (termsWord T) at a k d i (λ e. omega arith) (λ e. omega arith) (λ e. omega arith) ∙ rw p)
-        (λ p. let q : 788 ≤ i = ltb-false i 788 p in ⊎-elim (here q) (elsewhere q) (true-or-false (eqb ((i - 788) / 12) j)))
-        (true-or-false (ltb i 788))
+        (λ p. let q : 1044 ≤ i = ltb-false i 1044 p in ⊎-elim (here q) (elsewhere q) (true-or-false (eqb ((i - 1044) / 12) j)))
+        (true-or-false (ltb i 1044))
       where
         es : List terms.Effect
         es = T .effects j
 
-        elsewhere : 788 ≤ i → eqb ((i - 788) / 12) j ≡ false → thrice (termsWord T) at a k d i ≡ termsWord (withEffect T j a k d) i
+        elsewhere : 1044 ≤ i → eqb ((i - 1044) / 12) j ≡ false → thrice (termsWord T) at a k d i ≡ termsWord (withEffect T j a k d) i
         elsewhere q e =
-            let m : (i - 788) / 12 ≡ j → ⊥ = eqb-false ((i - 788) / 12) j e in
+            let m : (i - 1044) / 12 ≡ j → ⊥ = eqb-false ((i - 1044) / 12) j e in
             not-three (termsWord T) at a k d i (λ z. m (omega arith)) (λ z. m (omega arith)) (λ z. m (omega arith)) ∙ rw e
 
-        here : 788 ≤ i → eqb ((i - 788) / 12) j ≡ true → thrice (termsWord T) at a k d i ≡ termsWord (withEffect T j a k d) i
+        here : 1044 ≤ i → eqb ((i - 1044) / 12) j ≡ true → thrice (termsWord T) at a k d i ≡ termsWord (withEffect T j a k d) i
         here q e =
             ⊎-elim
-            (λ s. let sl : (i - 788) % 12 / 3 ≡ length es = eqb-true ((i - 788) % 12 / 3) (length es) s in
-            of-three (termsWord T) at a k d i ((i - 788) % 3) (omega (arith, eqb-true ((i - 788) / 12) j e)) (omega arith)
+            (λ s. let sl : (i - 1044) % 12 / 3 ≡ length es = eqb-true ((i - 1044) % 12 / 3) (length es) s in
+            of-three (termsWord T) at a k d i ((i - 1044) % 3) (omega (arith, eqb-true ((i - 1044) / 12) j e)) (omega arith)
             ∙ rw (
               le-ltb i 4 (omega arith),
-              le-ltb i 772 (omega arith),
-              le-ltb i 788 q,
+              le-ltb i 1028 (omega arith),
+              le-ltb i 1044 q,
               e,
-              effect-more es new ((i - 788) % 12 / 3) ((i - 788) % 3),
+              effect-more es new ((i - 1044) % 12 / 3) ((i - 1044) % 3),
               s,
               action,
               direction,
             ))
-            (λ s. let sl : (i - 788) % 12 / 3 ≡ length es → ⊥ = eqb-false ((i - 788) % 12 / 3) (length es) s in
+            (λ s. let sl : (i - 1044) % 12 / 3 ≡ length es → ⊥ = eqb-false ((i - 1044) % 12 / 3) (length es) s in
             not-three (termsWord T) at a k d i (λ z. sl (omega arith)) (λ z. sl (omega arith)) (λ z. sl (omega arith))
             ∙ rw (
               le-ltb i 4 (omega arith),
-              le-ltb i 772 (omega arith),
-              le-ltb i 788 q,
+              le-ltb i 1028 (omega arith),
+              le-ltb i 1044 q,
               e,
-              effect-more es new ((i - 788) % 12 / 3) ((i - 788) % 3),
+              effect-more es new ((i - 1044) % 12 / 3) ((i - 1044) % 3),
               s,
-              eqb-true ((i - 788) / 12) j e,
+              eqb-true ((i - 1044) / 12) j e,
             ))
-            (true-or-false (eqb ((i - 788) % 12 / 3) (length es)))
+            (true-or-false (eqb ((i - 1044) % 12 / 3) (length es)))
           where
             new : terms.Effect
             new = record { adds = eqb a 1; relation = k; back = eqb d 1 }

@@ -7,7 +7,7 @@ use mathlib.Core.Bool.{Bool, true, false, cond}
 use mathlib.Core.List.{List, [], _∷_, _++_}
 use lib.Dec.{eqb}
 use lib.ListN.{length, getD, List·getD-append}
-use borrow.Author.Tests.{eq-eqb, lt-ltb, le-ltb}
+use borrow.Author.Tests.{eqb-true, eq-eqb, lt-ltb, le-ltb}
 use Rattle.sets.proofs.Finite.{all-true}
 use Rattle.theory.specs.Formula.{Entry, isPast}
 use Rattle.theory.specs.Terms.{Terms}
@@ -34,34 +34,35 @@ word-memory T i l = getD-tabulate termsWords (termsWord T) i l
 -- ---- what stands in each word
 
 module _ (T : Terms) where
-  word-entry : (n c i : ℕ) → n < 256 → c < 3 → i ≡ entryAt n + c → termsWord T i ≡ entryWord (T .entry n) c
+  word-entry : (n c i : ℕ) → n < 256 → c < 4 → i ≡ entryAt n + c → termsWord T i ≡ entryWord (T .entry n) c
   unfolding termsWord
   word-entry n c i nl cl e =
-      let quo : (i - 4) / 3 ≡ n = omega arith in
-      let rem : (i - 4) % 3 ≡ c = omega arith in
-      rw (le-ltb i 4 (omega arith), lt-ltb i 772 (omega arith), quo, rem)
+      let quo : (i - 4) / 4 ≡ n = omega arith in
+      let rem : (i - 4) % 4 ≡ c = omega arith in
+      rw (le-ltb i 4 (omega arith), lt-ltb i 1028 (omega arith), quo, rem)
 
   word-policy : (j : ℕ) → j < 16 → termsWord T (policyAt j) ≡ T .policy j
   unfolding termsWord
   word-policy j l =
-      let at : policyAt j - 772 ≡ j = omega arith in
-      rw (le-ltb (policyAt j) 4 (omega arith), le-ltb (policyAt j) 772 (omega arith), lt-ltb (policyAt j) 788 (omega arith), at)
+      let at : policyAt j - 1028 ≡ j = omega arith in
+      rw (le-ltb (policyAt j) 4 (omega arith), le-ltb (policyAt j) 1028 (omega arith), lt-ltb (policyAt j) 1044 (omega arith), at)
 
   word-effect : (j k c i : ℕ) → j < 16 → k < 4 → c < 3 → i ≡ effectAt j k + c → termsWord T i ≡ effectWord (T .effects j) k c
   unfolding termsWord
   word-effect j k c i jl kl cl e =
-      let event : (i - 788) / 12 ≡ j = omega arith in
-      let effect : (i - 788) % 12 / 3 ≡ k = omega arith in
-      let rem : (i - 788) % 3 ≡ c = omega arith in
-      rw (le-ltb i 4 (omega arith), le-ltb i 772 (omega arith), le-ltb i 788 (omega arith), event, effect, rem)
+      let event : (i - 1044) / 12 ≡ j = omega arith in
+      let effect : (i - 1044) % 12 / 3 ≡ k = omega arith in
+      let rem : (i - 1044) % 3 ≡ c = omega arith in
+      rw (le-ltb i 4 (omega arith), le-ltb i 1028 (omega arith), le-ltb i 1044 (omega arith), event, effect, rem)
 
 pub entry-blank : (c : ℕ) → entryWord noEntry c ≡ 0
-entry-blank c = go (eqb c 0) (eqb c 1)
+entry-blank c = go (eqb c 0) (eqb c 1) (eqb c 2)
   where
-    go : (x y : Bool) → _≡_ {A = ℕ} (cond x 0 (cond y 0 0)) 0
-    go true y = refl
-    go false true = refl
-    go false false = refl
+    go : (x y z : Bool) → _≡_ {A = ℕ} (cond x 0 (cond y 0 (cond z 0 0))) 0
+    go true y z = refl
+    go false true z = refl
+    go false false true = refl
+    go false false false = refl
 
 module _ (T : Terms) (fine : Good T) (tidy : Tidy T) (rest : List ℕ) where
   abbrev w : List ℕ
@@ -96,7 +97,7 @@ module _ (T : Terms) (fine : Good T) (tidy : Tidy T) (rest : List ℕ) where
     effects = λ j l. sym (effects-back j (omega (arith, fine .few-events)));
   }
     where
-      word : (n c i : ℕ) → n < 256 → c < 3 → i ≡ entryAt n + c → getD w i 0 ≡ entryWord (T .entry n) c
+      word : (n c i : ℕ) → n < 256 → c < 4 → i ≡ entryAt n + c → getD w i 0 ≡ entryWord (T .entry n) c
       word n c i l cl e = at i (omega arith) ∙ word-entry T n c i l cl e
 
       entry : (n : ℕ) → n < 256 → termsOf w .entry n ≡ T .entry n
@@ -104,6 +105,7 @@ module _ (T : Terms) (fine : Good T) (tidy : Tidy T) (rest : List ℕ) where
         op = word n 0 (entryAt n) l (omega arith) (omega arith) d;
         a = word n 1 (entryAt n + 1) l (omega arith) refl d;
         b = word n 2 (entryAt n + 2) l (omega arith) refl d;
+        c = word n 3 (entryAt n + 3) l (omega arith) refl d;
       }
 
   -- ---- it is good memory
@@ -118,7 +120,14 @@ module _ (T : Terms) (fine : Good T) (tidy : Tidy T) (rest : List ℕ) where
   unfolding every
   entry-good n l =
       let g : GoodEntry U n = fine-held .entry n l in
-      λ d. every (lt-ltb (U .entry n .op) 10 (g .known) d ∷ g .first d ∷ g .second d ∷ implies (isPast (U .entry n .op)) (g .one-free) d ∷ [])
+      λ d. every (
+      lt-ltb (U .entry n .op) 11 (g .known) d
+      ∷ g .first d
+      ∷ g .second d
+      ∷ g .third d
+      ∷ implies (isPast (U .entry n .op)) (g .one-free) d
+      ∷ implies (eqb (U .entry n .op) 10) (λ e. g .reaches (eqb-true (U .entry n .op) 10 e)) d
+      ∷ [])
 
   policy-good : (j : ℕ) → j < U .events → every (policyTests U j) ≡ true
   unfolding every
@@ -148,14 +157,14 @@ module _ (T : Terms) (fine : Good T) (tidy : Tidy T) (rest : List ℕ) where
   blank-at : (i : ℕ) → i < termsWords → termsWord T i ≡ 0 → eqb (getD w i 0) 0 ≡ true
   blank-at i l e = eq-eqb (getD w i 0) 0 (at i l ∙ e)
 
-  entries-blank : blank w (entryAt (U .entries)) (768 - 3 * U .entries) ≡ true
+  entries-blank : blank w (entryAt (U .entries)) (1024 - 4 * U .entries) ≡ true
   unfolding blank
-  entries-blank = all-true (768 - 3 * U .entries) (λ i l.
+  entries-blank = all-true (1024 - 4 * U .entries) (λ i l.
       let e : T .entries ≡ U .entries = memory-alike .entries in
-      let n : ℕ = U .entries + i / 3 in
+      let n : ℕ = U .entries + i / 4 in
       blank-at (entryAt (U .entries) + i) (omega arith)
-      (word-entry T n (i % 3) _ (omega arith) (omega arith) (omega arith)
-      ∙ ap (λ (x : Entry). entryWord x (i % 3)) (tidy .entry n (omega arith)) ∙ entry-blank (i % 3)))
+      (word-entry T n (i % 4) _ (omega arith) (omega arith) (omega arith)
+      ∙ ap (λ (x : Entry). entryWord x (i % 4)) (tidy .entry n (omega arith)) ∙ entry-blank (i % 4)))
 
   policies-blank : blank w (policyAt (U .events)) (16 - U .events) ≡ true
   unfolding blank

@@ -11,7 +11,7 @@ use lib.ListN.{length, getD, take, drop, replicate}
 use Rattle.sets.proofs.Pack.{pack-none}
 use Rattle.sets.specs.Sets.{pack}
 use Rattle.theory.specs.Formula.{number}
-use Rattle.memory.specs.Layout.{termsWords, tabulate}
+use Rattle.memory.specs.Layout.{termsWords, entriesAt, policiesAt, effectsAt, entryWords, tabulate}
 use Rattle.memory.specs.Outcome.Outcome.{passed, failed}
 use Rattle.memory.specs.Plan.{Masked}
 use Rattle.fields.specs.Split.{lines, split, place}
@@ -19,7 +19,7 @@ use Rattle.file.specs.Line.{parsed}
 use Rattle.file.specs.File.{File, nothing, tests, after, complete, Reading, tried, readOn, reading}
 use Rattle.file.specs.File.Reading.{accepted, refused}
 use Rattle.reader.specs.Memory.{effectWord, termsWord, memoryOf, relationsMemory}
-use Rattle.reader.specs.Stepping.{numberFrom, begun, isComplete, contextTests, FreeIn, Ranges, stepped}
+use Rattle.reader.specs.Stepping.{numberFrom, begun, isComplete, contextTests, FreeIn, reachIn, Ranges, stepped}
 use Rattle.reader.specs.Storing.{storedTerms, storedEdges, storedSets, Reads}
 use Rattle.file.specs.declared.line.Line.{Line}
 use Rattle.file.specs.declared.line.Line.the-variants.{Members, Labels, Entry, Policy, Effect, Edge, Malformed}
@@ -30,6 +30,7 @@ use Rattle.file.specs.Refused.{Passed}
 use Rattle.file.proofs.Taken.{passed-at, tried-passed}
 use Rattle.file.proofs.Going.{Going, going-first, going}
 use Rattle.reader.proofs.Tried.{Same, positive, all-pass, tried-fails}
+use Rattle.reader.proofs.TermsMemory.{entry-blank}
 use Rattle.reader.proofs.Stored.{tabulate-cong}
 use Rattle.reader.proofs.Counters.{contextOf, tests-same, in-ranges, context-after, masked-after, terms-after, relations-after}
 
@@ -47,9 +48,9 @@ none-either false x y p q = q
 none-word : (i : ℕ) → termsWord (nothing .terms) i ≡ 0
 unfolding termsWord nothing effectWord
 none-word i =
-    none-either (ltb i 4) _ _ (counts i)
-    (none-either (ltb i 772) _ _ (none-either (eqb ((i - 4) % 3) 0) 0 _ refl (none-either (eqb ((i - 4) % 3) 1) 0 0 refl refl))
-    (none-either (ltb i 788) 0 0 refl refl))
+    none-either (ltb i entriesAt) _ _ (counts i)
+    (none-either (ltb i policiesAt) _ _ (entry-blank ((i - entriesAt) % entryWords))
+    (none-either (ltb i effectsAt) 0 0 refl refl))
   where
     counts : (i : ℕ) → _≡_ {A = ℕ} (getD (0 ∷ 0 ∷ 0 ∷ 0 ∷ []) i 0) 0
     counts zero = refl
@@ -138,33 +139,34 @@ module _ (text terms relations masks t : List ℕ) (c : Context) (n : ℕ) (s : 
 
 -- ---- one turn
 
-tests-positive : (c : Context) (m : ℕ) (l : Line) → positive (contextTests c m l) ≡ true
+tests-positive : (c : Context) (m : ℕ) (r : Bool) (l : Line) → positive (contextTests c m r l) ≡ true
 unfolding positive contextTests
-tests-positive c m (Members n) = refl
-tests-positive c m (Labels r e) = refl
-tests-positive c m (Entry n o a b) = refl
-tests-positive c m (Policy j n) = refl
-tests-positive c m (Effect j a k d) = refl
-tests-positive c m (Edge k a b) = refl
-tests-positive c m Malformed = refl
+tests-positive c m q (Members n) = refl
+tests-positive c m q (Labels r e) = refl
+tests-positive c m q (Entry n o a b d) = refl
+tests-positive c m q (Policy j n) = refl
+tests-positive c m q (Effect j a k d) = refl
+tests-positive c m q (Edge k a b) = refl
+tests-positive c m q Malformed = refl
 
 line-read : (f : File) (t : List ℕ) (n e : ℕ) (l : Line) → e ≡ place 10 t → e < length t → l ≡ parsed (split 9 (take e t)) →
     readOn f n (lines t) ≡ tried (tests f l) n (readOn (after f l) (n + 1) (lines (take (length t - (e + 1)) (drop (e + 1) t))))
 unfolding readOn
 line-read f t n e l p h q = rw (q, part-rest (e + 1) t, add-one e, p, lines-here t (omega arith)) refl
 
--- The line l ends at e, m is the set of free variables that it is tested by, and k the number of its first test that fails.
-pub record Turn (text terms relations masks t : List ℕ) (c : Context) (n e : ℕ) (l : Line) (m k : ℕ) : Type 0 where
+-- The line l ends at e, m is the set of free variables that it is tested by, r says whether it may be a reach, and k is the number of its first test that fails.
+pub record Turn (text terms relations masks t : List ℕ) (c : Context) (n e : ℕ) (l : Line) (m : ℕ) (r : Bool) (k : ℕ) : Type 0 where
   pub along : Along text terms relations masks t c n
   pub ends : e ≡ place 10 t
   pub inside : e < length t
   pub line : l ≡ parsed (split 9 (take e t))
   pub set : FreeIn masks l m
   pub fits : m < 2 ^ 64
-  pub number : k ≡ numberFrom 0 (contextTests c m l)
+  pub reaches : r ≡ reachIn masks l
+  pub number : k ≡ numberFrom 0 (contextTests c m r l)
 
-module _ {text terms relations masks t : List ℕ} {c : Context} {n e : ℕ} {l : Line} {m k : ℕ}
-    (s : Turn text terms relations masks t c n e l m k)
+module _ {text terms relations masks t : List ℕ} {c : Context} {n e : ℕ} {l : Line} {m : ℕ} {r : Bool} {k : ℕ}
+    (s : Turn text terms relations masks t c n e l m r k)
   where
     abbrev f : File
     f = s .along .file
@@ -172,8 +174,8 @@ module _ {text terms relations masks t : List ℕ} {c : Context} {n e : ℕ} {l 
     abbrev rest : List ℕ
     rest = take (length t - (e + 1)) (drop (e + 1) t)
 
-    number-is : k ≡ numberFrom 0 (contextTests (contextOf f) m l)
-    number-is = s .number ∙ ap (λ (d : Context). numberFrom 0 (contextTests d m l)) (s .along .context)
+    number-is : k ≡ numberFrom 0 (contextTests (contextOf f) m r l)
+    number-is = s .number ∙ ap (λ (d : Context). numberFrom 0 (contextTests d m r l)) (s .along .context)
 
     abbrev later : Reading
     later = readOn (after f l) (n + 1) (lines rest)
@@ -181,8 +183,8 @@ module _ {text terms relations masks t : List ℕ} {c : Context} {n e : ℕ} {l 
     read-line : reading text ≡ tried (tests f l) n later
     read-line = sym (s .along .same) ∙ line-read f t n e l (s .ends) (s .inside) (s .line)
 
-    tests-are : Same (contextTests (contextOf f) m l) (tests f l)
-    tests-are = tests-same f (s .along .going) masks (s .along .masked) m (s .fits) l (s .set)
+    tests-are : Same (contextTests (contextOf f) m r l) (tests f l)
+    tests-are = tests-same f (s .along .going) masks (s .along .masked) m (s .fits) r l (s .set) (s .reaches)
 
     pub few-tables : c .tables < 33
     few-tables = subst (λ (d : Context). d .tables < 33) (sym (s .along .context)) (s .along .going .entries .few-tables)
@@ -192,14 +194,14 @@ module _ {text terms relations masks t : List ℕ} {c : Context} {n e : ℕ} {l 
     turn-refused h =
         refuses text terms relations k n
         (read-line ∙ sym (tests-are .come n later)
-        ∙ tried-fails (contextTests (contextOf f) m l) n later (tests-positive (contextOf f) m l) (subst (λ (j : ℕ). 0 < j) number-is h)
+        ∙ tried-fails (contextTests (contextOf f) m r l) n later (tests-positive (contextOf f) m r l) (subst (λ (j : ℕ). 0 < j) number-is h)
         ∙ ap (λ (j : ℕ). refused j n) (sym number-is))
 
     module _ (none : k ≤ 0) where
       passes : Passed (tests f l)
       passes =
           tests-are .passes
-          (all-pass (contextTests (contextOf f) m l) (tests-positive (contextOf f) m l) (sym number-is ∙ (omega arith)))
+          (all-pass (contextTests (contextOf f) m r l) (tests-positive (contextOf f) m r l) (sym number-is ∙ (omega arith)))
 
       ranged : Ranged l
       unfolding tests

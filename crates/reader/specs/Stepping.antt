@@ -1,15 +1,16 @@
 -- The step of the reader, on numbers: counters in place of what the lines have said, the tests of a line against them, and the counters after it.
 use Prim.Native.Nat.{ℕ, suc, _+_, _-_, _<_}
 use mathlib.Core.Path.{_≡_}
-use mathlib.Core.Bool.{Bool, false, cond, _&&_, _||_}
+use mathlib.Core.Bool.{Bool, true, false, cond, _&&_, _||_}
 use mathlib.Core.List.{List, [], _∷_}
 use lib.Bits.{bitAnd}
 use lib.Dec.{eqb, ltb, leb}
 use lib.ListN.{getD}
 use Rattle.sets.specs.Sets.{bit}
-use Rattle.theory.specs.Formula.{Formula, node, free, firstOperand, secondOperand, isPast}
+use Rattle.theory.specs.Formula.{Formula, node, free, firstOperand, secondOperand, thirdOperand, isPast}
 use Rattle.theory.specs.Formula.Operand.{variable, entry}
 use Rattle.theory.specs.Fit.{_⇒_}
+use Rattle.memory.specs.Plan.{reachSets}
 use Rattle.file.specs.File.{Test, test, inRange, isLower}
 use Rattle.file.specs.declared.line.Line.{Line}
 use Rattle.file.specs.declared.line.Line.the-variants.{Members, Labels, Entry, Policy, Effect, Edge, Malformed}
@@ -58,38 +59,41 @@ rising c k a b =
     ltb (c .phase) 6
     || (ltb (c .relation) k || (eqb (c .relation) k && (ltb (c .from) a || (eqb (c .from) a && ltb (c .to) b))))
 
--- The tests of File, against counters. m is the set of the free variables of an F line's entry, or of a P line's.
-unfoldable pub contextTests : Context → (m : ℕ) → Line → List Test
-contextTests c m (Members n) =
+-- The tests of File, against counters. m is the set of the free variables of an F line's entry, or of a P line's; reaches says whether an F line's entry, if it is a reach, may be one.
+unfoldable pub contextTests : Context → (m : ℕ) → (reaches : Bool) → Line → List Test
+contextTests c m reaches (Members n) =
     test 1 (eqb (c .phase) 0)
     ∷ test 2 (ltb 0 n)
     ∷ test 2 (ltb n 65)
     ∷ []
-contextTests c m (Labels r e) =
+contextTests c m reaches (Labels r e) =
     test 1 (eqb (c .phase) 1)
     ∷ test 2 (ltb r 17)
     ∷ test 2 (ltb 0 e)
     ∷ test 2 (ltb e 17)
     ∷ []
-contextTests c m (Entry n o a b) =
+contextTests c m reaches (Entry n o a b d) =
     test 1 (eqb (c .phase) 2 || eqb (c .phase) 3)
     ∷ test 1 (eqb n (c .entries))
     ∷ test 2 (ltb n 256)
     ∷ test 2 (inRange (firstOperand o) (c .relations + c .events) a)
     ∷ test 2 (inRange (secondOperand o) (c .relations + c .events) b)
+    ∷ test 2 (inRange (thirdOperand o) (c .relations + c .events) d)
     ∷ test 2 (isPast o ⇒ ltb (c .tables) 32)
     ∷ test 3 (isLower (firstOperand o) n a)
     ∷ test 3 (isLower (secondOperand o) n b)
+    ∷ test 3 (isLower (thirdOperand o) n d)
     ∷ test 4 (isPast o ⇒ eqb (bitAnd m (m - 1)) 0)
+    ∷ test 10 reaches
     ∷ []
-contextTests c m (Policy j n) =
+contextTests c m reaches (Policy j n) =
     test 1 (leb 2 (c .phase) && leb (c .phase) 4)
     ∷ test 1 (eqb j (c .policies))
     ∷ test 1 (ltb j (c .events))
     ∷ test 2 (ltb n (c .entries))
     ∷ test 5 (ltb m 2)
     ∷ []
-contextTests c m (Effect j a k d) =
+contextTests c m reaches (Effect j a k d) =
     test 1 (isComplete c)
     ∷ test 1 (leb (c .phase) 5)
     ∷ test 1 (leb (c .event) j)
@@ -97,28 +101,39 @@ contextTests c m (Effect j a k d) =
     ∷ test 2 (ltb (slot c j) 4)
     ∷ test 2 (ltb k (c .relations))
     ∷ []
-contextTests c m (Edge k a b) =
+contextTests c m reaches (Edge k a b) =
     test 1 (isComplete c)
     ∷ test 1 (rising c k a b)
     ∷ test 2 (ltb k (c .relations))
     ∷ test 2 (ltb a (c .members))
     ∷ test 2 (ltb b (c .members))
     ∷ []
-contextTests c m Malformed = test 1 false ∷ []
+contextTests c m reaches Malformed = test 1 false ∷ []
 
 -- m is that set, where masks has the sets of the entries so far.
 abbrev pub FreeIn : List ℕ → Line → (m : ℕ) → Type 0
 FreeIn masks (Members n) m = Unit {0}
 FreeIn masks (Labels r e) m = Unit {0}
-FreeIn masks (Entry n o a b) m =
-    (t d x : ℕ) (h : ℕ → Formula) → (firstOperand o ≡ variable → a < 64)
+FreeIn masks (Entry n o a b c) m =
+    (t d e x : ℕ) (h : ℕ → Formula) → (firstOperand o ≡ variable → a < 64)
     → (firstOperand o ≡ entry → bit (getD masks a 0) x ≡ free (h a) x)
     → (secondOperand o ≡ entry → bit (getD masks b 0) x ≡ free (h d) x)
-    → bit m x ≡ free (node t h o a d) x
+    → (thirdOperand o ≡ entry → bit (getD masks c 0) x ≡ free (h e) x)
+    → bit m x ≡ free (node t h o a d e) x
 FreeIn masks (Policy j n) m = m ≡ getD masks n 0
 FreeIn masks (Effect j a k d) m = Unit {0}
 FreeIn masks (Edge k a b) m = Unit {0}
 FreeIn masks Malformed m = Unit {0}
+
+-- An F line's entry, if it is a reach, may be one by those sets.
+abbrev pub reachIn : List ℕ → Line → Bool
+reachIn masks (Members n) = true
+reachIn masks (Labels r e) = true
+reachIn masks (Entry n o a b c) = eqb o 10 ⇒ reachSets a (getD masks b 0) (getD masks c 0)
+reachIn masks (Policy j n) = true
+reachIn masks (Effect j a k d) = true
+reachIn masks (Edge k a b) = true
+reachIn masks Malformed = true
 
 -- ---- a line that has passed
 
@@ -126,7 +141,7 @@ FreeIn masks Malformed m = Unit {0}
 abbrev pub Ranges : Context → Line → Type 0
 Ranges c (Members n) = n < 65
 Ranges c (Labels r e) = (r < 17) × (e < 17)
-Ranges c (Entry n o a b) = (n < 256) × (o < 10) × (a < 256) × (b < 256)
+Ranges c (Entry n o a b d) = (n < 256) × (o < 11) × (a < 256) × (b < 256) × (d < 256)
 Ranges c (Policy j n) = (j < 16) × (n < 256)
 Ranges c (Effect j a k d) = (j < 16) × (slot c j < 4) × (a < 3) × (k < 16) × (d < 2)
 Ranges c (Edge k a b) = (k < 16) × (a < 64) × (b < 64)
@@ -162,7 +177,7 @@ stepped c (Labels r e) = record {
   from = c .from;
   to = c .to;
 }
-stepped c (Entry n o a b) = record {
+stepped c (Entry n o a b d) = record {
   phase = 3;
   members = c .members;
   relations = c .relations;

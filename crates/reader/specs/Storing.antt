@@ -15,9 +15,12 @@ use Rattle.file.specs.declared.line.Line.{Line}
 use Rattle.file.specs.declared.line.Line.the-variants.{Members, Labels, Entry, Policy, Effect, Edge, Malformed}
 use Rattle.reader.specs.declared.step.Context.{Context}
 
--- Three words from a word on; the bit of an edge.
+-- Three words from a word on, and four; the bit of an edge.
 abbrev pub three : List ℕ → (at x y z : ℕ) → List ℕ
 three w at x y z = set (set (set w at x) (at + 1) y) (at + 2) z
+
+abbrev pub four : List ℕ → (at x y z v : ℕ) → List ℕ
+four w at x y z v = set (three w at x y z) (at + 3) v
 
 abbrev pub withEdgeBit : List ℕ → (k a b : ℕ) → List ℕ
 withEdgeBit w k a b = set w (relationAt k a) (bitOr (getD w (relationAt k a) 0) (2 ^ b))
@@ -26,7 +29,7 @@ withEdgeBit w k a b = set w (relationAt k a) (bitOr (getD w (relationAt k a) 0) 
 unfoldable pub storedTerms : Context → Line → List ℕ → List ℕ
 storedTerms c (Members n) w = set w 0 n
 storedTerms c (Labels r e) w = set (set w 1 r) 2 e
-storedTerms c (Entry n o a b) w = three (set w 3 (n + 1)) (entryAt n) o a b
+storedTerms c (Entry n o a b d) w = four (set w 3 (n + 1)) (entryAt n) o a b d
 storedTerms c (Policy j n) w = set w (policyAt j) n
 storedTerms c (Effect j a k d) w = three w (effectAt j (slot c j)) a k d
 storedTerms c (Edge k a b) w = w
@@ -35,7 +38,7 @@ storedTerms c Malformed w = w
 unfoldable pub storedEdges : Line → List ℕ → List ℕ
 storedEdges (Members n) w = w
 storedEdges (Labels r e) w = w
-storedEdges (Entry n o a b) w = w
+storedEdges (Entry n o a b c) w = w
 storedEdges (Policy j n) w = w
 storedEdges (Effect j a k d) w = w
 storedEdges (Edge k a b) w = withEdgeBit w k a b
@@ -44,7 +47,7 @@ storedEdges Malformed w = w
 unfoldable pub storedSets : Line → (m : ℕ) → List ℕ → List ℕ
 storedSets (Members n) m w = w
 storedSets (Labels r e) m w = w
-storedSets (Entry n o a b) m w = set w n m
+storedSets (Entry n o a b c) m w = set w n m
 storedSets (Policy j n) m w = w
 storedSets (Effect j a k d) m w = w
 storedSets (Edge k a b) m w = w

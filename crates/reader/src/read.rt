@@ -1,5 +1,6 @@
 // The reader of a terms file: one pass over the lines, into words of its own, which an accepted text leaves in the lent memory.
 use crate::free::free_in;
+use crate::free::reach_in;
 use crate::step::begin;
 use crate::step::is_complete;
 use crate::step::number_of;
@@ -39,7 +40,8 @@ fn read_lines(text: &[u8], terms: &mut [u16], relations: &mut [u64], masks: &mut
         }
         let line = parse_line(&t[..e]);
         let m = free_in(masks, line);
-        let k = number_of(c, line, m);
+        let reaches = reach_in(masks, line);
+        let k = number_of(c, line, m, reaches);
         if 0 < k {
             return Outcome::Refused(k, n);
         }

@@ -121,8 +121,8 @@ pub(crate) fn slot_of(c: Context, j: usize) -> usize
 }
 
 // The number that an M line is refused with, or 0.
-fn members_number(c: Context, n: usize, m: u64) -> usize
-    ensures { λ r. ⌜ r ≡ numberFrom 0 (contextTests c m (Members n)) ⌝ }
+fn members_number(c: Context, n: usize, m: u64, reaches: bool) -> usize
+    ensures { λ r. ⌜ r ≡ numberFrom 0 (contextTests c m reaches (Members n)) ⌝ }
 {
     let k = first(0, 1, c.phase == 0);
     let k = first(k, 2, 0 < n);
@@ -130,8 +130,8 @@ fn members_number(c: Context, n: usize, m: u64) -> usize
 }
 
 // The number that an L line is refused with, or 0.
-fn labels_number(c: Context, r: usize, e: usize, m: u64) -> usize
-    ensures { λ s. ⌜ s ≡ numberFrom 0 (contextTests c m (Labels r e)) ⌝ }
+fn labels_number(c: Context, r: usize, e: usize, m: u64, reaches: bool) -> usize
+    ensures { λ s. ⌜ s ≡ numberFrom 0 (contextTests c m reaches (Labels r e)) ⌝ }
 {
     let k = first(0, 1, c.phase == 1);
     let k = first(k, 2, r < 17);
@@ -140,26 +140,39 @@ fn labels_number(c: Context, r: usize, e: usize, m: u64) -> usize
 }
 
 // The number that an F line is refused with, or 0.
-fn entry_number(c: Context, n: usize, o: usize, a: usize, b: usize, m: u64) -> usize
-    ensures { λ r. ⌜ r ≡ numberFrom 0 (contextTests c m (Entry n o a b)) ⌝ }
+fn entry_number(
+    c: Context,
+    n: usize,
+    o: usize,
+    a: usize,
+    b: usize,
+    d: usize,
+    m: u64,
+    reaches: bool,
+) -> usize
+    ensures { λ r. ⌜ r ≡ numberFrom 0 (contextTests c m reaches (Entry n o a b d)) ⌝ }
 {
     let kinds = operands_of(o);
     let one = kinds.first;
     let two = kinds.second;
+    let three = kinds.third;
     let k = first(0, 1, (c.phase == 2) | (c.phase == 3));
     let k = first(k, 1, n == c.entries);
     let k = first(k, 2, n < ENTRIES);
     let k = first(k, 2, in_range(one, c.relations, c.events, a));
     let k = first(k, 2, in_range(two, c.relations, c.events, b));
+    let k = first(k, 2, in_range(three, c.relations, c.events, d));
     let k = first(k, 2, if_past(o, c.tables < TABLES));
     let k = first(k, 3, is_lower(one, n, a));
     let k = first(k, 3, is_lower(two, n, b));
-    first(k, 4, if_past(o, rest_of(m) == 0))
+    let k = first(k, 3, is_lower(three, n, d));
+    let k = first(k, 4, if_past(o, rest_of(m) == 0));
+    first(k, 10, reaches)
 }
 
 // The number that a P line is refused with, or 0.
-fn policy_number(c: Context, j: usize, n: usize, m: u64) -> usize
-    ensures { λ r. ⌜ r ≡ numberFrom 0 (contextTests c m (Policy j n)) ⌝ }
+fn policy_number(c: Context, j: usize, n: usize, m: u64, reaches: bool) -> usize
+    ensures { λ r. ⌜ r ≡ numberFrom 0 (contextTests c m reaches (Policy j n)) ⌝ }
 {
     let k = first(0, 1, (2 <= c.phase) & (c.phase <= 4));
     let k = first(k, 1, j == c.policies);
@@ -169,8 +182,8 @@ fn policy_number(c: Context, j: usize, n: usize, m: u64) -> usize
 }
 
 // The number that an E line is refused with, or 0.
-fn effect_number(c: Context, j: usize, a: usize, k: usize, d: usize, m: u64) -> usize
-    ensures { λ r. ⌜ r ≡ numberFrom 0 (contextTests c m (Effect j a k d)) ⌝ }
+fn effect_number(c: Context, j: usize, a: usize, k: usize, d: usize, m: u64, reaches: bool) -> usize
+    ensures { λ r. ⌜ r ≡ numberFrom 0 (contextTests c m reaches (Effect j a k d)) ⌝ }
 {
     let p = first(0, 1, is_complete(c));
     let p = first(p, 1, c.phase <= 5);
@@ -189,8 +202,8 @@ fn edge_rises(c: Context, k: usize, a: usize, b: usize) -> bool
 }
 
 // The number that a G line is refused with, or 0.
-fn edge_number(c: Context, k: usize, a: usize, b: usize, m: u64) -> usize
-    ensures { λ r. ⌜ r ≡ numberFrom 0 (contextTests c m (Edge k a b)) ⌝ }
+fn edge_number(c: Context, k: usize, a: usize, b: usize, m: u64, reaches: bool) -> usize
+    ensures { λ r. ⌜ r ≡ numberFrom 0 (contextTests c m reaches (Edge k a b)) ⌝ }
 {
     let p = first(0, 1, is_complete(c));
     let p = first(p, 1, edge_rises(c, k, a, b));
@@ -200,16 +213,16 @@ fn edge_number(c: Context, k: usize, a: usize, b: usize, m: u64) -> usize
 }
 
 // The number that a line is refused with, the lowest; 0 where it passes.
-pub(crate) fn number_of(c: Context, line: Line, m: u64) -> usize
-    ensures { λ r. ⌜ r ≡ numberFrom 0 (contextTests c m line) ⌝ }
+pub(crate) fn number_of(c: Context, line: Line, m: u64, reaches: bool) -> usize
+    ensures { λ r. ⌜ r ≡ numberFrom 0 (contextTests c m reaches line) ⌝ }
 {
     match line {
-        Line::Members(n) => members_number(c, n, m),
-        Line::Labels(r, e) => labels_number(c, r, e, m),
-        Line::Entry(n, o, a, b) => entry_number(c, n, o, a, b, m),
-        Line::Policy(j, n) => policy_number(c, j, n, m),
-        Line::Effect(j, a, k, d) => effect_number(c, j, a, k, d, m),
-        Line::Edge(k, a, b) => edge_number(c, k, a, b, m),
+        Line::Members(n) => members_number(c, n, m, reaches),
+        Line::Labels(r, e) => labels_number(c, r, e, m, reaches),
+        Line::Entry(n, o, a, b, d) => entry_number(c, n, o, a, b, d, m, reaches),
+        Line::Policy(j, n) => policy_number(c, j, n, m, reaches),
+        Line::Effect(j, a, k, d) => effect_number(c, j, a, k, d, m, reaches),
+        Line::Edge(k, a, b) => edge_number(c, k, a, b, m, reaches),
         Line::Malformed => 1,
     }
 }
@@ -231,7 +244,7 @@ pub(crate) fn step(c: Context, line: Line) -> Context
             d.relations = r;
             d.events = e;
         }
-        Line::Entry(n, o, _, _) => {
+        Line::Entry(n, o, _, _, _) => {
             d.phase = 3;
             d.entries = n + 1;
             if is_past(o) {

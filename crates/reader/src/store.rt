@@ -14,7 +14,7 @@ ghost use Prim.Native.Nat.{_+_, _<_};
 ghost use lib.ListN.{length, set};
 ghost use Rattle.memory.specs.Layout.{termsWords, relationWords, entryAt, policyAt, effectAt};
 ghost use Rattle.reader.specs.Stepping.{Ranges};
-ghost use Rattle.reader.specs.Storing.{three, withEdgeBit, storedTerms, storedEdges, storedSets};
+ghost use Rattle.reader.specs.Storing.{three, four, withEdgeBit, storedTerms, storedEdges, storedSets};
 
 // Word at becomes v.
 fn store(words: &mut [u16], at: usize, v: usize)
@@ -54,13 +54,15 @@ fn store_labels(terms: &mut [u16], r: usize, e: usize)
 }
 
 // Entry n, and the number of entries.
-fn store_entry(terms: &mut [u16], n: usize, o: usize, a: usize, b: usize)
-    requires { ⌜ (n < 256) × (o < 10) × (a < 256) × (b < 256) ⌝ }
+fn store_entry(terms: &mut [u16], n: usize, o: usize, a: usize, b: usize, c: usize)
+    requires { ⌜ (n < 256) × (o < 11) × (a < 256) × (b < 256) × (c < 256) ⌝ }
     requires { ⌜ length (now terms) ≡ termsWords ⌝ }
-    ensures { λ _. ⌜ now (terms .exit) ≡ three (set (now (terms .entry)) 3 (n + 1)) (entryAt n) o a b ⌝ }
+    ensures { λ _. ⌜ now (terms .exit) ≡ four (set (now (terms .entry)) 3 (n + 1)) (entryAt n) o a b c ⌝ }
 {
     store(terms, 3, n + 1);
-    store_three(terms, ENTRIES_AT + ENTRY * n, o, a, b);
+    let at = ENTRIES_AT + ENTRY * n;
+    store_three(terms, at, o, a, b);
+    store(terms, at + 3, c);
 }
 
 // The policy of event j.
@@ -100,7 +102,7 @@ pub(crate) fn store_terms(terms: &mut [u16], c: Context, line: Line)
     match line {
         Line::Members(n) => store_members(terms, n),
         Line::Labels(r, e) => store_labels(terms, r, e),
-        Line::Entry(n, o, a, b) => store_entry(terms, n, o, a, b),
+        Line::Entry(n, o, a, b, d) => store_entry(terms, n, o, a, b, d),
         Line::Policy(j, n) => store_policy(terms, j, n),
         Line::Effect(j, a, k, d) => store_effect(terms, j, slot_of(c, j), a, k, d),
         Line::Edge(_, _, _) => {}
@@ -127,7 +129,7 @@ pub(crate) fn store_set(masks: &mut [u64], c: Context, line: Line, m: u64)
     ensures { λ _. ⌜ now (masks .exit) ≡ storedSets line m (now (masks .entry)) ⌝ }
 {
     match line {
-        Line::Entry(n, _, _, _) => {
+        Line::Entry(n, _, _, _, _) => {
             masks[n] = m;
         }
         _ => {}

@@ -1,10 +1,11 @@
-// Lines: each puts its kind, its fields with a tab before each, and a line feed. A line has at most 31 bytes.
+// Lines: each puts its kind, its fields with a tab before each, and a line feed. A line has at most 32 bytes.
 use crate::vocabulary::put_action;
 use crate::vocabulary::put_direction;
 use crate::vocabulary::put_kind;
 use crate::vocabulary::put_operator;
 use fields::emit::put_byte;
 use fields::emit::put_decimal;
+use theory::operators::REACH;
 ghost use mathlib.Core.List.{[], _∷_, _++_};
 ghost use Prim.Native.Nat.{_+_, _^_, _<_, _≤_};
 ghost use lib.ListN.{getD};
@@ -69,7 +70,7 @@ fn put_head(out: &mut [u8], at: usize, kind: usize, n: usize) -> usize
 pub(crate) fn put_members(out: &mut [u8], at: usize, n: usize) -> usize
     requires { ⌜ (n < 100000) × (at < 2 ^ 58) ⌝ }
     ensures { λ r. ⌜ Put (now (out .entry)) (now (out .exit)) at r (printed (Members n) ++ (10 ∷ [])) ⌝ }
-    ensures { λ r. ⌜ r ≤ at + 31 ⌝ }
+    ensures { λ r. ⌜ r ≤ at + 32 ⌝ }
 {
     let first = put_head(out, at, 0, n);
     put_byte(out, first, 10)
@@ -79,23 +80,35 @@ pub(crate) fn put_members(out: &mut [u8], at: usize, n: usize) -> usize
 pub(crate) fn put_labels(out: &mut [u8], at: usize, r: usize, e: usize) -> usize
     requires { ⌜ (r < 100000) × (e < 100000) × (at < 2 ^ 58) ⌝ }
     ensures { λ m. ⌜ Put (now (out .entry)) (now (out .exit)) at m (printed (Labels r e) ++ (10 ∷ [])) ⌝ }
-    ensures { λ m. ⌜ m ≤ at + 31 ⌝ }
+    ensures { λ m. ⌜ m ≤ at + 32 ⌝ }
 {
     let first = put_head(out, at, 1, r);
     let second = put_field(out, first, e);
     put_byte(out, second, 10)
 }
 
-// Puts an F line.
-pub(crate) fn put_entry(out: &mut [u8], at: usize, n: usize, op: usize, a: usize, b: usize) -> usize
-    requires { ⌜ (n < 100000) × (a < 100000) × (b < 100000) × (at < 2 ^ 58) ⌝ }
-    ensures { λ r. ⌜ Put (now (out .entry)) (now (out .exit)) at r (printed (Entry n op a b) ++ (10 ∷ [])) ⌝ }
-    ensures { λ r. ⌜ r ≤ at + 31 ⌝ }
+// Puts an F line, with a sixth field where its operator has a third operand.
+pub(crate) fn put_entry(
+    out: &mut [u8],
+    at: usize,
+    n: usize,
+    op: usize,
+    a: usize,
+    b: usize,
+    c: usize,
+) -> usize
+    requires { ⌜ (n < 100000) × (a < 100000) × (b < 100000) × (c < 100000) × (at < 2 ^ 58) ⌝ }
+    ensures { λ r. ⌜ Put (now (out .entry)) (now (out .exit)) at r (printed (Entry n op a b c) ++ (10 ∷ [])) ⌝ }
+    ensures { λ r. ⌜ r ≤ at + 32 ⌝ }
 {
     let first = put_head(out, at, 2, n);
     let second = put_operator_field(out, first, op);
     let third = put_field(out, second, a);
     let fourth = put_field(out, third, b);
+    if op == REACH {
+        let fifth = put_field(out, fourth, c);
+        return put_byte(out, fifth, 10);
+    }
     put_byte(out, fourth, 10)
 }
 
@@ -103,7 +116,7 @@ pub(crate) fn put_entry(out: &mut [u8], at: usize, n: usize, op: usize, a: usize
 pub(crate) fn put_policy(out: &mut [u8], at: usize, j: usize, n: usize) -> usize
     requires { ⌜ (j < 100000) × (n < 100000) × (at < 2 ^ 58) ⌝ }
     ensures { λ r. ⌜ Put (now (out .entry)) (now (out .exit)) at r (printed (Policy j n) ++ (10 ∷ [])) ⌝ }
-    ensures { λ r. ⌜ r ≤ at + 31 ⌝ }
+    ensures { λ r. ⌜ r ≤ at + 32 ⌝ }
 {
     let first = put_head(out, at, 3, j);
     let second = put_field(out, first, n);
@@ -114,7 +127,7 @@ pub(crate) fn put_policy(out: &mut [u8], at: usize, j: usize, n: usize) -> usize
 pub(crate) fn put_effect(out: &mut [u8], at: usize, j: usize, c: usize, k: usize, d: usize) -> usize
     requires { ⌜ (j < 100000) × (k < 100000) × (at < 2 ^ 58) ⌝ }
     ensures { λ r. ⌜ Put (now (out .entry)) (now (out .exit)) at r (printed (Effect j c k d) ++ (10 ∷ [])) ⌝ }
-    ensures { λ r. ⌜ r ≤ at + 31 ⌝ }
+    ensures { λ r. ⌜ r ≤ at + 32 ⌝ }
 {
     let first = put_head(out, at, 4, j);
     let second = put_action_field(out, first, c);
@@ -127,7 +140,7 @@ pub(crate) fn put_effect(out: &mut [u8], at: usize, j: usize, c: usize, k: usize
 pub(crate) fn put_edge(out: &mut [u8], at: usize, k: usize, a: usize, b: usize) -> usize
     requires { ⌜ (k < 100000) × (a < 100000) × (b < 100000) × (at < 2 ^ 58) ⌝ }
     ensures { λ r. ⌜ Put (now (out .entry)) (now (out .exit)) at r (printed (Edge k a b) ++ (10 ∷ [])) ⌝ }
-    ensures { λ r. ⌜ r ≤ at + 31 ⌝ }
+    ensures { λ r. ⌜ r ≤ at + 32 ⌝ }
 {
     let first = put_head(out, at, 5, k);
     let second = put_field(out, first, a);

@@ -15,7 +15,11 @@ pub(crate) fn put_operator(out: &mut [u8], at: usize, op: usize) -> usize
     put_bytes(
         out,
         at,
-        piece(b"top\tvar\tnot\tor\tout\tin\tprev\tsince\tbind\tat", 9, op),
+        piece(
+            b"top\tvar\tnot\tor\tout\tin\tprev\tsince\tbind\tat\treach",
+            9,
+            op,
+        ),
     )
 }
 

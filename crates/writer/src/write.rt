@@ -22,6 +22,7 @@ use memory::layout::op_of;
 use memory::layout::policy_of;
 use memory::layout::relations;
 use memory::layout::second_of;
+use memory::layout::third_of;
 use memory::layout::word;
 use memory::limits::EFFECTS;
 use memory::limits::MEMBERS;
@@ -44,19 +45,20 @@ ghost use Rattle.writer.specs.Kinds.{tripleOf, bitOf, rowOf};
 fn put_entry_of(terms: &[u16], out: &mut [u8], at: usize, n: usize) -> usize
     requires { ⌜ (n < 65536) × (at < 2 ^ 58) ⌝ }
     ensures { λ r. ⌜ Put (now (out .entry)) (now (out .exit)) at r (printedAll (entryOf (termsOf (now (terms .entry))) n)) ⌝ }
-    ensures { λ r. ⌜ r ≤ at + 31 ⌝ }
+    ensures { λ r. ⌜ r ≤ at + 32 ⌝ }
 {
     let op = op_of(terms, n);
     let a = first_of(terms, n);
     let b = second_of(terms, n);
-    put_entry(out, at, n, op, a, b)
+    let c = third_of(terms, n);
+    put_entry(out, at, n, op, a, b, c)
 }
 
 // Puts the F lines.
 fn put_entries(terms: &[u16], out: &mut [u8], at: usize) -> usize
     requires { ⌜ at < 2 ^ 57 ⌝ }
     ensures { λ r. ⌜ Put (now (out .entry)) (now (out .exit)) at r (printedAll (entryLines (termsOf (now (terms .entry))))) ⌝ }
-    ensures { λ r. ⌜ r ≤ at + 31 * 65536 ⌝ }
+    ensures { λ r. ⌜ r ≤ at + 32 * 65536 ⌝ }
 {
     let count = entries(terms);
     let mut n = 0;
@@ -72,7 +74,7 @@ fn put_entries(terms: &[u16], out: &mut [u8], at: usize) -> usize
 fn put_policy_of(terms: &[u16], out: &mut [u8], at: usize, j: usize) -> usize
     requires { ⌜ (j < 65536) × (at < 2 ^ 58) ⌝ }
     ensures { λ r. ⌜ Put (now (out .entry)) (now (out .exit)) at r (printedAll (policyOf (termsOf (now (terms .entry))) j)) ⌝ }
-    ensures { λ r. ⌜ r ≤ at + 31 ⌝ }
+    ensures { λ r. ⌜ r ≤ at + 32 ⌝ }
 {
     let n = policy_of(terms, j);
     put_policy(out, at, j, n)
@@ -82,7 +84,7 @@ fn put_policy_of(terms: &[u16], out: &mut [u8], at: usize, j: usize) -> usize
 fn put_policies(terms: &[u16], out: &mut [u8], at: usize) -> usize
     requires { ⌜ at < 2 ^ 57 ⌝ }
     ensures { λ r. ⌜ Put (now (out .entry)) (now (out .exit)) at r (printedAll (policyLines (termsOf (now (terms .entry))))) ⌝ }
-    ensures { λ r. ⌜ r ≤ at + 31 * 65536 ⌝ }
+    ensures { λ r. ⌜ r ≤ at + 32 * 65536 ⌝ }
 {
     let count = events(terms);
     let mut j = 0;
@@ -105,7 +107,7 @@ fn one_or(w: usize, other: usize) -> usize
 fn put_slot(terms: &[u16], out: &mut [u8], at: usize, j: usize, from: usize) -> usize
     requires { ⌜ (j < 65536) × (from < 2 ^ 58) × (at < 2 ^ 58) ⌝ }
     ensures { λ r. ⌜ Put (now (out .entry)) (now (out .exit)) at r (printedAll (tripleOf (now (terms .entry)) j from)) ⌝ }
-    ensures { λ r. ⌜ r ≤ at + 31 ⌝ }
+    ensures { λ r. ⌜ r ≤ at + 32 ⌝ }
 {
     let action = one_or(word(terms, from), 2);
     let relation = word(terms, from + 1);
@@ -117,7 +119,7 @@ fn put_slot(terms: &[u16], out: &mut [u8], at: usize, j: usize, from: usize) -> 
 fn put_effects_of(terms: &[u16], out: &mut [u8], at: usize, j: usize) -> usize
     requires { ⌜ (j < 65536) × (at < 2 ^ 57) ⌝ }
     ensures { λ r. ⌜ Put (now (out .entry)) (now (out .exit)) at r (printedAll (effectsOf (termsOf (now (terms .entry))) j)) ⌝ }
-    ensures { λ r. ⌜ r ≤ at + 124 ⌝ }
+    ensures { λ r. ⌜ r ≤ at + 128 ⌝ }
 {
     let mut i = 0;
     let mut next = at;
@@ -136,7 +138,7 @@ fn put_effects_of(terms: &[u16], out: &mut [u8], at: usize, j: usize) -> usize
 fn put_effects(terms: &[u16], out: &mut [u8], at: usize) -> usize
     requires { ⌜ at < 2 ^ 56 ⌝ }
     ensures { λ r. ⌜ Put (now (out .entry)) (now (out .exit)) at r (printedAll (eventLines (termsOf (now (terms .entry))))) ⌝ }
-    ensures { λ r. ⌜ r ≤ at + 124 * 65536 ⌝ }
+    ensures { λ r. ⌜ r ≤ at + 128 * 65536 ⌝ }
 {
     let count = events(terms);
     let mut j = 0;
@@ -152,7 +154,7 @@ fn put_effects(terms: &[u16], out: &mut [u8], at: usize) -> usize
 fn put_bit(out: &mut [u8], at: usize, w: u64, i: usize, b: usize) -> usize
     requires { ⌜ (i < relationWords) × (b < 64) × (at < 2 ^ 58) ⌝ }
     ensures { λ r. ⌜ Put (now (out .entry)) (now (out .exit)) at r (printedAll (bitOf w i b)) ⌝ }
-    ensures { λ r. ⌜ r ≤ at + 31 ⌝ }
+    ensures { λ r. ⌜ r ≤ at + 32 ⌝ }
 {
     if has(w, b) {
         put_edge(out, at, i / BLOCK, i % BLOCK, b)
@@ -165,7 +167,7 @@ fn put_bit(out: &mut [u8], at: usize, w: u64, i: usize, b: usize) -> usize
 fn put_bits(out: &mut [u8], at: usize, w: u64, i: usize) -> usize
     requires { ⌜ (i < relationWords) × (at < 2 ^ 57) ⌝ }
     ensures { λ r. ⌜ Put (now (out .entry)) (now (out .exit)) at r (printedAll (rowOf w i)) ⌝ }
-    ensures { λ r. ⌜ r ≤ at + 31 * 64 ⌝ }
+    ensures { λ r. ⌜ r ≤ at + 32 * 64 ⌝ }
 {
     let mut b = 0;
     let mut next = at;
@@ -180,7 +182,7 @@ fn put_bits(out: &mut [u8], at: usize, w: u64, i: usize) -> usize
 fn put_row(out: &mut [u8], at: usize, w: u64, i: usize) -> usize
     requires { ⌜ (i < relationWords) × (at < 2 ^ 57) ⌝ }
     ensures { λ r. ⌜ Put (now (out .entry)) (now (out .exit)) at r (printedAll (rowOf w i)) ⌝ }
-    ensures { λ r. ⌜ r ≤ at + 31 * 64 ⌝ }
+    ensures { λ r. ⌜ r ≤ at + 32 * 64 ⌝ }
 {
     if w == 0 { at } else { put_bits(out, at, w, i) }
 }
@@ -189,7 +191,7 @@ fn put_row(out: &mut [u8], at: usize, w: u64, i: usize) -> usize
 fn put_edges(state: &[u64], out: &mut [u8], at: usize) -> usize
     requires { ⌜ (relationWords ≤ length (now state)) × (at < 2 ^ 56) ⌝ }
     ensures { λ r. ⌜ Put (now (out .entry)) (now (out .exit)) at r (printedAll (edgeLines (stateOf (now (state .entry)) .now .edge))) ⌝ }
-    ensures { λ r. ⌜ r ≤ at + 31 * 65536 ⌝ }
+    ensures { λ r. ⌜ r ≤ at + 32 * 65536 ⌝ }
 {
     let mut i = 0;
     let mut next = at;
@@ -204,7 +206,7 @@ fn put_edges(state: &[u64], out: &mut [u8], at: usize) -> usize
 fn put_front(terms: &[u16], out: &mut [u8], at: usize) -> usize
     requires { ⌜ at < 2 ^ 57 ⌝ }
     ensures { λ r. ⌜ Put (now (out .entry)) (now (out .exit)) at r (printedAll (frontLines (termsOf (now (terms .entry))))) ⌝ }
-    ensures { λ r. ⌜ r ≤ at + 62 ⌝ }
+    ensures { λ r. ⌜ r ≤ at + 64 ⌝ }
 {
     let next = put_members(out, at, members(terms));
     put_labels(out, next, relations(terms), events(terms))

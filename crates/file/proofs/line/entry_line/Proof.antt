@@ -1,34 +1,17 @@
--- `file::line::entry_line` meets its contract: the first test that fails makes the line malformed.
-use mathlib.Core.Path.{refl, sym, ap, _∙_}
-use borrow.Author.Tests.{ne-eqb, eq-eqb, le-ltb, lt-ltb}
-use Rattle.theory.specs.Fit.{every}
+-- `file::line::entry_line` meets its contract: the operator's word tells how many fields there are.
+use mathlib.Core.Path.{_≡_, ap, _∙_}
+use mathlib.Core.List.{[]}
+use lib.ListN.{getD}
+use borrow.Author.Tests.{eq-eqb, ne-eqb}
+use Rattle.fields.specs.Split.{split}
 use Rattle.file.specs.Words.{operatorOf}
 use Rattle.file.specs.Line.{entryLine}
-use Rattle.fields.proofs.Numeral.{number-is, number-none}
-use Rattle.file.proofs.Fields.{malformed}
 use borrow.Author.Needs.{needs}
 use Rattle.file.proofs.line.entry_line.Statement.{statement}
 use Rattle.file.proofs.line.entry_line.Tie as tie
 
-pieces-requires : tie.Need-pieces-requires
-pieces-requires c κs = search needs
-
-returns : tie.Need-returns
-unfolding entryLine
-returns c = malformed _ _ 0 (ne-eqb _ _ (λ e. c .if1 .taken (c .before .pieces .ensures ∙ e)))
-
-number-at-requires : tie.Need-number-at-requires
-number-at-requires c κs = search needs
-
-enum-known-n : tie.Need-enum-known-n
-enum-known-n c = search needs
-
-enum-told : tie.Need-enum-told
-enum-told c = search needs
-
-returns-2 : tie.Need-returns-2
-unfolding entryLine
-returns-2 c = malformed _ _ 1 (number-none _ (sym (c .before .before .number-at .ensures) ∙ c .enum-told .given .1))
+operator : (c : tie.After-read-operator) → c .read-operator .result ≡ operatorOf (getD (split 9 (c .before .before .before .args .l .now)) 2 [])
+operator c = c .read-operator .ensures ∙ ap operatorOf (c .before .piece .ensures)
 
 piece-requires : tie.Need-piece-requires
 piece-requires c κs = search needs
@@ -36,86 +19,21 @@ piece-requires c κs = search needs
 read-operator-requires : tie.Need-read-operator-requires
 read-operator-requires c κs = search needs
 
-returns-3 : tie.Need-returns-3
+long-entry-line-requires : tie.Need-long-entry-line-requires
+long-entry-line-requires c κs = operator (c .before)
+
+short-entry-line-requires : tie.Need-short-entry-line-requires
+short-entry-line-requires c κs = operator (c .before)
+
+returns : tie.Need-returns
 unfolding entryLine
-returns-3 c =
-    malformed _ _ 2 (rw (sym (c .before .read-operator .ensures
-    ∙ ap operatorOf (c .before .before .piece .ensures))) (le-ltb _ _ (c .if2 .taken)))
+returns c = let e = operator (c .before .before) in rw (← e, eq-eqb _ _ (c .before .if1 .taken)) (c .long-entry-line .ensures)
 
-number-at-requires-2 : tie.Need-number-at-requires-2
-number-at-requires-2 c κs = search needs
-
-enum-known-a : tie.Need-enum-known-a
-enum-known-a c = search needs
-
-enum-told-2 : tie.Need-enum-told-2
-enum-told-2 c = search needs
-
-returns-4 : tie.Need-returns-4
+returns-2 : tie.Need-returns-2
 unfolding entryLine
-returns-4 c = malformed _ _ 3 (number-none _ (sym (c .before .before .number-at2 .ensures) ∙ c .enum-told2 .given .1))
-
-number-at-requires-3 : tie.Need-number-at-requires-3
-number-at-requires-3 c κs = search needs
-
-enum-known-b : tie.Need-enum-known-b
-enum-known-b c = search needs
-
-enum-told-3 : tie.Need-enum-told-3
-enum-told-3 c = search needs
-
-returns-5 : tie.Need-returns-5
-unfolding entryLine
-returns-5 c = malformed _ _ 4 (number-none _ (sym (c .before .before .number-at3 .ensures) ∙ c .enum-told3 .given .1))
-
-returns-6 : tie.Need-returns-6
-unfolding entryLine every
-returns-6 c =
-    let k1 = c .before in
-    let k2 = k1 .before .before in
-    let k3 = k2 .before .before in
-    let k4 = k3 .before .before in
-    let k5 = k4 .before in
-    let k6 = k5 .before in
-    let k7 = k6 .before in
-    let k8 = k7 .before .before in
-    let k9 = k8 .before .before in
-    let k10 = k9 .before in
-    let k11 = k10 .before in
-    let e1 = number-is _ _ (sym (k9 .number-at .ensures) ∙ k8 .n .given .1) in
-    let e3 = number-is _ _ (sym (k4 .number-at2 .ensures) ∙ k3 .a .given .1) in
-    let e4 = number-is _ _ (sym (k2 .number-at3 .ensures) ∙ k1 .b .given .1) in
-    rw (
-      eq-eqb _ _ (sym (k11 .pieces .ensures) ∙ k10 .if1 .left),
-      e1 .0,
-      sym (k6 .read-operator .ensures ∙ ap operatorOf (k7 .piece .ensures)),
-      lt-ltb _ _ (k5 .if2 .left),
-      e3 .0,
-      e4 .0,
-      e1 .1,
-      e3 .1,
-      e4 .1,
-    ) refl
+returns-2 c = let e = operator (c .before .before) in rw (← e, ne-eqb _ _ (c .before .if1 .left)) (c .short-entry-line .ensures)
 
 pub entry-line-spec : {M : Type 1} → statement M
 entry-line-spec =
     tie.close
-    (tie.spec
-    pieces-requires
-    returns
-    number-at-requires
-    enum-known-n
-    enum-told
-    returns-2
-    piece-requires
-    read-operator-requires
-    returns-3
-    number-at-requires-2
-    enum-known-a
-    enum-told-2
-    returns-4
-    number-at-requires-3
-    enum-known-b
-    enum-told-3
-    returns-5
-    returns-6)
+    (tie.spec piece-requires read-operator-requires long-entry-line-requires short-entry-line-requires returns returns-2)

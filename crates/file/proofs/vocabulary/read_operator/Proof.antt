@@ -65,10 +65,17 @@ slice-aggregate-pick-10 c = search needs
 pick-requires-10 : tie.Need-pick-requires-10
 pick-requires-10 c κs = search needs
 
+slice-aggregate-pick-11 : tie.Need-slice-aggregate-pick-11
+slice-aggregate-pick-11 c = search needs
+
+pick-requires-11 : tie.Need-pick-requires-11
+pick-requires-11 c κs = search needs
+
 returns : tie.Need-returns
 unfolding operatorOf operatorWords
 returns c =
-    let c9 = c .before .before in
+    let c10 = c .before .before in
+    let c9 = c10 .before .before in
     let c8 = c9 .before .before in
     let c7 = c8 .before .before in
     let c6 = c7 .before .before in
@@ -77,7 +84,8 @@ returns c =
     let c3 = c4 .before .before in
     let c2 = c3 .before .before in
     let c1 = c2 .before .before in
-    picked _ _ _ _ (c .pick10 .ensures)
+    picked _ _ _ _ (c .pick11 .ensures)
+    (picked _ _ _ _ (c10 .pick10 .ensures)
     (picked _ _ _ _ (c9 .pick9 .ensures)
     (picked _ _ _ _ (c8 .pick8 .ensures)
     (picked _ _ _ _ (c7 .pick7 .ensures)
@@ -86,7 +94,7 @@ returns c =
     (picked _ _ _ _ (c4 .pick4 .ensures)
     (picked _ _ _ _ (c3 .pick3 .ensures)
     (picked _ _ _ _ (c2 .pick2 .ensures)
-    (picked _ _ _ _ (c1 .pick .ensures) (picked-none _ _))))))))))
+    (picked _ _ _ _ (c1 .pick .ensures) (picked-none _ _)))))))))))
 
 pub read-operator-spec : {M : Type 1} → statement M
 read-operator-spec =
@@ -112,4 +120,6 @@ read-operator-spec =
     pick-requires-9
     slice-aggregate-pick-10
     pick-requires-10
+    slice-aggregate-pick-11
+    pick-requires-11
     returns)

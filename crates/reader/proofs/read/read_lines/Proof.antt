@@ -23,7 +23,7 @@ abbrev numbered : tie.After-step Inv-loop μ-loop → tie.After-number-of Inv-lo
 numbered c = c .before .before .before .before .before .before .before .before .before .before .before .before .before .before
 
 abbrev found : tie.After-number-of Inv-loop μ-loop → tie.After-find Inv-loop μ-loop
-found c = c .before .before .before .before .before .before
+found c = c .before .before .before .before .before .before .before .before
 
 abbrev head : tie.After-number-of Inv-loop μ-loop → tie.At-loop Inv-loop μ-loop
 head c = found c .before .before
@@ -34,14 +34,16 @@ start c = c .before .before .before .before .before .before
 turn : (c : tie.After-number-of Inv-loop μ-loop) →
     let l = head c .loop in
     Turn (start (head c) .args .text .now) (l .terms) (l .relations) (l .masks) (l .t .now) (l .c) (l .n)
-    (found c .find .result) (c .before .before .before .parse-line .result) (c .before .free-in .result) (c .number-of .result)
+    (found c .find .result) (c .before .before .before .before .before .parse-line .result) (c .before .before .before .free-in .result)
+    (c .before .reach-in .result) (c .number-of .result)
 turn c = record {
   along = head c .loop .inv .0;
   ends = found c .find .ensures;
-  inside = c .before .before .before .before .before .if1 .left;
-  line = c .before .before .before .parse-line .ensures;
-  set = c .before .free-in .ensures;
-  fits = omega (arith, c .before .free-in .ok);
+  inside = c .before .before .before .before .before .before .before .if1 .left;
+  line = c .before .before .before .before .before .parse-line .ensures;
+  set = c .before .before .before .free-in .ensures;
+  fits = omega (arith, c .before .before .before .free-in .ok);
+  reaches = c .before .reach-in .ensures;
   number = c .number-of .ensures;
 }
 
@@ -79,22 +81,25 @@ parse-line-requires c κs = search needs
 free-in-requires : tie.Need-free-in-requires Inv-loop μ-loop
 free-in-requires c κs = search needs
 
+reach-in-requires : tie.Need-reach-in-requires Inv-loop μ-loop
+reach-in-requires c κs = search needs
+
 number-of-requires : tie.Need-number-of-requires Inv-loop μ-loop
 number-of-requires c κs = search needs
 
 same-length-4 : tie.Need-same-length-4 Inv-loop μ-loop
 same-length-4 c =
-    let k1 = c .before .before .before .before .before .before .before .before .before in
+    let k1 = c .before .before .before .before .before .before .before .before .before .before .before in
     k1 .loop .inv .1
 
 same-length-5 : tie.Need-same-length-5 Inv-loop μ-loop
 same-length-5 c =
-    let k1 = c .before .before .before .before .before .before .before .before .before in
+    let k1 = c .before .before .before .before .before .before .before .before .before .before .before in
     k1 .loop .inv .2
 
 same-length-6 : tie.Need-same-length-6 Inv-loop μ-loop
 same-length-6 c =
-    let k1 = c .before .before .before .before .before .before .before .before .before in
+    let k1 = c .before .before .before .before .before .before .before .before .before .before .before in
     k1 .loop .inv .3
 
 returns-2 : tie.Need-returns-2 Inv-loop μ-loop
@@ -104,21 +109,21 @@ store-terms-requires : tie.Need-store-terms-requires Inv-loop μ-loop
 store-terms-requires c κs =
     let k1 = c .before in
     let k2 = k1 .before in
-    let k3 = k2 .before .before .before .before .before .before .before .before in
+    let k3 = k2 .before .before .before .before .before .before .before .before .before .before in
     (turn-ranges (turn k2) (k1 .if2 .left), ap length (k3 .loop .inv .0 .words) ∙ length-memory _)
 
 store-edge-requires : tie.Need-store-edge-requires Inv-loop μ-loop
 store-edge-requires c κs =
     let k1 = c .before .before .before .before .before in
     let k2 = k1 .before in
-    let k3 = k2 .before .before .before .before .before .before .before .before in
+    let k3 = k2 .before .before .before .before .before .before .before .before .before .before in
     (turn-ranges (turn k2) (k1 .if2 .left), ap length (k3 .loop .inv .0 .edges) ∙ length-relations _)
 
 store-set-requires : tie.Need-store-set-requires Inv-loop μ-loop
 store-set-requires c κs =
     let k1 = c .before .before .before .before .before .before .before .before .before in
     let k2 = k1 .before in
-    let k3 = k2 .before .before .before .before .before .before .before .before in
+    let k3 = k2 .before .before .before .before .before .before .before .before .before .before in
     (turn-ranges (turn k2) (k1 .if2 .left), k3 .loop .inv .0 .masked .long)
 
 step-requires : tie.Need-step-requires Inv-loop μ-loop
@@ -128,13 +133,13 @@ step-requires c κs =
     let t = turn k2 in (turn-ranges t (k1 .if2 .left), few-tables t)
 
 add-t : tie.Need-add-t Inv-loop μ-loop
-add-t c = omega (arith, head (numbered c) .loop .inv .0 .within, start (head (numbered c)) .good .0 .1)
+add-t c = omega (arith, turn (numbered c) .inside, head (numbered c) .loop .inv .0 .within, start (head (numbered c)) .good .0 .1)
 
 sub-t : tie.Need-sub-t Inv-loop μ-loop
-sub-t c = search needs
+sub-t c = omega (arith, turn (numbered c) .inside)
 
 part-t-start : tie.Need-part-t-start Inv-loop μ-loop
-part-t-start c = omega arith
+part-t-start c = omega (arith, turn (numbered c) .inside)
 
 part-t-end : tie.Need-part-t-end Inv-loop μ-loop
 part-t-end c = search needs
@@ -143,7 +148,7 @@ add-n : tie.Need-add-n Inv-loop μ-loop
 add-n c = omega (arith, head (numbered (c .before)) .loop .inv .0 .counted, start (head (numbered (c .before))) .good .0 .1)
 
 loop-less : tie.Need-loop-less Inv-loop μ-loop
-loop-less c = omega (arith, rest-shorter (found (numbered (c .before)) .find .result) (head (numbered (c .before)) .loop .t .now))
+loop-less c = omega (arith, turn (numbered (c .before)) .inside, rest-shorter (found (numbered (c .before)) .find .result) (head (numbered (c .before)) .loop .t .now))
 
 loop-again : tie.Need-loop-again Inv-loop μ-loop
 loop-again c =
@@ -153,7 +158,7 @@ loop-again c =
     let k4 = k3 .before .before .before .before in
     let k5 = k4 .before .before in
     let k6 = k5 .before in
-    let k7 = k6 .before .before .before .before .before .before .before .before in (
+    let k7 = k6 .before .before .before .before .before .before .before .before .before .before in (
       rw (k4 .store-terms .ensures, k3 .store-edge .ensures, k2 .store-set .ensures, k1 .step .ensures) (turn-next (turn k6) (k5 .if2 .left)),
       k4 .store-terms .kept .0 ∙ k7 .loop .inv .1,
       k3 .store-edge .kept .0 ∙ k7 .loop .inv .2,
@@ -207,6 +212,7 @@ read-lines-spec =
     slice-aggregate-parse-line
     parse-line-requires
     free-in-requires
+    reach-in-requires
     number-of-requires
     same-length-4
     same-length-5

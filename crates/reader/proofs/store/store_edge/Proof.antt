@@ -18,7 +18,7 @@ no-edge : (l : Line) (w : List ℕ) → OneOf (0 ∷ 1 ∷ 2 ∷ 3 ∷ 4 ∷ 6 �
 unfolding storedEdges
 no-edge (Members n) w h = refl
 no-edge (Labels r e) w h = refl
-no-edge (Entry n o a b) w h = refl
+no-edge (Entry n o a b c) w h = refl
 no-edge (Policy j n) w h = refl
 no-edge (Effect j a k d) w h = refl
 no-edge (Edge k a b) w h = absurd (miss (0 ∷ 1 ∷ 2 ∷ 3 ∷ 4 ∷ 6 ∷ []) 5 tt h)

@@ -9,14 +9,20 @@ add-store c = search needs
 store-requires : tie.Need-store-requires
 store-requires c κs = search needs
 
-mul-store-three : tie.Need-mul-store-three
-mul-store-three c = search needs
+mul-at : tie.Need-mul-at
+mul-at c = search needs
 
-add-store-three : tie.Need-add-store-three
-add-store-three c = search needs
+add-at : tie.Need-add-at
+add-at c = search needs
 
 store-three-requires : tie.Need-store-three-requires
 store-three-requires c κs = search needs
+
+add-store-2 : tie.Need-add-store-2
+add-store-2 c = search needs
+
+store-requires-2 : tie.Need-store-requires-2
+store-requires-2 c κs = search needs
 
 same-length : tie.Need-same-length
 same-length c = search needs
@@ -25,7 +31,8 @@ returns : tie.Need-returns
 returns c =
     let k1 = c .before .before in
     let k2 = k1 .before .before .before .before in
-    rw (k1 .store-three .ensures, k2 .store .ensures)
+    let k3 = k2 .before .before .before .before in
+    rw (k1 .store2 .ensures, k2 .store-three .ensures, k3 .store .ensures)
 
 pub store-entry-spec : {M : Type 1} → statement M
 store-entry-spec =
@@ -33,8 +40,10 @@ store-entry-spec =
     (tie.spec
     add-store
     store-requires
-    mul-store-three
-    add-store-three
+    mul-at
+    add-at
     store-three-requires
+    add-store-2
+    store-requires-2
     same-length
     returns)

@@ -19,7 +19,7 @@ no-entry : (l : Line) (m : ℕ) (w : List ℕ) → OneOf (0 ∷ 1 ∷ 3 ∷ 4 �
 unfolding storedSets
 no-entry (Members n) m w h = refl
 no-entry (Labels r e) m w h = refl
-no-entry (Entry n o a b) m w h = absurd (miss (0 ∷ 1 ∷ 3 ∷ 4 ∷ 5 ∷ 6 ∷ []) 2 tt h)
+no-entry (Entry n o a b c) m w h = absurd (miss (0 ∷ 1 ∷ 3 ∷ 4 ∷ 5 ∷ 6 ∷ []) 2 tt h)
 no-entry (Policy j n) m w h = refl
 no-entry (Effect j a k d) m w h = refl
 no-entry (Edge k a b) m w h = refl

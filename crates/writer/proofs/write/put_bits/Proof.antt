@@ -8,7 +8,7 @@ use Rattle.writer.proofs.write.put_bits.Statement.{statement}
 use Rattle.writer.proofs.write.put_bits.Tie as tie
 
 abbrev Inv-loop : tie.InvT-loop
-Inv-loop out₀ at w i b₀ next₀ out b next = Running out₀ out at next 31 64 b (bitOf w i)
+Inv-loop out₀ at w i b₀ next₀ out b next = Running out₀ out at next 32 64 b (bitOf w i)
 
 abbrev μ-loop : tie.MeasureT-loop
 μ-loop out₀ at w i b₀ next₀ out b next = 64 - b

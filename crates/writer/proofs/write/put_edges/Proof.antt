@@ -9,7 +9,7 @@ use Rattle.writer.proofs.write.put_edges.Statement.{statement}
 use Rattle.writer.proofs.write.put_edges.Tie as tie
 
 abbrev Inv-loop : tie.InvT-loop
-Inv-loop state out₀ at i₀ next₀ out i next = Running out₀ out at next (31 * 64) 1024 i (λ k. rowOf (getD state k 0) k)
+Inv-loop state out₀ at i₀ next₀ out i next = Running out₀ out at next (32 * 64) 1024 i (λ k. rowOf (getD state k 0) k)
 
 abbrev μ-loop : tie.MeasureT-loop
 μ-loop state out₀ at i₀ next₀ out i next = 1024 - i

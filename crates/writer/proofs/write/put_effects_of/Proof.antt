@@ -11,7 +11,7 @@ use Rattle.writer.proofs.write.put_effects_of.Tie as tie
 
 abbrev Inv-loop : tie.InvT-loop
 Inv-loop terms out₀ at j i₀ next₀ out i next =
-    (i ≤ 4) × ((next ≤ at + 31 * i) × Going out₀ out at next (slots terms j (effectAt j 0) 4) (slots terms j (effectAt j i) (4 - i)))
+    (i ≤ 4) × ((next ≤ at + 32 * i) × Going out₀ out at next (slots terms j (effectAt j 0) 4) (slots terms j (effectAt j i) (4 - i)))
 
 abbrev μ-loop : tie.MeasureT-loop
 μ-loop terms out₀ at j i₀ next₀ out i next = 4 - i

@@ -9,7 +9,7 @@ use Rattle.writer.proofs.write.put_entries.Statement.{statement}
 use Rattle.writer.proofs.write.put_entries.Tie as tie
 
 abbrev Inv-loop : tie.InvT-loop
-Inv-loop terms out₀ at count n₀ next₀ out n next = Running out₀ out at next 31 count n (entryOf (termsOf terms))
+Inv-loop terms out₀ at count n₀ next₀ out n next = Running out₀ out at next 32 count n (entryOf (termsOf terms))
 
 abbrev μ-loop : tie.MeasureT-loop
 μ-loop terms out₀ at count n₀ next₀ out n next = count - n

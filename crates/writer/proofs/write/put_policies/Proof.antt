@@ -9,7 +9,7 @@ use Rattle.writer.proofs.write.put_policies.Statement.{statement}
 use Rattle.writer.proofs.write.put_policies.Tie as tie
 
 abbrev Inv-loop : tie.InvT-loop
-Inv-loop terms out₀ at count j₀ next₀ out j next = Running out₀ out at next 31 count j (policyOf (termsOf terms))
+Inv-loop terms out₀ at count j₀ next₀ out j next = Running out₀ out at next 32 count j (policyOf (termsOf terms))
 
 abbrev μ-loop : tie.MeasureT-loop
 μ-loop terms out₀ at count j₀ next₀ out j next = count - j

@@ -8,8 +8,8 @@ use Rattle.memory.specs.Plan.{reachSets}
 use Rattle.memory.proofs.FreeSets.{none-besides}
 use Rattle.memory.proofs.TermsTests.{or-implies}
 use Rattle.theory.specs.Fit.{_⇒_}
-use Rattle.memory.proofs.check_terms.reach_fits.Statement.{statement}
-use Rattle.memory.proofs.check_terms.reach_fits.Tie as tie
+use Rattle.memory.proofs.plan.reach_fits.Statement.{statement}
+use Rattle.memory.proofs.plan.reach_fits.Tie as tie
 
 without-requires : tie.Need-without-requires
 without-requires c κs = search needs
