@@ -171,7 +171,8 @@ fn goes_without_saying(walk: &Walk) -> bool {
 fn start(step: &Step) -> String {
     let quantifier = if step.every { "every" } else { "some" };
     let leads = flat(&step.leads);
-    let takes = [":", "some ", "at least "].iter().any(|part| leads.contains(part));
+    let walks = |word: &str| ["some", "every", "least"].contains(&word);
+    let takes = leads.contains(':') || leads.split([' ', '(', ')']).any(walks);
     let leads = if takes { format!("({leads})") } else { leads };
     format!("{quantifier} {} such that {leads}", step.name.text)
 }
