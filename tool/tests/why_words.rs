@@ -97,6 +97,17 @@ fn a_moment_that_came_near() {
 }
 
 #[test]
+fn a_step_along_the_past() {
+    // Somebody whom I once asked is a friend of the target.
+    let step = ["var 1 0", "out 1 2", "since 0 3", "out 0 1", "reach 1 4 5"];
+    assert_eq!(why(&step, &["1 0 2"]), ["nobody is y with once ask ann → y"]);
+    let reached = why(&step, &["0 0 1", "0 3 3", "1 0 2"]);
+    assert_eq!(reached, ["ask ann → ben at moment 1, friend ben → cem"]);
+    let missed = why(&step, &["0 0 1", "0 3 3", "1 0 0"]);
+    assert_eq!(missed, ["ask ann → ben at moment 1, but no friend ben → ann"]);
+}
+
+#[test]
 fn neighbours_that_are_named_already() {
     // Two friends: a friend, and a friend that is not that one.
     let two =

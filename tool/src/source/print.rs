@@ -166,11 +166,14 @@ fn goes_without_saying(walk: &Walk) -> bool {
     walk.body.kind == Kind::True && walk.quantifier != Quantifier::Every
 }
 
-/// A step up to its colon. What has a colon of its own gets parentheses.
+/// A step up to its colon. What has a colon of its own, or could take this one,
+/// gets parentheses.
 fn start(step: &Step) -> String {
     let quantifier = if step.every { "every" } else { "some" };
     let leads = flat(&step.leads);
-    let leads = if leads.contains(':') { format!("({leads})") } else { leads };
+    let walks = |word: &str| ["some", "every", "least"].contains(&word);
+    let takes = leads.contains(':') || leads.split([' ', '(', ')']).any(walks);
+    let leads = if takes { format!("({leads})") } else { leads };
     format!("{quantifier} {} such that {leads}", step.name.text)
 }
 

@@ -50,6 +50,26 @@ fn members() {
 }
 
 #[test]
+fn steps() {
+    let shared = "top 0 0, var 1 0, out 2 1, since 0 2, var 0 0, out 0 4, reach 1 3 5";
+    let owns = "some member that you have at some time shared with owns the target.";
+    assert_eq!(said(shared), owns);
+    assert_eq!(said(&format!("{shared}, not 6 0")), owns.replace("some member", "no member"));
+    assert_eq!(
+        said(&shared.replace("out 2 1", "in 2 1")),
+        "some member that has at some time shared with you owns the target."
+    );
+    assert_eq!(
+        said("var 1 0, out 2 0, out 3 0, not 2 0, since 3 1, top 0 0, reach 1 4 5"),
+        "there is some member that you have at some time shared with and have not withdrawn from since."
+    );
+    assert_eq!(
+        said("var 1 0, out 0 0, var 0 0, out 0 2, reach 1 1 3"),
+        said("var 0 0, out 0 0, out 0 1")
+    );
+}
+
+#[test]
 fn oneself() {
     assert_eq!(said("var 1 0, out 0 0, bind 1 1"), "you own yourself.");
     assert_eq!(

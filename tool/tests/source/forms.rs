@@ -34,6 +34,18 @@ fn the_same_terms() {
         ("me is owns", "me owns me"),
         ("here owns target", "me owns target"),
         ("(((me owns target)))", "me owns target"),
+        (
+            "every x such that me owns x: x is target",
+            "not (some x such that me owns x: not x is target)",
+        ),
+        (
+            "some x such that once target share x: x is me",
+            "at target: some x such that once here share x: x is me",
+        ),
+        (
+            "some x such that once me share x: here owns target",
+            "some x such that once here share x: x owns target",
+        ),
     ];
     for (one, other) in pairs {
         assert_eq!(terms(one), terms(other), "{one}\n{other}");

@@ -57,7 +57,11 @@ impl Parser {
             return Err(self.expected("`that` after `such`", &["that"]));
         }
         let leads = Box::new(self.formula()?);
-        let body = self.body("after whom it leads to, and what holds of them")?;
+        let body = self.body("after whom it leads to, and what holds of them");
+        let body = body.map_err(|mistake| match mistake.advice {
+            None => mistake.advise("a `:` belongs to the nearest form; parentheses keep it inside"),
+            Some(_) => mistake,
+        })?;
         let every = quantifier == Quantifier::Every;
         Ok(Kind::Step(Step { every, name, leads, body }))
     }
