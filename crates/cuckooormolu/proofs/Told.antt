@@ -13,7 +13,8 @@ use Rattle.theory.specs.Tables.{decideNow}
 use Rattle.theory.specs.Keeper.{Verdict, Answer}
 use Rattle.theory.specs.Keeper.Verdict.{grant, deny}
 use Rattle.theory.specs.Keeper.Answer.{decided, refused}
-use Rattle.memory.specs.Layout.{termsWords, stateWords, scratchWords, termsOf, stateOf}
+use Rattle.theory.specs.Limits.{scratchWords}
+use Rattle.memory.specs.Layout.{termsWords, stateWords, termsOf, stateOf}
 use Rattle.memory.specs.Checks.{goodMemory, goodState, goodRelations}
 use Rattle.memory.specs.Outcome.{Outcome, checks, opens}
 use Rattle.memory.specs.Outcome.Outcome.{passed, failed}

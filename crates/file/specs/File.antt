@@ -11,6 +11,7 @@ use Rattle.theory.specs.Terms.{Terms, formula}
 use Rattle.theory.specs.Terms as terms
 use Rattle.theory.specs.Moment.{Relations}
 use Rattle.theory.specs.Fit.{_⇒_, lone, onlyFree, reachFits}
+use Rattle.theory.specs.Limits.{maxMembers, maxRelations, maxEvents, maxEntries, maxTables, maxEffects, variables}
 use Rattle.fields.specs.Split.{Lines, split, lines}
 use Rattle.fields.specs.Split.Lines.{done, cut, line}
 use Rattle.file.specs.Line.{parsed}
@@ -170,8 +171,8 @@ after f Malformed = f
 -- An operand that is no entry is in its range; one that is an entry is lower than its own.
 unfoldable pub inRange : Operand → (labels v : ℕ) → Bool
 inRange unused labels v = eqb v 0
-inRange variable labels v = ltb v 16
-inRange binder labels v = ltb 0 v && ltb v 16
+inRange variable labels v = ltb v variables
+inRange binder labels v = ltb 0 v && ltb v variables
 inRange label labels v = ltb v labels
 inRange entry labels v = true
 
@@ -205,22 +206,22 @@ unfoldable pub tests : File → Line → List Test
 tests f (Members n) =
     test 1 (eqb (f .phase) 0)
     ∷ test 2 (ltb 0 n)
-    ∷ test 2 (ltb n 65)
+    ∷ test 2 (ltb n (1 + maxMembers))
     ∷ []
 tests f (Labels r e) =
     test 1 (eqb (f .phase) 1)
-    ∷ test 2 (ltb r 17)
+    ∷ test 2 (ltb r (1 + maxRelations))
     ∷ test 2 (ltb 0 e)
-    ∷ test 2 (ltb e 17)
+    ∷ test 2 (ltb e (1 + maxEvents))
     ∷ []
 tests f (Entry n o a b c) =
     test 1 (eqb (f .phase) 2 || eqb (f .phase) 3)
     ∷ test 1 (eqb n (f .terms .entries))
-    ∷ test 2 (ltb n 256)
+    ∷ test 2 (ltb n maxEntries)
     ∷ test 2 (inRange (firstOperand o) (f .terms .relations + f .terms .events) a)
     ∷ test 2 (inRange (secondOperand o) (f .terms .relations + f .terms .events) b)
     ∷ test 2 (inRange (thirdOperand o) (f .terms .relations + f .terms .events) c)
-    ∷ test 2 (isPast o ⇒ ltb (number (f .terms .entry) n) 32)
+    ∷ test 2 (isPast o ⇒ ltb (number (f .terms .entry) n) maxTables)
     ∷ test 3 (isLower (firstOperand o) n a)
     ∷ test 3 (isLower (secondOperand o) n b)
     ∷ test 3 (isLower (thirdOperand o) n c)
@@ -239,7 +240,7 @@ tests f (Effect j c k d) =
     ∷ test 1 (leb (f .phase) 5)
     ∷ test 1 (leb (f .event) j)
     ∷ test 2 (ltb j (f .terms .events))
-    ∷ test 2 (ltb (length (f .terms .effects j)) 4)
+    ∷ test 2 (ltb (length (f .terms .effects j)) maxEffects)
     ∷ test 2 (ltb k (f .terms .relations))
     ∷ []
 tests f (Edge k a b) =

@@ -7,7 +7,8 @@ use lib.ListN.{length, replicate}
 use Rattle.theory.specs.Keeper.{Answer}
 use Rattle.theory.specs.Tables.{opening}
 use Rattle.theory.specs.Cases.{yes, no, own}
-use Rattle.memory.specs.Layout.{scratchWords, termsOf, wordsOf}
+use Rattle.theory.specs.Limits.{scratchWords}
+use Rattle.memory.specs.Layout.{termsOf, wordsOf}
 use Rattle.memory.specs.Outcome.{opens}
 use Rattle.memory.specs.Outcome.Outcome.{passed}
 use Rattle.monitor.specs.Monitor.{openedState}

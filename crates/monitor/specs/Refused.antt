@@ -4,7 +4,8 @@ use mathlib.Core.Path.{_≡_}
 use mathlib.Core.List.{List}
 use mathlib.Core.Bool.{true, false}
 use lib.ListN.{length}
-use Rattle.memory.specs.Layout.{termsWords, stateWords, scratchWords, termsOf}
+use Rattle.theory.specs.Limits.{scratchWords}
+use Rattle.memory.specs.Layout.{termsWords, stateWords, termsOf}
 use Rattle.memory.specs.Checks.{goodMemory, goodState, goodRelations}
 
 -- The lent memory is as long as named.

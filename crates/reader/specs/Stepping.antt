@@ -10,6 +10,7 @@ use Rattle.sets.specs.Sets.{bit}
 use Rattle.theory.specs.Formula.{Formula, node, free, firstOperand, secondOperand, thirdOperand, isPast}
 use Rattle.theory.specs.Formula.Operand.{variable, entry}
 use Rattle.theory.specs.Fit.{_⇒_}
+use Rattle.theory.specs.Limits.{maxMembers, maxRelations, maxEvents, maxEntries, maxTables, maxEffects}
 use Rattle.memory.specs.Plan.{reachSets}
 use Rattle.file.specs.File.{Test, test, inRange, isLower}
 use Rattle.file.specs.declared.line.Line.{Line}
@@ -64,22 +65,22 @@ unfoldable pub contextTests : Context → (m : ℕ) → (reaches : Bool) → Lin
 contextTests c m reaches (Members n) =
     test 1 (eqb (c .phase) 0)
     ∷ test 2 (ltb 0 n)
-    ∷ test 2 (ltb n 65)
+    ∷ test 2 (ltb n (1 + maxMembers))
     ∷ []
 contextTests c m reaches (Labels r e) =
     test 1 (eqb (c .phase) 1)
-    ∷ test 2 (ltb r 17)
+    ∷ test 2 (ltb r (1 + maxRelations))
     ∷ test 2 (ltb 0 e)
-    ∷ test 2 (ltb e 17)
+    ∷ test 2 (ltb e (1 + maxEvents))
     ∷ []
 contextTests c m reaches (Entry n o a b d) =
     test 1 (eqb (c .phase) 2 || eqb (c .phase) 3)
     ∷ test 1 (eqb n (c .entries))
-    ∷ test 2 (ltb n 256)
+    ∷ test 2 (ltb n maxEntries)
     ∷ test 2 (inRange (firstOperand o) (c .relations + c .events) a)
     ∷ test 2 (inRange (secondOperand o) (c .relations + c .events) b)
     ∷ test 2 (inRange (thirdOperand o) (c .relations + c .events) d)
-    ∷ test 2 (isPast o ⇒ ltb (c .tables) 32)
+    ∷ test 2 (isPast o ⇒ ltb (c .tables) maxTables)
     ∷ test 3 (isLower (firstOperand o) n a)
     ∷ test 3 (isLower (secondOperand o) n b)
     ∷ test 3 (isLower (thirdOperand o) n d)
@@ -98,7 +99,7 @@ contextTests c m reaches (Effect j a k d) =
     ∷ test 1 (leb (c .phase) 5)
     ∷ test 1 (leb (c .event) j)
     ∷ test 2 (ltb j (c .events))
-    ∷ test 2 (ltb (slot c j) 4)
+    ∷ test 2 (ltb (slot c j) maxEffects)
     ∷ test 2 (ltb k (c .relations))
     ∷ []
 contextTests c m reaches (Edge k a b) =

@@ -12,6 +12,7 @@ use Rattle.theory.specs.Meaning.{Record, Assignment, holds}
 use Rattle.theory.specs.Terms.{Terms, Effect}
 use Rattle.theory.specs.Moment.{Relations}
 use Rattle.theory.specs.Keeper.{Call, Answer, keeper}
+use Rattle.theory.specs.Limits.{scratchWords}
 use Rattle.theory.specs.Keeper.Verdict.{grant, deny}
 use Rattle.theory.specs.Keeper.Answer.{decided}
 
@@ -22,10 +23,10 @@ abbrev pub reaching : (x f g : ℕ) → Entry
 reaching x f g = record { op = 10; a = x; b = f; c = g }
 
 abbrev pub requests : ℕ → ℕ → ℕ → Call
-requests j u v = record { look = false; event = j; from = u; to = v; scratch = 2048 }
+requests j u v = record { look = false; event = j; from = u; to = v; scratch = scratchWords }
 
 abbrev pub looks : ℕ → ℕ → ℕ → Call
-looks j u v = record { look = true; event = j; from = u; to = v; scratch = 2048 }
+looks j u v = record { look = true; event = j; from = u; to = v; scratch = scratchWords }
 
 abbrev pub yes : Answer
 yes = decided grant

@@ -1,0 +1,29 @@
+-- The most that there may be (docs/SCOPE.md, The terms file), and the least scratch that a call is lent (docs/SCOPE.md, Memory).
+use Prim.Native.Nat.{ℕ}
+
+abbrev pub maxMembers : ℕ
+maxMembers = 64
+
+abbrev pub maxRelations : ℕ
+maxRelations = 16
+
+abbrev pub maxEvents : ℕ
+maxEvents = 16
+
+abbrev pub maxEntries : ℕ
+maxEntries = 256
+
+-- past-time entries, each with a table
+abbrev pub maxTables : ℕ
+maxTables = 32
+
+-- effects of an event
+abbrev pub maxEffects : ℕ
+maxEffects = 4
+
+-- variables are numbered from 0 on
+abbrev pub variables : ℕ
+variables = 16
+
+abbrev pub scratchWords : ℕ
+scratchWords = 2048
