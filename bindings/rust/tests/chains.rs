@@ -1,6 +1,7 @@
-//! Terms whose entries use the one below them twice are answered, in the
-//! library and in the program. Decided anew at each use, the last of 255 would
-//! take 2^254 steps: only such a time breaks the limit.
+//! Terms whose entries use the one below them twice, or once for each member,
+//! are answered, in the library and in the program. Decided anew at each use,
+//! the last of 255 would take 2^127 steps or more: only such a time breaks the
+//! limit.
 //!
 //! The program is named by the environment variable CUCKOOORMOLU_EXCHANGE;
 //! where that is not set, its test does nothing.
@@ -17,23 +18,36 @@ const LIMIT: Duration = Duration::from_secs(60);
 const LEVELS: usize = 255;
 const PAST: usize = 32;
 
-/// The entries of the chains, over the one before: or, since as long as there
-/// are tables, and or with a since at each eighth level.
-const CHAINS: [fn(usize) -> &'static str; 3] = [
-    |_| "or",
-    |n| if n < PAST { "since" } else { "or" },
-    |n| if n % 8 == 7 { "since" } else { "or" },
+/// Entry n of the chains, over the one before: or, since as long as there are
+/// tables, or with a since at each eighth level, and binds over edges.
+const CHAINS: [fn(usize) -> String; 4] = [
+    |n| twice("or", n),
+    |n| twice(if n < PAST { "since" } else { "or" }, n),
+    |n| twice(if n % 8 == 7 { "since" } else { "or" }, n),
+    |n| match n % 2 {
+        0 => format!("bind\t{}\t{}", 1 + n / 2 % 15, n - 1),
+        _ => format!("out\t0\t{}", n - 1),
+    },
 ];
 
-/// Terms of 64 members. Event 0 is always granted, event 1 by the last entry
-/// of the chain, which is true.
-fn chain(word: fn(usize) -> &'static str) -> String {
+fn twice(word: &str, n: usize) -> String {
+    format!("{word}\t{}\t{}", n - 1, n - 1)
+}
+
+/// Terms of 64 members, each with edges to four. Event 0 is always granted,
+/// event 1 by the last entry of the chain, which is true.
+fn chain(entry: fn(usize) -> String) -> String {
     let mut text = "M\t64\nL\t1\t2\nF\t0\ttop\t0\t0\n".to_string();
     for n in 1..LEVELS {
-        text.push_str(&format!("F\t{n}\t{}\t{}\t{}\n", word(n), n - 1, n - 1));
+        text.push_str(&format!("F\t{n}\t{}\n", entry(n)));
     }
-    text.push_str(&format!("F\t{LEVELS}\tsince\t{0}\t{0}\n", LEVELS - 1));
+    text.push_str(&format!("F\t{LEVELS}\t{}\n", twice("since", LEVELS)));
     text.push_str(&format!("P\t0\t0\nP\t1\t{}\nE\t0\tadd\t0\tfwd\n", LEVELS - 1));
+    for from in 0..64 {
+        let mut to = [1, 2, 3, 4].map(|step| (from + step) % 64);
+        to.sort();
+        to.iter().for_each(|to| text.push_str(&format!("G\t0\t{from}\t{to}\n")));
+    }
     text
 }
 
@@ -58,9 +72,9 @@ fn request(event: u8) -> Request {
 
 #[test]
 fn the_library_answers() {
-    for word in CHAINS {
+    for entry in CHAINS {
         within_limit(move || {
-            let mut monitor = Monitor::read(chain(word).as_bytes()).unwrap();
+            let mut monitor = Monitor::read(chain(entry).as_bytes()).unwrap();
             assert_eq!(monitor.look(request(1)), Ok(Answer::Grant));
             assert_eq!(monitor.request(request(0)), Ok(Answer::Grant));
             assert_eq!(monitor.request(request(1)), Ok(Answer::Grant));
@@ -71,10 +85,10 @@ fn the_library_answers() {
 #[test]
 fn the_program_answers() {
     let Some(program) = std::env::var_os("CUCKOOORMOLU_EXCHANGE") else { return };
-    for (number, word) in CHAINS.into_iter().enumerate() {
+    for (number, entry) in CHAINS.into_iter().enumerate() {
         let folder = Path::new(env!("CARGO_TARGET_TMPDIR")).join(format!("chain-{number}"));
         fs::create_dir_all(&folder).unwrap();
-        fs::write(folder.join("terms.tsv"), chain(word)).unwrap();
+        fs::write(folder.join("terms.tsv"), chain(entry)).unwrap();
         fs::write(folder.join("requests.tsv"), "R\t0\t1\t2\nR\t1\t1\t2\n").unwrap();
         let mut command = Command::new(&program);
         let mut child = command.current_dir(&folder).stdout(Stdio::piped()).spawn().unwrap();

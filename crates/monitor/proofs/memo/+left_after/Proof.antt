@@ -12,6 +12,7 @@ use Rattle.memory.proofs.plan.is_past.Reads as is-past-reads
 use Rattle.memory.proofs.layout.first_of.Reads as first-of-reads
 use Rattle.memory.proofs.layout.op_of.Reads as op-of-reads
 use Rattle.memory.proofs.layout.second_of.Reads as second-of-reads
+use Rattle.memory.proofs.layout.third_of.Reads as third-of-reads
 use Rattle.monitor.proofs.memo.+left_after.{statement}
 use Rattle.monitor.proofs.memo.+left_after.Tie.{close}
 
@@ -38,6 +39,8 @@ callees t = (
   left-after.Post,
   second-of-reads.Asked,
   second-of-reads.Learnt,
+  third-of-reads.Asked,
+  third-of-reads.Learnt,
 )
 
 abbrev Part : Type 1
@@ -88,14 +91,29 @@ left-after-returns-4 t c = omega (arith, c .left-after3 .ensures, c .before .lef
 left-after-left-after-requires-4 : (t : ℕ) → here t left-after-lts.Need-left-after-requires-4
 left-after-left-after-requires-4 t c κs = (omega (arith, c .before .before .before .before .before .before .before .before .before .before .pre .0, c .before .before .before .before .before .cost .ensures, c .before .before .before .before .if2 .left), tt)
 
-left-after-returns-5 : (t : ℕ) → here t left-after-lts.Need-returns-5
-left-after-returns-5 t c = omega (arith, c .left-after4 .ensures)
+left-after-third-of-requires : (t : ℕ) → here t left-after-lts.Need-third-of-requires
+left-after-third-of-requires t c κs = tt
 
 left-after-left-after-requires-5 : (t : ℕ) → here t left-after-lts.Need-left-after-requires-5
-left-after-left-after-requires-5 t c κs = (omega (arith, c .before .before .before .before .before .before .before .before .before .before .pre .0, c .before .before .before .before .before .cost .ensures, c .before .before .before .before .if2 .left), tt)
+left-after-left-after-requires-5 t c κs = (omega (arith, c .before .before .before .before .before .before .before .before .before .before .before .before .pre .0, c .before .before .before .before .before .before .before .cost .ensures, c .before .before .before .before .before .before .if2 .left, c .before .left-after4 .ensures), tt)
+
+left-after-returns-5 : (t : ℕ) → here t left-after-lts.Need-returns-5
+left-after-returns-5 t c = omega (arith, c .left-after5 .ensures, c .before .before .left-after4 .ensures)
 
 left-after-returns-6 : (t : ℕ) → here t left-after-lts.Need-returns-6
-left-after-returns-6 t c = omega (arith, c .left-after5 .ensures)
+left-after-returns-6 t c = omega arith
+
+left-after-left-after-requires-6 : (t : ℕ) → here t left-after-lts.Need-left-after-requires-6
+left-after-left-after-requires-6 t c κs = (omega (arith, c .before .before .before .before .before .before .before .before .before .before .before .before .pre .0, c .before .before .before .before .before .before .before .cost .ensures, c .before .before .before .before .before .before .if2 .left), tt)
+
+left-after-returns-7 : (t : ℕ) → here t left-after-lts.Need-returns-7
+left-after-returns-7 t c = omega (arith, c .left-after6 .ensures)
+
+left-after-left-after-requires-7 : (t : ℕ) → here t left-after-lts.Need-left-after-requires-7
+left-after-left-after-requires-7 t c κs = (omega (arith, c .before .before .before .before .before .before .before .before .before .before .before .pre .0, c .before .before .before .before .before .before .cost .ensures, c .before .before .before .before .before .if2 .left), tt)
+
+left-after-returns-8 : (t : ℕ) → here t left-after-lts.Need-returns-8
+left-after-returns-8 t c = omega (arith, c .left-after7 .ensures)
 
 pub +left-after-spec : {M : Type 1} → statement M
 +left-after-spec = close μ-left-after λ t. left-after-lts.spec (callees t) (left-after-at t) left-after.Post
@@ -113,6 +131,11 @@ pub +left-after-spec : {M : Type 1} → statement M
     (left-after-left-after-requires-3 t)
     (left-after-returns-4 t)
     (left-after-left-after-requires-4 t)
-    (left-after-returns-5 t)
+    (left-after-third-of-requires t)
     (left-after-left-after-requires-5 t)
+    (left-after-returns-5 t)
     (left-after-returns-6 t)
+    (left-after-left-after-requires-6 t)
+    (left-after-returns-7 t)
+    (left-after-left-after-requires-7 t)
+    (left-after-returns-8 t)

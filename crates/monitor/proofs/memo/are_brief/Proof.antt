@@ -10,11 +10,14 @@ Inv-loop terms n left₀ i₀ left i = Unit {0}
 abbrev μ-loop : tie.MeasureT-loop
 μ-loop terms n left₀ i₀ left i = n - i
 
-entries-requires : tie.Need-entries-requires Inv-loop μ-loop
-entries-requires c κs = tt
+are-few-requires : tie.Need-are-few-requires Inv-loop μ-loop
+are-few-requires c κs = tt
 
 returns : tie.Need-returns Inv-loop μ-loop
 returns c = search needs
+
+entries-requires : tie.Need-entries-requires Inv-loop μ-loop
+entries-requires c κs = tt
 
 loop-holds : tie.Need-loop-holds Inv-loop μ-loop
 loop-holds c = tt
@@ -40,8 +43,9 @@ are-brief-spec =
     (tie.spec
     Inv-loop
     μ-loop
-    entries-requires
+    are-few-requires
     returns
+    entries-requires
     loop-holds
     left-after-turn-requires
     add-i

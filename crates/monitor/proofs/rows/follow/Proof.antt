@@ -21,38 +21,32 @@ loop-holds c = loops.filling _ (omega arith) (c .before .before .pre .0)
 least-of-requires : tie.Need-least-of-requires Inv-loop μ-loop
 least-of-requires c κs = tt
 
-mul-out : tie.Need-mul-out Inv-loop μ-loop
-mul-out c = omega (arith, loops.least-small (c .before .before .loop .inv .upon) (c .before .loop-test .taken) (c .least-of .ensures))
+mul-together : tie.Need-mul-together Inv-loop μ-loop
+mul-together c = omega (arith, loops.least-small (c .before .before .loop .inv .upon) (c .before .loop-test .taken) (c .least-of .ensures))
 
-slice-read-out : tie.Need-slice-read-out Inv-loop μ-loop
-slice-read-out c = omega (arith, loops.least-small (c .before .before .loop .inv .upon) (c .before .loop-test .taken) (c .least-of .ensures), c .before .before .loop .inv .long)
+slice-read-together : tie.Need-slice-read-together Inv-loop μ-loop
+slice-read-together c = omega (arith, loops.least-small (c .before .before .before .loop .inv .upon) (c .before .before .loop-test .taken) (c .before .least-of .ensures), c .before .before .before .loop .inv .long)
 
 together-requires : tie.Need-together-requires Inv-loop μ-loop
 together-requires c κs = c .before .before .before .before .before .before .pre .1
 
-mul-out-2 : tie.Need-mul-out-2 Inv-loop μ-loop
-mul-out-2 c =
-    omega (arith, loops.least-small (c .before .before .before .loop .inv .upon) (c .before .before .loop-test .taken) (c .before .least-of .ensures))
+mul-out : tie.Need-mul-out Inv-loop μ-loop
+mul-out c = omega (arith, loops.least-small (c .before .before .before .before .loop .inv .upon) (c .before .before .before .loop-test .taken) (c .before .before .least-of .ensures))
 
 slice-write-out : tie.Need-slice-write-out Inv-loop μ-loop
-slice-write-out c =
-    omega (
-      arith,
-      loops.least-small (c .before .before .before .loop .inv .upon) (c .before .before .loop-test .taken) (c .before .least-of .ensures),
-      c .before .before .before .loop .inv .long,
-    )
+slice-write-out c = omega (arith, loops.least-small (c .before .before .before .before .loop .inv .upon) (c .before .before .before .loop-test .taken) (c .before .before .least-of .ensures), c .before .before .before .before .loop .inv .long)
 
 rest-of-requires : tie.Need-rest-of-requires Inv-loop μ-loop
 rest-of-requires c κs = tt
 
 loop-less : tie.Need-loop-less Inv-loop μ-loop
-loop-less c = loops.rest-less (c .before .before .before .before .loop .inv .upon) (c .before .before .before .loop-test .taken) (c .rest-of .ensures)
+loop-less c = loops.rest-less (c .before .before .before .before .before .loop .inv .upon) (c .before .before .before .before .loop-test .taken) (c .rest-of .ensures)
 
 loop-again : tie.Need-loop-again Inv-loop μ-loop
 loop-again c =
-    let i = c .before .before .before .before .before .before .before in
-    let loop = c .before .before .before .before .loop in
-    let t = loops.turn (loop .inv .upon) (c .before .before .before .loop-test .taken) (c .before .before .least-of .ensures) (c .rest-of .ensures) in
+    let i = c .before .before .before .before .before .before .before .before in
+    let loop = c .before .before .before .before .before .loop in
+    let t = loops.turn (loop .inv .upon) (c .before .before .before .before .loop-test .taken) (c .before .before .before .least-of .ensures) (c .rest-of .ensures) in
     loops.filling-more _ (loop .inv) t (λ b. c .before .together .ensures b
     ∙ any-cong 64 (λ k _. ap (λ (x : Bool). x && inRow (i .args .f .now) k b) (loops.filling-next (loop .inv) t k)))
 
@@ -70,10 +64,10 @@ follow-spec =
     μ-loop
     loop-holds
     least-of-requires
-    mul-out
-    slice-read-out
+    mul-together
+    slice-read-together
     together-requires
-    mul-out-2
+    mul-out
     slice-write-out
     rest-of-requires
     loop-less
