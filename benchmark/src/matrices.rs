@@ -242,3 +242,41 @@ fn gather(out: &mut [u8], f: &[u8], ahead: &[Vec<usize>], width: usize) {
         }
     }
 }
+
+#[cfg(test)]
+mod tests {
+    use super::*;
+    use keeper::generate;
+    use keeper::record::Record;
+    use keeper::terms;
+
+    /// Reach and all else: the answers are the keeper's.
+    #[test]
+    fn answers_are_the_keepers() {
+        let mut reaching = 0;
+        for seed in 0..400 {
+            let case = generate::case(seed, 99_999);
+            let terms = terms::read(&case.text).expect("an accepted text");
+            if terms.members > 8 || terms.entries.len() > 60 {
+                continue;
+            }
+            reaching += usize::from(terms.entries.iter().any(|e| matches!(e, Entry::Reach(..))));
+            let mut record = Record::new(terms.clone());
+            let mut matrices = Matrices::resume(&terms, &record.state_words());
+            for call in &case.calls {
+                let right = call.event < terms.events && call.from.max(call.to) < terms.members;
+                if right {
+                    let permits = record.permits(call.event, call.from, call.to);
+                    assert_eq!(
+                        matrices.look(call.event, call.from, call.to),
+                        permits,
+                        "seed {seed}"
+                    );
+                    record.call(false, call.event, call.from, call.to, 2_048);
+                    matrices.request(call.event, call.from, call.to);
+                }
+            }
+        }
+        assert!(reaching > 20, "{reaching}");
+    }
+}

@@ -67,8 +67,13 @@ pub fn print(archive: &Archive) {
         let (mut terms, mut state) = (vec![0; TERMS_WORDS], vec![0; STATE_WORDS]);
         let mut scratch = vec![0; SCRATCH_WORDS];
         let mut output = vec![0; text.len()];
-        let read =
-            touched(Box::new(|| assert!(is_done(archive.read(&text, &mut terms, &mut state)))));
+        let mut code = 0;
+        let read = touched(Box::new(|| code = archive.read(&text, &mut terms, &mut state)));
+        if !is_done(code) {
+            // An archive that doesn't know the operator.
+            println!("{name:<14} {:>8}", "-");
+            continue;
+        }
         let write = touched(Box::new(|| {
             assert!(is_done(archive.write(&terms, &state, &mut output)));
         }));

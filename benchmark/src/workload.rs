@@ -242,6 +242,8 @@ pub fn deep() -> Vec<(&'static str, Vec<u8>)> {
         ("in", chain(255, |n| under("in", 0, n))),
         ("bind", chain(255, |n| under("bind", 1, n))),
         ("not, bind, at", chain(255, closed)),
+        ("reach", chain(255, |n| format!("reach\t1\t0\t{}", n - 1))),
+        ("reach, step", chain(255, |n| format!("reach\t1\t{}\t0", n - 1))),
     ]
 }
 

@@ -12,7 +12,7 @@ impl Resolver<'_> {
             let word = &walk.label.text;
             let message = format!("`{word}` is a definition: nobody can be sought along it");
             let advice =
-                "seek along a relation or an event, and ask for the definition after the `:`";
+                "seek along a relation or an event, or by `some x such that` and the definition";
             return Err(Mistake::new(walk.label.span, message).advise(advice));
         }
         let label = self.label(&walk.label)?;
