@@ -5,8 +5,8 @@
  * RAM       terms 2,472 bytes, state 24,584 bytes, scratch 16,384 bytes. The
  *           library allocates nothing and has no state of its own.
  * Stack     measured, not proved: reading takes 181 KiB, an opening, look or
- *           request 169 KiB, and each 1.05 KiB more for every level by which
- *           entries nest, at most 447 KiB; the other calls take 4 KiB. Provide
+ *           request 169 KiB, and each 1.16 KiB more for every level by which
+ *           entries nest, at most 476 KiB; the other calls take 4 KiB. Provide
  *           CUCKOOORMOLU_STACK_BYTES.
  * Time      measured, not proved. Entries that share others take no more than
  *           a memo's time; what can still take long is nested binds over

@@ -4,8 +4,8 @@
 //! * **Memory**: terms have 2,472 bytes, a state 24,584, scratch 16,384. This
 //!   crate puts them on the heap; the library allocates nothing.
 //! * **Stack**: measured, not proved. Reading takes 181 KiB, an opening, look
-//!   or request 169 KiB, and each 1.05 KiB more for every level by which
-//!   entries nest, at most 447 KiB.
+//!   or request 169 KiB, and each 1.16 KiB more for every level by which
+//!   entries nest, at most 476 KiB.
 //! * **Terms and states are plain words** that may be copied and kept. In a
 //!   file they have the machine's byte order, little-endian.
 //! * **Threads**: two monitors share nothing.
