@@ -185,6 +185,14 @@ digits-number n h =
     rw (lt-ltb 0 _ (f .0), le-leb _ 5 (digits-length 5 n), digits-all 5 n) refl)
     (true-or-false (ltb n 10))
 
+pub digits-unpadded : (n : ℕ) → n < 100000 → padded (digits n) ≡ false
+unfolding digits padded
+digits-unpadded n h =
+    ⊎-elim
+    (λ t. rw (digits-one 4 n (ltb-true n 10 t)) refl)
+    (λ t. unpadded (digitsIn 5 n) (digits-first 5 n (let b = ltb-false n 10 t in omega arith) h .1))
+    (true-or-false (ltb n 10))
+
 pub digits-short : (n : ℕ) → length (digits n) ≤ 5
 unfolding digits
 digits-short n = digits-length 5 n

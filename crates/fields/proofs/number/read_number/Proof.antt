@@ -1,5 +1,6 @@
 -- `fields::number::read_number` meets its contract: each return is one of the three ways that reading a field goes.
 use mathlib.Core.Path.{sym, _∙_}
+use native.Mathlib.Omega.{arith}
 use borrow.Author.Needs.{needs}
 use Rattle.fields.proofs.Numeral.{number-empty, number-long, number-digits}
 use Rattle.fields.proofs.number.read_number.Statement.{statement}
@@ -9,7 +10,7 @@ returns : tie.Need-returns
 returns c = sym (number-empty _ (c .if1 .taken))
 
 returns-2 : tie.Need-returns-2
-returns-2 c = sym (number-long _ (c .if2 .taken))
+returns-2 c = let h = c .if2 .taken in sym (number-long _ (omega arith))
 
 value-requires : tie.Need-value-requires
 value-requires c κs = search needs
