@@ -6,7 +6,7 @@ use mathlib.Core.List.{List, [], _∷_, _++_, map, append-nil, append-assoc}
 use mathlib.Core.Bool.{true, false, not, _&&_}
 use native.Mathlib.Omega.{arith}
 use borrow.Author.Tests.{eqb-true, ltb-true, leb-true, not-true}
-use Rattle.sets.proofs.Finite.{is-false, true-or-false, and-left, and-right}
+use Rattle.sets.proofs.Finite.{is-false, true-or-false, and-left, and-right, and-both}
 use Rattle.fields.specs.Split.{Lines, split, join, lines, unlines}
 use Rattle.fields.specs.Split.Lines.{done, cut, line}
 use Rattle.file.specs.Line.{parsed}
@@ -17,10 +17,12 @@ use Rattle.file.specs.Writing.{allLines, printedAll, written}
 use Rattle.file.specs.Normal.{normalField, normalLine, normalLines, normalText, plainFields, plainLines, isPlain}
 use Rattle.file.specs.declared.line.Line.{Line}
 use Rattle.file.specs.declared.line.Line.the-variants.{Entry, Policy, Effect, Edge}
-use Rattle.fields.specs.Number.{isNumber, padded}
+use Rattle.fields.specs.Number.{isNumber, valueOf, digits, padded}
 use Rattle.fields.proofs.Split.{join-split, unlines-lines}
-use Rattle.fields.proofs.Digits.{digits-valueOf}
-use Rattle.file.proofs.Printed.{Ranged}
+use Rattle.fields.proofs.Digits.{digits-valueOf, digits-number, digits-unpadded}
+use Rattle.fields.proofs.Numeral.{value-small}
+use Rattle.file.proofs.Plain.{linesOf, lines-printed}
+use Rattle.file.proofs.Printed.{Ranged, split-ranged}
 use Rattle.file.proofs.Printed.Ranged.{members, labels, entry, policy, effect, edge}
 use Rattle.file.specs.Refused.{Passed}
 use Rattle.file.proofs.Taken.{passed-at, tried-accepted, Taken, passed-formed, reading-accepting}
@@ -185,6 +187,33 @@ pub normal-plain : (text : List ℕ) → isPlain text ≡ true → normalText te
 unfolding isPlain normalText
 normal-plain text h = ap unlines (lines-plain (lines text) h) ∙ unlines-lines text
 
+-- ---- a normal form is plain
+
+field-normal : (f : List ℕ) → not (isNumber (normalField f) && padded (normalField f)) ≡ true
+field-normal f =
+    ⊎-elim
+    (λ e. let n : normalField f ≡ digits (valueOf f) = rw e refl in
+    let h = value-small f e in
+    rw (n, digits-number (valueOf f) h, digits-unpadded (valueOf f) h) refl)
+    (λ e. let n : normalField f ≡ f = rw e refl in rw n (rw e refl))
+    (true-or-false (isNumber f))
+
+fields-normal : (fs : List (List ℕ)) → plainFields (map normalField fs) ≡ true
+unfolding plainFields
+fields-normal [] = refl
+fields-normal (f ∷ fs) = and-both _ _ (field-normal f) (fields-normal fs)
+
+lines-normal : (f : File) (n : ℕ) (ls : Lines) (g : File) → readOn f n ls ≡ accepted g → plainLines (linesOf (records ls)) ≡ true
+unfolding readOn records linesOf plainLines
+lines-normal f n done g e = refl
+lines-normal f n (cut l) g e = let z : _≡_ {A = ℕ} 0 1 = cc in absurd (omega arith)
+lines-normal f n (line l r) g e =
+    let t = tried-accepted (tests f (parsed (split 9 l))) n (readOn (after f (parsed (split 9 l))) (n + 1) r) g e in
+    let p = passed-formed f (split 9 l) (t .0) in
+    and-both _ _
+    (ap plainFields (split-ranged (p .ranged) ∙ p .fields) ∙ fields-normal (split 9 l))
+    (lines-normal (after f (parsed (split 9 l))) (n + 1) r g (t .1))
+
 -- ---- the theorems
 
 -- What reading the normal form of a text gives, where reading the text gave f: the same terms and edges.
@@ -206,6 +235,14 @@ module _ (text : List ℕ) (f : File) (e : reading text ≡ accepted f) where
 
   pub rewritten-same : isPlain text ≡ true → written (f .terms) (f .edges) ≡ text
   rewritten-same h = rewritten ∙ normal-plain text h
+
+  -- nothing that is written is padded
+  pub rewritten-plain : isPlain (normalText text) ≡ true
+  unfolding isPlain normalText reading
+  rewritten-plain =
+      ap isPlain (sym (lines-anew nothing 1 (lines text) f e))
+      ∙ ap plainLines (lines-printed (records (lines text)))
+      ∙ lines-normal nothing 1 (lines text) f e
 
   -- the normal form is accepted too, its lines say the same, and so it gives the same terms and edges
   pub normal-accepted : (g : File) × Unpadded text f g
