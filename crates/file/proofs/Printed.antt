@@ -221,4 +221,3 @@ module _ (fs : List (List ℕ)) where
   pub formed : (parsed fs ≡ Malformed) ⊎ Formed fs (parsed fs)
   unfolding parsed
   formed = said (kindOf (field 0)) refl
-

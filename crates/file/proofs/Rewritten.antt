@@ -248,12 +248,14 @@ module _ (text : List ℕ) (f : File) (e : reading text ≡ accepted f) where
   pub normal-accepted : (g : File) × Unpadded text f g
   normal-accepted =
       let a = accepted-good text f e in
-      let r = reread (f .terms) (f .edges) (a .good) (a .tidy) (a .inside) in
-      (r .0, record {
-        accepts = ap reading (sym rewritten) ∙ r .1 .accepts;
-        terms = r .1 .terms;
-        edges = r .1 .edges;
-      })
+      let r = reread (f .terms) (f .edges) (a .good) (a .tidy) (a .inside) in (
+        r .0,
+        record {
+          accepts = ap reading (sym rewritten) ∙ r .1 .accepts;
+          terms = r .1 .terms;
+          edges = r .1 .edges;
+        },
+      )
 
 -- the lines of the normal form say what the text's lines say
 pub normal-said : (text : List ℕ) (f : File) → reading text ≡ accepted f → records (lines (normalText text)) ≡ records (lines text)

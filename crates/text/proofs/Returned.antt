@@ -140,9 +140,9 @@ pub returned-same : (text : List ℕ) (f : File) → reading text ≡ accepted f
     × (writeLeaves (readTerms text terms state) (readState text terms state) out ≡ text ++ drop (length text) out)
 returned-same text f e p terms state out tl sl =
     let Back : List ℕ → Type 0 = λ t. length t ≤ length out →
-        (readGives text terms state ≡ passed)
-        × (writeGives (readTerms text terms state) (readState text terms state) out ≡ bytes (length t))
-        × (writeLeaves (readTerms text terms state) (readState text terms state) out ≡ t ++ drop (length t) out) in
+    (readGives text terms state ≡ passed)
+    × (writeGives (readTerms text terms state) (readState text terms state) out ≡ bytes (length t))
+    × (writeLeaves (readTerms text terms state) (readState text terms state) out ≡ t ++ drop (length t) out) in
     subst Back (normal-plain text p) (returned text f e terms state out tl sl)
 
 -- The normal form of an accepted text is accepted, and gives the same words of terms and state.
