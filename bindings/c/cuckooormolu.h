@@ -54,9 +54,9 @@ extern "C" {
 #endif
 
 #define CUCKOOORMOLU_VERSION_MAJOR 0
-#define CUCKOOORMOLU_VERSION_MINOR 3
+#define CUCKOOORMOLU_VERSION_MINOR 4
 #define CUCKOOORMOLU_VERSION_PATCH 0
-#define CUCKOOORMOLU_VERSION "0.3.0"
+#define CUCKOOORMOLU_VERSION "0.4.0"
 
 /* The named words of each memory. */
 #define CUCKOOORMOLU_TERMS_WORDS 1236
@@ -281,9 +281,10 @@ cuckooormolu_size(const uint16_t *terms, size_t terms_length,
 }
 
 /*
- * Writes the terms with the present relations as a text. Done: the text stands
- * at the front of output and *count is its count of bytes; the bytes after it
- * are not touched. Refused with 6, 7 or 8: *count is 0. `count` may be null.
+ * Writes the terms with the present relations as a text, numbers without
+ * leading zeros. Done: the text stands at the front of output and *count is its
+ * count of bytes; the bytes after it are not touched. Refused with 6, 7 or 8:
+ * *count is 0. `count` may be null.
  */
 CUCKOOORMOLU_USED static inline struct cuckooormolu_result
 cuckooormolu_write(const uint16_t *terms, size_t terms_length,

@@ -34,8 +34,8 @@ static size_t contents(const char *name, uint8_t *bytes)
     return length;
 }
 
-/* Reads 1 to 5 digits without leading zeros up to `end`, a tab or line feed,
- * and gives the place after it; NULL where there is no such number. */
+/* Reads 1 to 5 digits, leading zeros among them, up to `end`, a tab or line
+ * feed, and gives the place after it; NULL where there is no such number. */
 static const uint8_t *number(const uint8_t *at, const uint8_t *stop,
                              uint8_t end, size_t *value)
 {
@@ -44,7 +44,7 @@ static const uint8_t *number(const uint8_t *at, const uint8_t *stop,
     while (at < stop && at - first < 6 && *at >= '0' && *at <= '9')
         *value = *value * 10 + (size_t)(*at++ - '0');
     size_t digits = (size_t)(at - first);
-    if (digits < 1 || digits > 5 || (digits > 1 && *first == '0'))
+    if (digits < 1 || digits > 5)
         return NULL;
     return at < stop && *at == end ? at + 1 : NULL;
 }

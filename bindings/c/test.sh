@@ -98,7 +98,7 @@ R 9 0 0
 6 refuse 9
 '
     expect "malformed requests" "$preset" 'R 0 0 1
-R 00 0 1
+R 000000 0 1
 X 0 0 1
 R 0 0
 R 0 0 1 1

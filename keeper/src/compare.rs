@@ -96,8 +96,9 @@ fn read_into(other: &mut impl Other, text: &[u8], lent: &mut Lent) -> Result<(),
     Ok(())
 }
 
-/// Reads a case's text and makes its calls; after each, the answer and every
-/// word lent is compared, and the text is written out.
+/// Reads a case's text, which comes back in its normal form, and makes its
+/// calls; after each, the answer and every word lent is compared, and the text
+/// is written out.
 pub fn case(other: &mut impl Other, case: &Case) -> Result<(), Difference> {
     let mut rng = Rng::new(case.seed);
     let mut lent = Lent::noise(&mut rng, TERMS_WORDS + BEYOND, STATE_WORDS + BEYOND);
@@ -107,12 +108,22 @@ pub fn case(other: &mut impl Other, case: &Case) -> Result<(), Difference> {
     };
     let mut record = Record::new(terms);
     write(other, &lent.terms, &lent.state)?;
+    written_back(other, &case.text, &lent)?;
     for (index, call) in case.calls.iter().enumerate() {
         let named = |difference| format!("call {index}: {difference}");
         record_call(other, call, &mut record, &mut lent, &mut rng).map_err(named)?;
         write(other, &lent.terms, &lent.state).map_err(named)?;
     }
     Ok(())
+}
+
+/// What is written of an accepted text that was just read is its normal form.
+fn written_back(other: &mut impl Other, text: &[u8], lent: &Lent) -> Result<(), Difference> {
+    let wanted = terms::normal(text);
+    let mut output = vec![0; wanted.len()];
+    let got = other.write(&lent.terms, &lent.state, &mut output);
+    equal("writing back", got, Ok(wanted.len()))?;
+    same("text written back", &output, &wanted)
 }
 
 fn record_call(

@@ -73,14 +73,19 @@ impl fmt::Display for Case {
     }
 }
 
-/// An accepted text with calls. No number of a call is above `largest`.
+/// An accepted text with calls, now and then with padded numbers. No number of
+/// a call is above `largest`.
 pub fn case(seed: u64, largest: usize) -> Case {
     let mut rng = Rng::new(seed);
     let size = Size::random(&mut rng);
     let terms = formulas::terms(&mut rng, &size);
     let count = rng.below(size.calls + 1);
     let calls = calls(&mut rng, &terms, count, largest);
-    Case { seed, text: terms::write(&terms, &terms.edges), calls }
+    let mut text = terms::write(&terms, &terms.edges);
+    if rng.below(6) == 0 {
+        lines::pad(&mut rng, &mut text);
+    }
+    Case { seed, text, calls }
 }
 
 /// A text that was damaged; it may by chance still be accepted.

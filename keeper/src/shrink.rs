@@ -4,8 +4,9 @@ use crate::record::Call;
 use crate::terms::memory::SCRATCH_WORDS;
 use crate::terms::{self, Entry, Terms};
 
-/// Drops calls and lines, makes readable terms smaller and calls plainer, as
-/// long as `fails` stays true of what is left. The given case must fail.
+/// Drops calls, lines and leading zeros, makes readable terms smaller and calls
+/// plainer, as long as `fails` stays true of what is left. The given case must
+/// fail.
 pub fn shrink<F>(text: &[u8], calls: &[Call], mut fails: F) -> (Vec<u8>, Vec<Call>)
 where
     F: FnMut(&[u8], &[Call]) -> bool,
@@ -16,10 +17,12 @@ where
         let mut lines: Vec<Vec<u8>> =
             text.split_inclusive(|&byte| byte == b'\n').map(<[u8]>::to_vec).collect();
         let fewer_lines = drop_parts(&mut lines, |left| fails(&left.concat(), &calls));
+        let fewer_zeros = drop_zeros(&mut lines, |left| fails(&left.concat(), &calls));
         text = lines.concat();
         let smaller_terms = smaller_terms(&mut text, |left| fails(left, &calls));
         let plainer_calls = plainer_calls(&mut calls, |left| fails(&text, left));
-        if !fewer_calls && !fewer_lines && !smaller_terms && !plainer_calls {
+        let fewer = fewer_calls || fewer_lines || fewer_zeros;
+        if !fewer && !smaller_terms && !plainer_calls {
             return (text, calls);
         }
     }
@@ -44,6 +47,21 @@ pub fn drop_parts<T: Clone>(items: &mut Vec<T>, mut fails: impl FnMut(&[T]) -> b
         run /= 2;
     }
     items.len() < before
+}
+
+/// Puts lines into their normal form as long as `fails` stays true. Says whether
+/// any line was changed.
+fn drop_zeros(lines: &mut Vec<Vec<u8>>, mut fails: impl FnMut(&[Vec<u8>]) -> bool) -> bool {
+    let mut changed = false;
+    for index in 0..lines.len() {
+        let mut others = lines.clone();
+        others[index] = terms::normal(&lines[index]);
+        if others[index] != lines[index] && fails(&others) {
+            *lines = others;
+            changed = true;
+        }
+    }
+    changed
 }
 
 /// Puts the smallest numbers into calls as long as `fails` stays true. Says

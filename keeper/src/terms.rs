@@ -1,11 +1,13 @@
 //! Terms as plain values.
 
 pub mod memory;
+pub mod normal;
 pub mod read;
 pub mod write;
 
 use std::collections::BTreeSet;
 
+pub use normal::normal;
 pub use read::read;
 pub use write::write;
 

@@ -111,7 +111,8 @@ mod tests {
     fn request_lines() {
         let ask = Request::Ask { event: 2, from: 1, to: 0 };
         assert_eq!(Request::read(b"R\t2\t1\t0\n"), ask);
-        for wrong in [&b"R\t2\t1\t0"[..], b"R 2 1 0\n", b"R\t02\t1\t0\n", b"\n"] {
+        assert_eq!(Request::read(b"R\t02\t001\t00000\n"), ask);
+        for wrong in [&b"R\t2\t1\t0"[..], b"R 2 1 0\n", b"R\t000002\t1\t0\n", b"\n"] {
             assert_eq!(Request::read(wrong), Request::Malformed);
         }
     }

@@ -68,8 +68,8 @@ impl Monitor {
         raw::look(self.terms.words(), self.state.words(), &self.scratch[..], request.into())
     }
 
-    /// The terms text with the present relations. Reading it gives the same
-    /// terms and relations, at moment 0.
+    /// The terms text with the present relations, numbers without leading
+    /// zeros. Reading it gives the same terms and relations, at moment 0.
     ///
     /// ```
     /// let text = b"M\t2\nL\t1\t1\nF\t0\ttop\t0\t0\nP\t0\t0\nG\t0\t0\t1\n";

@@ -212,7 +212,7 @@ pub fn size(terms: &[u16], state: &[u64]) -> Result<usize, Refusal> {
 }
 
 /// Writes the terms with the present relations from the output's first byte
-/// on and gives the count of bytes.
+/// on, numbers without leading zeros, and gives the count of bytes.
 pub fn write(terms: &[u16], state: &[u64], output: &mut [u8]) -> Result<usize, Refusal> {
     let mut count = 0;
     let code = unsafe {

@@ -161,6 +161,14 @@ fn a_text_comes_back_byte_by_byte() {
 }
 
 #[test]
+fn a_padded_text_comes_back_without_leading_zeros() {
+    let padded = "M 002\nL 00000 01\nF 0 top 00 0\nP 00 00000\n";
+    let monitor = Monitor::read(&tabs(padded)).unwrap();
+    assert_eq!(monitor.write(), tabs("M 2\nL 0 1\nF 0 top 0 0\nP 0 0\n"));
+    assert_eq!(refused("M 000002\n"), (1, 1));
+}
+
+#[test]
 fn the_longest_text_is_written() {
     let mut text = "M 64\nL 16 16\nF 0 top 0 0\n".to_string();
     text.extend((1..256).map(|n| format!("F {n} reach 15 {0} {0}\n", n - 1)));

@@ -167,7 +167,7 @@ unfolding padded
 unpadded f h = rw (ne-eqb (getD f 0 0) 48 (λ e. omega arith)) (and-false (ltb 1 (length f)))
 
 number-one : (d : ℕ) → isDigit d ≡ true → isNumber (d ∷ []) ≡ true
-unfolding isNumber padded allDigits
+unfolding isNumber allDigits
 number-one d h = rw h refl
 
 pub valueOf-digits : (n : ℕ) → n < 100000 → valueOf (digits n) ≡ n
@@ -182,7 +182,15 @@ digits-number n h =
     rw (digits-one 4 n b) (number-one (48 + n) (digit-is (48 + n) (omega arith) (omega arith))))
     (λ t. let b = ltb-false n 10 t in
     let f = digits-first 5 n (omega arith) h in
-    rw (lt-ltb 0 _ (f .0), le-leb _ 5 (digits-length 5 n), unpadded _ (f .1), digits-all 5 n) refl)
+    rw (lt-ltb 0 _ (f .0), le-leb _ 5 (digits-length 5 n), digits-all 5 n) refl)
+    (true-or-false (ltb n 10))
+
+pub digits-unpadded : (n : ℕ) → n < 100000 → padded (digits n) ≡ false
+unfolding digits padded
+digits-unpadded n h =
+    ⊎-elim
+    (λ t. rw (digits-one 4 n (ltb-true n 10 t)) refl)
+    (λ t. unpadded (digitsIn 5 n) (digits-first 5 n (let b = ltb-false n 10 t in omega arith) h .1))
     (true-or-false (ltb n 10))
 
 pub digits-short : (n : ℕ) → length (digits n) ≤ 5

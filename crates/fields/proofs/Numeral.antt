@@ -3,17 +3,17 @@ use Prim.Native.Nat.{ℕ, _+_, _-_, _*_, _^_, _≤_, _<_}
 use mathlib.Core.Path.{_≡_, refl}
 use mathlib.Core.Logic.{⊎-elim}
 use mathlib.Core.List.{List, [], _∷_}
-use mathlib.Core.Bool.{true, false, not, _&&_}
+use mathlib.Core.Bool.{true, false, _&&_}
 use native.Mathlib.Omega.{arith}
 use native.Mathlib.Nat.{pow-suc, pow-le-pow-right, mul-one, mul-comm, mul-assoc}
 use lib.Dec.{leb, ltb, lit<}
 use lib.ListN.{length}
-use borrow.Author.Tests.{leb-true, ltb-true, le-ltb, lt-ltb, le-leb, lt-leb, not-true}
+use borrow.Author.Tests.{leb-true, ltb-true, le-ltb, lt-ltb, le-leb, lt-leb}
 use Rattle.sets.proofs.Finite.{true-or-false, and-left, and-right}
 use Rattle.fields.specs.declared.number.Number.the-variants.{Value, Malformed}
-use Rattle.fields.specs.Number.{isDigit, allDigits, valueFrom, valueOf, padded, isNumber, numberOf, pickNumber}
+use Rattle.fields.specs.Number.{isDigit, allDigits, valueFrom, valueOf, isNumber, numberOf, pickNumber}
 
--- ---- the four ways that reading a field goes
+-- ---- the three ways that reading a field goes
 
 pub number-empty : (f : List ℕ) → length f < 1 → numberOf f ≡ Malformed
 unfolding numberOf isNumber
@@ -23,14 +23,9 @@ pub number-long : (f : List ℕ) → 5 < length f → numberOf f ≡ Malformed
 unfolding numberOf isNumber
 number-long f h = rw (lt-ltb 0 (length f) (omega arith), lt-leb (length f) 5 h) refl
 
-pub number-padded : (f : List ℕ) → 1 ≤ length f → length f ≤ 5 → padded f ≡ true → numberOf f ≡ Malformed
+pub number-digits : (f : List ℕ) → 1 ≤ length f → length f ≤ 5 → numberOf f ≡ pickNumber (allDigits f) (Value (valueOf f)) Malformed
 unfolding numberOf isNumber
-number-padded f h k p = rw (lt-ltb 0 (length f) (omega arith), le-leb (length f) 5 k, p) refl
-
-pub number-digits : (f : List ℕ) → 1 ≤ length f → length f ≤ 5 → padded f ≡ false
-    → numberOf f ≡ pickNumber (allDigits f) (Value (valueOf f)) Malformed
-unfolding numberOf isNumber
-number-digits f h k p = rw (lt-ltb 0 (length f) (omega arith), le-leb (length f) 5 k, p) refl
+number-digits f h k = rw (lt-ltb 0 (length f) (omega arith), le-leb (length f) 5 k) refl
 
 -- ---- what the answer says of the field
 
@@ -61,18 +56,9 @@ module _ (f : List ℕ) (h : isNumber f ≡ true) where
   unfolding isNumber
   number-short = leb-true (length f) 5 (and-left (leb (length f) 5) _ (and-right (ltb 0 (length f)) _ h))
 
-  pub number-unpadded : padded f ≡ false
-  unfolding isNumber
-  number-unpadded =
-      not-true (padded f)
-      (and-left (not (padded f)) (allDigits f)
-      (and-right (leb (length f) 5) _ (and-right (ltb 0 (length f)) _ h)))
-
   pub number-all : allDigits f ≡ true
   unfolding isNumber
-  number-all =
-      and-right (not (padded f)) (allDigits f)
-      (and-right (leb (length f) 5) _ (and-right (ltb 0 (length f)) _ h))
+  number-all = and-right (leb (length f) 5) (allDigits f) (and-right (ltb 0 (length f)) _ h)
 
 -- ---- a number field's value is below 100,000
 

@@ -1,7 +1,7 @@
--- A number field, its value, and the digits of a number (docs/SCOPE.md, The terms file: decimal, 1 to 5 digits, without leading zeros).
+-- A number field, its value, and the digits of a number (docs/SCOPE.md, The terms file: decimal, 1 to 5 digits, leading zeros among them).
 use Prim.Native.Nat.{ℕ, zero, suc, _+_, _-_, _*_, _/_, _%_}
 use mathlib.Core.List.{List, [], _∷_, _++_}
-use mathlib.Core.Bool.{Bool, true, false, cond, not, _&&_}
+use mathlib.Core.Bool.{Bool, true, false, cond, _&&_}
 use lib.Dec.{eqb, leb, ltb}
 use lib.ListN.{length, getD}
 use Rattle.fields.specs.declared.number.Number.{Number}
@@ -14,12 +14,8 @@ unfoldable pub allDigits : List ℕ → Bool
 allDigits [] = true
 allDigits (d ∷ ds) = isDigit d && allDigits ds
 
--- A zero before other digits.
-unfoldable pub padded : List ℕ → Bool
-padded f = ltb 1 (length f) && eqb (getD f 0 0) 48
-
 unfoldable pub isNumber : List ℕ → Bool
-isNumber f = ltb 0 (length f) && (leb (length f) 5 && (not (padded f) && allDigits f))
+isNumber f = ltb 0 (length f) && (leb (length f) 5 && allDigits f)
 
 -- The value of digits that follow a value v.
 unfoldable pub valueFrom : ℕ → List ℕ → ℕ
@@ -44,6 +40,10 @@ digitsIn (suc k) n = cond (ltb n 10) ((48 + n) ∷ []) (digitsIn k (n / 10) ++ (
 
 unfoldable pub digits : ℕ → List ℕ
 digits n = digitsIn 5 n
+
+-- A zero before other digits.
+unfoldable pub padded : List ℕ → Bool
+padded f = ltb 1 (length f) && eqb (getD f 0 0) 48
 
 -- A number field's normal form: the digits of its value.
 abbrev pub normal : List ℕ → List ℕ

@@ -1,24 +1,13 @@
-// Number fields: decimal, 1 to 5 digits, without leading zeros.
+// Number fields: decimal, 1 to 5 digits, leading zeros among them.
 ghost use mathlib.Core.Path.{_≡_};
 ghost use Prim.Native.Nat.{_≤_};
 ghost use lib.ListN.{length};
-ghost use Rattle.fields.specs.Number.{numberOf, padded, allDigits, valueOf, pickNumber};
+ghost use Rattle.fields.specs.Number.{numberOf, allDigits, valueOf, pickNumber};
 
 // What a field is as a number.
 pub enum Number {
     Value(usize),
     Malformed,
-}
-
-// Whether a zero stands before other digits.
-fn is_padded(f: &[u8]) -> bool
-    ensures { λ r. ⌜ r ≡ padded (now (f .entry)) ⌝ }
-{
-    if 1 < f.len() {
-        if f[0] == 48 { true } else { false }
-    } else {
-        false
-    }
 }
 
 // The value of at most five digits; malformed where a byte is no digit.
@@ -51,9 +40,6 @@ pub fn read_number(f: &[u8]) -> Number
         return Number::Malformed;
     }
     if 5 < n {
-        return Number::Malformed;
-    }
-    if is_padded(f) {
         return Number::Malformed;
     }
     value(f)

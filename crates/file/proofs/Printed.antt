@@ -13,13 +13,13 @@ use Rattle.sets.proofs.Finite.{true-or-false, not-both}
 use Rattle.theory.specs.Fit.{every}
 use Rattle.theory.proofs.Good.{every-at}
 use Rattle.fields.specs.Split.{split}
-use Rattle.fields.specs.Number.{isNumber, isDigit, allDigits, padded, valueOf, digits}
+use Rattle.fields.specs.Number.{isNumber, isDigit, allDigits, valueOf, digits}
 use Rattle.file.specs.Words.{operatorWords, actionWords, directionWords, kindWords, indexOf, operatorOf, actionOf, directionOf, kindOf}
 use Rattle.file.specs.Line.{num, isNum, membersLine, labelsLine, shortEntryLine, longEntryLine, hasThird, entryLine, policyLine, effectLine, edgeLine, lineOf, parsed, fieldsOf, printed}
 use Rattle.file.specs.Normal.{normalField}
 use Rattle.file.specs.declared.line.Line.{Line}
 use Rattle.file.specs.declared.line.Line.the-variants.{Members, Labels, Entry, Policy, Effect, Edge, Malformed}
-use Rattle.fields.proofs.Numeral.{value-small, number-unpadded}
+use Rattle.fields.proofs.Numeral.{value-small}
 use Rattle.fields.proofs.Digits.{digits-valueOf, valueOf-digits, digits-number}
 use Rattle.file.proofs.Words.{operator-at, operator-back, action-at, action-back, direction-at, direction-back, kind-at, kind-back}
 use Rattle.file.proofs.Plain.{word-all, split-printed}
@@ -136,24 +136,24 @@ word-normal f w e h = rw (e, not-true (isNumber w) h) refl
 
 -- no word is a number
 kind-normal : (f : List ℕ) (k : ℕ) → kindOf f ≡ k → k < 6 → getD kindWords k [] ≡ normalField f
-unfolding isNumber isDigit allDigits padded kindWords every
+unfolding isNumber isDigit allDigits kindWords every
 kind-normal f k e h =
     word-normal f (getD kindWords k [])
     (subst (λ (m : ℕ). m < 6 → f ≡ getD kindWords m []) e (kind-back f) h)
     (word-all (λ w. not (isNumber w)) kindWords refl refl k)
 
 operator-normal : (f : List ℕ) → operatorOf f < 11 → getD operatorWords (operatorOf f) [] ≡ normalField f
-unfolding isNumber isDigit allDigits padded operatorWords every
+unfolding isNumber isDigit allDigits operatorWords every
 operator-normal f h =
     word-normal f (getD operatorWords (operatorOf f) []) (operator-back f h) (word-all (λ w. not (isNumber w)) operatorWords refl refl (operatorOf f))
 
 action-normal : (f : List ℕ) → 0 < actionOf f → getD ([] ∷ actionWords) (actionOf f) [] ≡ normalField f
-unfolding isNumber isDigit allDigits padded actionWords every
+unfolding isNumber isDigit allDigits actionWords every
 action-normal f h =
     word-normal f (getD ([] ∷ actionWords) (actionOf f) []) (action-back f h) (word-all (λ w. not (isNumber w)) ([] ∷ actionWords) refl refl (actionOf f))
 
 direction-normal : (f : List ℕ) → directionOf f < 2 → getD directionWords (directionOf f) [] ≡ normalField f
-unfolding isNumber isDigit allDigits padded directionWords every
+unfolding isNumber isDigit allDigits directionWords every
 direction-normal f h =
     word-normal f (getD directionWords (directionOf f) []) (direction-back f h) (word-all (λ w. not (isNumber w)) directionWords refl refl (directionOf f))
 
@@ -221,11 +221,3 @@ module _ (fs : List (List ℕ)) where
   pub formed : (parsed fs ≡ Malformed) ⊎ Formed fs (parsed fs)
   unfolding parsed
   formed = said (kindOf (field 0)) refl
-
--- numbers are not padded, so each field is its own normal form
-pub normal-same : (fs : List (List ℕ)) → map normalField fs ≡ fs
-normal-same [] = refl
-normal-same (f ∷ fs) =
-    ap₂ {C = List (List ℕ)} (λ g gs. g ∷ gs)
-    (⊎-elim (λ e. rw e (digits-valueOf f e (number-unpadded f e))) (λ e. rw e refl) (true-or-false (isNumber f)))
-    (normal-same fs)

@@ -1,29 +1,35 @@
--- Writing what an accepted text says gives the text in its normal form, and that is the text.
+-- Writing what an accepted text says gives the text in its normal form; of a plain text that is the text itself.
 use Prim.Native.Nat.{ℕ, _+_, _≤_, _<_}
 use mathlib.Core.Path.{_≡_, refl, sym, ap, ap₂, _∙_}
 use mathlib.Core.Logic.{⊎-elim}
-use mathlib.Core.List.{List, [], _∷_, _++_, append-nil, append-assoc}
-use mathlib.Core.Bool.{true}
+use mathlib.Core.List.{List, [], _∷_, _++_, map, append-nil, append-assoc}
+use mathlib.Core.Bool.{true, false, not, _&&_}
 use native.Mathlib.Omega.{arith}
-use borrow.Author.Tests.{eqb-true, ltb-true, leb-true}
-use Rattle.sets.proofs.Finite.{is-false}
+use borrow.Author.Tests.{eqb-true, ltb-true, leb-true, not-true}
+use Rattle.sets.proofs.Finite.{is-false, true-or-false, and-left, and-right, and-both}
 use Rattle.fields.specs.Split.{Lines, split, join, lines, unlines}
 use Rattle.fields.specs.Split.Lines.{done, cut, line}
-use Rattle.file.specs.Line.{parsed, printed}
+use Rattle.file.specs.Line.{parsed}
 use Rattle.file.specs.File.{File, nothing, after, tests, complete, readOn, reading}
 use Rattle.file.specs.File.Reading.{accepted}
 use Rattle.file.specs.Said.{records}
 use Rattle.file.specs.Writing.{allLines, printedAll, written}
-use Rattle.file.specs.Normal.{normalText}
+use Rattle.file.specs.Normal.{normalField, normalLine, normalLines, normalText, plainFields, plainLines, isPlain}
 use Rattle.file.specs.declared.line.Line.{Line}
 use Rattle.file.specs.declared.line.Line.the-variants.{Entry, Policy, Effect, Edge}
+use Rattle.fields.specs.Number.{isNumber, valueOf, digits, padded}
 use Rattle.fields.proofs.Split.{join-split, unlines-lines}
-use Rattle.file.proofs.Printed.{Ranged, Formed, normal-same}
+use Rattle.fields.proofs.Digits.{digits-valueOf, digits-number, digits-unpadded}
+use Rattle.fields.proofs.Numeral.{value-small}
+use Rattle.file.proofs.Plain.{linesOf, lines-printed}
+use Rattle.file.proofs.Printed.{Ranged, split-ranged}
 use Rattle.file.proofs.Printed.Ranged.{members, labels, entry, policy, effect, edge}
 use Rattle.file.specs.Refused.{Passed}
 use Rattle.file.proofs.Taken.{passed-at, tried-accepted, Taken, passed-formed, reading-accepting}
 use Rattle.file.proofs.Taken.Taken.{none, one}
 use Rattle.file.proofs.Going.{Going, going-first, going, entry-phase, policy-phase, complete-phase, complete-policies, rises-code}
+use Rattle.file.proofs.Accepted.{accepted-good}
+use Rattle.file.proofs.Reread.{reread}
 use Rattle.file.proofs.Listed.{empty, here, later}
 use Rattle.file.proofs.SoFar.{headLines, entryLines, policyLines, eventLines, edgeLines, headsOf, entriesOf, policiesOf, eventsOf, edgesOf, afterPolicies, afterEntries, afterHeads, soFar, head-first, head-second, head-late, entries-none, entries-more, policies-none, policies-more, events-none, events-more, edges-none, edges-more}
 
@@ -143,20 +149,78 @@ all-said f c =
 
 -- ---- an accepted text printed anew
 
--- numbers are not padded, so a line that says something is printed as it was
-line-anew : (l : List ℕ) → Formed (split 9 l) (parsed (split 9 l)) → printed (parsed (split 9 l)) ≡ l
-line-anew l p = ap (join 9) (p .fields ∙ normal-same (split 9 l)) ∙ join-split 9 l
-
-lines-anew : (f : File) (n : ℕ) (ls : Lines) (g : File) → readOn f n ls ≡ accepted g → printedAll (records ls) ≡ unlines ls
-unfolding readOn records printedAll unlines
+lines-anew : (f : File) (n : ℕ) (ls : Lines) (g : File) → readOn f n ls ≡ accepted g → printedAll (records ls) ≡ unlines (normalLines ls)
+unfolding readOn records printedAll unlines normalLines
 lines-anew f n done g e = refl
 lines-anew f n (cut l) g e = let z : _≡_ {A = ℕ} 0 1 = cc in absurd (omega arith)
 lines-anew f n (line l r) g e =
     let t = tried-accepted (tests f (parsed (split 9 l))) n (readOn (after f (parsed (split 9 l))) (n + 1) r) g e in
-    ap₂ (λ (s u : List ℕ). s ++ (10 ∷ u)) (line-anew l (passed-formed f (split 9 l) (t .0)))
+    ap₂ (λ (s u : List ℕ). s ++ (10 ∷ u)) (ap (join 9) (passed-formed f (split 9 l) (t .0) .fields))
     (lines-anew (after f (parsed (split 9 l))) (n + 1) r g (t .1))
 
+-- ---- a plain text is its own normal form
+
+fields-plain : (fs : List (List ℕ)) → plainFields fs ≡ true → map normalField fs ≡ fs
+unfolding plainFields
+fields-plain [] h = refl
+fields-plain (f ∷ fs) h =
+    ap₂ {C = List (List ℕ)} (λ g gs. g ∷ gs)
+    (⊎-elim
+    (λ e. let p = not-true (isNumber f && padded f) (and-left (not (isNumber f && padded f)) _ h) in
+    let u : padded f ≡ false = rw e at p in
+    rw e (digits-valueOf f e u))
+    (λ e. rw e refl)
+    (true-or-false (isNumber f)))
+    (fields-plain fs (and-right (not (isNumber f && padded f)) _ h))
+
+line-plain : (l : List ℕ) → plainFields (split 9 l) ≡ true → normalLine l ≡ l
+line-plain l h = ap (join 9) (fields-plain (split 9 l) h) ∙ join-split 9 l
+
+lines-plain : (ls : Lines) → plainLines ls ≡ true → normalLines ls ≡ ls
+unfolding plainLines normalLines
+lines-plain done h = refl
+lines-plain (cut l) h = ap cut (line-plain l h)
+lines-plain (line l r) h =
+    ap₂ line (line-plain l (and-left (plainFields (split 9 l)) _ h)) (lines-plain r (and-right (plainFields (split 9 l)) _ h))
+
+pub normal-plain : (text : List ℕ) → isPlain text ≡ true → normalText text ≡ text
+unfolding isPlain normalText
+normal-plain text h = ap unlines (lines-plain (lines text) h) ∙ unlines-lines text
+
+-- ---- a normal form is plain
+
+field-normal : (f : List ℕ) → not (isNumber (normalField f) && padded (normalField f)) ≡ true
+field-normal f =
+    ⊎-elim
+    (λ e. let n : normalField f ≡ digits (valueOf f) = rw e refl in
+    let h = value-small f e in
+    rw (n, digits-number (valueOf f) h, digits-unpadded (valueOf f) h) refl)
+    (λ e. let n : normalField f ≡ f = rw e refl in rw n (rw e refl))
+    (true-or-false (isNumber f))
+
+fields-normal : (fs : List (List ℕ)) → plainFields (map normalField fs) ≡ true
+unfolding plainFields
+fields-normal [] = refl
+fields-normal (f ∷ fs) = and-both _ _ (field-normal f) (fields-normal fs)
+
+lines-normal : (f : File) (n : ℕ) (ls : Lines) (g : File) → readOn f n ls ≡ accepted g → plainLines (linesOf (records ls)) ≡ true
+unfolding readOn records linesOf plainLines
+lines-normal f n done g e = refl
+lines-normal f n (cut l) g e = let z : _≡_ {A = ℕ} 0 1 = cc in absurd (omega arith)
+lines-normal f n (line l r) g e =
+    let t = tried-accepted (tests f (parsed (split 9 l))) n (readOn (after f (parsed (split 9 l))) (n + 1) r) g e in
+    let p = passed-formed f (split 9 l) (t .0) in
+    and-both _ _
+    (ap plainFields (split-ranged (p .ranged) ∙ p .fields) ∙ fields-normal (split 9 l))
+    (lines-normal (after f (parsed (split 9 l))) (n + 1) r g (t .1))
+
 -- ---- the theorems
+
+-- What reading the normal form of a text gives, where reading the text gave f: the same terms and edges.
+pub record Unpadded (text : List ℕ) (f g : File) : Type 0 where
+  pub accepts : reading (normalText text) ≡ accepted g
+  pub terms : g .terms ≡ f .terms
+  pub edges : g .edges ≡ f .edges
 
 module _ (text : List ℕ) (f : File) (e : reading text ≡ accepted f) where
   -- the lines of an accepted text are the lines of what it says
@@ -165,14 +229,38 @@ module _ (text : List ℕ) (f : File) (e : reading text ≡ accepted f) where
       let a = reading-accepting text f e in
       sym (all-said f (a .whole)) ∙ lines-more (a .taken) going-first ∙ ap (λ (ls : List Line). ls ++ records (lines text)) first-none
 
-  -- an accepted text is its own normal text
-  pub normal-text : normalText text ≡ text
-  unfolding normalText reading
-  normal-text = lines-anew nothing 1 (lines text) f e ∙ unlines-lines text
-
   pub rewritten : written (f .terms) (f .edges) ≡ normalText text
-  unfolding written normalText
-  rewritten = ap printedAll lines-said
+  unfolding written normalText reading
+  rewritten = ap printedAll lines-said ∙ lines-anew nothing 1 (lines text) f e
 
-  pub rewritten-same : written (f .terms) (f .edges) ≡ text
-  rewritten-same = rewritten ∙ normal-text
+  pub rewritten-same : isPlain text ≡ true → written (f .terms) (f .edges) ≡ text
+  rewritten-same h = rewritten ∙ normal-plain text h
+
+  -- nothing that is written is padded
+  pub rewritten-plain : isPlain (normalText text) ≡ true
+  unfolding isPlain normalText reading
+  rewritten-plain =
+      ap isPlain (sym (lines-anew nothing 1 (lines text) f e))
+      ∙ ap plainLines (lines-printed (records (lines text)))
+      ∙ lines-normal nothing 1 (lines text) f e
+
+  -- the normal form is accepted too, its lines say the same, and so it gives the same terms and edges
+  pub normal-accepted : (g : File) × Unpadded text f g
+  normal-accepted =
+      let a = accepted-good text f e in
+      let r = reread (f .terms) (f .edges) (a .good) (a .tidy) (a .inside) in (
+        r .0,
+        record {
+          accepts = ap reading (sym rewritten) ∙ r .1 .accepts;
+          terms = r .1 .terms;
+          edges = r .1 .edges;
+        },
+      )
+
+-- the lines of the normal form say what the text's lines say
+pub normal-said : (text : List ℕ) (f : File) → reading text ≡ accepted f → records (lines (normalText text)) ≡ records (lines text)
+normal-said text f e =
+    let n = normal-accepted text f e in
+    sym (lines-said (normalText text) (n .0) (n .1 .accepts))
+    ∙ ap₂ allLines (n .1 .terms) (n .1 .edges)
+    ∙ lines-said text f e

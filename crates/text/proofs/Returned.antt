@@ -1,7 +1,7 @@
--- Over lent memory: writing what reading an accepted text left gives the text, byte by byte, where the output has room.
+-- Over lent memory: writing what reading an accepted text left gives the text in its normal form, where the output has room; a plain text byte by byte.
 use Prim.Native.Nat.{ℕ, _≤_}
 use native.Mathlib.Omega.{arith}
-use mathlib.Core.Path.{_≡_, refl, sym, ap, _∙_}
+use mathlib.Core.Path.{_≡_, refl, sym, ap, subst, _∙_}
 use mathlib.Core.Bool.{true}
 use mathlib.Core.List.{List, [], _∷_, _++_}
 use lib.ListN.{length, drop, length-append, length-drop}
@@ -24,6 +24,7 @@ use Rattle.file.specs.File.{File, reading}
 use Rattle.file.specs.File.Reading.{accepted}
 use Rattle.reader.specs.Memory.{memoryOf}
 use Rattle.file.specs.Writing.{written}
+use Rattle.file.specs.Normal.{normalText, isPlain}
 use Rattle.reader.specs.Read.{readGives, readTerms}
 use Rattle.text.specs.Text.{readState}
 use Rattle.writer.specs.Write.{writtenText, writeGives, writeLeaves}
@@ -34,7 +35,7 @@ use Rattle.text.proofs.AlikeWords.{words-alike}
 use Rattle.file.proofs.AlikeText.{written-alike}
 use Rattle.reader.proofs.TermsMemory.{length-memory, memory-good}
 use Rattle.reader.proofs.RelationsMemory.{filled, filled-alike}
-use Rattle.file.proofs.Rewritten.{rewritten-same}
+use Rattle.file.proofs.Rewritten.{rewritten, normal-plain, normal-accepted}
 use Rattle.text.proofs.Yields.{read-terms, read-state}
 
 module _ (text : List ℕ) (f : File) (e : reading text ≡ accepted f) (terms state : List ℕ)
@@ -93,17 +94,17 @@ module _ (text : List ℕ) (f : File) (e : reading text ≡ accepted f) (terms s
       good-state = good-state;
     })
 
-    text-back : writtenText (filled f terms) opened ≡ text
+    text-back : writtenText (filled f terms) opened ≡ normalText text
     unfolding writtenText
-    text-back = ap (written U) edges-back ∙ sym (written-alike T U like (f .edges)) ∙ rewritten-same text f e
+    text-back = ap (written U) edges-back ∙ sym (written-alike T U like (f .edges)) ∙ rewritten text f e
 
     -- with an output that has room
-    module _ (out : List ℕ) (room : length text ≤ length out) where
+    module _ (out : List ℕ) (room : length (normalText text) ≤ length out) where
       read-done : readGives text terms state ≡ passed
       unfolding readGives
       read-done = rw (le-ltb (length terms) termsWords tl, le-ltb (length state) stateWords sl, e)
 
-      write-gives : writeGives (readTerms text terms state) (readState text terms state) out ≡ bytes (length text)
+      write-gives : writeGives (readTerms text terms state) (readState text terms state) out ≡ bytes (length (normalText text))
       unfolding writeGives
       write-gives =
           rw (
@@ -111,22 +112,55 @@ module _ (text : List ℕ) (f : File) (e : reading text ≡ accepted f) (terms s
             read-state text f e terms state tl sl,
             sym checked,
             text-back,
-            le-ltb (length out) (length text) room,
+            le-ltb (length out) (length (normalText text)) room,
           )
 
-      write-leaves : writeLeaves (readTerms text terms state) (readState text terms state) out ≡ text ++ drop (length text) out
+      write-leaves : writeLeaves (readTerms text terms state) (readState text terms state) out ≡ normalText text ++ drop (length (normalText text)) out
       unfolding writeLeaves
       write-leaves = rw (write-gives, read-terms text f e terms state tl sl, read-state text f e terms state tl sl, text-back)
 
--- For every accepted text and all lent memory that is long enough: reading is done, writing over what reading left gives the count of the text's
--- bytes, and leaves the text in the output, with its further bytes as they were.
+-- For every accepted text and all lent memory that is long enough: reading is done, writing over what reading left gives the count of the bytes of
+-- the text's normal form, and leaves that in the output, with its further bytes as they were.
 pub returned : (text : List ℕ) (f : File) → reading text ≡ accepted f → (terms state out : List ℕ) →
-    termsWords ≤ length terms → stateWords ≤ length state → length text ≤ length out →
+    termsWords ≤ length terms → stateWords ≤ length state → length (normalText text) ≤ length out →
     (readGives text terms state ≡ passed)
-    × (writeGives (readTerms text terms state) (readState text terms state) out ≡ bytes (length text))
-    × (writeLeaves (readTerms text terms state) (readState text terms state) out ≡ text ++ drop (length text) out)
+    × (writeGives (readTerms text terms state) (readState text terms state) out ≡ bytes (length (normalText text)))
+    × (writeLeaves (readTerms text terms state) (readState text terms state) out ≡ normalText text ++ drop (length (normalText text)) out)
 returned text f e terms state out tl sl room = (
   read-done text f e terms state tl sl out room,
   write-gives text f e terms state tl sl out room,
   write-leaves text f e terms state tl sl out room,
 )
+
+-- A text without a padded number is returned byte by byte.
+pub returned-same : (text : List ℕ) (f : File) → reading text ≡ accepted f → isPlain text ≡ true → (terms state out : List ℕ) →
+    termsWords ≤ length terms → stateWords ≤ length state → length text ≤ length out →
+    (readGives text terms state ≡ passed)
+    × (writeGives (readTerms text terms state) (readState text terms state) out ≡ bytes (length text))
+    × (writeLeaves (readTerms text terms state) (readState text terms state) out ≡ text ++ drop (length text) out)
+returned-same text f e p terms state out tl sl =
+    let Back : List ℕ → Type 0 = λ t. length t ≤ length out →
+    (readGives text terms state ≡ passed)
+    × (writeGives (readTerms text terms state) (readState text terms state) out ≡ bytes (length t))
+    × (writeLeaves (readTerms text terms state) (readState text terms state) out ≡ t ++ drop (length t) out) in
+    subst Back (normal-plain text p) (returned text f e terms state out tl sl)
+
+-- The normal form of an accepted text is accepted, and gives the same words of terms and state.
+pub normal-words : (text : List ℕ) (f : File) → reading text ≡ accepted f → (terms state : List ℕ) →
+    termsWords ≤ length terms → stateWords ≤ length state →
+    (readGives (normalText text) terms state ≡ passed)
+    × (readTerms (normalText text) terms state ≡ readTerms text terms state)
+    × (readState (normalText text) terms state ≡ readState text terms state)
+unfolding readGives
+normal-words text f e terms state tl sl =
+    let n = normal-accepted text f e in
+    let g : File = n .0 in
+    let a : reading (normalText text) ≡ accepted g = n .1 .accepts in (
+      rw (le-ltb (length terms) termsWords tl, le-ltb (length state) stateWords sl, a) refl,
+      read-terms (normalText text) g a terms state tl sl
+          ∙ ap (λ (T : Terms). memoryOf T ++ drop termsWords terms) (n .1 .terms)
+          ∙ sym (read-terms text f e terms state tl sl),
+      read-state (normalText text) g a terms state tl sl
+          ∙ (λ d. wordsOf (n .1 .terms d) (opening (n .1 .terms d) (n .1 .edges d)) ++ drop stateWords state)
+          ∙ sym (read-state text f e terms state tl sl),
+    )

@@ -9,7 +9,7 @@ use cuckooormolu::{raw, Event, Member, Monitor, Request};
 use cuckooormolu::{SCRATCH_WORDS, STATE_WORDS, TERMS_WORDS};
 use keeper::compare::Other;
 use keeper::record::{Answer, Call};
-use keeper::terms::{memory, Refusal};
+use keeper::terms::{self, memory, Refusal};
 
 /// The library, and what it and its binding have been seen to do.
 pub struct Library<'a> {
@@ -80,7 +80,7 @@ impl Other for Library<'_> {
         let refused =
             |(refusal, line): (cuckooormolu::Refusal, _)| Refusal { line, ..plain(refusal) };
         let got = raw::read(text, terms, state).map_err(refused);
-        self.tally.read(&got);
+        self.tally.read(&got, terms::normal(text) != text);
         self.monitor = None;
         if terms.len() >= TERMS_WORDS && state.len() >= STATE_WORDS {
             match Monitor::read(text) {

@@ -28,7 +28,8 @@ impl Tally {
         let read = [1, 2, 3, 4, 5, 6].map(|number| ("read", format!("refuse {number}")));
         let write = [6, 7, 8].map(|number| ("write", format!("refuse {number}")));
         let mut wanted = [&read[..], &write].concat();
-        wanted.extend([("read", "accepted".into()), ("write", "written".into())]);
+        wanted.extend([("read", "accepted".into()), ("read", "padded".into())]);
+        wanted.push(("write", "written".into()));
         for kind in ["request", "look"] {
             wanted.extend([6, 7, 8, 9].map(|number| (kind, format!("refuse {number}"))));
             wanted.extend([(kind, "grant".into()), (kind, "deny".into())]);
@@ -37,8 +38,10 @@ impl Tally {
         wanted.into_iter().map(|(kind, outcome)| format!("{kind} {outcome}")).collect()
     }
 
-    pub fn read(&mut self, got: &Result<(), Refusal>) {
-        self.count("read", got.map_or_else(refused, |()| "accepted".into()));
+    /// Reading; accepted texts with padded numbers are counted apart.
+    pub fn read(&mut self, got: &Result<(), Refusal>, padded: bool) {
+        let accepted = if padded { "padded" } else { "accepted" };
+        self.count("read", got.map_or_else(refused, |()| accepted.into()));
     }
 
     pub fn write(&mut self, got: &Result<usize, Refusal>) {

@@ -12,6 +12,9 @@ pub fn text(rng: &mut Rng) -> Vec<u8> {
         damage_terms(rng, &mut terms);
     }
     let mut text = terms::write(&terms, &terms.edges);
+    if rng.below(6) == 0 {
+        lines::pad(rng, &mut text);
+    }
     if kind >= 4 || rng.percent(20) {
         match rng.below(4) {
             0 | 1 => lines::damage_field(rng, &terms, &mut text),

@@ -1,6 +1,7 @@
-//! Damage to the lines, fields and bytes of a text.
+//! Padding, and damage to the lines, fields and bytes of a text.
 
 use super::Rng;
+use crate::terms::read::number;
 use crate::terms::Terms;
 
 type Lines = Vec<Vec<Vec<u8>>>;
@@ -19,6 +20,21 @@ fn join(lines: &Lines) -> Vec<u8> {
         text.push(b'\n');
     }
     text
+}
+
+/// Pads number fields, up to five digits: few of them, or all.
+pub fn pad(rng: &mut Rng, text: &mut Vec<u8>) {
+    let mut lines = split(text);
+    let share = rng.pick(&[4, 30, 100]);
+    for field in lines.iter_mut().flatten() {
+        if number(field).is_some() && field.len() < 5 && rng.percent(share) {
+            let zeros = rng.between(1, 5 - field.len());
+            field.splice(0..0, vec![b'0'; zeros]);
+        }
+    }
+    if !text.is_empty() {
+        *text = join(&lines);
+    }
 }
 
 /// Puts another number, an ill-formed number or another word into one field.
@@ -62,7 +78,7 @@ fn other_number(rng: &mut Rng, terms: &Terms, number: usize) -> usize {
 
 fn ill_formed(rng: &mut Rng, old: &str) -> String {
     match rng.below(12) {
-        0 => format!("0{old}"),
+        0 => format!("{old:0>6}"),
         1 => format!("+{old}"),
         2 => format!("-{old}"),
         3 => String::new(),
@@ -71,7 +87,7 @@ fn ill_formed(rng: &mut Rng, old: &str) -> String {
         6 => format!("{old}\r"),
         7 => format!("{old}x"),
         8 => "100000".to_string(),
-        9 => "00000".to_string(),
+        9 => "000000".to_string(),
         10 => format!("{old}.0"),
         _ => "0x1".to_string(),
     }

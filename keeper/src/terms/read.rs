@@ -23,11 +23,9 @@ pub fn read(text: &[u8]) -> Result<Terms, Refusal> {
     }
 }
 
-/// Reads a number: 1 to 5 decimal digits without leading zeros.
+/// Reads a number: 1 to 5 decimal digits, leading zeros among them.
 pub fn number(field: &[u8]) -> Option<usize> {
-    let form = (1..=5).contains(&field.len())
-        && field.iter().all(u8::is_ascii_digit)
-        && (field.len() == 1 || field[0] != b'0');
+    let form = (1..=5).contains(&field.len()) && field.iter().all(u8::is_ascii_digit);
     form.then(|| field.iter().fold(0, |sum, digit| sum * 10 + usize::from(digit - b'0')))
 }
 

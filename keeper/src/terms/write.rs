@@ -2,8 +2,8 @@
 
 use super::*;
 
-/// The text of the terms with the given edges as G lines. Nothing is checked:
-/// faulty terms give a faulty text.
+/// The text of the terms with the given edges as G lines, no number padded.
+/// Nothing is checked: faulty terms give a faulty text.
 pub fn write(terms: &Terms, edges: &BTreeSet<Edge>) -> Vec<u8> {
     let mut lines =
         vec![format!("M\t{}", terms.members), format!("L\t{}\t{}", terms.relations, terms.events)];

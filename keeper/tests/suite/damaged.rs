@@ -29,6 +29,21 @@ fn each_refusal_of_reading_is_hit_at_varied_lines() {
 }
 
 #[test]
+fn six_digits_with_a_leading_zero_are_refused() {
+    let six =
+        |field: &[u8]| field.len() == 6 && field[0] == b'0' && field.iter().all(u8::is_ascii_digit);
+    let mut met = 0;
+    for seed in 0..6_000 {
+        let text = generate::damaged_text(seed);
+        if text.split(|byte| b"\t\n".contains(byte)).any(six) {
+            met += 1;
+            assert!(terms::read(&text).is_err(), "seed {seed}");
+        }
+    }
+    assert!(met > 60, "{met}");
+}
+
+#[test]
 fn damaged_memory_hits_7_and_8() {
     let mut counts = [0; 11];
     for seed in 0..1_500 {

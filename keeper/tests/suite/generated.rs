@@ -3,7 +3,7 @@
 use crate::help::accepted;
 use keeper::generate;
 use keeper::record::{Answer, Record};
-use keeper::terms::{Entry, Terms};
+use keeper::terms::{normal, Entry, Terms};
 
 /// Whether the entries below one hold the given kind.
 fn below(terms: &Terms, entry: usize, wanted: impl Fn(Entry) -> bool + Copy) -> bool {
@@ -62,6 +62,22 @@ fn every_feature_is_reached() {
     }
     assert!(small > 1_500);
     assert_eq!([most_members, most_entries, most_tables], [64, 256, 32]);
+}
+
+#[test]
+fn some_texts_are_padded() {
+    let (mut padded, mut fives) = (0, 0);
+    for seed in 0..1_200 {
+        let text = generate::case(seed, 99_999).text;
+        let plain = normal(&text);
+        assert_eq!(accepted(&plain), accepted(&text), "seed {seed}");
+        assert_eq!(normal(&plain), plain, "seed {seed}");
+        padded += usize::from(plain != text);
+        fives += usize::from(text.windows(6).any(|part| part == b"\t00000"));
+    }
+    println!("{padded} padded, {fives} with five zeros");
+    assert!((120..300).contains(&padded), "{padded}");
+    assert!(fives > 20, "{fives}");
 }
 
 #[test]

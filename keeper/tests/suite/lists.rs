@@ -29,6 +29,7 @@ fn results_of_cases() {
     assert_eq!(result("reads_parts\tlabel\tP 1 0/").unwrap(), "1\t5");
     assert_eq!(result("reads_lines\tlabel\tP \t1\t2\t 0/\t").unwrap(), "1\t5");
     assert_eq!(result("reads_into\tlabel\t979\t3073").unwrap(), "6\t0");
+    assert_eq!(result("reads_parts\tlabel\tP 01 00/").unwrap(), "1\t5");
     assert_eq!(result("asks\tlabel\t0\t0\t1").unwrap(), "grant");
     assert_eq!(result("looks\tlabel\t1\t0\t1").unwrap(), "refuse\t9");
     assert_eq!(result("asks_with\tlabel\t1236\t3073\t2047\t1\t0\t1").unwrap(), "refuse\t6");

@@ -5,7 +5,7 @@ use keeper::expect;
 use keeper::generate;
 use keeper::record::{Call, Record};
 use keeper::terms::memory::*;
-use keeper::terms::{read, write};
+use keeper::terms::{normal, read, write};
 
 const SEEDS: std::ops::Range<u64> = 0..600;
 
@@ -57,7 +57,7 @@ fn terms_go_to_text_and_words_and_back() {
     for seed in SEEDS {
         let case = generate::case(seed, 99_999);
         let terms = accepted(&case.text);
-        assert_eq!(write(&terms, &terms.edges), case.text, "seed {seed}");
+        assert_eq!(write(&terms, &terms.edges), normal(&case.text), "seed {seed}");
         let mut bare = terms.clone();
         bare.edges.clear();
         assert_eq!(terms_of_words(&terms_words(&terms)), Some(bare), "seed {seed}");

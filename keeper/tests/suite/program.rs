@@ -1,7 +1,9 @@
 //! What the program prints.
 
 use crate::help::*;
+use keeper::generate::{self, lines, Rng};
 use keeper::program::{output, run, MOST_BYTES};
+use keeper::terms::normal;
 use std::fs;
 
 const REQUESTS: &str = "R 2 1 2\nR 0 0 1\nR 2 1 2\nR 1 0 1\nR 2 1 2\nR 9 0 0\n";
@@ -28,11 +30,29 @@ fn files_of_a_directory() {
 
 #[test]
 fn malformed_requests() {
-    let requests = b"R\t0\t0\n\nR\t0\t0\t01\nR\t0\t0\t1\nS\t0\t0\t1\nR 0 0 1\nR\t0\t0\t1\r\n\
+    let requests = b"R\t0\t0\n\nR\t0\t0\t000001\nR\t0\t0\t1\nS\t0\t0\t1\nR 0 0 1\nR\t0\t0\t1\r\n\
         R\t99999\t0\t0\nR\t0\t100000\t0\nR\t0\t3\t0\nR\t0\t0\t1\t\nR\t0\t0\t1";
     let wanted = "1\trefuse\t1\n2\trefuse\t1\n3\trefuse\t1\n4\tgrant\n5\trefuse\t1\n6\trefuse\t1\n\
         7\trefuse\t1\n8\trefuse\t9\n9\trefuse\t1\n10\trefuse\t9\n11\trefuse\t1\n12\trefuse\t1\n";
     assert_eq!(output(&tabs(PRESET), requests), wanted);
+}
+
+#[test]
+fn padded_requests() {
+    let requests = "R 02 001 00002\nR 00000 0 01\nR 2 01 2\nR 1 0 1\nR 2 1 2\nR 009 0 0\n";
+    assert_eq!(output(&tabs(PRESET), &tabs(requests)), PRINTED);
+    for seed in 0..200 {
+        let mut rng = Rng::new(seed);
+        let case = generate::case(seed, 99_999);
+        let asked = case.calls.iter().filter(|call| !call.look);
+        let lines = asked.map(|call| format!("R {} {} {}\n", call.event, call.from, call.to));
+        let requests = tabs(&lines.collect::<String>());
+        let (mut padded_terms, mut padded) = (case.text.clone(), requests.clone());
+        lines::pad(&mut rng, &mut padded_terms);
+        lines::pad(&mut rng, &mut padded);
+        let wanted = output(&normal(&case.text), &requests);
+        assert_eq!(output(&padded_terms, &padded), wanted, "seed {seed}");
+    }
 }
 
 #[test]

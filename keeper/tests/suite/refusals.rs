@@ -50,7 +50,8 @@ fn order_of_numbers() {
 
 #[test]
 fn form() {
-    for field in ["", "00", "01", "+1", "-1", "1\r", "1x", "x", "000001", "100000", "\u{661}"] {
+    let faulty = ["", "+1", "-1", "1\r", "1x", "x", "000000", "000001", "100000", "\u{661}"];
+    for field in faulty {
         assert_eq!(text(&format!("M {field}")), (1, 1), "{field}");
     }
     assert_eq!(refused(b"M\t 4\n"), (1, 1));
@@ -86,6 +87,25 @@ fn endings() {
     assert_eq!(refused(&whole), (1, 15));
     whole.extend(b"\nx");
     assert_eq!(refused(&whole), (1, 16));
+}
+
+/// Order, ranges and operands go by the values.
+#[test]
+fn padded() {
+    assert_eq!(text("M 00000"), (2, 1));
+    assert_eq!(text("M 00065"), (2, 1));
+    assert_eq!(text("M 4/L 00 00000"), (2, 2));
+    assert_eq!(after_head("F 01 top 0 0"), (1, 3));
+    assert_eq!(after_head("F 00 top 00 01"), (2, 3));
+    assert_eq!(after_head("F 0 top 0 0/F 01 not 00001 0"), (3, 4));
+    assert_eq!(after_head("F 0 top 0 0/P 01 0"), (1, 4));
+    assert_eq!(after_head("F 0 top 0 0/P 00 00001"), (2, 4));
+    assert_eq!(after_body("E 01 add 0 fwd/E 0 add 0 fwd"), (1, 7));
+    assert_eq!(after_body("E 0 add 000002 fwd"), (1, 6));
+    assert_eq!(after_body("G 0 1 2/G 0 1 002"), (1, 7));
+    assert_eq!(after_body("G 0 1 02/G 0 01 1"), (1, 7));
+    assert_eq!(after_body("G 0 0 00004"), (2, 6));
+    accepted(&slashes(&format!("{BODY}/G 0 002 003/G 0 3 0/G 001 0 0")));
 }
 
 #[test]

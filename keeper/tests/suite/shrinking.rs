@@ -1,6 +1,6 @@
 //! Shrinking keeps a case failing and makes it small.
 
-use crate::help::accepted;
+use crate::help::{accepted, slashes};
 use keeper::generate;
 use keeper::record::{Answer, Call, Record};
 use keeper::shrink::{drop_parts, shrink};
@@ -46,4 +46,15 @@ fn refused_texts_lose_lines() {
     // Nothing stands after the faulty line.
     let lines = text.iter().filter(|&&byte| byte == b'\n').count();
     assert_eq!(terms::read(&text), Err(Refusal { number: 3, line: lines }));
+}
+
+#[test]
+fn zeros_that_do_not_count_go() {
+    let text = slashes("M 004/L 00 1/F 0 top 00 0/P 0 00");
+    let first = |text: &[u8], _: &[Call]| text.windows(3).any(|part| part == b"L\t0");
+    let (small, _) = shrink(&text, &[], first);
+    assert_eq!(small, b"L\t0\t1\n");
+    let padded = |text: &[u8], _: &[Call]| terms::normal(text) != text;
+    let (small, _) = shrink(&text, &[], padded);
+    assert_eq!(small.iter().filter(|&&byte| byte == b'\n').count(), 1);
 }

@@ -94,8 +94,6 @@ pub fn number(field: Field) -> Result<usize, Fault> {
 fn no_number(field: Field) -> (String, String) {
     let shown = field.shown();
     let digits = |bytes: &[u8]| !bytes.is_empty() && bytes.iter().all(u8::is_ascii_digit);
-    let plain = String::from_utf8_lossy(field.bytes);
-    let plain = plain.trim_start_matches('0');
     match field.bytes {
         [] => ("an empty field where a number is due".into(), "two tabs stand side by side".into()),
         [b'-', rest @ ..] if digits(rest) => {
@@ -104,12 +102,10 @@ fn no_number(field: Field) -> (String, String) {
         [b'+', rest @ ..] if digits(rest) => {
             (format!("`{shown}` has a sign"), "numbers are written without one".into())
         }
-        [b'0', ..] if digits(field.bytes) => {
-            let right = if plain.is_empty() { "0" } else { plain };
-            (format!("`{shown}` has leading zeros"), format!("write {right}"))
-        }
         bytes if digits(bytes) => {
-            (format!("`{shown}` has {} digits", bytes.len()), "at most five are read".into())
+            let zeros = if bytes[0] == b'0' { ", leading zeros among them" } else { "" };
+            let count = if bytes.len() == 6 { "six".into() } else { bytes.len().to_string() };
+            (format!("`{shown}` has {count} digits"), format!("at most five{zeros}"))
         }
         _ => (
             format!("`{shown}` where a number is due"),
