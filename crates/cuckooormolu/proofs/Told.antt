@@ -22,8 +22,9 @@ use Rattle.monitor.specs.Monitor.{named, answer}
 use Rattle.fields.specs.Split.{Lines, split, lines}
 use Rattle.fields.specs.Split.Lines.{done, cut, line}
 use Rattle.file.specs.Line.{parsed}
-use Rattle.file.specs.File as file
-use Rattle.file.specs.File.{File, Test, Reading, tests, tried, after, complete, nothing, readOn, reading}
+use Rattle.file.specs.Reading as file
+use Rattle.file.specs.File.{File, after, nothing}
+use Rattle.file.specs.Reading.{Test, Reading, tests, tried, complete, readOn, reading}
 use Rattle.reader.specs.Read.{short, outcome, readGives}
 use Rattle.writer.specs.Write.{Writing, fitted, sizeGives, writeGives, writtenText}
 use Rattle.writer.specs.Write.Writing.{bytes, unwritten}

@@ -12,8 +12,9 @@ use Rattle.theory.specs.Moment.{Relations}
 use Rattle.theory.specs.Formula.{isPast}
 use Rattle.theory.specs.Fit.{every, entryTests}
 use Rattle.theory.proofs.Good.{Good, GoodEntry, implies}
-use Rattle.file.specs.File.{File, complete, reading}
-use Rattle.file.specs.File.Reading.{accepted}
+use Rattle.file.specs.File.{File}
+use Rattle.file.specs.Reading.{complete, reading}
+use Rattle.file.specs.Reading.Reading.{accepted}
 use Rattle.file.proofs.Taken.{reading-accepting}
 use Rattle.file.proofs.Fit.{noEntry, PoliciesFit}
 use Rattle.file.proofs.Going.{Going, going-first, going-on, complete-phase, complete-policies}

@@ -12,7 +12,8 @@ use Rattle.sets.proofs.Finite.{true-or-false, last-or-below}
 use Rattle.theory.specs.Terms.{Terms, Effect}
 use Rattle.theory.proofs.Good.{Good, Within}
 use Rattle.theory.proofs.Good.Within.{more}
-use Rattle.file.specs.File.{File, after, tests}
+use Rattle.file.specs.File.{File, after}
+use Rattle.file.specs.Reading.{tests}
 use Rattle.file.specs.Writing.{listed, effectLines}
 use Rattle.file.specs.declared.line.Line.{Line}
 use Rattle.file.specs.declared.line.Line.the-variants as lines

@@ -16,7 +16,8 @@ use Rattle.theory.specs.Terms.{Terms}
 use Rattle.theory.specs.Fit.{lone, onlyFree}
 use Rattle.theory.proofs.Good.{Good, implies}
 use Rattle.theory.proofs.Spelled.{number-lt}
-use Rattle.file.specs.File.{File, nothing, update, after, tests, inRange}
+use Rattle.file.specs.File.{File, nothing, update, after}
+use Rattle.file.specs.Reading.{tests, inRange}
 use Rattle.file.specs.Writing.{listed, lineOfEntry}
 use Rattle.file.specs.declared.line.Line.{Line}
 use Rattle.file.specs.declared.line.Line.the-variants.{Members, Labels, Entry, Policy}

@@ -18,7 +18,8 @@ use Rattle.theory.specs.Fit.{operandFits, lone, onlyFree, reachFits}
 use Rattle.theory.proofs.Good.{Within, fits-entry}
 use Rattle.theory.proofs.Good.Within.{none, more}
 use Rattle.file.specs.Line.{hasThird}
-use Rattle.file.specs.File.{update, inRange, isLower}
+use Rattle.file.specs.File.{update}
+use Rattle.file.specs.Reading.{inRange, isLower}
 use Rattle.theory.proofs.Like.{number-agree, spelled-agree}
 use Rattle.file.proofs.Update.{update-same, update-other, update-cases}
 

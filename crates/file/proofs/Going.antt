@@ -11,7 +11,8 @@ use borrow.Author.Tests.{eq-eqb, eqb-true, ltb-true, leb-true, le-leb}
 use Rattle.sets.proofs.Finite.{and-left, and-right, and-both, or-cases}
 use Rattle.theory.specs.Formula.{firstOperand, secondOperand, thirdOperand, number, isPast}
 use Rattle.theory.proofs.Good.{implied}
-use Rattle.file.specs.File.{File, nothing, after, tests, complete, rises}
+use Rattle.file.specs.File.{File, nothing, after}
+use Rattle.file.specs.Reading.{tests, complete, rises}
 use Rattle.file.specs.declared.line.Line.{Line}
 use Rattle.file.proofs.Printed.{Ranged}
 use Rattle.file.proofs.Printed.Ranged.{members, labels, entry, policy, effect, edge}

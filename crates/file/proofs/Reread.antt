@@ -10,8 +10,9 @@ use Rattle.sets.proofs.Finite.{bool-iff, is-false, true-or-false, not-both, and
 use Rattle.theory.specs.Terms.{Terms}
 use Rattle.theory.specs.Moment.{Relations}
 use Rattle.theory.proofs.Good.{Good}
-use Rattle.file.specs.File.{File, nothing, after, tests, complete, rises, reading}
-use Rattle.file.specs.File.Reading.{accepted}
+use Rattle.file.specs.File.{File, nothing, after}
+use Rattle.file.specs.Reading.{tests, complete, rises, reading}
+use Rattle.file.specs.Reading.Reading.{accepted}
 use Rattle.file.specs.Writing.{listed, edgeAt, allLines, written}
 use Rattle.file.specs.declared.line.Line.the-variants.{Edge}
 use Rattle.file.proofs.Printed.{Ranged}

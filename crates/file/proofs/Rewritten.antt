@@ -10,8 +10,9 @@ use Rattle.sets.proofs.Finite.{is-false, true-or-false, and-left, and-right, an
 use Rattle.fields.specs.Split.{Lines, split, join, lines, unlines}
 use Rattle.fields.specs.Split.Lines.{done, cut, line}
 use Rattle.file.specs.Line.{parsed}
-use Rattle.file.specs.File.{File, nothing, after, tests, complete, readOn, reading}
-use Rattle.file.specs.File.Reading.{accepted}
+use Rattle.file.specs.File.{File, nothing, after}
+use Rattle.file.specs.Reading.{tests, complete, readOn, reading}
+use Rattle.file.specs.Reading.Reading.{accepted}
 use Rattle.file.specs.Said.{records}
 use Rattle.file.specs.Writing.{allLines, printedAll, written}
 use Rattle.file.specs.Normal.{normalField, normalLine, normalLines, normalText, plainFields, plainLines, isPlain}

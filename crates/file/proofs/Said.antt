@@ -14,8 +14,9 @@ use Rattle.theory.specs.Terms.{Terms}
 use Rattle.theory.specs.Terms as terms
 use Rattle.theory.specs.Moment.{Relations}
 use Rattle.fields.specs.Split.{lines}
-use Rattle.file.specs.File.{File, nothing, update, after, tests, reading}
-use Rattle.file.specs.File.Reading.{accepted}
+use Rattle.file.specs.File.{File, nothing, update, after}
+use Rattle.file.specs.Reading.{tests, reading}
+use Rattle.file.specs.Reading.Reading.{accepted}
 use Rattle.file.specs.Said.{records, membersSaid, relationsSaid, eventsSaid, entriesSaid, policiesSaid, effectsSaid, edgesSaid, termsSaid}
 use Rattle.file.specs.declared.line.Line.{Line}
 use Rattle.file.specs.declared.line.Line.the-variants.{Members, Labels, Entry, Policy, Effect, Edge, Malformed}

@@ -9,8 +9,9 @@ use Rattle.sets.proofs.Finite.{true-or-false}
 use Rattle.fields.specs.Split.{Lines, split, lines}
 use Rattle.fields.specs.Split.Lines.{done, cut, line}
 use Rattle.file.specs.Line.{parsed}
-use Rattle.file.specs.File.{File, Test, tests, after, complete, nothing, Reading, tried, readOn, reading}
-use Rattle.file.specs.File.Reading.{accepted, refused}
+use Rattle.file.specs.File.{File, after, nothing}
+use Rattle.file.specs.Reading.{Test, tests, complete, Reading, tried, readOn, reading}
+use Rattle.file.specs.Reading.Reading.{accepted, refused}
 use Rattle.file.specs.Refused.{Passed}
 use Rattle.file.specs.Refused.Passed.{pass}
 use Rattle.file.specs.Said.{records}

@@ -23,7 +23,8 @@ use Rattle.memory.specs.Plan.{Masked, reachSets}
 use Rattle.theory.proofs.Spelled.{below-spelled, small-below, small-node}
 use Rattle.theory.proofs.Good.{fits-variable}
 use Rattle.memory.proofs.FreeSets.{lone-set, target-set, reach-set}
-use Rattle.file.specs.File.{File, update, withEntry, after, inRange, isLower, tests}
+use Rattle.file.specs.File.{File, update, withEntry, after}
+use Rattle.file.specs.Reading.{inRange, isLower, tests}
 use Rattle.reader.specs.Memory.{memoryOf, relationsMemory}
 use Rattle.reader.specs.Stepping.{slot, contextTests, FreeIn, reachIn, Ranges, stepped}
 use Rattle.reader.specs.Storing.{storedTerms, storedEdges, storedSets}

@@ -8,8 +8,9 @@ use borrow.Author.Tests.{lt-ltb, le-ltb}
 use Rattle.memory.specs.Layout.{termsWords, stateWords}
 use Rattle.memory.specs.Outcome.{Outcome}
 use Rattle.memory.specs.Outcome.Outcome.{passed, failed}
-use Rattle.file.specs.File.{File, Reading, reading}
-use Rattle.file.specs.File.Reading.{accepted, refused}
+use Rattle.file.specs.File.{File}
+use Rattle.file.specs.Reading.{Reading, reading}
+use Rattle.file.specs.Reading.Reading.{accepted, refused}
 use Rattle.reader.specs.Memory.{memoryOf, relationsMemory}
 use Rattle.reader.specs.Read.{outcome, readGives, readTerms, readRelations}
 use Rattle.reader.specs.Storing.{Reads}

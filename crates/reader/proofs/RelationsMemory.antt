@@ -20,8 +20,9 @@ use Rattle.memory.specs.Outcome.{opens}
 use Rattle.memory.specs.Outcome.Outcome.{passed}
 use Rattle.theory.proofs.Good.{Good}
 use Rattle.memory.proofs.Row.{length-tabulate, getD-tabulate}
-use Rattle.file.specs.File.{File, reading}
-use Rattle.file.specs.File.Reading.{accepted}
+use Rattle.file.specs.File.{File}
+use Rattle.file.specs.Reading.{reading}
+use Rattle.file.specs.Reading.Reading.{accepted}
 use Rattle.reader.specs.Memory.{memoryOf, relationsMemory}
 use Rattle.file.proofs.Accepted.{Inside, Accepted, accepted-good}
 use Rattle.theory.proofs.Like.{Alike}

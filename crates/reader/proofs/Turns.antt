@@ -16,8 +16,9 @@ use Rattle.memory.specs.Outcome.Outcome.{passed, failed}
 use Rattle.memory.specs.Plan.{Masked}
 use Rattle.fields.specs.Split.{lines, split, place}
 use Rattle.file.specs.Line.{parsed}
-use Rattle.file.specs.File.{File, nothing, tests, after, complete, Reading, tried, readOn, reading}
-use Rattle.file.specs.File.Reading.{accepted, refused}
+use Rattle.file.specs.File.{File, nothing, after}
+use Rattle.file.specs.Reading.{tests, complete, Reading, tried, readOn, reading}
+use Rattle.file.specs.Reading.Reading.{accepted, refused}
 use Rattle.reader.specs.Memory.{effectWord, termsWord, memoryOf, relationsMemory}
 use Rattle.reader.specs.Stepping.{numberFrom, begun, isComplete, contextTests, FreeIn, reachIn, Ranges, stepped}
 use Rattle.reader.specs.Storing.{storedTerms, storedEdges, storedSets, Reads}

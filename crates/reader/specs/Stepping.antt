@@ -12,7 +12,7 @@ use Rattle.theory.specs.Formula.Operand.{variable, entry}
 use Rattle.theory.specs.Fit.{_⇒_}
 use Rattle.theory.specs.Limits.{maxMembers, maxRelations, maxEvents, maxEntries, maxTables, maxEffects}
 use Rattle.memory.specs.Plan.{reachSets}
-use Rattle.file.specs.File.{Test, test, inRange, isLower}
+use Rattle.file.specs.Reading.{Test, test, inRange, isLower}
 use Rattle.file.specs.declared.line.Line.{Line}
 use Rattle.file.specs.declared.line.Line.the-variants.{Members, Labels, Entry, Policy, Effect, Edge, Malformed}
 use Rattle.reader.specs.declared.step.Context.{Context}

@@ -6,8 +6,9 @@ use lib.Bits.{bitOr}
 use lib.ListN.{getD, set}
 use Rattle.memory.specs.Layout.{entryAt, policyAt, effectAt, relationAt}
 use Rattle.memory.specs.Outcome.{Outcome}
-use Rattle.file.specs.File.{File, reading}
-use Rattle.file.specs.File.Reading.{accepted}
+use Rattle.file.specs.File.{File}
+use Rattle.file.specs.Reading.{reading}
+use Rattle.file.specs.Reading.Reading.{accepted}
 use Rattle.reader.specs.Memory.{memoryOf, relationsMemory}
 use Rattle.reader.specs.Read.{outcome}
 use Rattle.reader.specs.Stepping.{slot}

@@ -14,7 +14,7 @@ ghost use lib.Dec.{ltb};
 ghost use Rattle.theory.specs.Formula.{isPast};
 ghost use Rattle.memory.specs.Operands.{kindOf};
 ghost use Rattle.theory.specs.Fit.{_⇒_};
-ghost use Rattle.file.specs.File.{test, inRange, isLower};
+ghost use Rattle.file.specs.Reading.{test, inRange, isLower};
 ghost use Rattle.reader.specs.Stepping.{refusedBy, numberFrom, begun, isComplete, slot, rising, contextTests, Ranges, stepped};
 ghost use Rattle.file.specs.declared.line.Line.the-variants.{Members, Labels, Entry, Policy, Effect, Edge};
 

@@ -12,8 +12,9 @@ use Rattle.memory.specs.Layout.{termsWords, stateWords, termsOf, wordsOf}
 use Rattle.memory.specs.Outcome.{Outcome, opens}
 use Rattle.memory.specs.Outcome.Outcome.{passed, failed}
 use Rattle.monitor.specs.Monitor.{openedState}
-use Rattle.file.specs.File.{File, Reading, reading}
-use Rattle.file.specs.File.Reading.{accepted, refused}
+use Rattle.file.specs.File.{File}
+use Rattle.file.specs.Reading.{Reading, reading}
+use Rattle.file.specs.Reading.Reading.{accepted, refused}
 use Rattle.reader.specs.Read.{short, outcome, readGives, filledRelations, readTerms, readRelations}
 use Rattle.text.specs.Text.{filledState, readState}
 use Rattle.reader.proofs.RelationsMemory.{filled, placed, filled-alike, placed-edges, placed-further, passes}

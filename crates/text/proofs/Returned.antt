@@ -20,8 +20,9 @@ use Rattle.memory.proofs.Words.{length-words, now-back}
 use Rattle.theory.proofs.Kept.{opening-kept}
 use Rattle.monitor.proofs.Held.{Held, held-words}
 use Rattle.memory.proofs.Outcomes.{check-passed}
-use Rattle.file.specs.File.{File, reading}
-use Rattle.file.specs.File.Reading.{accepted}
+use Rattle.file.specs.File.{File}
+use Rattle.file.specs.Reading.{reading}
+use Rattle.file.specs.Reading.Reading.{accepted}
 use Rattle.reader.specs.Memory.{memoryOf}
 use Rattle.file.specs.Writing.{written}
 use Rattle.file.specs.Normal.{normalText, isPlain}

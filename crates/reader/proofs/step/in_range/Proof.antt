@@ -1,6 +1,6 @@
 -- `reader::step::in_range` meets its contract, kind by kind.
 use borrow.Author.Needs.{needs}
-use Rattle.file.specs.File.{inRange}
+use Rattle.file.specs.Reading.{inRange}
 use Rattle.reader.proofs.step.in_range.Statement.{statement}
 use Rattle.reader.proofs.step.in_range.Tie as tie
 

@@ -1,6 +1,6 @@
 -- `reader::step::is_lower` meets its contract, kind by kind.
 use borrow.Author.Needs.{needs}
-use Rattle.file.specs.File.{isLower}
+use Rattle.file.specs.Reading.{isLower}
 use Rattle.reader.proofs.step.is_lower.Statement.{statement}
 use Rattle.reader.proofs.step.is_lower.Tie as tie
 
