@@ -17,12 +17,16 @@ use Rattle.fields.specs.Split.{Lines, split}
 use Rattle.fields.specs.Split.Lines.{done, cut, line}
 use Rattle.file.specs.Line.{parsed}
 use Rattle.file.specs.File.{File, nothing, after}
-use Rattle.file.specs.Reading.{partly, partlyFilled, partlyAt}
+use Rattle.file.specs.Reading.{complete, partly, partlyFilled, partlyAt, levelled, reading}
+use Rattle.file.specs.Reading.Reading.{accepted}
 use Rattle.file.specs.Said.{records}
+use Rattle.file.specs.Writing.{printedAll}
 use Rattle.file.specs.declared.line.Line.{Line}
 use Rattle.file.specs.declared.line.Line.the-variants.{Members, Labels, Entry, Policy, Effect, Edge, Form, TableBit, EventEdge, Malformed}
+use Rattle.file.proofs.Plain.{linesOf, lines-printed}
+use Rattle.file.proofs.Printed.{split-ranged, parsed-printed}
 use Rattle.file.proofs.Fit.{bit-cases, bit-there, bit-stays}
-use Rattle.file.proofs.Taken.{Taken}
+use Rattle.file.proofs.Taken.{Taken, read-on}
 use Rattle.file.proofs.Taken.Taken.{one}
 
 -- In a table without a free variable, a word with one of the members' bits has them all.
@@ -154,6 +158,16 @@ taken-stays {f} (one {l = l} r p u) t a b e = taken-stays u t a b (line-stays f 
 taken-level : {f g : File} {ls : List Line} → Taken f ls g → Level (g .terms) (g .table) → NonePartly g ls
 taken-level Taken.none v = none
 taken-level {f} {g} (one {l = l} r p u) v = and (line-level g f l v (taken-stays u)) (taken-level u v)
+
+-- and so of the printed lines
+printed-partly : {f g : File} {ls : List Line} → Taken f ls g → (x : File) → NonePartly x ls → (n : ℕ) → partlyAt x n (linesOf ls) ≡ 0
+unfolding partlyAt linesOf
+printed-partly Taken.none x h n = refl
+printed-partly (one r p u) x (and q qs) n = rw (split-ranged r, parsed-printed r, q) (printed-partly u x qs (n + 1))
+
+pub read-printed : {g : File} {ls : List Line} → Taken nothing ls g → complete g ≡ true → Level (g .terms) (g .table) → reading (printedAll ls) ≡ accepted g
+unfolding reading levelled
+read-printed {g} {ls = ls} u c v = rw (lines-printed ls, read-on u c 1, printed-partly u g (taken-level u v) 1) refl
 
 -- ---- from nothing on
 

@@ -9,3 +9,9 @@ pub mod Level
 pub mod Going
 pub mod Accepted
 pub mod Refused
+pub mod Entered
+pub mod Effected
+pub mod Listed
+pub mod Rising
+pub mod Edged
+pub mod Reread

@@ -17,9 +17,8 @@ use Rattle.file.specs.Reading.Reading.{accepted, refused}
 use Rattle.file.specs.Refused.{Passed}
 use Rattle.file.specs.Refused.Passed.{pass}
 use Rattle.file.specs.Said.{records}
-use Rattle.file.specs.Writing.{printedAll}
 use Rattle.file.specs.declared.line.Line.{Line}
-use Rattle.file.proofs.Plain.{linesOf, lines-printed}
+use Rattle.file.proofs.Plain.{linesOf}
 use Rattle.file.proofs.Printed.{Ranged, parsed-printed, split-ranged, Formed, formed}
 
 -- ---- tests
@@ -66,6 +65,9 @@ pub record Reached (f : File) (ls : List Line) (P : File → Type 0) : Type 0 wh
   pub file : File
   pub taken : Taken f ls file
   pub holds : P file
+
+pub reached-so : {f : File} {ls : List Line} {P Q : File → Type 0} → Reached f ls P → ((g : File) → P g → Q g) → Reached f ls Q
+reached-so r h = record { file = r .file; taken = r .taken; holds = h (r .file) (r .holds) }
 
 pub reached-then : {f : File} {ls ms : List Line} {P Q : File → Type 0} → Reached f ls P → ((g : File) → P g → Reached g ms Q) → Reached f (ls ++ ms) Q
 reached-then r h =
@@ -133,12 +135,7 @@ reading-accepting text f e = accepting nothing 1 (lines text) f (reading-read te
 
 -- ---- the other way round
 
-read-on : {f g : File} {ls : List Line} → Taken f ls g → complete g ≡ true → (n : ℕ) → readOn f n (linesOf ls) ≡ accepted g
+pub read-on : {f g : File} {ls : List Line} → Taken f ls g → complete g ≡ true → (n : ℕ) → readOn f n (linesOf ls) ≡ accepted g
 unfolding readOn linesOf
 read-on none c n = rw c refl
 read-on (one r p t) c n = rw (split-ranged r, parsed-printed r) (tried-passed p n _ ∙ read-on t c (n + 1))
-
-pub read-printed : {g : File} {ls : List Line} → Taken nothing ls g → complete g ≡ true → partlyAt g 1 (linesOf ls) ≡ 0
-    → reading (printedAll ls) ≡ accepted g
-unfolding reading levelled
-read-printed {ls = ls} t c z = rw (lines-printed ls, read-on t c 1, z) refl

@@ -1,0 +1,257 @@
+-- Reading what is written of terms and relations, or stored of terms and a state, gives the same again.
+use Prim.Native.Nat.{ℕ, _≤_, _<_}
+use mathlib.Core.Path.{_≡_, refl, sym, ap, fun-ext, subst, subst₂, _∙_}
+use mathlib.Core.List.{List, [], _∷_, _++_}
+use mathlib.Core.Bool.{Bool, true, false}
+use native.Mathlib.Omega.{arith}
+use borrow.Author.Tests.{lt-ltb, le-leb}
+use Rattle.theory.specs.Terms.{Terms, tables}
+use Rattle.theory.specs.Moment.{Relations, Event, first}
+use Rattle.theory.specs.Moment.Event.{happened}
+use Rattle.theory.specs.Tables.{Tables, State}
+use Rattle.theory.proofs.Good.{Good}
+use Rattle.file.specs.File.{File, nothing, after}
+use Rattle.file.specs.Reading.{tests, complete, rises, reading}
+use Rattle.file.specs.Reading.Reading.{accepted}
+use Rattle.file.specs.Writing.{listed, bitAt, allLines, eventEdgeLine, storedLines, written, stored}
+use Rattle.file.specs.declared.line.Line.the-variants.{Form, TableBit, EventEdge}
+use Rattle.file.specs.Refused.{Passed}
+use Rattle.file.specs.Refused.Passed.{none, pass}
+use Rattle.file.proofs.Printed.{Ranged}
+use Rattle.file.proofs.Taken.{Reached, reached-so, reached-then, reached-one, reached-none}
+use Rattle.file.proofs.Level.{Level, level-empty, read-printed}
+use Rattle.file.proofs.Fit.{Inside, EventFits}
+use Rattle.file.proofs.Going.{going-first, going, complete-is}
+use Rattle.file.proofs.Accepted.{Tidy}
+use Rattle.file.proofs.Effected.{Settled, settled-complete}
+use Rattle.file.proofs.Rising.{Adds, Kind, Below, bits-read, all-read}
+use Rattle.file.proofs.Edged.{Edged, lines-read}
+
+-- What the old form says of a state: its relations, with no bit of a table and no event edge.
+abbrev pub plainState : Relations → State
+plainState R = record { now = first R; table = λ t a b. false }
+
+-- The text is read as f, which has this form, these terms and this state.
+pub record Reread (text : List ℕ) (form : Bool) (T : Terms) (S : State) (f : File) : Type 0 where
+  pub accepts : reading text ≡ accepted f
+  pub form-read : f .stored ≡ form
+  pub terms : f .terms ≡ T
+  pub edges : f .edges ≡ S .now .edge
+  pub table : f .table ≡ S .table
+  pub last : f .last ≡ S .now .event
+
+-- A state that can be stored: all that it has is inside the terms, and its tables without a free variable are level.
+pub record Storable (T : Terms) (S : State) : Type 0 where
+  pub edges : Inside (T .relations) (T .members) (S .now .edge)
+  pub bits : Inside (tables T) (T .members) (S .table)
+  pub last : EventFits (T .events) (T .members) (S .now .event)
+  pub level : Level T (S .table)
+
+-- ---- the bits of the tables
+
+module _ (T : Terms) (good : Good T) (R : Relations) (X : Tables) (inside : Inside (tables T) (T .members) X) where
+  abbrev Ready : File → Type 0
+  Ready = Edged T R true 7
+
+  abbrev bits : File → Tables
+  bits f = f .table
+
+  module _ (g : File) (t : Ready g) (k a b : ℕ) (e : X k a b ≡ true) where
+    there : (k < tables T) × (a < T .members) × (b < T .members)
+    there = inside .within k a b e
+
+    ranged : Ranged (TableBit k a b)
+    ranged =
+        let h0 = there .0 in let h1 = there .1 in let h2 = there .2 in
+        let m = good .few-tables in let n = good .few-members in
+        Ranged.bit {t = k} {a = a} {b = b} (omega arith) (omega arith) (omega arith)
+
+    passed : rises 7 g k a b ≡ true → Passed (tests g (TableBit k a b))
+    unfolding tests
+    passed z =
+        let h0 = there .0 in let h1 = there .1 in let h2 = there .2 in
+        let s = t .settled-so in
+        let r : tables (g .terms) ≡ tables T = ap tables (s .terms) in
+        let m : g .terms .members ≡ T .members = ap (λ (x : Terms). x .members) (s .terms) in
+        pass (s .form)
+        (pass (settled-complete g s)
+        (pass (le-leb (g .phase) 7 (s .high))
+        (pass z
+        (pass (lt-ltb k (tables (g .terms)) (omega arith))
+        (pass (lt-ltb a (g .terms .members) (omega arith))
+        (pass (lt-ltb b (g .terms .members) (omega arith))
+        none))))))
+
+    bit-adds : rises 7 g k a b ≡ true → Adds 7 TableBit bits X Ready g k a b
+    unfolding after
+    bit-adds z = record {
+      ranged = ranged;
+      passed = passed z;
+      ready = record {
+        settled-so = record {
+          low = omega arith;
+          high = omega arith;
+          form = t .settled-so .form;
+          policies = t .settled-so .policies;
+          terms = t .settled-so .terms;
+          going-so = going ranged (passed z) (t .settled-so .going-so);
+        };
+        edges = t .edges;
+      };
+      added = λ l c d. refl;
+      last = refl;
+    }
+
+  of-bits : Kind 7 TableBit bits X Ready
+  of-bits = record {
+    none = λ g h l. h .no-bits l;
+    up-to = λ g t h. h .bits-rise;
+    adds = λ g t h k a b e z. bit-adds g t k a b e z;
+  }
+
+  -- The terms, the edges and the bits have been read, and no event edge.
+  record Bitted (g : File) : Type 0 where
+    edged-so : Edged T R true 7 g
+    table : g .table ≡ X
+
+  before-bits : (g : File) → Edged T R true 6 g → Ready g
+  before-bits g t = let s = t .settled-so in let h = s .high in record {
+    settled-so = record { low = s .low; high = omega arith; form = s .form; policies = s .policies; terms = s .terms; going-so = s .going-so };
+    edges = t .edges;
+  }
+
+  bits-done : (g : File) → Below 7 TableBit bits X Ready 131072 g → Bitted g
+  bits-done g t =
+      let s = t .ready .settled-so in
+      let m = good .few-tables in
+      record {
+        edged-so = t .ready;
+        table = all-read 7 TableBit bits X Ready of-bits 131072 (tables T) (T .members) (omega arith) (good .few-members) inside g
+            (subst (λ (x : Terms). Inside (tables x) (x .members) (g .table)) (s .terms) (s .going-so .bits)) t;
+      }
+
+  bits-done-from : (g : File) → Edged T R true 6 g → Reached g (listed 131072 (bitAt TableBit X)) Bitted
+  bits-done-from g t =
+      let h = t .settled-so .high in
+      reached-so (bits-read 7 TableBit bits X Ready of-bits 131072 g (before-bits g t) (t .settled-so .going-so) (omega arith)) bits-done
+
+  -- ---- the event edge
+
+  -- All has been read.
+  record Whole (E : Event) (g : File) : Type 0 where
+    whole : complete g ≡ true
+    form : g .stored ≡ true
+    terms : g .terms ≡ T
+    edges : g .edges ≡ R
+    table : g .table ≡ X
+    last : g .last ≡ E
+
+  module _ (j u v : ℕ) (p : j < T .events) (q : u < T .members) (r : v < T .members) (g : File) (t : Bitted g) where
+    event-ranged : Ranged (EventEdge j u v)
+    event-ranged =
+        let m = good .few-events in let n = good .few-members in
+        Ranged.event {j = j} {u = u} {v = v} (omega arith) (omega arith) (omega arith)
+
+    event-passed : Passed (tests g (EventEdge j u v))
+    unfolding tests
+    event-passed =
+        let s = t .edged-so .settled-so in
+        let e : g .terms .events ≡ T .events = ap (λ (x : Terms). x .events) (s .terms) in
+        let m : g .terms .members ≡ T .members = ap (λ (x : Terms). x .members) (s .terms) in
+        pass (s .form)
+        (pass (settled-complete g s)
+        (pass (le-leb (g .phase) 7 (s .high))
+        (pass (lt-ltb j (g .terms .events) (omega arith))
+        (pass (lt-ltb u (g .terms .members) (omega arith))
+        (pass (lt-ltb v (g .terms .members) (omega arith))
+        none)))))
+
+    event-whole : Whole (happened j u v) (after g (EventEdge j u v))
+    unfolding after
+    event-whole =
+        let s = t .edged-so .settled-so in
+        record {
+          whole = complete-is (after g (EventEdge j u v)) (omega arith) (s .policies ∙ sym (ap (λ (x : Terms). x .events) (s .terms)));
+          form = s .form;
+          terms = s .terms;
+          edges = t .edged-so .edges;
+          table = t .table;
+          last = refl;
+        }
+
+  event-read : (E : Event) → EventFits (T .events) (T .members) E → (g : File) → Bitted g → Reached g (eventEdgeLine E) (Whole E)
+  event-read E EventFits.none g t =
+      let s = t .edged-so .settled-so in
+      let h = s .high in
+      reached-none (record {
+        whole = settled-complete g s;
+        form = s .form;
+        terms = s .terms;
+        edges = t .edged-so .edges;
+        table = t .table;
+        last = s .going-so .no-last (omega arith);
+      })
+  event-read E (EventFits.happened {j = j} {u = u} {v = v} p q r) g t =
+      reached-one (event-ranged j u v p q r g t) (event-passed j u v p q r g t) (event-whole j u v p q r g t)
+
+-- ---- the two forms
+
+module _ (T : Terms) (good : Good T) (tidy : Tidy T) where
+  pub reread : (R : Relations) → Inside (T .relations) (T .members) R → (f : File) × Reread (written T R) false T (plainState R) f
+  unfolding written
+  reread R inside =
+      let s = lines-read T good tidy R inside nothing (unfold nothing in refl) going-first in
+      let t = s .holds in
+      let old : s .file .stored ≡ false = t .settled-so .form ∙ unfold nothing in refl in
+      let h = t .settled-so .going-so in
+      let l = t .settled-so .high in
+      let empty : (k a b : ℕ) → s .file .table k a b ≡ false = h .no-bits (omega arith) in (
+        s .file,
+        record {
+          accepts = read-printed (s .taken) (settled-complete (s .file) (t .settled-so)) (level-empty (s .file .terms) (s .file .table) empty);
+          form-read = old;
+          terms = t .settled-so .terms;
+          edges = t .edges;
+          table = fun-ext (λ k. fun-ext (λ a. fun-ext (λ b. empty k a b)));
+          last = h .no-last (omega arith);
+        },
+      )
+
+  form-passed : Passed (tests nothing (Form 2))
+  unfolding tests nothing
+  form-passed = pass refl (pass refl (pass refl none))
+
+  module _ (S : State) (fits : Storable T S) where
+    abbrev R : Relations
+    R = S .now .edge
+
+    abbrev begun : File
+    begun = after nothing (Form 2)
+
+    begun-edged : Reached begun (allLines T R) (Edged T R true 6)
+    unfolding after nothing
+    begun-edged = lines-read T good tidy R (fits .edges) begun refl (going (Ranged.form (omega arith)) form-passed going-first)
+
+    stored-read : Reached nothing (storedLines T S) (Whole T good R (S .table) (fits .bits) (S .now .event))
+    unfolding storedLines
+    stored-read =
+        reached-then
+        (reached-one {P = λ (f : File). Reached f (allLines T R) (Edged T R true 6)} (Ranged.form (omega arith)) form-passed begun-edged)
+        (λ f e. reached-then e (λ g t. reached-then (bits-done-from T good R (S .table) (fits .bits) g t)
+        (event-read T good R (S .table) (fits .bits) (S .now .event) (fits .last))))
+
+    pub reread-stored : (f : File) × Reread (stored T S) true T S f
+    unfolding stored
+    reread-stored =
+        let s = stored-read in
+        let t = s .holds in (
+          s .file,
+          record {
+            accepts = read-printed (s .taken) (t .whole) (subst₂ Level (sym (t .terms)) (sym (t .table)) (fits .level));
+            form-read = t .form;
+            terms = t .terms;
+            edges = t .edges;
+            table = t .table;
+            last = t .last;
+          },
+        )
