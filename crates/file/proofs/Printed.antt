@@ -1,6 +1,6 @@
 -- A line printed and read, read and printed: the two undo each other.
 use Prim.Native.Nat.{ℕ, zero, suc, _+_, _<_}
-use mathlib.Core.Path.{_≡_, refl, sym, ap, ap₂, subst, _∙_}
+use mathlib.Core.Path.{_≡_, refl, sym, ap, subst, _∙_}
 use mathlib.Core.Logic.{_⊎_, inl, inr, ⊎-elim}
 use mathlib.Core.List.{List, [], _∷_, map}
 use mathlib.Core.Bool.{Bool, true, false, cond, not}
@@ -20,7 +20,7 @@ use Rattle.file.specs.Normal.{normalField}
 use Rattle.file.specs.declared.line.Line.{Line}
 use Rattle.file.specs.declared.line.Line.the-variants.{Members, Labels, Entry, Policy, Effect, Edge, Form, TableBit, EventEdge, Malformed}
 use Rattle.fields.proofs.Numeral.{value-small}
-use Rattle.fields.proofs.Digits.{digits-valueOf, valueOf-digits, digits-number}
+use Rattle.fields.proofs.Digits.{valueOf-digits, digits-number}
 use Rattle.file.proofs.Words.{operator-at, operator-back, action-at, action-back, direction-at, direction-back, kind-at, kind-back}
 use Rattle.file.proofs.Plain.{word-all, split-printed}
 

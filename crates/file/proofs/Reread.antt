@@ -1,7 +1,7 @@
 -- Reading what is written of terms and relations, or stored of terms and a state, gives the same again.
-use Prim.Native.Nat.{ℕ, _≤_, _<_}
+use Prim.Native.Nat.{ℕ, _<_}
 use mathlib.Core.Path.{_≡_, refl, sym, ap, fun-ext, subst, subst₂, _∙_}
-use mathlib.Core.List.{List, [], _∷_, _++_}
+use mathlib.Core.List.{List}
 use mathlib.Core.Bool.{Bool, true, false}
 use native.Mathlib.Omega.{arith}
 use borrow.Author.Tests.{lt-ltb, le-leb}
@@ -23,7 +23,7 @@ use Rattle.file.proofs.Level.{Level, level-empty, read-printed}
 use Rattle.file.proofs.Fit.{Inside, EventFits}
 use Rattle.file.proofs.Going.{going-first, going, complete-is}
 use Rattle.file.proofs.Accepted.{Tidy}
-use Rattle.file.proofs.Effected.{Settled, settled-complete}
+use Rattle.file.proofs.Effected.{settled-complete}
 use Rattle.file.proofs.Rising.{Adds, Kind, Below, bits-read, all-read}
 use Rattle.file.proofs.Edged.{Edged, lines-read}
 
