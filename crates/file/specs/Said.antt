@@ -10,7 +10,7 @@ use Rattle.theory.specs.Terms.{Terms}
 use Rattle.theory.specs.Moment.{Relations, Event}
 use Rattle.theory.specs.Moment.Event.{none, happened}
 use Rattle.theory.specs.Tables.{Tables}
-use Rattle.fields.specs.Split.{Lines, split, lines}
+use Rattle.fields.specs.Split.{Lines, split}
 use Rattle.fields.specs.Split.Lines.{done, cut, line}
 use Rattle.file.specs.Line.{parsed}
 use Rattle.file.specs.declared.line.Line.{Line}
