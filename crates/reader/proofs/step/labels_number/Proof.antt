@@ -21,7 +21,7 @@ first-requires-4 c κs = search needs
 returns : tie.Need-returns
 unfolding numberFrom contextTests
 returns c =
-    let x = c .before .before .before .before .args in
+    let x = c .before .before .before .before .before .args in
     rw (c .first4 .ensures, c .before .first3 .ensures, c .before .before .first2 .ensures, c .before .before .before .first .ensures, leb·suc-suc (x .r) maxRelations, leb·suc-suc (x .e) maxEvents)
 
 pub labels-number-spec : {M : Type 1} → statement M

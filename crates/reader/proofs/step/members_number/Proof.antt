@@ -18,7 +18,7 @@ first-requires-3 c κs = search needs
 returns : tie.Need-returns
 unfolding numberFrom contextTests
 returns c =
-    rw (c .first3 .ensures, c .before .first2 .ensures, c .before .before .first .ensures, leb·suc-suc (c .before .before .before .args .n) maxMembers)
+    rw (c .first3 .ensures, c .before .first2 .ensures, c .before .before .first .ensures, leb·suc-suc (c .before .before .before .before .args .n) maxMembers)
 
 pub members-number-spec : {M : Type 1} → statement M
 members-number-spec = tie.close (tie.spec first-requires first-requires-2 first-requires-3 returns)
