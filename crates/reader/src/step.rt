@@ -2,6 +2,9 @@
 use file::line::Line;
 use memory::limits::EFFECTS;
 use memory::limits::ENTRIES;
+use memory::limits::EVENTS;
+use memory::limits::MEMBERS;
+use memory::limits::RELATIONS;
 use memory::limits::TABLES;
 use memory::limits::VARIABLES;
 use memory::operands::Kind;
@@ -126,7 +129,7 @@ fn members_number(c: Context, n: usize, m: u64, reaches: bool) -> usize
 {
     let k = first(0, 1, c.phase == 0);
     let k = first(k, 2, 0 < n);
-    first(k, 2, n < 65)
+    first(k, 2, n <= MEMBERS)
 }
 
 // The number that an L line is refused with, or 0.
@@ -134,9 +137,9 @@ fn labels_number(c: Context, r: usize, e: usize, m: u64, reaches: bool) -> usize
     ensures { λ s. ⌜ s ≡ numberFrom 0 (contextTests c m reaches (Labels r e)) ⌝ }
 {
     let k = first(0, 1, c.phase == 1);
-    let k = first(k, 2, r < 17);
+    let k = first(k, 2, r <= RELATIONS);
     let k = first(k, 2, 0 < e);
-    first(k, 2, e < 17)
+    first(k, 2, e <= EVENTS)
 }
 
 // The number that an F line is refused with, or 0.
