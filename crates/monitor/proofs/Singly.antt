@@ -22,6 +22,7 @@ use Rattle.memory.proofs.Accepted.{good}
 use Rattle.memory.proofs.Words.{length-words}
 use Rattle.monitor.specs.Monitor.{named, answer, granted, stateAfter, scratchAfter}
 use Rattle.monitor.specs.SetList.{numberOf, filled, Run, singly}
+use Rattle.monitor.specs.Agreement.{answerIn}
 use Rattle.monitor.specs.Listing.{Passed, gainOf}
 use Rattle.monitor.specs.declared.set_list.Record.{Record}
 use Rattle.monitor.proofs.Level.{advance-good}
@@ -60,24 +61,31 @@ module _ (t : List ℕ) where
       }) (sym (add-assoc (cond (granted a) 1 0) (later .grants) (cond (granted (answer t (later .state) (later .scratch) (z .event) (z .from) (z .to))) 1 0)))
 
   module _ (st sc : List ℕ) (j u v : ℕ) where
-    -- a number of 1 is a grant
-    pub one-granted : gainOf (numberOf (answer t st sc j u v)) ≡ cond (granted (answer t st sc j u v)) 1 0
-    unfolding answer gainOf
-    one-granted =
+    -- what holds of both verdicts and of the four refusals holds of every answer
+    each-answer : (P : Answer → Type 0) → P (refused 6 0) → P (refused 7 0) → P (refused 8 0) → P (refused 9 0) → P (decided grant) → P (decided deny) →
+        P (answer t st sc j u v)
+    unfolding answer
+    each-answer P six seven eight nine one nil =
         go (ltb (length t) termsWords || (ltb (length st) stateWords || ltb (length sc) scratchWords)) (goodMemory t) (goodState (termsOf t) st) (named (termsOf t) j u v)
         (decideNow (termsOf t) (stateOf st) j u v)
       where
-        at : Answer → Type 0
-        at a = _≡_ {A = ℕ} (cond (eqb (numberOf a) 1) 1 0) (cond (granted a) 1 0)
-
         go : (s g k n d : Bool) →
-            at (cond s (refused 6 0) (cond (not g) (refused 7 0) (cond (not k) (refused 8 0) (cond (not n) (refused 9 0) (decided (cond d grant deny))))))
-        go true g k n d = refl
-        go false false k n d = refl
-        go false true false n d = refl
-        go false true true false d = refl
-        go false true true true true = refl
-        go false true true true false = refl
+            P (cond s (refused 6 0) (cond (not g) (refused 7 0) (cond (not k) (refused 8 0) (cond (not n) (refused 9 0) (decided (cond d grant deny))))))
+        go true g k n d = six
+        go false false k n d = seven
+        go false true false n d = eight
+        go false true true false d = nine
+        go false true true true true = one
+        go false true true true false = nil
+
+    -- a number of 1 is a grant
+    pub one-granted : gainOf (numberOf (answer t st sc j u v)) ≡ cond (granted (answer t st sc j u v)) 1 0
+    unfolding gainOf
+    one-granted = each-answer (λ a. _≡_ {A = ℕ} (cond (eqb (numberOf a) 1) 1 0) (cond (granted a) 1 0)) refl refl refl refl refl refl
+
+    -- a number tells its answer
+    pub answer-back : answerIn (numberOf (answer t st sc j u v)) ≡ answer t st sc j u v
+    answer-back = each-answer (λ a. answerIn (numberOf a) ≡ a) refl refl refl refl refl refl
 
     -- a request keeps the layout, of every state that keeps it
     pub after-good : goodMemory t ≡ true → goodState (termsOf t) st ≡ true → goodState (termsOf t) (stateAfter t st sc j u v) ≡ true
@@ -145,12 +153,20 @@ module _ (t : List ℕ) where
           (ap numberOf e, s ∙ state-moved t st sc j u v g, c ∙ scratch-cleared t st sc j u v g)
 
     -- so a request leaves memory that has passed the checks as memory that passes them
+    pub after-checked : Checked t st → Checked t (stateAfter t st sc j u v)
+    after-checked k = record {
+      long-terms = k .long-terms;
+      long-state = omega (arith, k .long-state, after-long (k .long-state));
+      good-terms = k .good-terms;
+      good-state = after-good (k .good-terms) (k .good-state);
+    }
+
     pub after-passed : (plan : List ℕ) → Passed t plan st sc → Passed t plan (stateAfter t st sc j u v) (scratchAfter t st sc j u v)
     after-passed plan p = record {
       long-terms = p .long-terms;
       good-terms = p .good-terms;
       planned = p .planned;
-      long-state = omega (arith, p .long-state, after-long (p .long-state));
-      good-state = after-good (p .good-terms) (p .good-state);
+      long-state = after-checked (checked plan p) .long-state;
+      good-state = after-checked (checked plan p) .good-state;
       long-scratch = omega (arith, p .long-scratch, after-scratch (p .long-scratch));
     }
