@@ -226,3 +226,14 @@ alike-sym a = record {
   policy = λ j l. sym (a .policy j (rw (a .events) l));
   effects = λ j l. sym (a .effects j (rw (a .events) l));
 }
+
+pub alike-trans : {T U V : Terms} → Alike T U → Alike U V → Alike T V
+alike-trans a b = record {
+  members = a .members ∙ b .members;
+  relations = a .relations ∙ b .relations;
+  events = a .events ∙ b .events;
+  entries = a .entries ∙ b .entries;
+  entry = λ n l. a .entry n l ∙ b .entry n (rw (sym (a .entries)) l);
+  policy = λ j l. a .policy j l ∙ b .policy j (rw (sym (a .events)) l);
+  effects = λ j l. a .effects j l ∙ b .effects j (rw (sym (a .events)) l);
+}
