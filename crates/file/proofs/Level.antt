@@ -132,7 +132,7 @@ none-partly x n (cut l) h e = none
 none-partly x n (line l r) h e =
     let ih = none-partly x (n + 1) r in
     ⊎-elim
-    (λ p. let z : n ≡ 0 = rw p at e in absurd (omega arith))
+    (λ p. let z = rw p at e in absurd (omega arith))
     (λ p. let z : partlyAt x (n + 1) r ≡ 0 = rw p at e in and p (ih (omega arith) z))
     (true-or-false (partlyFilled x (parsed (split 9 l))))
 

@@ -6,6 +6,7 @@ pub mod Taken
 pub mod Update
 pub mod Fit
 pub mod Level
+pub mod Phases
 pub mod Going
 pub mod Accepted
 pub mod Entered
