@@ -1,17 +1,17 @@
--- `writer::write::put_bits` meets its contract: the edges of the first b bits have been put.
+-- `writer::bits::put_bits` meets its contract: the lines of the first b bits have been put.
 use Prim.Native.Nat.{_-_}
 use borrow.Author.Needs.{needs}
 use Rattle.writer.specs.Kinds.{bitOf}
 use Rattle.fields.proofs.Output.{put-long}
 use Rattle.writer.proofs.Listing.{Running, running-start, running-more, running-end}
-use Rattle.writer.proofs.write.put_bits.Statement.{statement}
-use Rattle.writer.proofs.write.put_bits.Tie as tie
+use Rattle.writer.proofs.bits.put_bits.Statement.{statement}
+use Rattle.writer.proofs.bits.put_bits.Tie as tie
 
 abbrev Inv-loop : tie.InvT-loop
-Inv-loop out₀ at w i b₀ next₀ out b next = Running out₀ out at next 32 64 b (bitOf w i)
+Inv-loop out₀ at table w i b₀ next₀ out b next = Running out₀ out at next 32 64 b (bitOf table w i)
 
 abbrev μ-loop : tie.MeasureT-loop
-μ-loop out₀ at w i b₀ next₀ out b next = 64 - b
+μ-loop out₀ at table w i b₀ next₀ out b next = 64 - b
 
 loop-holds : tie.Need-loop-holds Inv-loop μ-loop
 loop-holds c = running-start _ _ _ _ _

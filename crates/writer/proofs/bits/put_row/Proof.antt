@@ -1,15 +1,15 @@
--- `writer::write::put_row` meets its contract: a word that is 0 has no edges.
+-- `writer::bits::put_row` meets its contract: a word that is 0 has no bits.
 use native.Mathlib.Omega.{arith}
 use borrow.Author.Needs.{needs}
 use Rattle.writer.proofs.Listing.{put-row-none}
-use Rattle.writer.proofs.write.put_row.Statement.{statement}
-use Rattle.writer.proofs.write.put_row.Tie as tie
+use Rattle.writer.proofs.bits.put_row.Statement.{statement}
+use Rattle.writer.proofs.bits.put_row.Tie as tie
 
 put-bits-requires : tie.Need-put-bits-requires
 put-bits-requires c κs = search needs
 
 returns : tie.Need-returns
-returns c = (put-row-none _ _ _ _ (c .if1 .taken), omega arith)
+returns c = (put-row-none _ _ (c .before .before .args .table) _ _ (c .if1 .taken), omega arith)
 
 same-length : tie.Need-same-length
 same-length c = search needs

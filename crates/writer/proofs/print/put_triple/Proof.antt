@@ -1,11 +1,10 @@
--- `writer::print::put_edge` meets its contract: the fields of a G line one after the other, and the line feed.
+-- `writer::print::put_triple` meets its contract: the fields one after the other, and the line feed.
 use native.Mathlib.Omega.{arith}
 use borrow.Author.Needs.{needs}
-use Rattle.file.specs.Line.{fieldsOf}
 use Rattle.fields.proofs.Output.{put-then}
 use Rattle.writer.proofs.Placed.{put-next}
-use Rattle.writer.proofs.print.put_edge.Statement.{statement}
-use Rattle.writer.proofs.print.put_edge.Tie as tie
+use Rattle.writer.proofs.print.put_triple.Statement.{statement}
+use Rattle.writer.proofs.print.put_triple.Tie as tie
 
 put-head-requires : tie.Need-put-head-requires
 put-head-requires c κs = search needs
@@ -23,7 +22,6 @@ same-length : tie.Need-same-length
 same-length c = search needs
 
 returns : tie.Need-returns
-unfolding fieldsOf
 returns c =
     let c4 = c .before .before in
     let c3 = c4 .before .before .before .before in
@@ -33,8 +31,8 @@ returns c =
     let f3 = put-next _ _ _ (f2) (c3 .put-field2 .ensures .0) in
     (put-then f3 (c4 .put-byte .ensures .0 .all (omega arith)), search needs)
 
-pub put-edge-spec : {M : Type 1} → statement M
-put-edge-spec =
+pub put-triple-spec : {M : Type 1} → statement M
+put-triple-spec =
     tie.close
     (tie.spec
     put-head-requires
