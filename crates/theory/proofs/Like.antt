@@ -227,7 +227,7 @@ alike-sym a = record {
   effects = λ j l. sym (a .effects j (rw (a .events) l));
 }
 
-pub alike-trans : {T U V : Terms} → Alike T U → Alike U V → Alike T V
+pub alike-trans : {T U X : Terms} → Alike T U → Alike U X → Alike T X
 alike-trans a b = record {
   members = a .members ∙ b .members;
   relations = a .relations ∙ b .relations;
