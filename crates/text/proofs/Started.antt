@@ -2,23 +2,23 @@
 use Prim.Native.Nat.{ℕ, suc, _+_, _≤_, _<_}
 use native.Mathlib.Omega.{arith}
 use native.Mathlib.Numerals.{add-one}
-use mathlib.Core.Path.{_≡_, refl, sym, ap, _∙_}
+use mathlib.Core.Path.{_≡_, refl, sym, ap, subst, _∙_}
 use mathlib.Core.Bool.{Bool, true}
 use mathlib.Core.List.{List, [], _∷_, _++_, append-assoc}
 use lib.Dec.{eqb}
 use lib.ListN.{length, getD, take, drop, set, length-append, length-drop, List·getD-append}
-use lib.Seq.{take-suc, drop-cons, set-at, length-take-le, getD-take}
-use borrow.Author.Tests.{le-ltb}
+use lib.Seq.{ext-getD, take-suc, drop-cons, set-at, length-take-le, getD-take}
+use borrow.Author.Tests.{eqb-true, le-ltb}
 use Rattle.sets.specs.Sets.{allBelow}
-use Rattle.sets.proofs.Finite.{all-cong}
+use Rattle.sets.proofs.Finite.{all-out, all-cong}
 use Rattle.theory.specs.Terms.{Terms}
 use Rattle.theory.specs.Tables.{State, opening}
-use Rattle.memory.specs.Layout.{termsWords, stateWords, termsOf, stateOf, wordAt, wordsOf}
+use Rattle.memory.specs.Layout.{termsWords, stateWords, termsOf, stateOf, wordAt, tabulate, wordsOf}
 use Rattle.memory.specs.Checks.{stateTests, goodState}
 use Rattle.memory.specs.Outcome.{checks, opens}
 use Rattle.memory.specs.Outcome.Outcome.{passed}
 use Rattle.theory.proofs.Good.{every-at}
-use Rattle.memory.proofs.Row.{getD-tabulate}
+use Rattle.memory.proofs.Row.{length-tabulate, getD-tabulate}
 use Rattle.memory.proofs.Words.{length-words}
 use Rattle.memory.proofs.Front.{state-cong, relations-cong}
 use Rattle.memory.proofs.Outcomes.{Checked, passed-checked}
@@ -34,6 +34,17 @@ copied-more d s i h k =
     rw (add-one i, take-suc s i 0 h, drop-cons d i 0 k)
     (set-at (take i s) (getD d i 0) (drop (suc i) d) (getD s i 0) i (length-take-le i s (omega arith))
     ∙ sym (append-assoc (take i s) (getD s i 0 ∷ []) (drop (suc i) d)))
+
+-- The named words of a fresh start are those of moment 0 of its relations.
+pub fresh-words : (terms state : List ℕ) → stateWords ≤ length state → isFresh terms state ≡ true →
+    take stateWords state ≡ wordsOf (termsOf terms) (opening (termsOf terms) (stateOf state .now .edge))
+unfolding isFresh wordsOf
+fresh-words terms state long fresh =
+    let w : ℕ → ℕ = wordAt (termsOf terms) (opening (termsOf terms) (stateOf state .now .edge)) in
+    ext-getD 0 (take stateWords state) (tabulate stateWords w) (length-take-le stateWords state long ∙ sym (length-tabulate stateWords w))
+    (λ i l. let il : i < stateWords = subst (λ n. i < n) (length-take-le stateWords state long) l in
+    getD-take stateWords state i 0 il ∙ eqb-true (getD state i 0) (w i) (all-out stateWords (λ i. eqb (getD state i 0) (w i)) fresh i il)
+    ∙ sym (getD-tabulate stateWords w i il))
 
 -- a copy of checked memory opens, and what opening leaves is the fresh start of the state's own relations
 module _ (terms state : List ℕ) (e : passed ≡ checks terms state) where

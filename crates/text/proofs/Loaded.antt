@@ -1,4 +1,4 @@
--- Demand 3, entire: from any file with a record, over any list of requests, looks and set lists, to the answers and the words.
+-- Lent memory that holds what a book says: through a list of steps, and through storing and loading again into other memory.
 use Prim.Native.Nat.{ℕ, _≤_}
 use native.Mathlib.Omega.{arith}
 use mathlib.Core.Path.{_≡_, refl, sym, ap, subst, subst₂, _∙_}
@@ -23,25 +23,19 @@ use Rattle.memory.proofs.Outcomes.{Checked, passed-checked}
 use Rattle.monitor.specs.Agreement.{LentStep, fedSteps, serveSteps, Agrees}
 use Rattle.monitor.proofs.Held.{Held, held-words, agrees}
 use Rattle.monitor.proofs.Demand.{run}
-use Rattle.fields.specs.Split.{lines}
 use Rattle.file.specs.File.{File}
-use Rattle.file.specs.Reading.{reading}
-use Rattle.file.specs.Reading.Reading.{accepted}
-use Rattle.file.proofs.Accepted.{accepted-good}
-use Rattle.file.proofs.Said.{said}
+use Rattle.file.proofs.Accepted.{Accepted, accepted-good}
 use Rattle.reader.specs.Memory.{memoryOf}
 use Rattle.reader.specs.Read.{readTerms}
-use Rattle.reader.proofs.TermsMemory.{length-memory, memory-good}
+use Rattle.reader.proofs.TermsMemory.{length-memory, memory-alike, memory-good}
 use Rattle.writer.specs.Write.{Writing, storedText, storeGives, storeLeaves, fitted, filledOut}
 use Rattle.writer.specs.Write.Writing.{bytes, unwritten}
 use Rattle.text.specs.Text.{readState}
-use Rattle.text.specs.Recorded.{Book, firstBook, laterBook, after, Recorded}
-use Rattle.text.specs.Recorded.Recorded.{old, written}
+use Rattle.text.specs.Recorded.{Book, laterBook}
 use Rattle.text.proofs.AlikeWords.{agrees-alike, state-alike, inside-alike}
 use Rattle.text.proofs.Tidied.{tidied, tidied-alike}
 use Rattle.text.proofs.Yields.{read-terms}
 use Rattle.text.proofs.Reloaded.{Reloaded, reloaded, reread-stored-memory, named-words}
-use Rattle.text.proofs.Opened.{opened-like}
 
 -- Lent memory that holds what the book says: the terms m, and the state s, which was m₀ when it was lent.
 pub record Loaded (B : Book) (m₀ m s : List ℕ) : Type 0 where
@@ -118,15 +112,16 @@ module _ (m s out : List ℕ) (n : ℕ) (e : storeGives m s out ≡ bytes n) whe
     filled-is : memoryOf (f .terms) ++ drop termsWords terms ≡ m'
     filled-is = sym (read-terms (storedText m s) f (r .accepts) terms state tl' sl') ∙ again .0
 
+    accepts : Accepted f
+    accepts = accepted-good (storedText m s) f (r .accepts)
+
     good' : goodMemory m' ≡ true
-    good' =
-        let a = accepted-good (storedText m s) f (r .accepts) in
-        subst (λ w. goodMemory w ≡ true) filled-is (memory-good (f .terms) (a .good) (a .tidy) (drop termsWords terms))
+    good' = subst (λ w. goodMemory w ≡ true) filled-is (memory-good (f .terms) (accepts .good) (accepts .tidy) (drop termsWords terms))
 
     like' : Alike U (termsOf m')
     like' =
         alike-trans (tidied-alike U) (subst₂ (λ (T : Terms) (w : List ℕ). Alike T (termsOf w)) (r .terms-are) filled-is
-        (opened-like (storedText m s) f (r .accepts) terms state sl'))
+        (memory-alike (f .terms) (accepts .good) (accepts .tidy) (drop termsWords terms)))
 
     pub loaded-again : Loaded B state (readTerms (storedText m s) terms state) (readState (storedText m s) terms state)
     loaded-again = subst₂ (Loaded B state) (sym (again .0)) (sym (again .1)) (record {
