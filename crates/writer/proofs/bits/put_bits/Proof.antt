@@ -1,5 +1,6 @@
 -- `writer::bits::put_bits` meets its contract: the lines of the first b bits have been put.
 use Prim.Native.Nat.{_-_}
+use native.Mathlib.Omega.{arith}
 use borrow.Author.Needs.{needs}
 use Rattle.writer.specs.Kinds.{bitOf}
 use Rattle.fields.proofs.Output.{put-long}
@@ -29,13 +30,13 @@ loop-again : tie.Need-loop-again Inv-loop μ-loop
 loop-again c =
     let t = c .before .before .before .before in
     let e = c .before .before .put-bit .ensures in
-    running-more (t .loop-test .taken) (t .before .loop .inv) (e .0) (e .1)
+    running-more (omega arith) (t .before .loop .inv) (e .0) (e .1)
 
 same-length : tie.Need-same-length Inv-loop μ-loop
 same-length c = put-long (c .before .loop .inv .put)
 
 returns : tie.Need-returns Inv-loop μ-loop
-returns c = (running-end (c .loop-test .left) (c .before .loop .inv), search needs)
+returns c = (running-end (omega arith) (c .before .loop .inv), search needs)
 
 pub put-bits-spec : {M : Type 1} → statement M
 put-bits-spec =

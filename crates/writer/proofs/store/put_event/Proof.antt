@@ -7,7 +7,7 @@ use Rattle.writer.proofs.store.put_event.Statement.{statement}
 use Rattle.writer.proofs.store.put_event.Tie as tie
 
 returns : tie.Need-returns
-returns c = (put-event-none _ _ _ (c .if1 .taken), omega arith)
+returns c = (put-event-none _ _ (c .before .before .args .w) (omega arith), omega arith)
 
 sub-n : tie.Need-sub-n
 sub-n c = search needs
