@@ -1,23 +1,33 @@
 -- What is stored of memory that passes the checks, read again into other memory: the very same named words of terms and state.
 use Prim.Native.Nat.{ℕ, _≤_}
-use mathlib.Core.Path.{_≡_, sym, ap, _∙_}
-use mathlib.Core.Bool.{true, cond}
+use native.Mathlib.Omega.{arith}
+use mathlib.Core.Path.{_≡_, refl, sym, ap, _∙_}
+use mathlib.Core.Bool.{Bool, true, false, cond, _&&_, and-false}
 use mathlib.Core.List.{List, _++_}
-use lib.ListN.{length, take, drop}
+use lib.Dec.{ltb}
+use lib.ListN.{length, getD, take, drop}
 use lib.Seq.{take-at}
-use Rattle.theory.specs.Terms.{Terms}
+use borrow.Author.Tests.{ltb-true}
+use Rattle.sets.specs.Sets.{bit}
+use Rattle.theory.specs.Terms.{Terms, tables}
 use Rattle.theory.specs.Tables.{State, opening}
-use Rattle.memory.specs.Layout.{termsWords, stateWords, termsOf, stateOf, wordsOf}
+use Rattle.theory.proofs.Good.{Good}
+use Rattle.memory.specs.Layout.{termsWords, stateWords, tableAt, termsOf, stateOf, wordsOf}
 use Rattle.memory.specs.Checks.{goodMemory, goodState}
-use Rattle.memory.proofs.Words.{length-words, canonical}
+use Rattle.memory.proofs.Inside.{Inside as InsideMoment}
+use Rattle.memory.proofs.Front.{state-front}
+use Rattle.memory.proofs.Words.{length-words, word-table, now-back, table-back, canonical}
 use Rattle.file.specs.File.{File, stateSaid}
 use Rattle.file.specs.Reading.{reading}
 use Rattle.file.specs.Reading.Reading.{accepted}
 use Rattle.file.specs.Writing.{stored}
+use Rattle.file.proofs.Fit.{Inside}
+use Rattle.file.proofs.Accepted.{accepted-good}
 use Rattle.file.proofs.Reread.{reread-stored}
 use Rattle.file.proofs.AlikeText.{stored-alike}
 use Rattle.reader.specs.Memory.{memoryOf}
 use Rattle.reader.specs.Read.{readTerms}
+use Rattle.reader.proofs.StateMemory.{event-inside}
 use Rattle.writer.specs.Write.{storedText}
 use Rattle.text.specs.Text.{beginning, readState}
 use Rattle.text.proofs.AlikeWords.{state-alike}
@@ -29,6 +39,34 @@ use Rattle.text.proofs.Yields.{read-terms, read-state}
 pub named-words : (T : Terms) (w : List ℕ) → stateWords ≤ length w → goodState T w ≡ true → wordsOf T (stateOf w) ≡ take stateWords w
 named-words T w long g =
     sym (ap (take stateWords) (canonical T w long g) ∙ take-at (wordsOf T (stateOf w)) (drop stateWords w) stateWords (length-words T (stateOf w)))
+
+-- A state whose bits and event are inside the terms is read from its words as it is.
+module _ (T : Terms) (fine : Good T) (S : State) (now : InsideMoment T (S .now)) (bits : Inside (tables T) (T .members) (S .table)) where
+  bit-back : (t a b : ℕ) → stateOf (wordsOf T S) .table t a b ≡ S .table t a b
+  unfolding stateOf
+  bit-back t a b = go (S .table t a b) refl
+    where
+      under : (c : Bool) → ltb t 32 ≡ c → (d : Bool) → ltb a 64 ≡ d → S .table t a b ≡ false → (c && (d && bit (getD (wordsOf T S) (tableAt t a) 0) b)) ≡ false
+      under true p true q e =
+          word-table T S t a b (ltb-true t 32 p) (ltb-true a 64 q)
+          ∙ rw e (ap (λ x. ltb t (tables T) && (ltb a (T .members) && x)) (and-false (ltb b (T .members)))
+          ∙ ap (λ x. ltb t (tables T) && x) (and-false (ltb a (T .members))) ∙ and-false (ltb t (tables T)))
+      under true p false q e = refl
+      under false p d q e = refl
+
+      go : (x : Bool) → S .table t a b ≡ x → (ltb t 32 && (ltb a 64 && bit (getD (wordsOf T S) (tableAt t a) 0) b)) ≡ S .table t a b
+      go true e = let i = bits .within t a b e in table-back T fine S t a b (i .0) (i .1) (i .2)
+      go false e = under (ltb t 32) refl (ltb a 64) refl e ∙ sym e
+
+  pub state-back : stateOf (wordsOf T S) ≡ S
+  state-back = λ d. record { now = now-back T fine S now d; table = λ t a b. bit-back t a b d }
+
+-- The words of what an accepted text says hold it.
+pub placed-state : (text : List ℕ) (f : File) → reading text ≡ accepted f → (state : List ℕ) → stateOf (wordsOf (f .terms) (stateSaid f) ++ drop stateWords state) ≡ stateSaid f
+placed-state text f e state =
+    let a = accepted-good text f e in
+    state-front (wordsOf (f .terms) (stateSaid f)) (drop stateWords state) (omega (arith, length-words (f .terms) (stateSaid f)))
+    ∙ state-back (f .terms) (a .good) (stateSaid f) (record { edges = a .edges .within; event = event-inside (f .terms) (a .last) }) (a .bits)
 
 -- The file that a stored text is.
 pub record Reloaded (terms state : List ℕ) (f : File) : Type 0 where

@@ -24,12 +24,14 @@ use Rattle.file.specs.Normal.{normalText, isPlain}
 use Rattle.file.proofs.AlikeText.{written-alike, stored-alike}
 use Rattle.file.proofs.Rewritten.{rewritten, normal-plain, normal-accepted}
 use Rattle.reader.specs.Memory.{memoryOf}
+use Rattle.reader.proofs.StateMemory.{filled-alike, checked}
 use Rattle.reader.specs.Read.{readGives, readTerms}
 use Rattle.writer.specs.Write.{Writing, writtenText, writeGives, writeLeaves, storedText, storeGives, storeLeaves}
 use Rattle.writer.specs.Write.Writing.{bytes}
 use Rattle.text.specs.Text.{beginning, readState, isFresh, oldWriteGives, oldWriteLeaves}
 use Rattle.text.proofs.Begun.{read-opened, begun-like, same-opened, edges-back, begun-checked}
 use Rattle.text.proofs.OldForm.{write-fresh, leaves-fresh}
+use Rattle.text.proofs.Reloaded.{placed-state}
 use Rattle.text.proofs.Yields.{read-terms, read-state}
 
 -- What reading gives, and what writing over what it left gives and leaves: the text t, of which out has room for all.
@@ -94,3 +96,80 @@ module _ (text : List ℕ) (f : File) (e : reading text ≡ accepted f) (terms s
           let c = begun-checked text f e form terms state tl sl in
           rw (read-terms text f e terms state tl sl, read-opened text f e form terms state tl sl)
           (read-done, write-fresh m opened out c fresh ∙ write-gives, leaves-fresh m opened out c fresh ∙ write-leaves)
+
+  -- ---- the stored form
+
+  module _ (form : f .stored ≡ true) where
+    abbrev said : List ℕ
+    said = wordsOf T (stateSaid f) ++ drop stateWords state
+
+    read-said : readState text terms state ≡ said
+    read-said =
+        read-state text f e terms state tl sl ∙ ap (λ b. wordsOf T (cond b (stateSaid f) (opening T (f .edges))) ++ drop stateWords state) form
+
+    stored-back : storedText m said ≡ normalText text
+    unfolding storedText
+    stored-back =
+        ap (stored U) (placed-state text f e state)
+        ∙ sym (stored-alike T U (filled-alike text f e terms state sl) (stateSaid f))
+        ∙ sym (ap (λ b. cond b (stored T (stateSaid f)) (written T (f .edges))) form) ∙ rewritten text f e
+
+    module _ (out : List ℕ) (room : length (normalText text) ≤ length out) where
+      store-gives : storeGives m said out ≡ bytes (length (normalText text))
+      unfolding storeGives
+      store-gives = rw (checked text f e terms state sl, stored-back, le-ltb (length out) (length (normalText text)) room)
+
+      store-leaves : storeLeaves m said out ≡ normalText text ++ drop (length (normalText text)) out
+      unfolding storeLeaves
+      store-leaves = rw (store-gives, stored-back)
+
+      returned-said : Back storeGives storeLeaves text terms state out (normalText text)
+      returned-said = rw (read-terms text f e terms state tl sl, read-said) (read-done, store-gives, store-leaves)
+
+-- For every accepted text of the old form and all lent memory that is long enough: reading is done, writing over what reading left gives the count of the bytes of
+-- the text's normal form, and leaves that in the output, with its further bytes as they were.
+pub returned : (text : List ℕ) (f : File) → reading text ≡ accepted f → f .stored ≡ false → (terms state out : List ℕ) →
+    termsWords ≤ length terms → stateWords ≤ length state → length (normalText text) ≤ length out →
+    (readGives text terms state ≡ passed)
+    × (oldWriteGives (readTerms text terms state) (readState text terms state) out ≡ bytes (length (normalText text)))
+    × (oldWriteLeaves (readTerms text terms state) (readState text terms state) out ≡ normalText text ++ drop (length (normalText text)) out)
+returned text f e form terms state out tl sl room = returned-old text f e terms state tl sl form out room
+
+-- The same of the stored form, and storing.
+pub returned-stored : (text : List ℕ) (f : File) → reading text ≡ accepted f → f .stored ≡ true → (terms state out : List ℕ) →
+    termsWords ≤ length terms → stateWords ≤ length state → length (normalText text) ≤ length out →
+    (readGives text terms state ≡ passed)
+    × (storeGives (readTerms text terms state) (readState text terms state) out ≡ bytes (length (normalText text)))
+    × (storeLeaves (readTerms text terms state) (readState text terms state) out ≡ normalText text ++ drop (length (normalText text)) out)
+returned-stored text f e form terms state out tl sl room = returned-said text f e terms state tl sl form out room
+
+-- A text without a padded number is returned byte by byte, in either form.
+pub returned-same : (text : List ℕ) (f : File) → reading text ≡ accepted f → isPlain text ≡ true → (terms state out : List ℕ) →
+    termsWords ≤ length terms → stateWords ≤ length state → length text ≤ length out →
+    (f .stored ≡ false → Back oldWriteGives oldWriteLeaves text terms state out text) × (f .stored ≡ true → Back storeGives storeLeaves text terms state out text)
+returned-same text f e p terms state out tl sl room =
+    let n : normalText text ≡ text = normal-plain text p in
+    let long : length (normalText text) ≤ length out = subst (λ t. length t ≤ length out) (sym n) room in (
+      (λ form. subst (Back oldWriteGives oldWriteLeaves text terms state out) n (returned text f e form terms state out tl sl long)),
+      (λ form. subst (Back storeGives storeLeaves text terms state out) n (returned-stored text f e form terms state out tl sl long)),
+    )
+
+-- The normal form of an accepted text is accepted, and gives the same words of terms and state.
+pub normal-words : (text : List ℕ) (f : File) → reading text ≡ accepted f → (terms state : List ℕ) →
+    termsWords ≤ length terms → stateWords ≤ length state →
+    (readGives (normalText text) terms state ≡ passed)
+    × (readTerms (normalText text) terms state ≡ readTerms text terms state)
+    × (readState (normalText text) terms state ≡ readState text terms state)
+normal-words text f e terms state tl sl =
+    let n = normal-accepted text f e in
+    let g : File = n .0 in
+    let u = n .1 in
+    let same : beginning g ≡ beginning f = λ d. cond (u .form d) (record { now = record { edge = u .edges d; event = u .last d }; table = u .table d }) (opening (u .terms d) (u .edges d)) in (
+      read-done (normalText text) g (u .accepts) terms state tl sl,
+      read-terms (normalText text) g (u .accepts) terms state tl sl
+          ∙ ap (λ (T : Terms). memoryOf T ++ drop termsWords terms) (u .terms)
+          ∙ sym (read-terms text f e terms state tl sl),
+      read-state (normalText text) g (u .accepts) terms state tl sl
+          ∙ (λ d. wordsOf (u .terms d) (same d) ++ drop stateWords state)
+          ∙ sym (read-state text f e terms state tl sl),
+    )
