@@ -233,7 +233,7 @@ module _ {M : Type 1} (𝓤 : URA M) (H : Heap 𝓤) (A : Atoms 𝓤) (W : Given
   abbrev to-tally : ℕ → ℕ → Tally 𝓤 H A at-mem run .Ghost
   to-tally g r = ((tt, tt, tt, (g, (r, tt)), (vint w64 g ∷ [], (vint w32 r ∷ [], tt))), tt)
 
-  goes-tally : (g r : ℕ) → g < 2 ^ 64 → r < 2 ^ 32 → g < 18446744073709551615 → ent 𝓤 (emp 𝓤) (Tally 𝓤 H A at-mem run .pre (to-tally g r))
+  goes-tally : (g r : ℕ) → g < 2 ^ 64 → r < 2 ^ 32 → g + 1 < 2 ^ 64 → ent 𝓤 (emp 𝓤) (Tally 𝓤 H A at-mem run .pre (to-tally g r))
   goes-tally g r fits fits′ small = qed W [] ∵ says ! small $ nothing ! $ owned ! u32 (Is u32) (uint-makes 𝓤 H A W w32) r _ (refl, fits′) $ fjoin ! $ owned ! usize (Is usize) (uint-makes 𝓤 H A W w64) g _ (refl, fits) $ fjoin ! $ nothing ! $ frame ! $ done !
 
   tallied : (g r k : ℕ) → ent 𝓤 (ensured 𝓤 H A tally.ended (tally.clauses 𝓤 H A at-mem run) tt (g, (r, tt)) tt k) (fact 𝓤 (k ≡ g + gainOf r))
@@ -329,7 +329,7 @@ module _ {M : Type 1} (𝓤 : URA M) (H : Heap 𝓤) (A : Atoms 𝓤) (W : Given
         room-ys : Room R (length ys)
         room-ys = subst (Room R) (sym (F .size)) room
 
-        g-small : g < 18446744073709551615
+        g-small : g + 1 < 2 ^ 64
         g-small = count-below g i n (F .small) l n-fits
 
         ready : Passed ts (c .plan) st sc
