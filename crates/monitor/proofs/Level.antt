@@ -1,0 +1,249 @@
+-- A moment keeps the layout, of any state that keeps it and not of those of a record only: a table without a free variable keeps equal bits in a word.
+use Prim.Native.Nat.{ℕ, zero, suc, _-_, _^_, _≤_, _<_}
+use native.Mathlib.Omega.{arith}
+use mathlib.Core.Path.{_≡_, refl, sym, ap, ap₂, _∙_}
+use mathlib.Core.Bool.{Bool, true, false, cond, not, _&&_, _||_}
+use mathlib.Core.List.{List, _++_}
+use lib.Dec.{eqb, ltb}
+use lib.ListN.{getD}
+use borrow.Author.Tests.{eq-eqb, eqb-true, lt-ltb, not-true}
+use Rattle.sets.specs.Sets.{anyBelow, allBelow, bit}
+use Rattle.sets.proofs.Finite.{any-cong, any-elim, any-intro, all-true, all-out, not-both, is-false, or-left, or-right}
+use Rattle.sets.proofs.Bits.{bit-zero, bit-mask}
+use Rattle.theory.specs.Formula.{Formula, number, below, isPast, free, column}
+use Rattle.theory.specs.Formula.Formula.{top, var, neg, or, out, into, prev, since, bind, at, reach}
+use Rattle.theory.specs.Meaning.{Graph, Assignment, assign, alone, standing}
+use Rattle.theory.specs.Terms.{Terms, formula, tables}
+use Rattle.theory.specs.Fit.{_⇒_, closed}
+use Rattle.theory.specs.Moment.{Moment, graph, next}
+use Rattle.theory.specs.Tables.{Tables, holdsNow, store, operandNow, sinceBits, sinceStep, prevTables, sinceTables, State, advance}
+use Rattle.memory.specs.Layout.{tableAt, stateOf, wordsOf}
+use Rattle.memory.specs.Checks.{level, goodRelations, stateTests, goodState}
+use Rattle.theory.proofs.Spelled.{Visible, tableOf, or-cases, number-lt, number-apart, spelled-prev, spelled-since, table-spelled, visible-below}
+use Rattle.theory.proofs.Good.{Good, small, column-free, implied, implies, every-at, every-in}
+use Rattle.theory.proofs.Now.{Among, among-assign, among-standing}
+use Rattle.theory.proofs.Sweeps.{prev-keeps, prev-worked}
+use Rattle.memory.proofs.Row.{fits-row, level-row}
+use Rattle.memory.proofs.Inside.{Inside, next-inside, state-inside, good-event}
+use Rattle.memory.proofs.Words.{length-words, word-relation, word-of-table, word-event}
+use Rattle.memory.proofs.Front.{good-front}
+
+-- ---- the meaning at the present moment: only the free variables count
+
+module _ (N : ℕ) (G : Graph) (X : Tables) where
+  -- the table of φ has one column that counts; where φ has no free variable, its bits in a word are equal
+  record Even (φ : Formula) : Type 0 where
+    pub one : (x : ℕ) → free φ x ≡ true → column φ ≡ x
+    pub below-16 : (x : ℕ) → free φ x ≡ true → x < 16
+    pub level : ((x : ℕ) → free φ x ≡ true → ⊥) → (a b c : ℕ) → a < N → b < N → c < N → X (tableOf φ) a b ≡ X (tableOf φ) a c
+
+  recalled : (φ : Formula) → Even φ → (g h : Assignment) (m : ℕ) → Among N g → Among N h → m < N →
+      ((x : ℕ) → free φ x ≡ true → h x ≡ g x) → X (tableOf φ) m (h (column φ)) ≡ X (tableOf φ) m (g (column φ))
+  recalled φ c g h m wg wh ml v = go (anyBelow 16 (free φ)) refl
+    where
+      go : (d : Bool) → anyBelow 16 (free φ) ≡ d → X (tableOf φ) m (h (column φ)) ≡ X (tableOf φ) m (g (column φ))
+      go true e =
+          let w = any-elim 16 (free φ) e in
+          let at-column : h (column φ) ≡ g (column φ) = rw (c .one (w .0) (w .2)) (v (w .0) (w .2)) in
+          ap (X (tableOf φ) m) at-column
+      go false e =
+          c .level (λ x f. not-both _ (any-intro 16 (free φ) x (c .below-16 x f) f) e) m (h (column φ)) (g (column φ)) ml
+          (wh (column φ)) (wg (column φ))
+
+  bound : (x m y : ℕ) (g h : Assignment) (F : Bool) → F ≡ true → (not (eqb y x) && F ≡ true → h y ≡ g y) → assign h x m y ≡ assign g x m y
+  bound x m y g h F f e = go (eqb y x) refl
+    where
+      go : (c : Bool) → eqb y x ≡ c → cond c m (h y) ≡ cond c m (g y)
+      go true z = refl
+      go false z = e (rw (z, f))
+
+  now-free : (f : Formula) → Visible Even f → (g h : Assignment) (m : ℕ) → Among N g → Among N h → m < N →
+      ((x : ℕ) → free f x ≡ true → h x ≡ g x) → holdsNow N G X f h m ≡ holdsNow N G X f g m
+  unfolding holdsNow free
+  now-free top s g h m wg wh ml v = refl
+  now-free (var x) s g h m wg wh ml v = ap (eqb m) (v x (eq-eqb x x refl))
+  now-free (neg f) s g h m wg wh ml v = ap not (now-free f s g h m wg wh ml v)
+  now-free (or f k) s g h m wg wh ml v =
+      ap₂ _||_ (now-free f (s .0) g h m wg wh ml (λ x e. v x (or-left (free f x) (free k x) e)))
+      (now-free k (s .1) g h m wg wh ml (λ x e. v x (or-right (free f x) (free k x) e)))
+  now-free (out l f) s g h m wg wh ml v = any-cong N (λ k kl. ap (λ b. G l m k && b) (now-free f s g h k wg wh kl v))
+  now-free (into l f) s g h m wg wh ml v = any-cong N (λ k kl. ap (λ b. G l k m && b) (now-free f s g h k wg wh kl v))
+  now-free (prev t f) s g h m wg wh ml v = recalled (prev t f) s g h m wg wh ml v
+  now-free (since t f k) s g h m wg wh ml v = recalled (since t f k) s g h m wg wh ml v
+  now-free (bind x f) s g h m wg wh ml v =
+      now-free f s (assign g x m) (assign h x m) m (among-assign N g x m wg ml) (among-assign N h x m wh ml) ml
+      (λ y e. bound x m y g h (free f y) e (v y))
+  now-free (at x f) s g h m wg wh ml v =
+      ap (holdsNow N G X f h) (v x (or-left (eqb x x) (free f x) (eq-eqb x x refl)))
+      ∙ now-free f s g h (g x) wg wh (wg x) (λ y e. v y (or-right (eqb y x) (free f y) e))
+  now-free (reach x f k) s g h m wg wh ml v =
+      any-cong N (λ n nl. ap (λ b. holdsNow N G X f (alone x n) m && b) (now-free k (s .1) g h n wg wh nl v))
+
+-- ---- the tables of all past-time entries
+
+-- check 8: a table without a free variable has equal bits in a word
+abbrev pub Level : Terms → Tables → Type 0
+Level T X = (n : ℕ) → n < T .entries → isPast (T .entry n .op) ≡ true → ((x : ℕ) → free (formula T n) x ≡ true → ⊥) →
+    (a b c : ℕ) → a < T .members → b < T .members → c < T .members → X (number (T .entry) n) a b ≡ X (number (T .entry) n) a c
+
+-- what is free in an operand is free in its entry
+module _ (T : Terms) (n : ℕ) where
+  free-prev : T .entry n .op ≡ 6 → (x : ℕ) → free (below (T .entry) n (T .entry n .a)) x ≡ true → free (formula T n) x ≡ true
+  unfolding free
+  free-prev e x f = ap (λ (φ : Formula). free φ x) (spelled-prev (T .entry) n e) ∙ f
+
+  free-since-a : T .entry n .op ≡ 7 → (x : ℕ) → free (below (T .entry) n (T .entry n .a)) x ≡ true → free (formula T n) x ≡ true
+  unfolding free
+  free-since-a e x f = ap (λ (φ : Formula). free φ x) (spelled-since (T .entry) n e)
+      ∙ or-left (free (below (T .entry) n (T .entry n .a)) x) (free (below (T .entry) n (T .entry n .b)) x) f
+
+  free-since-b : T .entry n .op ≡ 7 → (x : ℕ) → free (below (T .entry) n (T .entry n .b)) x ≡ true → free (formula T n) x ≡ true
+  unfolding free
+  free-since-b e x f = ap (λ (φ : Formula). free φ x) (spelled-since (T .entry) n e)
+      ∙ or-right (free (below (T .entry) n (T .entry n .a)) x) (free (below (T .entry) n (T .entry n .b)) x) f
+
+by-kind : {A : Type 0} (o : ℕ) → isPast o ≡ true → (o ≡ 6 → A) → (o ≡ 7 → A) → A
+by-kind o e six seven = or-cases (eqb o 6) (eqb o 7) e (λ z. six (eqb-true o 6 z)) (λ z. seven (eqb-true o 7 z))
+
+module _ (T : Terms) (fine : Good T) (G : Graph) where
+  -- an operand of an entry without a free variable does not depend on the column
+  operand-level : (X : Tables) → Level T X → (n : ℕ) → n < T .entries → (k : ℕ) → ((x : ℕ) → free (below (T .entry) n k) x ≡ true → ⊥) →
+      (a b c : ℕ) → a < T .members → b < T .members → c < T .members → operandNow T G n k X a b ≡ operandNow T G n k X a c
+  operand-level X lev n l k none a b c al bl cl =
+      now-free (T .members) G X (below (T .entry) n k)
+      (visible-below (T .entry) (Even (T .members) G X) n (λ j jl e. record {
+        one = column-free T fine j (omega arith) e;
+        below-16 = small T fine j (omega arith);
+        level = rw (table-spelled (T .entry) j e) (lev j (omega arith) e);
+      }) k)
+      (standing (formula T n) c) (standing (formula T n) b) a
+      (among-standing (T .members) (formula T n) c cl) (among-standing (T .members) (formula T n) b bl) al
+      (λ x f. absurd (none x f))
+
+  prev-level : (X : Tables) → Level T X → Level T (prevTables T G (T .entries) X)
+  prev-level X lev n l e none a b c al bl cl = by-kind (T .entry n .op) e six seven
+    where
+      six : T .entry n .op ≡ 6 → prevTables T G (T .entries) X (number (T .entry) n) a b ≡ prevTables T G (T .entries) X (number (T .entry) n) a c
+      six z =
+          prev-worked T G (T .entries) X n l z a b al bl
+          ∙ operand-level X lev n l (T .entry n .a) (λ x f. none x (free-prev T n z x f)) a b c al bl cl
+          ∙ sym (prev-worked T G (T .entries) X n l z a c al cl)
+
+      seven : T .entry n .op ≡ 7 → prevTables T G (T .entries) X (number (T .entry) n) a b ≡ prevTables T G (T .entries) X (number (T .entry) n) a c
+      seven z = prev-keeps T G (T .entries) X n z a b ∙ lev n l e none a b c al bl cl ∙ sym (prev-keeps T G (T .entries) X n z a c)
+
+  since-bits-level : (X : Tables) → Level T X → (n : ℕ) → n < T .entries → T .entry n .op ≡ 7 → ((x : ℕ) → free (formula T n) x ≡ true → ⊥) →
+      (a b c : ℕ) → a < T .members → b < T .members → c < T .members → sinceBits T G n X a b ≡ sinceBits T G n X a c
+  since-bits-level X lev n l z none a b c al bl cl =
+      ap₂ _||_ (operand-level X lev n l (T .entry n .b) (λ x f. none x (free-since-b T n z x f)) a b c al bl cl)
+      (ap₂ _&&_ (operand-level X lev n l (T .entry n .a) (λ x f. none x (free-since-a T n z x f)) a b c al bl cl)
+      (lev n l (rw z) none a b c al bl cl))
+
+  since-step-level : (X : Tables) → Level T X → (n : ℕ) → n < T .entries → Level T (sinceStep T G n X)
+  since-step-level X lev n l k kl e none a b c al bl cl = by-op (eqb (T .entry n .op) 7) refl
+    where
+      s : ℕ
+      s = number (T .entry) k
+
+      t : ℕ
+      t = number (T .entry) n
+
+      B : ℕ → ℕ → Bool
+      B = sinceBits T G n X
+
+      by-table : T .entry n .op ≡ 7 → (d : Bool) → eqb s t ≡ d → cond d (B a b) (X s a b) ≡ cond d (B a c) (X s a c)
+      by-table z true f =
+          let same : k ≡ n = number-apart (T .entry) k n e (rw z) (eqb-true s t f) in
+          since-bits-level X lev n l z (λ x g. none x (rw same g)) a b c al bl cl
+      by-table z false f = lev k kl e none a b c al bl cl
+
+      by-op : (d : Bool) → eqb (T .entry n .op) 7 ≡ d → cond d (store t B X) X s a b ≡ cond d (store t B X) X s a c
+      by-op true z = by-table (eqb-true (T .entry n .op) 7 z) (eqb s t) refl
+      by-op false z = lev k kl e none a b c al bl cl
+
+  since-level : (X : Tables) → Level T X → (n : ℕ) → n ≤ T .entries → Level T (sinceTables T G n X)
+  unfolding sinceTables
+  since-level X lev zero l = lev
+  since-level X lev (suc n) l = since-step-level (sinceTables T G n X) (since-level X lev n (omega arith)) n l
+
+-- ---- check 8 and equal bits
+
+level-bits : (N w : ℕ) → level N w ≡ true → (b c : ℕ) → b < N → c < N → bit w b ≡ bit w c
+level-bits N w e b c bl cl =
+    or-cases (eqb w 0) (eqb w (2 ^ N - 1)) e
+    (λ z. rw (eqb-true w 0 z) (bit-zero b ∙ sym (bit-zero c)))
+    (λ z. rw (eqb-true w (2 ^ N - 1) z) (bit-mask N b ∙ lt-ltb b N bl ∙ sym (bit-mask N c ∙ lt-ltb c N cl)))
+
+module _ (T : Terms) (fine : Good T) where
+  -- words that keep the layout have equal bits where they must
+  level-good : (w : List ℕ) → goodState T w ≡ true → Level T (stateOf w .table)
+  unfolding goodState stateOf closed
+  level-good w g n l e no-free a b c al bl cl =
+      ap (λ x. ltb t 32 && (ltb a 64 && x)) (level-bits (T .members) (getD w (tableAt t a) 0) even b c bl cl)
+    where
+      t : ℕ
+      t = number (T .entry) n
+
+      even : level (T .members) (getD w (tableAt t a) 0) ≡ true
+      even =
+          all-out 64 (λ a. level (T .members) (getD w (tableAt t a) 0))
+          (implied (closed (formula T n)) _ (implied (isPast (T .entry n .op)) _
+          (all-out (T .entries) (λ n. isPast (T .entry n .op) ⇒ (closed (formula T n) ⇒
+          allBelow 64 (λ a. level (T .members) (getD w (tableAt (number (T .entry) n) a) 0)))) (every-at (stateTests T w) g 2) n l) e)
+          (all-true 16 (λ x _. ap not (is-false _ (no-free x))))) a (omega (arith, fine .few-members))
+
+  pub relations-good : (S : State) → goodRelations T (wordsOf T S) ≡ true
+  unfolding goodRelations
+  relations-good S = all-true 16 (λ k kl. all-true 64 (λ a al.
+      rw (word-relation T S k a kl al) (fits-row (T .members) (ltb k (T .relations)) (S .now .edge k) a)))
+
+  -- and the words of a state that has them keep the layout
+  pub words-level : (S : State) → Level T (S .table) → Inside T (S .now) → goodState T (wordsOf T S) ≡ true
+  unfolding goodState closed
+  words-level S lev i = every-in (stateTests T (wordsOf T S)) test
+    where
+      no-free : (n : ℕ) → n < T .entries → closed (formula T n) ≡ true → (x : ℕ) → free (formula T n) x ≡ true → ⊥
+      no-free n l c x f = not-both (free (formula T n) x) f (not-true _ (all-out 16 (λ x. not (free (formula T n) x)) c x (small T fine n l x f)))
+
+      even : (n : ℕ) → n < T .entries → isPast (T .entry n .op) ≡ true → closed (formula T n) ≡ true → (a : ℕ) → a < 64 →
+          level (T .members) (getD (wordsOf T S) (tableAt (number (T .entry) n) a) 0) ≡ true
+      even n l p c a al =
+          let tl : number (T .entry) n < tables T = number-lt (T .entry) n (T .entries) l p in
+          rw (word-of-table T S (number (T .entry) n) a (omega (arith, fine .few-tables)) al, lt-ltb (number (T .entry) n) (tables T) tl)
+          (level-row (T .members) (S .table (number (T .entry) n)) a (S .table (number (T .entry) n) a 0)
+          (λ an b bn. lev n l p (no-free n l c) a b 0 an bn (fine .some-member)))
+
+      test : (k : ℕ) → getD (stateTests T (wordsOf T S)) k true ≡ true
+      test zero = relations-good S
+      test (suc zero) = all-true 32 (λ t tl. all-true 64 (λ a al.
+          rw (word-of-table T S t a tl al) (fits-row (T .members) (ltb t (tables T)) (S .table t) a)))
+      test (suc (suc zero)) = all-true (T .entries) (λ n l.
+          implies (isPast (T .entry n .op)) (λ p. implies (closed (formula T n)) (λ c. all-true 64 (even n l p c))))
+      test (suc (suc (suc zero))) = rw (word-event T S) (good-event T fine (S .now .event) (i .event))
+      test (suc (suc (suc (suc k)))) = refl
+
+  -- The state whose tables are moved to the moment M.
+  abbrev pub moved : State → Moment → State
+  moved S M = record {
+    now = M;
+    table = sinceTables T (graph (T .relations) M) (T .entries) (prevTables T (graph (T .relations) (S .now)) (T .entries) (S .table));
+  }
+
+  -- Any moment inside the terms keeps the layout of every state that keeps it, true of a record or not.
+  pub moved-good : (m : List ℕ) → goodState T m ≡ true → (M : Moment) → Inside T M → (rest : List ℕ) →
+      goodState T (wordsOf T (moved (stateOf m) M) ++ rest) ≡ true
+  moved-good m g M i rest =
+      good-front (wordsOf T (moved S M)) rest (omega (arith, length-words T (moved S M))) T fine
+      ∙ words-level (moved S M)
+      (since-level T fine (graph (T .relations) M) (prevTables T (graph (T .relations) (S .now)) (T .entries) (S .table))
+      (prev-level T fine (graph (T .relations) (S .now)) (S .table) (level-good m g)) (T .entries) (omega arith))
+      i
+    where
+      S : State
+      S = stateOf m
+
+  pub advance-good : (m : List ℕ) → goodState T m ≡ true → (j u v : ℕ) → j < T .events → u < T .members → v < T .members → (rest : List ℕ) →
+      goodState T (wordsOf T (advance T (stateOf m) j u v) ++ rest) ≡ true
+  unfolding advance
+  advance-good m g j u v jl ul vl rest =
+      moved-good m g (next T (stateOf m .now) j u v) (next-inside T fine (stateOf m .now) (state-inside T m g) j u v jl ul vl) rest
