@@ -1,6 +1,7 @@
 //! The functions of archives. Each archive is made a shared object by the C
 //! compiler, so that several can be called in one process.
 
+use cuckooormolu::raw::Record;
 use std::ffi::{c_char, c_int, c_void, CString};
 use std::mem::transmute;
 use std::path::{Path, PathBuf};
@@ -29,6 +30,17 @@ type Request = unsafe extern "C" fn(
     usize,
     usize,
     usize,
+) -> usize;
+type SetList = unsafe extern "C" fn(
+    *const u16,
+    usize,
+    *mut u64,
+    usize,
+    *mut u64,
+    usize,
+    *mut Record,
+    usize,
+    *mut usize,
 ) -> usize;
 type Read =
     unsafe extern "C" fn(*const u8, usize, *mut u16, usize, *mut u64, usize, *mut usize) -> usize;
@@ -66,6 +78,8 @@ pub struct Archive {
     check: Check,
     look: Look,
     request: Request,
+    /// An archive before 0.5 has none.
+    set_list: Option<SetList>,
     read: Read,
     write: Write,
 }
@@ -97,22 +111,24 @@ impl Archive {
         let handle = unsafe { dlopen(name.as_ptr(), RTLD_NOW) };
         assert!(!handle.is_null(), "{} cannot be opened", object.display());
         std::fs::remove_file(&object).expect("the object was written");
-        let symbol = |name: &str| {
+        let found = |name: &str| {
             // An archive before 0.2 has the second name.
             let names = [format!("cuckooormolu_raw_{name}"), format!("cuckooormolu_{name}")];
             let find = |name: &String| {
                 let name = CString::new(name.as_str()).expect("a name");
                 unsafe { dlsym(handle, name.as_ptr()) }
             };
-            let symbol = names.iter().map(find).find(|symbol| !symbol.is_null());
-            symbol.unwrap_or_else(|| panic!("{} has no {name}", path.display()))
+            names.iter().map(find).find(|symbol| !symbol.is_null())
         };
+        let symbol =
+            |name: &str| found(name).unwrap_or_else(|| panic!("{} has no {name}", path.display()));
         // Safety: the archive's functions have these types.
         unsafe {
             Archive {
                 check: transmute::<*mut c_void, Check>(symbol("check")),
                 look: transmute::<*mut c_void, Look>(symbol("look")),
                 request: transmute::<*mut c_void, Request>(symbol("request")),
+                set_list: found("set_list").map(|symbol| transmute::<*mut c_void, SetList>(symbol)),
                 read: transmute::<*mut c_void, Read>(symbol("read")),
                 write: transmute::<*mut c_void, Write>(symbol("write")),
             }
@@ -148,6 +164,22 @@ impl Archive {
         unsafe {
             (self.request)(words, terms.len(), state, length, lent, scratch.len(), event, from, to)
         }
+    }
+
+    /// The code of a set list, where the archive has them.
+    pub fn set_list(
+        &self,
+        terms: &[u16],
+        state: &mut [u64],
+        scratch: &mut [u64],
+        records: &mut [Record],
+    ) -> Option<usize> {
+        let (words, lent) = (terms.as_ptr(), scratch.as_mut_ptr());
+        let (state, length) = (state.as_mut_ptr(), state.len());
+        let (list, count) = (records.as_mut_ptr(), records.len());
+        self.set_list.map(|call| unsafe {
+            call(words, terms.len(), state, length, lent, scratch.len(), list, count, &mut 0)
+        })
     }
 
     pub fn read(&self, text: &[u8], terms: &mut [u16], state: &mut [u64]) -> usize {

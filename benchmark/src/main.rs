@@ -7,18 +7,20 @@
 //! * `log`: an event log in SQLite with a query for the preset's policy
 //! * `measure`: batches, timed in turn
 //! * `pieces`: where the time of a call goes
+//! * `lists`: set lists beside single requests
 //! * `texts`: reading and writing
 //! * `stack`: the stack that one call takes
 //! * `archives`, `compare`: archives beside each other
 //!
-//! `benchmark pieces`, `benchmark texts` and `benchmark stack` measure that
-//! only, `benchmark compare ARCHIVE...` times the calls of those archives and
-//! of the one that is built in turn, `benchmark loop` makes many requests for
-//! a profiler.
+//! `benchmark pieces`, `lists`, `texts` and `stack` measure that only,
+//! `benchmark compare ARCHIVE...` times the calls of those archives and of the
+//! one that is built in turn, `benchmark loop` makes many requests for a
+//! profiler.
 
 mod archives;
 mod compare;
 mod floor;
+mod lists;
 #[cfg_attr(not(sqlite), path = "no_log.rs")]
 mod log;
 mod matrices;
@@ -41,17 +43,19 @@ fn main() {
         None => {
             table();
             pieces::print();
+            lists::print();
             texts::print();
             println!();
             stack::print(&Archive::open(&archives::built())[0]);
         }
         Some("pieces") => pieces::print(),
+        Some("lists") => lists::print(),
         Some("texts") => texts::print(),
         Some("stack") => stack::print(&Archive::open(&archives::built())[0]),
         Some("compare") => compare::print(&words[1..]),
         Some("loop") => repeat(),
         Some(other) => {
-            eprintln!("{other}: not known; pieces, texts, stack, compare, loop or nothing")
+            eprintln!("{other}: not known; pieces, lists, texts, stack, compare, loop or nothing")
         }
     }
 }

@@ -3,6 +3,7 @@
 
 use crate::archives::{is_done, is_granted, Archive};
 use crate::workload::deep;
+use cuckooormolu::raw::Record;
 use cuckooormolu::{SCRATCH_WORDS, STATE_WORDS, TERMS_WORDS};
 use std::ffi::{c_int, c_void};
 use std::ptr::{null, null_mut};
@@ -61,7 +62,7 @@ fn touched(mut work: Work) -> usize {
 pub fn print(archive: &Archive) {
     let bare = touched(Box::new(|| ()));
     println!("stack under 256 entries nested 255 deep, in KiB:");
-    println!("{:<14} {:>8} {:>8} {:>8}", "", "request", "read", "write");
+    println!("{:<14} {:>8} {:>8} {:>8} {:>8}", "", "request", "set list", "read", "write");
     let mut most = 0;
     for (name, text) in deep() {
         let (mut terms, mut state) = (vec![0; TERMS_WORDS], vec![0; STATE_WORDS]);
@@ -81,9 +82,14 @@ pub fn print(archive: &Archive) {
             assert!(is_granted(archive.request(&terms, &mut state, &mut scratch, [0, 1, 2])));
             archive.request(&terms, &mut state, &mut scratch, [1, 1, 2]);
         }));
-        let bytes = [request, read, write].map(|bytes| bytes - bare);
-        let [request, read, write] = bytes.map(|bytes| bytes as f64 / 1024.0);
-        println!("{name:<14} {request:>8.1} {read:>8.1} {write:>8.1}");
+        let mut records = [0, 1].map(|event| Record { event, from: 1, to: 2, answer: 0 });
+        let list = touched(Box::new(|| {
+            let code = archive.set_list(&terms, &mut state, &mut scratch, &mut records);
+            assert!(code.is_none_or(is_done));
+        }));
+        let bytes = [request, list, read, write].map(|bytes| bytes.saturating_sub(bare));
+        let [request, list, read, write] = bytes.map(|bytes| bytes as f64 / 1024.0);
+        println!("{name:<14} {request:>8.1} {list:>8.1} {read:>8.1} {write:>8.1}");
         most = bytes.into_iter().fold(most, usize::max);
     }
     let verdict = if most <= MOST { "met   " } else { "MISSED" };

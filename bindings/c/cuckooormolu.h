@@ -4,10 +4,10 @@
  * Machine   x86-64 Linux only: the archive is machine code for it.
  * RAM       terms 2,472 bytes, state 24,584 bytes, scratch 16,384 bytes. The
  *           library allocates nothing and has no state of its own.
- * Stack     measured, not proved: reading takes 181 KiB, an opening, look or
- *           request 169 KiB, and each 1.16 KiB more for every level by which
- *           entries nest, at most 476 KiB; the other calls take 4 KiB. Provide
- *           CUCKOOORMOLU_STACK_BYTES.
+ * Stack     measured, not proved: reading takes 181 KiB, an opening, look,
+ *           request or set list 169 KiB, and each 1.16 KiB more for every
+ *           level by which entries nest, at most 476 KiB; the other calls take
+ *           4 KiB. Provide CUCKOOORMOLU_STACK_BYTES.
  * Time      measured, not proved. Entries that share others take no more than
  *           a memo's time; what can still take long is nested binds over
  *           entries that read their variables: about N to the depth of such
@@ -54,9 +54,9 @@ extern "C" {
 #endif
 
 #define CUCKOOORMOLU_VERSION_MAJOR 0
-#define CUCKOOORMOLU_VERSION_MINOR 4
+#define CUCKOOORMOLU_VERSION_MINOR 5
 #define CUCKOOORMOLU_VERSION_PATCH 0
-#define CUCKOOORMOLU_VERSION "0.4.0"
+#define CUCKOOORMOLU_VERSION "0.5.0"
 
 /* The named words of each memory. */
 #define CUCKOOORMOLU_TERMS_WORDS 1236
@@ -98,7 +98,7 @@ typedef enum cuckooormolu_code {
     /* A reach whose variable is 0, whose first formula has another free
      * variable, or whose second has that variable free. */
     CUCKOOORMOLU_REFUSED_REACH = 10,
-    /* A reading, writing, check or opening that is done. */
+    /* A reading, writing, check, opening or set list that is done. */
     CUCKOOORMOLU_DONE = 100,
     /* A look or request whose policy does not hold. */
     CUCKOOORMOLU_DENIED = 200,
@@ -126,6 +126,35 @@ struct cuckooormolu {
     uint64_t scratch[CUCKOOORMOLU_SCRATCH_WORDS];
 };
 
+/*
+ * A record of a set list: a request, and its answer, which the call fills in,
+ * whatever it was.
+ */
+struct cuckooormolu_record {
+    uint32_t event;
+    uint32_t from;
+    uint32_t to;
+    uint32_t answer;
+};
+
+/* The answer of a record. It is no code of a call. */
+typedef enum cuckooormolu_answer {
+    CUCKOOORMOLU_ANSWER_DENY = 0,
+    CUCKOOORMOLU_ANSWER_GRANT = 1,
+    /* An event or a member that does not exist. */
+    CUCKOOORMOLU_ANSWER_REFUSED = 9
+} cuckooormolu_answer;
+
+CUCKOOORMOLU_ASSERT(sizeof(struct cuckooormolu_record) == 16,
+                    "a record has 16 bytes");
+CUCKOOORMOLU_ASSERT(offsetof(struct cuckooormolu_record, event) == 0,
+                    "a record begins with its event");
+CUCKOOORMOLU_ASSERT(offsetof(struct cuckooormolu_record, from) == 4,
+                    "then comes its initiator");
+CUCKOOORMOLU_ASSERT(offsetof(struct cuckooormolu_record, to) == 8,
+                    "then its target");
+CUCKOOORMOLU_ASSERT(offsetof(struct cuckooormolu_record, answer) == 12,
+                    "and last its answer");
 CUCKOOORMOLU_ASSERT(sizeof(size_t) == 8, "lengths and codes have 64 bits");
 CUCKOOORMOLU_ASSERT(sizeof(struct cuckooormolu) == 2472 + 24584 + 16384,
                     "no padding between the memories");
@@ -221,14 +250,19 @@ size_t cuckooormolu_raw_request(const uint16_t *terms, size_t terms_length,
                                 uint64_t *state, size_t state_length,
                                 uint64_t *scratch, size_t scratch_length,
                                 size_t event, size_t from, size_t to);
+size_t cuckooormolu_raw_set_list(const uint16_t *terms, size_t terms_length,
+                                 uint64_t *state, size_t state_length,
+                                 uint64_t *scratch, size_t scratch_length,
+                                 struct cuckooormolu_record *records,
+                                 size_t records_length, size_t *count);
 
 /*
- * The calls. A memory is lent as a pointer and a count of words (bytes for a
- * text). The pointer must be aligned and good for that many words; memory that
- * a call may write must not overlap any other that is lent to it. A null
- * pointer lends an empty memory, whatever its length. Nothing else is asked of
- * the caller: every content and every length is answered. Memory longer than
- * named is accepted and its further words are not touched.
+ * The calls. A memory is lent as a pointer and a count of words (of bytes for
+ * a text, of records for a list). The pointer must be aligned and good for that
+ * many; memory that a call may write must not overlap any other that is lent
+ * to it. A null pointer lends an empty memory, whatever its length. Nothing
+ * else is asked of the caller: every content and every length is answered.
+ * Memory longer than named is accepted and its further words are not touched.
  */
 
 /* A null pointer stands for an empty memory. */
@@ -362,6 +396,36 @@ cuckooormolu_request(const uint16_t *terms, size_t terms_length,
                                  scratch, scratch_length, event, from, to));
 }
 
+/*
+ * Answers a list of records in order, each as a single request would be, but
+ * checks terms, state and scratch once. Done: every answer is filled in and
+ * *count is the number of grants; a record that is refused does not stop the
+ * list. Refused with 6, 7 or 8, an empty list too: no record is written, all
+ * memory is as lent, and *count is 0. `count` may be null, and so may the
+ * records, which are then an empty list.
+ */
+CUCKOOORMOLU_USED static inline struct cuckooormolu_result
+cuckooormolu_set_list(const uint16_t *terms, size_t terms_length,
+                      uint64_t *state, size_t state_length,
+                      uint64_t *scratch, size_t scratch_length,
+                      struct cuckooormolu_record *records,
+                      size_t records_length, size_t *count)
+{
+    CUCKOOORMOLU_LENT(uint16_t, terms, terms_length)
+    CUCKOOORMOLU_LENT(uint64_t, state, state_length)
+    CUCKOOORMOLU_LENT(uint64_t, scratch, scratch_length)
+    CUCKOOORMOLU_WANTED(count)
+    struct cuckooormolu_record no_records = {0, 0, 0, 0};
+    if (records == NULL) {
+        records = &no_records;
+        records_length = 0;
+    }
+    return cuckooormolu_result_of(
+        cuckooormolu_raw_set_list(terms, terms_length, state, state_length,
+                                  scratch, scratch_length, records,
+                                  records_length, count));
+}
+
 #undef CUCKOOORMOLU_LENT
 #undef CUCKOOORMOLU_WANTED
 
@@ -427,6 +491,16 @@ cuckooormolu_monitor_request(struct cuckooormolu *m, size_t event,
 {
     return cuckooormolu_request(CUCKOOORMOLU_TERMS(m), CUCKOOORMOLU_STATE(m),
                                 CUCKOOORMOLU_SCRATCH(m), event, from, to);
+}
+
+CUCKOOORMOLU_USED static inline struct cuckooormolu_result
+cuckooormolu_monitor_set_list(struct cuckooormolu *m,
+                              struct cuckooormolu_record *records,
+                              size_t length, size_t *count)
+{
+    return cuckooormolu_set_list(CUCKOOORMOLU_TERMS(m), CUCKOOORMOLU_STATE(m),
+                                 CUCKOOORMOLU_SCRATCH(m), records, length,
+                                 count);
 }
 
 #undef CUCKOOORMOLU_PART

@@ -1,6 +1,6 @@
 /*
  * A host of the monitor: reads a terms text and a requests text, makes the
- * requests in order and prints the answers.
+ * requests in one go, as a set list, and prints the answers.
  *
  *     example TERMS REQUESTS [WRITTEN]
  *
@@ -11,6 +11,7 @@
  */
 #include "cuckooormolu.h"
 
+#include <inttypes.h>
 #include <stdio.h>
 #include <stdlib.h>
 #include <string.h>
@@ -21,6 +22,10 @@ static uint8_t terms_text[MOST_BYTES + 1];
 static uint8_t requests_text[MOST_BYTES + 1];
 
 static struct cuckooormolu monitor;
+
+/* The requests, and for each line whether it is one. */
+static struct cuckooormolu_record records[MOST_BYTES];
+static bool formed[MOST_BYTES];
 
 /* The bytes of a file, one more than allowed at most. A file that can't be
  * opened counts as empty. */
@@ -49,40 +54,56 @@ static const uint8_t *number(const uint8_t *at, const uint8_t *stop,
     return at < stop && *at == end ? at + 1 : NULL;
 }
 
-/* Answers one line of requests, up to and with its line feed. */
-static size_t answer(const uint8_t *line, const uint8_t *stop)
+/* Takes a line of requests, up to and with its line feed, as a record. */
+static bool take(const uint8_t *line, const uint8_t *stop,
+                 struct cuckooormolu_record *record)
 {
     size_t event, from, to;
     if (stop - line < 2 || line[0] != 'R' || line[1] != '\t')
-        return CUCKOOORMOLU_REFUSED_FORM;
+        return false;
     const uint8_t *at = number(line + 2, stop, '\t', &event);
     if (at != NULL)
         at = number(at, stop, '\t', &from);
     if (at != NULL)
         at = number(at, stop, '\n', &to);
     if (at != stop)
-        return CUCKOOORMOLU_REFUSED_FORM;
-    return cuckooormolu_monitor_request(&monitor, event, from, to).code;
+        return false;
+    record->event = (uint32_t)event;
+    record->from = (uint32_t)from;
+    record->to = (uint32_t)to;
+    return true;
 }
 
-static void print_answer(size_t line, size_t code)
-{
-    if (cuckooormolu_granted(code))
-        printf("%zu\tgrant\n", line);
-    else if (cuckooormolu_denied(code))
-        printf("%zu\tdeny\n", line);
-    else
-        printf("%zu\trefuse\t%zu\n", line, code);
-}
-
-static void answer_all(const uint8_t *text, size_t length)
+/* Takes the lines of a text, and gives their count. A line that is no request
+ * has no record. */
+static size_t take_all(const uint8_t *text, size_t length, size_t *count)
 {
     const uint8_t *end = text + length;
-    for (size_t line = 1; text < end; line++) {
+    size_t lines = 0;
+    *count = 0;
+    while (text < end) {
         const uint8_t *feed = memchr(text, '\n', (size_t)(end - text));
         const uint8_t *stop = feed == NULL ? end : feed + 1;
-        print_answer(line, answer(text, stop));
+        formed[lines] = take(text, stop, &records[*count]);
+        *count += formed[lines++];
         text = stop;
+    }
+    return lines;
+}
+
+static void print_answers(size_t lines)
+{
+    const struct cuckooormolu_record *record = records;
+    for (size_t line = 0; line < lines; line++) {
+        if (!formed[line])
+            printf("%zu\trefuse\t%d\n", line + 1, CUCKOOORMOLU_REFUSED_FORM);
+        else if (record->answer == CUCKOOORMOLU_ANSWER_GRANT)
+            printf("%zu\tgrant\n", line + 1);
+        else if (record->answer == CUCKOOORMOLU_ANSWER_DENY)
+            printf("%zu\tdeny\n", line + 1);
+        else
+            printf("%zu\trefuse\t%" PRIu32 "\n", line + 1, record->answer);
+        record += formed[line];
     }
 }
 
@@ -128,6 +149,13 @@ int main(int argc, char **argv)
         printf("requests\t%d\t0\n", CUCKOOORMOLU_REFUSED_SHORT);
         return 0;
     }
-    answer_all(requests_text, requests_bytes);
+    size_t count;
+    size_t lines = take_all(requests_text, requests_bytes, &count);
+    code = cuckooormolu_monitor_set_list(&monitor, records, count, NULL).code;
+    if (!cuckooormolu_done(code)) {
+        fprintf(stderr, "%s\n", cuckooormolu_words(code));
+        return 1;
+    }
+    print_answers(lines);
     return argc == 4 ? write_to(argv[3]) : 0;
 }

@@ -62,6 +62,8 @@ static void zeroed(void)
     EXPECT(cuckooormolu_monitor_check(&m).code == CUCKOOORMOLU_REFUSED_TERMS);
     EXPECT(cuckooormolu_monitor_request(&m, 0, 0, 0).code ==
            CUCKOOORMOLU_REFUSED_TERMS);
+    EXPECT(cuckooormolu_monitor_set_list(&m, NULL, 0, NULL).code ==
+           CUCKOOORMOLU_REFUSED_TERMS);
 }
 
 static void calls(void)
@@ -118,6 +120,81 @@ static void reaching(void)
     EXPECT(cuckooormolu_monitor_read(&m, faulty, sizeof reach - 1, &line)
                .code == CUCKOOORMOLU_REFUSED_REACH);
     EXPECT(line == 8);
+}
+
+static struct cuckooormolu_record record(uint32_t event, uint32_t from,
+                                         uint32_t to)
+{
+    struct cuckooormolu_record made = {event, from, to, 77};
+    return made;
+}
+
+/* A set list answers as single requests one after another, and leaves the
+ * same memory. */
+static void set_list(void)
+{
+    const uint32_t wanted[] = {0, 1, 9, 1, 9, 9, 0};
+    struct cuckooormolu_record records[] = {
+        record(1, 0, 2), record(0, 0, 2), record(2, 0, 2), record(1, 0, 2),
+        record(0, 3, 0), record(0, 0, UINT32_MAX), record(1, 2, 0)};
+    const size_t length_of_list = sizeof records / sizeof *records;
+    size_t count = 77;
+    EXPECT(cuckooormolu_done(
+        cuckooormolu_monitor_read(&m, text, length, NULL).code));
+    struct cuckooormolu single = m;
+    EXPECT(cuckooormolu_done(
+        cuckooormolu_monitor_set_list(&m, records, length_of_list, &count)
+            .code));
+    EXPECT(count == 2);
+    for (size_t i = 0; i < length_of_list; i++) {
+        const struct cuckooormolu_record *r = &records[i];
+        size_t code =
+            cuckooormolu_monitor_request(&single, r->event, r->from, r->to)
+                .code;
+        EXPECT(r->answer == wanted[i]);
+        EXPECT(cuckooormolu_granted(code) ==
+               (r->answer == CUCKOOORMOLU_ANSWER_GRANT));
+        EXPECT(cuckooormolu_denied(code) ==
+               (r->answer == CUCKOOORMOLU_ANSWER_DENY));
+        EXPECT((code == CUCKOOORMOLU_REFUSED_NAME) ==
+               (r->answer == CUCKOOORMOLU_ANSWER_REFUSED));
+    }
+    EXPECT(records[5].event == 0 && records[5].from == 0);
+    EXPECT(records[5].to == UINT32_MAX);
+    EXPECT(memcmp(&single, &m, sizeof m) == 0);
+}
+
+/* A list whose checks fail is not written, and an empty one is checked too. */
+static void refused_list(void)
+{
+    struct cuckooormolu_record one = record(0, 0, 1);
+    size_t count = 77;
+    EXPECT(cuckooormolu_done(
+        cuckooormolu_monitor_set_list(&m, NULL, 0, &count).code));
+    EXPECT(count == 0);
+    EXPECT(cuckooormolu_done(
+        cuckooormolu_monitor_set_list(&m, NULL, 9, NULL).code));
+    struct cuckooormolu before = m;
+    count = 77;
+    EXPECT(cuckooormolu_set_list(m.terms, CUCKOOORMOLU_TERMS_WORDS,
+                                 m.state, CUCKOOORMOLU_STATE_WORDS,
+                                 m.scratch, CUCKOOORMOLU_SCRATCH_WORDS - 1,
+                                 &one, 1, &count).code ==
+           CUCKOOORMOLU_REFUSED_SHORT);
+    EXPECT(count == 0 && one.answer == 77);
+    EXPECT(cuckooormolu_monitor_set_list(NULL, &one, 1, NULL).code ==
+           CUCKOOORMOLU_REFUSED_SHORT);
+    EXPECT(one.answer == 77);
+    EXPECT(memcmp(&before, &m, sizeof m) == 0);
+    m.state[CUCKOOORMOLU_STATE_WORDS - 1] = UINT64_MAX;
+    EXPECT(cuckooormolu_monitor_set_list(&m, &one, 1, &count).code ==
+           CUCKOOORMOLU_REFUSED_STATE);
+    EXPECT(cuckooormolu_monitor_set_list(&m, &one, 0, &count).code ==
+           CUCKOOORMOLU_REFUSED_STATE);
+    m.terms[0] = 0;
+    EXPECT(cuckooormolu_monitor_set_list(&m, &one, 1, &count).code ==
+           CUCKOOORMOLU_REFUSED_TERMS);
+    EXPECT(count == 0 && one.answer == 77);
 }
 
 /* An output of the size that is told takes the whole text, a byte less none
@@ -201,6 +278,8 @@ int main(void)
     zeroed();
     calls();
     reaching();
+    set_list();
+    refused_list();
     size();
     nulls();
     lengths();

@@ -1,8 +1,13 @@
 //! Holds another implementation against the record, call by call.
 
+mod lists;
+
+pub use lists::{lists, set_list};
+
 use crate::expect;
 use crate::generate::{Case, Rng};
 use crate::record::{after_effects, Answer, Call, Record};
+use crate::set_list::Item;
 use crate::terms::memory::{self, State, SCRATCH_WORDS, STATE_WORDS, TERMS_WORDS};
 use crate::terms::{self, Refusal, Terms};
 
@@ -19,6 +24,15 @@ pub trait Other {
         state: &mut [u64],
         scratch: &mut [u64],
     ) -> Answer;
+
+    /// Answers a set list and gives the count of grants.
+    fn set_list(
+        &mut self,
+        terms: &mut [u16],
+        state: &mut [u64],
+        scratch: &mut [u64],
+        items: &mut [Item],
+    ) -> Result<usize, Refusal>;
 
     /// Writes a text and gives the count of its bytes.
     fn write(&mut self, terms: &[u16], state: &[u64], output: &mut [u8]) -> Result<usize, Refusal>;

@@ -38,17 +38,26 @@ pub fn writing(terms: &[u16], state: &[u64], output_length: usize) -> Result<Vec
     Ok(text)
 }
 
-/// A request or look over lent memory: the terms and state it is decided by,
-/// or the refusal. The decision itself is the record's.
-pub fn calling(terms: &[u16], state: &[u64], call: &Call) -> Result<(Terms, State), Refusal> {
-    let short = terms.len() < TERMS_WORDS
-        || state.len() < STATE_WORDS
-        || call.scratch_words < SCRATCH_WORDS;
+/// What comes before the records of a set list over lent memory: the terms
+/// and state it is answered by, or refusal 6, 7 or 8.
+pub fn listing(
+    terms: &[u16],
+    state: &[u64],
+    scratch_words: usize,
+) -> Result<(Terms, State), Refusal> {
+    let short =
+        terms.len() < TERMS_WORDS || state.len() < STATE_WORDS || scratch_words < SCRATCH_WORDS;
     if short {
         return Err(Refusal::plain(6));
     }
-    let (terms, state) = lent(terms, state)?;
-    if call.event >= terms.events || call.from.max(call.to) >= terms.members {
+    lent(terms, state)
+}
+
+/// A request or look over lent memory: the terms and state it is decided by,
+/// or the refusal. The decision itself is the record's.
+pub fn calling(terms: &[u16], state: &[u64], call: &Call) -> Result<(Terms, State), Refusal> {
+    let (terms, state) = listing(terms, state, call.scratch_words)?;
+    if !terms.has(call.event, call.from, call.to) {
         return Err(Refusal::plain(9));
     }
     Ok((terms, state))

@@ -8,6 +8,7 @@ pub mod size;
 pub mod words;
 
 use crate::record::{Call, Record};
+use crate::set_list::Item;
 use crate::terms::memory::{self, SCRATCH_WORDS};
 use crate::terms::{self, Terms};
 use size::Size;
@@ -149,6 +150,21 @@ pub fn calls(rng: &mut Rng, terms: &Terms, count: usize, largest: usize) -> Vec<
         calls.push(call);
     }
     calls
+}
+
+/// How long a set list is: some tens at most, now and then none.
+pub fn list_length(rng: &mut Rng) -> usize {
+    let most = rng.pick(&[1, 4, 12, 40]);
+    rng.below(most + 1)
+}
+
+/// A call as an item of a set list, with anything for an answer. A number that
+/// is too large becomes the largest.
+pub fn item(rng: &mut Rng, call: &Call) -> Item {
+    let [event, from, to] =
+        [call.event, call.from, call.to].map(|number| number.try_into().unwrap_or(u32::MAX));
+    let answer = if rng.percent(50) { rng.pick(&[0, 1, 9]) } else { rng.draw() as u32 };
+    Item { event, from, to, answer }
 }
 
 /// A number at or above a bound and not above the largest.

@@ -5,6 +5,7 @@
 //!
 //! * `terms`: the terms file and the lent memory, read and written
 //! * `record`: the list of graphs, and the meaning of a formula over it
+//! * `set_list`: many requests in one call
 //! * `expect`: what each call over lent memory must give
 //! * `program`: what the program must print
 //! * `cases`: what the program of cases must print
@@ -18,5 +19,6 @@ pub mod expect;
 pub mod generate;
 pub mod program;
 pub mod record;
+pub mod set_list;
 pub mod shrink;
 pub mod terms;

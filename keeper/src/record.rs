@@ -81,7 +81,7 @@ impl Record {
         if scratch_words < SCRATCH_WORDS {
             return Answer::Refused(Refusal::plain(6));
         }
-        if event >= self.terms.events || from.max(to) >= self.terms.members {
+        if !self.terms.has(event, from, to) {
             return Answer::Refused(Refusal::plain(9));
         }
         if !self.permits(event, from, to) {

@@ -203,6 +203,11 @@ pub struct Terms {
 }
 
 impl Terms {
+    /// Whether there are such an event and two such members.
+    pub fn has(&self, event: usize, from: usize, to: usize) -> bool {
+        event < self.events && from.max(to) < self.members
+    }
+
     /// The past-time entries in entry order: table t belongs to the t-th.
     pub fn past(&self) -> Vec<usize> {
         (0..self.entries.len()).filter(|&entry| self.entries[entry].is_past()).collect()

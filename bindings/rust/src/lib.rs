@@ -3,9 +3,9 @@
 //! * **x86-64 Linux only.** The static library is machine code for it.
 //! * **Memory**: terms have 2,472 bytes, a state 24,584, scratch 16,384. This
 //!   crate puts them on the heap; the library allocates nothing.
-//! * **Stack**: measured, not proved. Reading takes 181 KiB, an opening, look
-//!   or request 169 KiB, and each 1.16 KiB more for every level by which
-//!   entries nest, at most 476 KiB.
+//! * **Stack**: measured, not proved. Reading takes 181 KiB, an opening, look,
+//!   request or set list 169 KiB, and each 1.16 KiB more for every level by
+//!   which entries nest, at most 476 KiB.
 //! * **Terms and states are plain words** that may be copied and kept. In a
 //!   file they have the machine's byte order, little-endian.
 //! * **Threads**: two monitors share nothing.
@@ -32,6 +32,7 @@
 //! ```
 //!
 //! * [`Monitor`], [`Terms`] and [`State`] own their memory.
+//! * [`Record`] is a request of a set list: many requests in one call.
 //! * [`Refusal`] and [`TextError`] say in words why nothing was decided.
 //! * [`raw`] has the library's functions over slices of any length.
 //!
@@ -46,6 +47,7 @@ mod layout;
 mod monitor;
 mod names;
 pub mod raw;
+mod record;
 mod refusal;
 mod state;
 mod terms;
@@ -54,6 +56,7 @@ pub use answer::Answer;
 pub use layout::{SCRATCH_WORDS, STATE_WORDS, TERMS_WORDS};
 pub use monitor::Monitor;
 pub use names::{Edge, Event, Member, Relation, Request, Variable};
+pub use record::Record;
 pub use refusal::{Refusal, TextError};
 pub use state::State;
 pub use terms::{Action, Direction, Effect, Entry, Label, Terms};

@@ -1,7 +1,7 @@
 //! The monitor: terms, the present state, and scratch for its calls.
 
 use crate::layout::*;
-use crate::{raw, Answer, Refusal, Request, State, Terms, TextError};
+use crate::{raw, Answer, Record, Refusal, Request, State, Terms, TextError};
 use alloc::boxed::Box;
 use alloc::vec;
 use alloc::vec::Vec;
@@ -66,6 +66,27 @@ impl Monitor {
     /// What [`Monitor::request`] would answer; it makes no moment.
     pub fn look(&self, request: Request) -> Result<Answer, Refusal> {
         raw::look(self.terms.words(), self.state.words(), &self.scratch[..], request.into())
+    }
+
+    /// Answers a list of records in order, each as [`Monitor::request`] would,
+    /// and gives the count of grants. It takes less time than single requests.
+    ///
+    /// ```
+    /// use cuckooormolu::{Answer, Event, Member, Monitor, Record, Refusal, Request};
+    ///
+    /// let text = b"M\t2\nL\t0\t2\nF\t0\ttop\t0\t0\nF\t1\tin\t0\t0\nP\t0\t0\nP\t1\t1\n";
+    /// let mut monitor = Monitor::read(text)?;
+    /// let ask = |event| Request { event: Event(event), from: Member(1), to: Member(1) };
+    /// let mut records = [1, 0, 2, 1].map(|event| Record::new(ask(event)));
+    /// assert_eq!(monitor.set_list(&mut records), 2);
+    /// assert_eq!(records[0].answer(), Some(Ok(Answer::Deny)));
+    /// assert_eq!(records[2].answer(), Some(Err(Refusal::NoSuchName)));
+    /// assert_eq!(records[3].answer(), Some(Ok(Answer::Grant)));
+    /// # Ok::<(), cuckooormolu::TextError>(())
+    /// ```
+    pub fn set_list(&mut self, records: &mut [Record]) -> usize {
+        let (state, scratch) = (&mut self.state.0[..], &mut self.scratch[..]);
+        raw::set_list(self.terms.words(), state, scratch, Record::plain(records)).expect(CHECKED)
     }
 
     /// The terms text with the present relations, numbers without leading

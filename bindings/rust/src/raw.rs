@@ -22,7 +22,33 @@ impl From<crate::Request> for Request {
     }
 }
 
+/// A record of a set list: a request by any numbers, and its answer, which
+/// [`set_list`] fills in, whatever it was: 0 for a denial, 1 for a grant, 9
+/// for a request that was refused by that number.
+#[derive(Clone, Copy, Debug, PartialEq, Eq, Hash)]
+#[repr(C)]
+pub struct Record {
+    pub event: u32,
+    pub from: u32,
+    pub to: u32,
+    pub answer: u32,
+}
+
+impl Record {
+    /// The answer; none where the number is no answer's.
+    pub fn answered(&self) -> Option<Result<Answer, Refusal>> {
+        match self.answer {
+            0 => Some(Ok(Answer::Deny)),
+            1 => Some(Ok(Answer::Grant)),
+            9 => Some(Err(Refusal::NoSuchName)),
+            _ => None,
+        }
+    }
+}
+
 mod library {
+    use super::Record;
+
     extern "C" {
         pub fn cuckooormolu_raw_check(
             terms: *const u16,
@@ -60,6 +86,18 @@ mod library {
             event: usize,
             from: usize,
             to: usize,
+        ) -> usize;
+
+        pub fn cuckooormolu_raw_set_list(
+            terms: *const u16,
+            terms_length: usize,
+            state: *mut u64,
+            state_length: usize,
+            scratch: *mut u64,
+            scratch_length: usize,
+            records: *mut Record,
+            records_length: usize,
+            count: *mut usize,
         ) -> usize;
 
         pub fn cuckooormolu_raw_read(
@@ -176,6 +214,33 @@ pub fn request(
             request.to,
         )
     })
+}
+
+/// Answers a list of records in order, each as [`request`] would, but checks
+/// terms, state and scratch once; gives the count of grants. A record that is
+/// refused does not stop the list. Refused with 6, 7 or 8, an empty list too:
+/// then no record is written.
+pub fn set_list(
+    terms: &[u16],
+    state: &mut [u64],
+    scratch: &mut [u64],
+    records: &mut [Record],
+) -> Result<usize, Refusal> {
+    let mut count = 0;
+    let code = unsafe {
+        library::cuckooormolu_raw_set_list(
+            terms.as_ptr(),
+            terms.len(),
+            state.as_mut_ptr(),
+            state.len(),
+            scratch.as_mut_ptr(),
+            scratch.len(),
+            records.as_mut_ptr(),
+            records.len(),
+            &mut count,
+        )
+    };
+    done(code).map(|()| count)
 }
 
 /// Reads a terms text and fills the named words of terms and state; or the

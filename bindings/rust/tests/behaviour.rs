@@ -367,6 +367,9 @@ fn the_c_header_has_the_same_numbers() {
     for (name, refusal) in refusals.into_iter().zip(Refusal::ALL) {
         assert_eq!(defined(&format!("CUCKOOORMOLU_REFUSED_{name}")), refusal.number());
     }
+    for (name, answer) in [("DENY", 0), ("GRANT", 1), ("REFUSED", 9)] {
+        assert_eq!(defined(&format!("CUCKOOORMOLU_ANSWER_{name}")), answer);
+    }
     let header: String = include_str!("../../c/cuckooormolu.h").lines().map(str::trim).collect();
     let header = header.replace("\"\"", "");
     for refusal in Refusal::ALL {

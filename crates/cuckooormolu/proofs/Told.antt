@@ -19,6 +19,9 @@ use Rattle.memory.specs.Checks.{goodMemory, goodState, goodRelations}
 use Rattle.memory.specs.Outcome.{Outcome, checks, opens}
 use Rattle.memory.specs.Outcome.Outcome.{passed, failed}
 use Rattle.monitor.specs.Monitor.{named, answer}
+use Rattle.monitor.specs.SetList.{Listing, singly, listChecks, listing, listed}
+use Rattle.monitor.specs.SetList.Listing.{counted, refused as unlisted}
+use Rattle.monitor.specs.declared.set_list.Record.{Record}
 use Rattle.fields.specs.Split.{Lines, split, lines}
 use Rattle.fields.specs.Split.Lines.{done, cut, line}
 use Rattle.file.specs.Line.{parsed}
@@ -30,7 +33,7 @@ use Rattle.writer.specs.Write.{Writing, fitted, sizeGives, writeGives, writtenT
 use Rattle.writer.specs.Write.Writing.{bytes, unwritten}
 use Rattle.file.specs.declared.line.Line.{Line}
 use Rattle.file.specs.declared.line.Line.the-variants.{Members, Labels, Entry, Policy, Effect, Edge, Malformed}
-use Rattle.cuckooormolu.specs.Codes.{doneCode, Low, ToldAnswer, ToldOutcome, ToldWriting}
+use Rattle.cuckooormolu.specs.Codes.{doneCode, Low, ToldAnswer, ToldOutcome, ToldWriting, ToldListing}
 
 -- ---- a low number for each refusal
 
@@ -45,6 +48,10 @@ LowOutcome (failed n l) = Low n
 abbrev LowWriting : Writing → Type 0
 LowWriting (bytes n) = Unit {0}
 LowWriting (unwritten n l) = Low n
+
+abbrev LowListing : Listing → Type 0
+LowListing (counted n) = Unit {0}
+LowListing (unlisted n l) = Low n
 
 told-answer : (a : Answer) → LowAnswer a → ToldAnswer a
 told-answer (decided grant) h = record {
@@ -79,6 +86,16 @@ told-writing (bytes n) h = record {
   refuses = λ n l e. let z : _≡_ {A = ℕ} 0 1 = cc in absurd (omega arith);
 }
 told-writing (unwritten n l) h = record {
+  done = ((λ e. absurd (omega arith)), (λ e. let z : _≡_ {A = ℕ} 0 1 = cc in absurd (omega arith)));
+  refuses = λ m k e. let z : n ≡ m = cc in (omega arith, omega arith);
+}
+
+told-listing : (x : Listing) → LowListing x → ToldListing x
+told-listing (counted n) h = record {
+  done = ((λ e. refl), (λ e. refl));
+  refuses = λ n l e. let z : _≡_ {A = ℕ} 0 1 = cc in absurd (omega arith);
+}
+told-listing (unlisted n l) h = record {
   done = ((λ e. absurd (omega arith)), (λ e. let z : _≡_ {A = ℕ} 0 1 = cc in absurd (omega arith)));
   refuses = λ m k e. let z : n ≡ m = cc in (omega arith, omega arith);
 }
@@ -118,6 +135,18 @@ low-answer terms state scratch j u v =
     let T = termsOf terms in
     low-decided (ltb (length terms) termsWords || (ltb (length state) stateWords || ltb (length scratch) scratchWords)) (not (goodMemory terms))
     (not (goodState T state)) (not (named T j u v)) (cond (decideNow T (stateOf state) j u v) grant deny)
+
+low-short : (b : Bool) (o : Outcome) → LowOutcome o → LowOutcome (cond b (failed 6 0) o)
+low-short true o h = low 6 refl
+low-short false o h = h
+
+low-list-checks : (terms state scratch : List ℕ) → LowOutcome (listChecks terms state scratch)
+unfolding listChecks
+low-list-checks terms state scratch = low-short (ltb (length scratch) scratchWords) (checks terms state) (low-checks terms state)
+
+low-listing : (o : Outcome) (n : ℕ) → LowOutcome o → LowListing (listing o n)
+low-listing passed n h = tt
+low-listing (failed k l) n h = h
 
 low-fitted : (short : Bool) (n : ℕ) (o : Outcome) → LowOutcome o → LowWriting (fitted short n o)
 low-fitted true n passed h = low 6 refl
@@ -197,3 +226,9 @@ unfolding writeGives
 told-write terms state out =
     let n = length (writtenText terms state) in
     told-writing (writeGives terms state out) (low-fitted (ltb (length out) n) n (checks terms state) (low-checks terms state))
+
+pub told-list : (terms state scratch : List ℕ) (rs : List Record) → ToldListing (listed terms state scratch rs)
+unfolding listed
+told-list terms state scratch rs =
+    told-listing (listed terms state scratch rs)
+    (low-listing (listChecks terms state scratch) (singly terms state scratch rs .grants) (low-list-checks terms state scratch))

@@ -7,6 +7,8 @@ use Rattle.theory.specs.Keeper.Verdict.{grant, deny}
 use Rattle.theory.specs.Keeper.Answer.{decided, refused}
 use Rattle.memory.specs.Outcome.{Outcome}
 use Rattle.memory.specs.Outcome.Outcome.{passed, failed}
+use Rattle.monitor.specs.SetList.{Listing}
+use Rattle.monitor.specs.SetList.Listing.{counted, refused as unlisted}
 use Rattle.writer.specs.Write.{Writing}
 use Rattle.writer.specs.Write.Writing.{bytes, unwritten}
 
@@ -42,6 +44,15 @@ abbrev pub writingCount : Writing → ℕ
 writingCount (bytes n) = n
 writingCount (unwritten n l) = 0
 
+-- A set list's code, and its count of grants; 0 where it is refused.
+abbrev pub listingCode : Listing → ℕ
+listingCode (counted n) = doneCode
+listingCode (unlisted n l) = n
+
+abbrev pub listingCount : Listing → ℕ
+listingCount (counted n) = n
+listingCount (unlisted n l) = 0
+
 -- ---- what a host may conclude from a code
 
 abbrev pub Low : ℕ → Type 0
@@ -59,3 +70,7 @@ pub record ToldOutcome (o : Outcome) : Type 0 where
 pub record ToldWriting (w : Writing) : Type 0 where
   pub done : (writingCode w ≡ doneCode) ↔ (w ≡ bytes (writingCount w))
   pub refuses : (n l : ℕ) → w ≡ unwritten n l → Low n
+
+pub record ToldListing (x : Listing) : Type 0 where
+  pub done : (listingCode x ≡ doneCode) ↔ (x ≡ counted (listingCount x))
+  pub refuses : (n l : ℕ) → x ≡ unlisted n l → Low n

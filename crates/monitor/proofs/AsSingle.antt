@@ -1,21 +1,19 @@
 -- A set list is single requests one after another: what its result, its answers and its refusals tell.
 use Prim.Native.Nat.{ℕ, zero, suc, _+_, _≤_, _<_}
 use native.Mathlib.Omega.{arith}
-use mathlib.Core.Path.{_≡_, refl, sym, ap, ap₂, _∙_}
+use mathlib.Core.Path.{_≡_, refl, sym, ap, ap₂}
 use mathlib.Core.Logic.{_⊎_, inl, inr}
-use mathlib.Core.Bool.{Bool, true, false, cond}
+use mathlib.Core.Bool.{Bool, true, false}
 use mathlib.Core.List.{List, [], _∷_}
 use lib.ListN.{length, getD}
-use Rattle.theory.specs.Keeper.{Answer}
-use Rattle.theory.specs.Keeper.Verdict.{grant, deny}
-use Rattle.theory.specs.Keeper.Answer.{decided, refused}
+use Rattle.theory.specs.Keeper.Answer.{refused}
 use Rattle.theory.specs.Limits.{scratchWords}
 use Rattle.theory.specs.Tables.{decideNow}
 use Rattle.memory.specs.Layout.{termsOf, stateOf}
 use Rattle.memory.specs.Outcome.Outcome.{passed, failed}
 use Rattle.memory.proofs.Outcomes.{Checked}
 use Rattle.monitor.specs.Monitor.{named, answer, stateAfter, scratchAfter}
-use Rattle.monitor.specs.SetList.{numberOf, Run, singly, listChecks, listed, left}
+use Rattle.monitor.specs.SetList.{numberOf, singly, listChecks, listed, left}
 use Rattle.monitor.specs.SetList.Listing.{counted, refused as refusedList}
 use Rattle.monitor.specs.Listing.{gainOf}
 use Rattle.monitor.specs.declared.set_list.Record.{Record}
@@ -29,6 +27,10 @@ unfoldable pub ones : List Record → ℕ
 ones [] = 0
 ones (r ∷ rs) = gainOf (r .answer) + ones rs
 
+-- deny, grant, or refused by 9
+abbrev pub Plain : ℕ → Type 0
+Plain k = (k ≡ 0) ⊎ ((k ≡ 1) ⊎ (k ≡ 9))
+
 module _ (terms : List ℕ) where
   counts-ones : (state scratch : List ℕ) (rs : List Record) → singly terms state scratch rs .grants ≡ ones (singly terms state scratch rs .records)
   unfolding singly ones
@@ -36,10 +38,6 @@ module _ (terms : List ℕ) where
   counts-ones state scratch (r ∷ rs) =
       ap₂ _+_ (sym (one-granted terms state scratch (r .event) (r .from) (r .to)))
       (counts-ones (stateAfter terms state scratch (r .event) (r .from) (r .to)) (scratchAfter terms state scratch (r .event) (r .from) (r .to)) rs)
-
-  -- deny, grant, or refused by 9
-  abbrev Plain : ℕ → Type 0
-  Plain k = (k ≡ 0) ⊎ ((k ≡ 1) ⊎ (k ≡ 9))
 
   plain-number : (state scratch : List ℕ) → Checked terms state → scratchWords ≤ length scratch → (j u v : ℕ) → Plain (numberOf (answer terms state scratch j u v))
   plain-number state scratch k l j u v = by-name (named (termsOf terms) j u v) refl
@@ -67,7 +65,7 @@ module _ (terms state scratch : List ℕ) (rs : List Record) where
   pub as-single-requests : listChecks terms state scratch ≡ passed →
       (left terms state scratch rs ≡ singly terms state scratch rs)
       × (listed terms state scratch rs ≡ counted (ones (left terms state scratch rs .records)))
-      × ((i : ℕ) → i < length rs → Plain terms (getD (left terms state scratch rs .records) i blank .answer))
+      × ((i : ℕ) → i < length rs → Plain (getD (left terms state scratch rs .records) i blank .answer))
   unfolding left listed
   as-single-requests e =
       let p = list-passed terms state scratch (sym e) in

@@ -54,7 +54,7 @@ gain-small r = at (eqb r 1)
 pub next-fits : (i n : ℕ) → i < n → n < 2 ^ 64 → i + 1 < 2 ^ 64
 next-fits i n l m = omega (arith, l, m)
 
-pub count-below : (g i n : ℕ) → g ≤ i → i < n → n < 2 ^ 64 → g < 18446744073709551615
+pub count-below : (g i n : ℕ) → g ≤ i → i < n → n < 2 ^ 64 → g + 1 < 2 ^ 64
 count-below g i n s l m = omega (arith, s, l, m)
 
 pub turns-within : (o : Outcome) (n : ℕ) → turnsOf o n ≤ n

@@ -1,7 +1,7 @@
 -- A `Record` as an element of a slice: its row, its machine value, what holding one tells of its fields, and where element i lies.
 use mathlib.Core.Path.{_≡_, refl, sym}
 use Prim.Native.Nat.{ℕ, _+_, _*_, _<_, _^_}
-use mathlib.Core.List.{List, [], _∷_}
+use mathlib.Core.List.{List}
 use mir.Syntax.{w64}
 use mir.Val.{Val, Fits}
 use borrow.Author.Needs.{scaled-fits}

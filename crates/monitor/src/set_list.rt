@@ -1,6 +1,6 @@
 // A set list: a lent list of request records, answered in order. Terms, state and scratch are checked once, before any record.
 ghost use mathlib.Core.Path.{_≡_};
-ghost use Prim.Native.Nat.{_+_, _<_};
+ghost use Prim.Native.Nat.{_+_, _<_, _^_};
 ghost use Rattle.memory.specs.Outcome.{outcomeOf};
 ghost use Rattle.monitor.specs.Monitor.{answer, stateAfter, scratchAfter};
 ghost use Rattle.monitor.specs.SetList.{listingOf, numberOf, listing, listed, left};
@@ -89,12 +89,13 @@ fn step(
 
 // The count, with one more for a grant.
 fn tally(count: usize, answer: u32) -> usize
-    requires { ⌜ count < 18446744073709551615 ⌝ }
+    requires { ⌜ count + 1 < 2 ^ 64 ⌝ }
     ensures { λ r. ⌜ r ≡ count + gainOf answer ⌝ }
 {
     if answer == 1 { count + 1 } else { count }
 }
 
+// What the list gives: the count, or what refused it.
 fn finish(inspected: Inspected, count: usize) -> Listed
     ensures { λ r. ⌜ listingOf r ≡ listing (outcomeOf (inspected .outcome)) count ⌝ }
 {

@@ -1,14 +1,16 @@
 //! The static library as the keeper's other implementation.
 //!
 //! Every call goes to the lent slices. Where the memory is regular the same
-//! call is made of a `Monitor`, which has to agree in answer and state.
+//! call is made of a `Monitor`, which has to agree in answer and state. A set
+//! list is made besides by single requests.
 
 use crate::shown;
 use crate::tally::Tally;
-use cuckooormolu::{raw, Event, Member, Monitor, Request};
+use cuckooormolu::{raw, Event, Member, Monitor, Record, Request};
 use cuckooormolu::{SCRATCH_WORDS, STATE_WORDS, TERMS_WORDS};
 use keeper::compare::Other;
 use keeper::record::{Answer, Call};
+use keeper::set_list::{self, Item};
 use keeper::terms::{self, memory, Refusal};
 
 /// The library, and what it and its binding have been seen to do.
@@ -75,6 +77,44 @@ fn named(call: &Call) -> Result<Request, cuckooormolu::Refusal> {
     })
 }
 
+fn plain_record(item: &Item) -> raw::Record {
+    let Item { event, from, to, answer } = *item;
+    raw::Record { event, from, to, answer }
+}
+
+/// The request of an item. No terms have a number that a byte doesn't hold, nor
+/// the largest that it holds.
+fn record(item: &Item) -> Record {
+    let [event, from, to] =
+        [item.event, item.from, item.to].map(|number| number.try_into().unwrap_or(u8::MAX));
+    Record::new(Request { event: Event(event), from: Member(from), to: Member(to) })
+}
+
+/// A set list by single requests: answers and count. It is refused where a
+/// request of nothing that exists is refused by another number than 9.
+fn singly(
+    terms: &[u16],
+    state: &mut [u64],
+    scratch: &mut [u64],
+    items: &[Item],
+) -> Result<(Vec<u32>, usize), Refusal> {
+    let mut ask = |event, from, to| {
+        answer(raw::request(terms, state, scratch, raw::Request { event, from, to }))
+    };
+    match ask(usize::MAX, 0, 0) {
+        Answer::Refused(Refusal { number: 9, .. }) => {}
+        Answer::Refused(refusal) => return Err(refusal),
+        decided => panic!("an event that does not exist was decided: {decided:?}"),
+    }
+    let numbers: Vec<u32> = items
+        .iter()
+        .map(|item| ask(item.event as usize, item.from as usize, item.to as usize))
+        .map(set_list::number)
+        .collect();
+    let count = numbers.iter().filter(|&&number| number == 1).count();
+    Ok((numbers, count))
+}
+
 impl Other for Library<'_> {
     fn read(&mut self, text: &[u8], terms: &mut [u16], state: &mut [u64]) -> Result<(), Refusal> {
         let refused =
@@ -120,6 +160,38 @@ impl Other for Library<'_> {
             self.same("answer", bound, got);
             self.same_words(terms, state);
         }
+        got
+    }
+
+    fn set_list(
+        &mut self,
+        terms: &mut [u16],
+        state: &mut [u64],
+        scratch: &mut [u64],
+        items: &mut [Item],
+    ) -> Result<usize, Refusal> {
+        let (mut single_state, mut single_scratch) = (state.to_vec(), scratch.to_vec());
+        let single = singly(terms, &mut single_state, &mut single_scratch, items);
+        let mut records: Vec<raw::Record> = items.iter().map(plain_record).collect();
+        let mut bound: Vec<Record> = items.iter().map(record).collect();
+        let got = raw::set_list(terms, state, scratch, &mut records).map_err(plain);
+        let numbers: Vec<u32> = records.iter().map(|record| record.answer).collect();
+        self.same("single requests", single, got.map(|count| (numbers, count)));
+        let right = single_state == state && single_scratch == scratch;
+        self.same("memory after single requests", right, true);
+        if let (Some(monitor), true) = (&mut self.monitor, scratch.len() >= SCRATCH_WORDS) {
+            let count = monitor.set_list(&mut bound);
+            self.same("set list", Ok(count), got);
+            let answers = bound.iter().map(Record::answer);
+            let right = answers.eq(records.iter().map(raw::Record::answered));
+            self.same("equal answers", right, true);
+            self.same_words(terms, state);
+        }
+        for (item, record) in items.iter_mut().zip(&records) {
+            let raw::Record { event, from, to, answer } = *record;
+            *item = Item { event, from, to, answer };
+        }
+        self.tally.set_list(&got, items);
         got
     }
 

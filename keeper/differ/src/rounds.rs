@@ -8,6 +8,7 @@ use keeper::compare;
 use keeper::expect;
 use keeper::generate::{self, Case, Rng};
 use keeper::record::Call;
+use keeper::set_list::Item;
 use keeper::shrink::shrink;
 use keeper::terms::memory::{SCRATCH_WORDS, STATE_WORDS, TERMS_WORDS};
 
@@ -55,9 +56,12 @@ fn shrunk(
     Err(format!("seed {}: {wrong}\nmade small: {small_wrong}\n{small}", case.seed))
 }
 
-/// An accepted text and its calls, answer and every word after each; then
-/// what the library wrote last is read back.
+/// An accepted text and its calls, answer and every word after each, one by
+/// one and as set lists; then what the library wrote last is read back.
 fn one_case(case: &Case, tally: &mut Tally) -> Result<(), String> {
+    let mut library = Library::new(tally);
+    compare::lists(&mut library, case)?;
+    library.agrees()?;
     let mut library = Library::new(tally);
     compare::case(&mut library, case)?;
     let written = library.agrees()?;
@@ -88,8 +92,8 @@ fn one_text(case: &Case, tally: &mut Tally) -> Result<(), String> {
     Ok(())
 }
 
-/// Damaged memory under requests, looks, writing, checking and opening, whole
-/// and cut short.
+/// Damaged memory under requests, looks, set lists, writing, checking and
+/// opening, whole and cut short.
 fn one_memory(seed: u64, tally: &mut Tally) -> Result<(), String> {
     let (mut terms, mut state) = generate::damaged_memory(seed);
     let mut rng = Rng::new(!seed);
@@ -111,9 +115,26 @@ fn one_memory(seed: u64, tally: &mut Tally) -> Result<(), String> {
             compare::call(&mut Library::new(tally), &call, &terms, &state)?;
         }
     }
+    for scratch_words in [SCRATCH_WORDS, SCRATCH_WORDS + 3, rng.below(SCRATCH_WORDS)] {
+        let mut library = Library::new(tally);
+        let items = items(&mut rng);
+        compare::set_list(&mut library, &items, scratch_words, &terms, &state)?;
+        library.agrees()?;
+    }
     compare::write(&mut Library::new(tally), &terms, &state)?;
     checked(&terms, &state)?;
     opened(&terms, &state)
+}
+
+/// A short set list, or none, most of it of small numbers.
+fn items(rng: &mut Rng) -> Vec<Item> {
+    let count = rng.below(6);
+    let mut item = || {
+        let mut number = || if rng.percent(90) { rng.below(4) } else { LARGEST };
+        let call = Call::request(number(), number(), number());
+        generate::item(rng, &call)
+    };
+    (0..count).map(|_| item()).collect()
 }
 
 fn code(result: Result<(), cuckooormolu::Refusal>) -> usize {

@@ -1,6 +1,7 @@
 //! What was compared, counted by outcome.
 
 use keeper::record::{Answer, Call};
+use keeper::set_list::Item;
 use keeper::terms::Refusal;
 use std::collections::BTreeMap;
 use std::fmt;
@@ -34,6 +35,9 @@ impl Tally {
             wanted.extend([6, 7, 8, 9].map(|number| (kind, format!("refuse {number}"))));
             wanted.extend([(kind, "grant".into()), (kind, "deny".into())]);
         }
+        wanted.extend([6, 7, 8].map(|number| ("set list", format!("refuse {number}"))));
+        wanted.extend(["answered", "empty"].map(|outcome| ("set list", outcome.into())));
+        wanted.extend(["grant", "deny", "refuse 9"].map(|outcome| ("in a list", outcome.into())));
         wanted.retain(|outcome| !self.counts.contains_key(outcome));
         wanted.into_iter().map(|(kind, outcome)| format!("{kind} {outcome}")).collect()
     }
@@ -59,6 +63,20 @@ impl Tally {
         self.count(kind, outcome);
     }
 
+    /// A set list, and its answers if it has any.
+    pub fn set_list(&mut self, got: &Result<usize, Refusal>, items: &[Item]) {
+        let answered = if items.is_empty() { "empty" } else { "answered" };
+        self.count("set list", got.map_or_else(refused, |_| answered.into()));
+        for item in items.iter().filter(|_| got.is_ok()) {
+            let outcome = match item.answer {
+                0 => "deny".into(),
+                1 => "grant".into(),
+                number => format!("refuse {number}"),
+            };
+            self.count("in a list", outcome);
+        }
+    }
+
     fn count(&mut self, kind: &'static str, outcome: String) {
         if !self.shrinking {
             *self.counts.entry((kind, outcome)).or_default() += 1;
@@ -73,7 +91,7 @@ fn refused(refusal: Refusal) -> String {
 impl fmt::Display for Tally {
     fn fmt(&self, out: &mut fmt::Formatter<'_>) -> fmt::Result {
         for ((kind, outcome), count) in &self.counts {
-            writeln!(out, "{kind:<8} {outcome:<10} {count:>9}")?;
+            writeln!(out, "{kind:<9} {outcome:<10} {count:>9}")?;
         }
         Ok(())
     }

@@ -4,6 +4,7 @@ use keeper::compare::{self, Other};
 use keeper::expect;
 use keeper::generate;
 use keeper::record::{Answer, Call, Record};
+use keeper::set_list::{self, Item};
 use keeper::shrink::shrink;
 use keeper::terms::{self, Refusal};
 
@@ -20,6 +21,12 @@ enum Fault {
     TouchesBeyond,
     LookMakesMoment,
     WritesTooMuch,
+    AnswersLate,
+    StopsAtRefusal,
+    CountsRefusals,
+    KeepsDenials,
+    WritesUnchecked,
+    TrustsEmptyLists,
 }
 
 /// An implementation that has the record itself, and perhaps a fault.
@@ -91,6 +98,40 @@ impl Other for Mirror {
         answer
     }
 
+    fn set_list(
+        &mut self,
+        terms: &mut [u16],
+        state: &mut [u64],
+        scratch: &mut [u64],
+        items: &mut [Item],
+    ) -> Result<usize, Refusal> {
+        let fault = self.fault;
+        if let Err(refusal) = expect::listing(terms, state, scratch.len()) {
+            if fault == Fault::WritesUnchecked {
+                items.iter_mut().for_each(|item| item.answer = 0);
+            }
+            let trusted = fault == Fault::TrustsEmptyLists && items.is_empty();
+            return if trusted { Ok(0) } else { Err(refusal) };
+        }
+        let mut count = 0;
+        for place in 0..items.len() {
+            let Item { event, from, to, .. } = items[place];
+            let call = Call::request(event as usize, from as usize, to as usize);
+            let number = set_list::number(self.call(&call, terms, state, scratch));
+            let late = usize::from(fault == Fault::AnswersLate);
+            if let Some(item) = items.get_mut(place + late) {
+                if number > 0 || fault != Fault::KeepsDenials {
+                    item.answer = number;
+                }
+            }
+            count += usize::from(number == 1 || number == 9 && fault == Fault::CountsRefusals);
+            if number == 9 && fault == Fault::StopsAtRefusal {
+                break;
+            }
+        }
+        Ok(count)
+    }
+
     fn write(&mut self, terms: &[u16], state: &[u64], output: &mut [u8]) -> Result<usize, Refusal> {
         let text = expect::writing(terms, state, output.len())?;
         if self.fault == Fault::WritesTooMuch {
@@ -105,11 +146,17 @@ fn differs(fault: Fault, case: &generate::Case) -> bool {
     compare::case(&mut Mirror::new(fault), case).is_err()
 }
 
+fn lists_differ(fault: Fault, case: &generate::Case) -> bool {
+    compare::lists(&mut Mirror::new(fault), case).is_err()
+}
+
 #[test]
 fn a_faithful_one_passes() {
     for seed in 0..120 {
         let case = generate::case(seed, 99_999);
         let result = compare::case(&mut Mirror::new(Fault::None), &case);
+        assert_eq!(result, Ok(()), "{case}");
+        let result = compare::lists(&mut Mirror::new(Fault::None), &case);
         assert_eq!(result, Ok(()), "{case}");
         let text = generate::damaged_text(seed);
         for (terms, state) in [(1_236, 3_073), (1_235, 3_073), (1_236, 3_072), (2_000, 4_000)] {
@@ -145,6 +192,28 @@ fn impostors_are_caught() {
 }
 
 #[test]
+fn impostors_are_caught_by_set_lists() {
+    use Fault::*;
+    let faults = [
+        DeniesAll,
+        GrantsAll,
+        MovesNoTable,
+        KeepsScratch,
+        TouchesBeyond,
+        AnswersLate,
+        StopsAtRefusal,
+        CountsRefusals,
+        KeepsDenials,
+        WritesUnchecked,
+    ];
+    for fault in faults {
+        let cases = (0..90).map(|seed| generate::case(seed, 99_999));
+        let caught = cases.filter(|case| lists_differ(fault, case)).count();
+        assert!(caught > 3, "{fault:?}: {caught}");
+    }
+}
+
+#[test]
 fn a_difference_shrinks() {
     let fault = Fault::MovesTablesOnce;
     let found = (0..).map(|seed| generate::case(seed, 99_999)).find(|case| differs(fault, case));
@@ -167,5 +236,32 @@ fn damaged_memory_is_compared() {
             assert_eq!(compare::call(other, &call, &terms, &state), Ok(()), "seed {seed}");
         }
         assert_eq!(compare::write(other, &terms, &state), Ok(()), "seed {seed}");
+        let items = [(0, 0, 0), (9, 0, 0), (0, u32::MAX, 0)];
+        let items = items.map(|(event, from, to)| Item { event, from, to, answer: 7 });
+        for (length, scratch) in [(3, 2_048), (3, 2_047), (0, 2_050), (0, 9)] {
+            let result = compare::set_list(other, &items[..length], scratch, &terms, &state);
+            assert_eq!(result, Ok(()), "seed {seed}");
+        }
     }
+}
+
+#[test]
+fn set_lists_over_damaged_memory_are_compared() {
+    let caught = |fault| {
+        let differs = |seed: &u64| {
+            let (terms, state) = generate::damaged_memory(*seed);
+            let item = Item { event: 0, from: 0, to: 0, answer: 7 };
+            let other = &mut Mirror::new(fault);
+            let length = (*seed % 2) as usize;
+            compare::set_list(other, &[item][..length], 2_048, &terms, &state).is_err()
+        };
+        // Where the memory is accepted the mirror has no record to answer by.
+        let refused = |seed: &u64| {
+            let (terms, state) = generate::damaged_memory(*seed);
+            expect::lent(&terms, &state).is_err()
+        };
+        (0..150).filter(refused).filter(differs).count()
+    };
+    assert_eq!(caught(Fault::None), 0);
+    assert!(caught(Fault::WritesUnchecked) > 10 && caught(Fault::TrustsEmptyLists) > 10);
 }

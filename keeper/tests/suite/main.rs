@@ -12,6 +12,7 @@ mod mutants;
 mod page;
 mod program;
 mod refusals;
+mod set_lists;
 mod shrinking;
 mod speed;
 mod traps;

@@ -3,7 +3,8 @@
 use crate::help::*;
 use keeper::record::Answer::Grant;
 use keeper::record::Record;
-use keeper::terms::memory::{terms_words, STATE_WORDS, TERMS_WORDS};
+use keeper::set_list::{self, Item};
+use keeper::terms::memory::{terms_words, SCRATCH_WORDS, STATE_WORDS, TERMS_WORDS};
 
 const PAGE: &str = include_str!("../../../docs/MEMORY.md");
 
@@ -20,6 +21,13 @@ fn table(columns: &str) -> Vec<Vec<&'static str>> {
 /// A number of the page.
 fn number(cell: &str) -> u64 {
     cell.parse().unwrap_or_else(|_| panic!("{cell} is no number"))
+}
+
+/// The words of a record, as a cell of the page has them.
+fn item(cell: &str) -> Item {
+    let words: Vec<u32> = cell.split(' ').map(|word| number(word) as u32).collect();
+    let [event, from, to, answer] = words[..] else { panic!("{cell} is no record") };
+    Item { event, from, to, answer }
 }
 
 /// The text of the lines that the page names, with the first edge.
@@ -60,4 +68,19 @@ fn its_words_of_state() {
         }
         assert_eq!(record.state_words(), words, "column {column}");
     }
+}
+
+#[test]
+fn its_records() {
+    let rows = table("| record | lent | left |");
+    let mut items: Vec<Item> = rows.iter().map(|row| item(row[1])).collect();
+    let left: Vec<Item> = rows.iter().map(|row| item(row[2])).collect();
+    let mut record = Record::new(accepted(&text()));
+    assert_eq!(set_list::answer(&mut record, &mut items, SCRATCH_WORDS), Ok(2));
+    assert_eq!(items, left);
+    let mut single = Record::new(accepted(&text()));
+    for [event, from, to] in [[0, 0, 1], [2, 1, 2]] {
+        request(&mut single, event, from, to);
+    }
+    assert_eq!(record.state_words(), single.state_words());
 }

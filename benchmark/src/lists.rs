@@ -1,0 +1,86 @@
+//! Set lists beside single requests, at 64 members on the preset. Every
+//! record is granted.
+
+use crate::measure::{in_turn, timed, Batch};
+use crate::workload::{named, Request, Workload};
+use cuckooormolu::{raw, SCRATCH_WORDS};
+use std::hint::black_box;
+use std::time::Duration;
+
+/// Requests of a batch, and the records of each list in turn.
+const REQUESTS: usize = 64;
+const LENGTHS: [usize; 3] = [1, 8, REQUESTS];
+/// The goal: a record of the longest list, in single requests.
+const MOST: f64 = 0.6;
+
+/// Prints what a record costs in lists of each length, and the goal.
+pub fn print() {
+    let workload = Workload::preset(64);
+    let monitor = workload.monitor();
+    let (terms, state) = (monitor.terms().words(), monitor.state().words());
+    let requests = granted(&workload);
+    let mut batches = vec![single(terms, state, &requests)];
+    batches.extend(LENGTHS.map(|length| listed(terms, state, &requests, length)));
+    let times = in_turn(Duration::from_millis(2_500), 20, batches);
+    println!("\nset lists at 64 members on the preset, all granted, least ns:");
+    println!("{:<28} {:>5.0}", "a single request", times[0].least);
+    let mut ratio = 0.0;
+    for (length, time) in LENGTHS.iter().zip(&times[1..]) {
+        ratio = time.least / times[0].least;
+        let name = format!("a record in lists of {length}");
+        println!("{name:<28} {:>5.0} {ratio:>5.2} of it", time.least);
+    }
+    let verdict = if ratio <= MOST { "met   " } else { "MISSED" };
+    println!("{verdict} in lists of {REQUESTS} {ratio:.2} of a single request, at most {MOST}");
+}
+
+/// Requests that are granted one after another. A denied one makes no moment,
+/// so it can be left out.
+fn granted(workload: &Workload) -> Vec<Request> {
+    let mut monitor = workload.monitor();
+    let mut requests = workload.requests(11, 2 * REQUESTS);
+    requests.retain(|&request| monitor.request(named(request)).is_ok_and(|a| a.is_grant()));
+    requests.truncate(REQUESTS);
+    assert_eq!(requests.len(), REQUESTS);
+    requests
+}
+
+fn single<'a>(terms: &'a [u16], start: &'a [u64], requests: &[Request]) -> Batch<'a> {
+    let requests: Vec<raw::Request> =
+        requests.iter().map(|&[event, from, to]| raw::Request { event, from, to }).collect();
+    let (mut state, mut scratch) = (start.to_vec(), vec![0; SCRATCH_WORDS]);
+    let work = move || {
+        state.copy_from_slice(start);
+        timed(|| {
+            for &request in &requests {
+                black_box(raw::request(terms, &mut state, &mut scratch, request).is_ok());
+            }
+        })
+    };
+    (REQUESTS, Box::new(work))
+}
+
+fn listed<'a>(
+    terms: &'a [u16],
+    start: &'a [u64],
+    requests: &[Request],
+    length: usize,
+) -> Batch<'a> {
+    let record = |request: &Request| {
+        let [event, from, to] = request.map(|number| number as u32);
+        raw::Record { event, from, to, answer: 0 }
+    };
+    let mut records: Vec<raw::Record> = requests.iter().map(record).collect();
+    let (mut state, mut scratch) = (start.to_vec(), vec![0; SCRATCH_WORDS]);
+    let work = move || {
+        state.copy_from_slice(start);
+        let time = timed(|| {
+            for list in records.chunks_mut(length) {
+                black_box(raw::set_list(terms, &mut state, &mut scratch, list).is_ok());
+            }
+        });
+        assert!(records.iter().all(|record| record.answer == 1));
+        time
+    };
+    (REQUESTS, Box::new(work))
+}

@@ -1,0 +1,44 @@
+//! The records of a set list.
+
+use crate::{raw, Answer, Event, Member, Refusal, Request};
+
+/// No answer's number.
+const UNANSWERED: u32 = u32::MAX;
+
+/// A record of a set list: a request, and its answer once
+/// [`crate::Monitor::set_list`] has filled it in.
+#[derive(Clone, Copy, Debug, PartialEq, Eq, Hash)]
+#[repr(transparent)]
+pub struct Record(raw::Record);
+
+impl Record {
+    /// A request that is not answered yet.
+    pub fn new(request: Request) -> Record {
+        let Request { event, from, to } = request;
+        let (event, from, to) = (event.0.into(), from.0.into(), to.0.into());
+        Record(raw::Record { event, from, to, answer: UNANSWERED })
+    }
+
+    pub fn request(&self) -> Request {
+        let raw::Record { event, from, to, .. } = self.0;
+        Request { event: Event(event as u8), from: Member(from as u8), to: Member(to as u8) }
+    }
+
+    /// What [`crate::Monitor::request`] would have answered at the record's
+    /// place in the list; none as long as no set list has answered.
+    pub fn answer(&self) -> Option<Result<Answer, Refusal>> {
+        self.0.answered()
+    }
+
+    /// The records as the library takes them.
+    pub(crate) fn plain(records: &mut [Record]) -> &mut [raw::Record] {
+        // Safety: a record is its plain one and nothing else.
+        unsafe { &mut *(records as *mut [Record] as *mut [raw::Record]) }
+    }
+}
+
+impl From<Request> for Record {
+    fn from(request: Request) -> Record {
+        Record::new(request)
+    }
+}
