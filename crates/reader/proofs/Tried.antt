@@ -10,7 +10,7 @@ use borrow.Author.Tests.{ne-eqb, ltb-true}
 use Rattle.sets.proofs.Finite.{true-or-false, and-left, and-right}
 use Rattle.file.specs.Reading.{Test, test, Reading, tried}
 use Rattle.file.specs.Reading.Reading.{refused}
-use Rattle.reader.specs.Stepping.{refusedBy, numberFrom}
+use Rattle.reader.specs.Testing.{refusedBy, numberFrom}
 use Rattle.file.specs.Refused.{Passed}
 use Rattle.file.specs.Refused.Passed.{none, pass}
 

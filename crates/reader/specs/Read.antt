@@ -7,7 +7,7 @@ use lib.ListN.{length, drop}
 use Rattle.memory.specs.Layout.{termsWords, stateWords, wordsOf}
 use Rattle.memory.specs.Outcome.{Outcome}
 use Rattle.memory.specs.Outcome.Outcome.{passed, failed}
-use Rattle.file.specs.File.{File, stateSaid}
+use Rattle.file.specs.File.{stateSaid}
 use Rattle.file.specs.Reading.{Reading, reading}
 use Rattle.file.specs.Reading.Reading.{accepted, refused}
 use Rattle.reader.specs.Memory.{memoryOf}
