@@ -36,14 +36,14 @@ pub fn output(terms: &[u8], requests: &[u8]) -> String {
     if terms.len() > MOST_BYTES {
         return refused("terms", Refusal::plain(6));
     }
-    let terms = match terms::read(terms) {
-        Ok(terms) => terms,
+    let file = match terms::read(terms) {
+        Ok(file) => file,
         Err(refusal) => return refused("terms", refusal),
     };
     if requests.len() > MOST_BYTES {
         return refused("requests", Refusal::plain(6));
     }
-    let mut record = Record::new(terms);
+    let mut record = Record::of(file);
     let mut printed = String::new();
     for (index, line) in requests.split_inclusive(|&byte| byte == b'\n').enumerate() {
         let answer = match request(line) {

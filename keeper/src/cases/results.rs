@@ -155,7 +155,7 @@ impl Lent {
         let (mut terms, mut state) = read.unwrap_or_default();
         terms.resize(TERMS_WORDS + BEYOND, 0);
         state.resize(STATE_WORDS + BEYOND, 0);
-        Lent { terms, state, record: terms::read(text).ok().map(Record::new) }
+        Lent { terms, state, record: terms::read(text).ok().map(Record::of) }
     }
 
     /// Answers a call with so many words of terms and state. None if it is

@@ -14,4 +14,5 @@ mod program;
 mod refusals;
 mod shrinking;
 mod speed;
+mod stored;
 mod traps;

@@ -50,6 +50,9 @@ fn padded_requests() {
         let (mut padded_terms, mut padded) = (case.text.clone(), requests.clone());
         lines::pad(&mut rng, &mut padded_terms);
         lines::pad(&mut rng, &mut padded);
+        if padded_terms.len() > MOST_BYTES {
+            continue;
+        }
         let wanted = output(&normal(&case.text), &requests);
         assert_eq!(output(&padded_terms, &padded), wanted, "seed {seed}");
     }
