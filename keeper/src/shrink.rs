@@ -2,7 +2,8 @@
 
 use crate::record::Call;
 use crate::terms::memory::SCRATCH_WORDS;
-use crate::terms::{self, Entry, File, Past, Terms};
+use crate::terms::{self, Entry, File, Pair, Past, Terms};
+use std::collections::BTreeSet;
 
 /// Drops calls, lines and leading zeros, makes readable terms smaller and calls
 /// plainer, as long as `fails` stays true of what is left. The given case must
@@ -111,7 +112,6 @@ fn candidates(file: &File) -> Vec<File> {
     let terms = &file.terms;
     let mut all = Vec::new();
     let past = file.past.as_ref();
-    let with = |terms: Terms| File { terms, past: past.cloned() };
     if past.is_some() {
         all.push(File { terms: terms.clone(), past: None });
     }
@@ -128,17 +128,13 @@ fn candidates(file: &File) -> Vec<File> {
     fewer_events.events -= 1;
     fewer_events.policies.pop();
     fewer_events.effects.pop();
-    all.push(with(fewer_events));
+    all.push(File { terms: fewer_events, past: past.map(|past| last_event_less(terms, past)) });
     let mut fewer_members = terms.clone();
     fewer_members.members -= 1;
     fewer_members.edges.retain(|&(_, from, to)| from.max(to) < fewer_members.members);
-    let mut fewer = with(fewer_members);
-    for table in fewer.past.iter_mut().flat_map(|past| &mut past.tables) {
-        table.retain(|&(a, b)| a.max(b) < terms.members - 1);
-    }
-    all.push(fewer);
+    all.push(File { terms: fewer_members, past: past.map(|past| last_member_less(terms, past)) });
     if terms.relations > 0 {
-        all.push(with(without_last_relation(terms)));
+        all.push(File { terms: without_last_relation(terms), past: past.cloned() });
     }
     all
 }
@@ -150,6 +146,22 @@ fn without_table(terms: &Terms, past: &Past, entry: usize) -> Past {
         other.tables.remove(t);
     }
     other
+}
+
+/// What had passed, the last event's number being that of the one before.
+fn last_event_less(terms: &Terms, past: &Past) -> Past {
+    let last = terms.events.saturating_sub(2);
+    let event = past.event.map(|(event, from, to)| (event.min(last), from, to));
+    Past { event, ..past.clone() }
+}
+
+/// What had passed, the last member's number being that of the one before.
+fn last_member_less(terms: &Terms, past: &Past) -> Past {
+    let last = terms.members.saturating_sub(2);
+    let event = past.event.map(|(event, from, to)| (event, from.min(last), to.min(last)));
+    let pairs =
+        |table: &BTreeSet<Pair>| table.iter().map(|&(a, b)| (a.min(last), b.min(last))).collect();
+    Past { tables: past.tables.iter().map(pairs).collect(), event }
 }
 
 /// The terms without an entry. Who named it names its first operand instead,
