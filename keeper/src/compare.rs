@@ -2,13 +2,13 @@
 
 mod written;
 
-use crate::expect;
+use crate::expect::{self, Form};
 use crate::generate::{Case, Rng};
 use crate::record::{Answer, Call, Record};
 use crate::terms::memory::{SCRATCH_WORDS, STATE_WORDS, TERMS_WORDS};
 use crate::terms::{self, memory, Refusal};
 pub use written::write;
-use written::{written_back, Form};
+use written::written_back;
 
 /// Another implementation, spoken to by slices and numbers.
 pub trait Other {

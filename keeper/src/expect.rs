@@ -28,6 +28,28 @@ pub fn lent(terms: &[u16], state: &[u64]) -> Result<(Terms, State), Refusal> {
     Ok((terms, state))
 }
 
+/// The two forms that are written.
+#[derive(Clone, Copy, Debug, PartialEq, Eq)]
+pub enum Form {
+    Old,
+    Stored,
+}
+
+impl Form {
+    /// Writing this form: the text, or the refusal.
+    pub fn writing(
+        self,
+        terms: &[u16],
+        state: &[u64],
+        output_length: usize,
+    ) -> Result<Vec<u8>, Refusal> {
+        match self {
+            Form::Old => writing(terms, state, output_length),
+            Form::Stored => storing(terms, state, output_length),
+        }
+    }
+}
+
 /// Writing the old form: the text, or the refusal. The state has to be a fresh
 /// start of its own relations.
 pub fn writing(terms: &[u16], state: &[u64], output_length: usize) -> Result<Vec<u8>, Refusal> {

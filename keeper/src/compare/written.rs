@@ -1,36 +1,19 @@
 //! Holds what is written against what has to be.
 
 use super::{equal, over, same, Difference, Lent, Other, BEYOND};
-use crate::expect;
+use crate::expect::Form;
 use crate::terms::{self, Refusal};
 
-/// The two forms that are written.
-#[derive(Clone, Copy)]
-pub enum Form {
-    Old,
-    Stored,
-}
-
-impl Form {
-    /// What writing has to give.
-    fn wanted(self, terms: &[u16], state: &[u64]) -> Result<Vec<u8>, Refusal> {
-        match self {
-            Form::Old => expect::writing(terms, state, usize::MAX),
-            Form::Stored => expect::storing(terms, state, usize::MAX),
-        }
-    }
-
-    fn write(
-        self,
-        other: &mut impl Other,
-        terms: &[u16],
-        state: &[u64],
-        output: &mut [u8],
-    ) -> Result<usize, Refusal> {
-        match self {
-            Form::Old => other.write(terms, state, output),
-            Form::Stored => other.store(terms, state, output),
-        }
+fn put(
+    form: Form,
+    other: &mut impl Other,
+    terms: &[u16],
+    state: &[u64],
+    output: &mut [u8],
+) -> Result<usize, Refusal> {
+    match form {
+        Form::Old => other.write(terms, state, output),
+        Form::Stored => other.store(terms, state, output),
     }
 }
 
@@ -44,7 +27,7 @@ pub fn written_back(
 ) -> Result<(), Difference> {
     let wanted = terms::normal(text);
     let mut output = vec![0; wanted.len()];
-    let got = form.write(other, &lent.terms, &lent.state, &mut output);
+    let got = put(form, other, &lent.terms, &lent.state, &mut output);
     equal("writing back", got, Ok(wanted.len()))?;
     same("text written back", &output, &wanted)
 }
@@ -53,7 +36,7 @@ pub fn written_back(
 /// spare, into one that just fits and into one that is a byte too short.
 pub fn write(other: &mut impl Other, terms: &[u16], state: &[u64]) -> Result<(), Difference> {
     for form in [Form::Old, Form::Stored] {
-        let whole = form.wanted(terms, state);
+        let whole = form.writing(terms, state, usize::MAX);
         let length = whole.as_ref().map_or(0, Vec::len);
         for room in [length + BEYOND, length, length.saturating_sub(1)] {
             let wanted = match &whole {
@@ -62,7 +45,7 @@ pub fn write(other: &mut impl Other, terms: &[u16], state: &[u64]) -> Result<(),
                 Err(refusal) => Err(*refusal),
             };
             let mut output = vec![0xa5; room];
-            let got = form.write(other, terms, state, &mut output);
+            let got = put(form, other, terms, state, &mut output);
             equal("writing", got, wanted.map(<[u8]>::len))?;
             same("output", &output, &over(&vec![0xa5; room], wanted.unwrap_or_default()))?;
         }
