@@ -49,7 +49,7 @@ fn the_same_answers() {
 fn the_same_terms() {
     for (path, name, compiled) in examples() {
         let folder = Folder::load(&path).unwrap();
-        let own = terms::read(&folder.terms).unwrap();
+        let own = terms::read(&folder.terms).unwrap().terms;
         assert_eq!(compiled.terms.effects, own.effects, "{name}");
         assert_eq!(compiled.terms.edges, own.edges, "{name}");
         if COMPILED.contains(&name.as_str()) {
@@ -90,7 +90,7 @@ fn the_same_looks() {
 fn the_way_back() {
     for (path, name, _) in examples() {
         let folder = Folder::load(&path).unwrap();
-        let own = terms::read(&folder.terms).unwrap();
+        let own = terms::read(&folder.terms).unwrap().terms;
         assert!(agrees(&decompile(&own, &folder.names), &own), "{name}");
     }
 }
