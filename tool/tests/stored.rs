@@ -2,7 +2,7 @@
 
 mod run_support;
 
-use run_support::{preset, run, Folder};
+use run_support::{example, preset, run, Folder};
 
 /// The preset as it is stored after share dora → pete; requests load pete → saw,
 /// withdraw dora → pete, load pete → saw.
@@ -45,6 +45,23 @@ fn what_was_not_so_has_not_become_so() {
     let said = "own dora → saw, but as stored: not once share dora → pete and no withdraw \
                 dora → pete since, since then never share dora → pete";
     assert!(why.contains(said), "{why}");
+}
+
+#[test]
+fn the_example_stores_what_it_goes_on_from() {
+    let (folder, later) = (Folder::new(), example("saved").join("later"));
+    let stored = folder.file("stored.tsv");
+    let arguments = ["--store", stored.to_str().unwrap()];
+    run(&["run", example("saved").to_str().unwrap(), arguments[0], arguments[1]]);
+    let wanted = std::fs::read_to_string(later.join("terms.tsv")).unwrap();
+    assert_eq!(folder.read("stored.tsv"), wanted);
+    let said = run(&["run", later.to_str().unwrap(), "--json"]).out;
+    let expected = std::fs::read_to_string(later.join("expected.tsv")).unwrap();
+    for (line, answer) in said.lines().zip(expected.lines()) {
+        let answer = answer.split('\t').nth(1).unwrap();
+        assert!(line.contains(&format!(r#""answer":"{answer}""#)), "{line}");
+    }
+    assert_eq!(said.lines().count(), 8);
 }
 
 #[test]

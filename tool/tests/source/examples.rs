@@ -12,7 +12,8 @@ use std::fs;
 use std::path::{Path, PathBuf};
 
 /// Examples whose terms are the compiled file itself.
-const COMPILED: [&str; 5] = ["charities", "chinese-wall", "cliques", "consent", "policy-20"];
+const COMPILED: [&str; 6] =
+    ["charities", "chinese-wall", "cliques", "consent", "policy-20", "saved"];
 
 /// Examples whose policies are the same formulas, listed in another order.
 const REORDERED: [&str; 6] =
