@@ -4,6 +4,7 @@ use crate::help::*;
 use keeper::record::Answer::Grant;
 use keeper::record::Record;
 use keeper::terms::memory::{terms_words, STATE_WORDS, TERMS_WORDS};
+use keeper::terms::store;
 
 const PAGE: &str = include_str!("../../../docs/MEMORY.md");
 
@@ -60,4 +61,10 @@ fn its_words_of_state() {
         }
         assert_eq!(record.state_words(), words, "column {column}");
     }
+    let said = "`G 0 0 2`, `G 0 1 2`, `T 0 0 1` and `V 2 1 2`";
+    assert!(PAGE.contains(said));
+    let stored = store(record.terms(), &record.state());
+    let lines: String =
+        said.split('`').skip(1).step_by(2).map(|line| format!("{line}\n")).collect();
+    assert!(stored.ends_with(&[b"fwd\n", &tabs(&lines)[..]].concat()));
 }
