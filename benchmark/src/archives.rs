@@ -68,6 +68,8 @@ pub struct Archive {
     request: Request,
     read: Read,
     write: Write,
+    /// None in an archive before 0.6.
+    store: Option<Write>,
 }
 
 impl Archive {
@@ -97,16 +99,17 @@ impl Archive {
         let handle = unsafe { dlopen(name.as_ptr(), RTLD_NOW) };
         assert!(!handle.is_null(), "{} cannot be opened", object.display());
         std::fs::remove_file(&object).expect("the object was written");
-        let symbol = |name: &str| {
+        let found = |name: &str| {
             // An archive before 0.2 has the second name.
             let names = [format!("cuckooormolu_raw_{name}"), format!("cuckooormolu_{name}")];
             let find = |name: &String| {
                 let name = CString::new(name.as_str()).expect("a name");
                 unsafe { dlsym(handle, name.as_ptr()) }
             };
-            let symbol = names.iter().map(find).find(|symbol| !symbol.is_null());
-            symbol.unwrap_or_else(|| panic!("{} has no {name}", path.display()))
+            names.iter().map(find).find(|symbol| !symbol.is_null())
         };
+        let symbol =
+            |name| found(name).unwrap_or_else(|| panic!("{} has no {name}", path.display()));
         // Safety: the archive's functions have these types.
         unsafe {
             Archive {
@@ -115,6 +118,7 @@ impl Archive {
                 request: transmute::<*mut c_void, Request>(symbol("request")),
                 read: transmute::<*mut c_void, Read>(symbol("read")),
                 write: transmute::<*mut c_void, Write>(symbol("write")),
+                store: found("store").map(|store| transmute::<*mut c_void, Write>(store)),
             }
         }
     }
@@ -160,5 +164,13 @@ impl Archive {
         let (words, count) = (terms.as_ptr(), terms.len());
         let (bytes, room) = (output.as_mut_ptr(), output.len());
         unsafe { (self.write)(words, count, state.as_ptr(), state.len(), bytes, room, &mut 0) }
+    }
+
+    /// Writes the stored form, where the archive knows it.
+    pub fn store(&self, terms: &[u16], state: &[u64], output: &mut [u8]) -> Option<usize> {
+        let (words, count) = (terms.as_ptr(), terms.len());
+        let (bytes, room) = (output.as_mut_ptr(), output.len());
+        let store = self.store?;
+        Some(unsafe { store(words, count, state.as_ptr(), state.len(), bytes, room, &mut 0) })
     }
 }
