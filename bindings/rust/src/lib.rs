@@ -7,7 +7,8 @@
 //!   request or set list 169 KiB, and each 1.16 KiB more for every level by
 //!   which entries nest, at most 476 KiB.
 //! * **Terms and states are plain words** that may be copied and kept. In a
-//!   file they have the machine's byte order, little-endian.
+//!   file they have the machine's byte order, little-endian. A stored text
+//!   ([`Monitor::store`]) keeps the same for any machine, and for people.
 //! * **Threads**: two monitors share nothing.
 //!
 //! A terms text says who may ask for what. A [`Monitor`] reads it, keeps the
