@@ -15,7 +15,7 @@ use Rattle.sets.specs.Sets.{bit}
 use Rattle.sets.proofs.Finite.{true-or-false, and-right, last-or-below}
 use Rattle.theory.specs.Formula.{Formula, Operand, node, number, below, spelled, free, firstOperand, secondOperand, thirdOperand, isPast}
 use Rattle.theory.specs.Formula as formulas
-use Rattle.theory.specs.Formula.Operand.{unused, variable, binder, label, entry}
+use Rattle.theory.specs.Formula.Operand.{unused, variable, binder, label, entry, count}
 use Rattle.theory.specs.Terms.{formula}
 use Rattle.theory.specs.Terms.{tables}
 use Rattle.theory.specs.Fit.{_⇒_, lone, reachFits}
@@ -210,6 +210,7 @@ operand-low variable r n v h l p q = omega (arith, ltb-true v 16 p)
 operand-low binder r n v h l p q = omega (arith, ltb-true v 16 (and-right (ltb 0 v) _ p))
 operand-low label r n v h l p q = omega (arith, ltb-true v r p)
 operand-low entry r n v h l p q = omega (arith, ltb-true v n q)
+operand-low count r n v h l p q = omega (arith, leb-true v 64 (and-right (ltb 0 v) _ p))
 
 -- what it says is in its range
 pub in-ranges : {f : File} {l : Line} → Ranged l → Going f → Passed (tests f l) → Ranges (contextOf f) l

@@ -1,5 +1,6 @@
 // The step of the reader: counters in place of what the lines have said, the tests of a line against them, and the counters after it.
 use file::line::Line;
+use memory::limits::COUNT;
 use memory::limits::EFFECTS;
 use memory::limits::ENTRIES;
 use memory::limits::TABLES;
@@ -97,6 +98,7 @@ fn in_range(kind: Kind, r: usize, e: usize, v: usize) -> bool
         Kind::Binder => (0 < v) & (v < VARIABLES),
         Kind::Label => is_label(r, e, v),
         Kind::Entry => true,
+        Kind::Count => (0 < v) & (v <= COUNT),
     }
 }
 
@@ -110,6 +112,7 @@ fn is_lower(kind: Kind, n: usize, v: usize) -> bool
         Kind::Variable => true,
         Kind::Binder => true,
         Kind::Label => true,
+        Kind::Count => true,
     }
 }
 
