@@ -2,7 +2,7 @@
 use mathlib.Core.Path.{_∙_, ap, sym}
 use mathlib.Core.Bool.{_&&_, and-false}
 use Prim.Native.Nat.{ℕ}
-use lib.Bits.{bitAnd, and-le-l}
+use lib.Bits.{and-le-l}
 use lib.Dec.{ltb, leb}
 use lib.ListN.{getD}
 use native.Mathlib.Omega.{arith}
