@@ -43,8 +43,8 @@ module _ (terms : List ℕ) where
   plain-number state scratch k l j u v = by-name (named (termsOf terms) j u v) refl
     where
       by-verdict : named (termsOf terms) j u v ≡ true → (d : Bool) → d ≡ decideNow (termsOf terms) (stateOf state) j u v → Plain (numberOf (answer terms state scratch j u v))
-      by-verdict n true e = inr (inl (sym (ap numberOf (judged terms state scratch j u v l k n true e))))
-      by-verdict n false e = inl (sym (ap numberOf (judged terms state scratch j u v l k n false e)))
+      by-verdict n true e = inr (inl (sym (ap numberOf (judged terms state scratch j u v l k n refl e))))
+      by-verdict n false e = inl (sym (ap numberOf (judged terms state scratch j u v l k n refl e)))
 
       by-name : (n : Bool) → named (termsOf terms) j u v ≡ n → Plain (numberOf (answer terms state scratch j u v))
       by-name true n = by-verdict n (decideNow (termsOf terms) (stateOf state) j u v) refl

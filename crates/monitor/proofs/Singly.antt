@@ -138,19 +138,19 @@ module _ (t : List ℕ) where
           let g = sym (ap granted e) in
           (ap numberOf e, state-kept t st sc j u v g, scratch-kept t st sc j u v g)
 
-      pub step-denied : named (termsOf t) j u v ≡ true → false ≡ decideNow (termsOf t) (stateOf st) j u v → AsRequest 0 st sc
-      step-denied n d =
-          let e = judged t st sc j u v (p .long-scratch) checked n false d in
+      pub step-denied : named (termsOf t) j u v ≡ true → {r : Bool} → r ≡ false → r ≡ decideNow (termsOf t) (stateOf st) j u v → AsRequest 0 st sc
+      step-denied n q d =
+          let e = judged t st sc j u v (p .long-scratch) checked n q d in
           let g = sym (ap granted e) in
           (ap numberOf e, state-kept t st sc j u v g, scratch-kept t st sc j u v g)
 
-      pub step-granted : named (termsOf t) j u v ≡ true → true ≡ decideNow (termsOf t) (stateOf st) j u v → {st′ sc′ : List ℕ} →
+      pub step-granted : named (termsOf t) j u v ≡ true → {r : Bool} → r ≡ true → r ≡ decideNow (termsOf t) (stateOf st) j u v → {st′ sc′ : List ℕ} →
           st′ ≡ wordsOf (termsOf t) (advance (termsOf t) (stateOf st) j u v) ++ drop stateWords st → sc′ ≡ replicate scratchWords 0 ++ drop scratchWords sc →
           AsRequest 1 st′ sc′
-      step-granted n d s c =
-          let e = judged t st sc j u v (p .long-scratch) checked n true d in
+      step-granted n q d s c =
+          let e = judged t st sc j u v (p .long-scratch) checked n q d in
           let g = sym (ap granted e) in
-          (ap numberOf e, s ∙ state-moved t st sc j u v g, c ∙ scratch-cleared t st sc j u v g)
+          (ap numberOf e, state-moved t st sc j u v g s, scratch-cleared t st sc j u v g c)
 
     -- so a request leaves memory that has passed the checks as memory that passes them
     pub after-checked : Checked t st → Checked t (stateAfter t st sc j u v)

@@ -9,13 +9,14 @@ use borrow.Author.Tests.{ltb-true}
 use Rattle.sets.proofs.Finite.{and-under}
 use Rattle.theory.specs.Meaning.{standing, holds}
 use Rattle.theory.specs.Terms.{Terms, formula, tables, pastEntry}
-use Rattle.theory.specs.Moment.{Relations, Moment, graph, first}
+use Rattle.theory.specs.Moment.{Relations, Event, Moment, graph, first}
+use Rattle.theory.specs.Moment.Event.{none, happened}
 use Rattle.theory.specs.Keeper.{recordOf, last, keeperHolds}
 use Rattle.theory.specs.Tables.{State, opening}
 use Rattle.theory.proofs.Past.{past-entry}
 use Rattle.theory.proofs.Like.{Alike, met, met-is, same-number, same-formula, same-past, since-met}
 use Rattle.memory.specs.Layout.{stateWords, relationWords, eventAt, eventWord, row, wordAt, tabulate, wordsOf}
-use Rattle.memory.proofs.Inside.{Inside}
+use Rattle.memory.proofs.Inside.{EventInside, Inside}
 use Rattle.monitor.specs.Agreement.{Agrees}
 
 module _ (T U : Terms) (a : Alike T U) where
@@ -66,5 +67,9 @@ module _ (T U : Terms) (a : Alike T U) where
   pub state-alike : (S : State) → wordsOf T S ≡ wordsOf U S
   state-alike S = state-met S ∙ ap (λ X. wordsOf X S) (met-is T U a)
 
+  event-met : (x : Event) → EventInside T x → EventInside W x
+  event-met none i = i
+  event-met (happened j u v) i = i
+
   pub inside-alike : (M : Moment) → Inside T M → Inside U M
-  inside-alike M i = subst (λ X. Inside X M) (met-is T U a) (record { edges = i .edges; event = i .event })
+  inside-alike M i = subst (λ X. Inside X M) (met-is T U a) (record { edges = i .edges; event = event-met (M .event) (i .event) })

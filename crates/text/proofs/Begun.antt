@@ -61,7 +61,7 @@ module _ (text : List ℕ) (f : File) (e : reading text ≡ accepted f) (form : 
     pub begun-good : goodMemory m ≡ true
     begun-good = memory-good T (a .good) (a .tidy) (drop termsWords terms)
 
-    fine : Good U
+    abbrev pub fine : Good U
     fine = good m begun-good
 
     inside : Inside U (first (f .edges))

@@ -68,6 +68,7 @@ module _ (B : Book) (m₀ m s : List ℕ) (sl : stateWords ≤ length m₀) (l :
   }
 
   pub words : Agrees (B .terms) m₀ (serveSteps m s ss .1) (laterBook B ss .moments)
+  unfolding stays
   words = agrees-alike (termsOf m) (B .terms) (alike-sym (l .like))
       (agrees (termsOf m) (good m (l .good-memory)) m₀ (serveSteps m s ss .1) (laterBook B ss .moments) sl (stays .held))
 
@@ -104,6 +105,7 @@ module _ (m s out : List ℕ) (n : ℕ) (e : storeGives m s out ≡ bytes n) whe
     f = reloaded m s (l .long) (checked .long-state) (checked .good-terms) (checked .good-state) .0
 
     r : Reloaded m s f
+    unfolding f
     r = reloaded m s (l .long) (checked .long-state) (checked .good-terms) (checked .good-state) .1
 
     again : (readTerms (storedText m s) terms state ≡ m') × (readState (storedText m s) terms state ≡ take stateWords s ++ drop stateWords state)

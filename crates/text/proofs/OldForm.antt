@@ -1,7 +1,7 @@
 -- The ways that writing the old form ends: refused for its memory, refused with 12 for a past, or as the writer gives it.
 use Prim.Native.Nat.{ℕ}
 use mathlib.Core.Path.{_≡_, refl, sym, ap, _∙_}
-use mathlib.Core.Bool.{true, false}
+use mathlib.Core.Bool.{Bool, true, false}
 use mathlib.Core.List.{List}
 use Rattle.memory.specs.Outcome.{checks}
 use Rattle.memory.specs.Outcome.Outcome.{passed, failed}
@@ -9,15 +9,22 @@ use Rattle.writer.specs.Write.{Writing, writtenText, sizeGives, writeGives, wri
 use Rattle.writer.specs.Write.Writing.{unwritten}
 use Rattle.text.specs.Text.{isFresh, oldSizeGives, oldWriteGives, oldWriteLeaves}
 
+-- what a test of freshness found
+pub found : (terms state : List ℕ) {r b : Bool} → r ≡ b → r ≡ isFresh terms state → isFresh terms state ≡ b
+found terms state q h = sym h ∙ q
+
 module _ (terms state : List ℕ) where
   pub size-failed : (n l : ℕ) → failed n l ≡ checks terms state → unwritten n l ≡ oldSizeGives terms state
   unfolding oldSizeGives sizeGives
   size-failed n l e = rw (← e) refl
 
   module _ (e : passed ≡ checks terms state) where
-    pub size-fresh : isFresh terms state ≡ true → oldSizeGives terms state ≡ sizeGives terms state
+    size-fresh : isFresh terms state ≡ true → oldSizeGives terms state ≡ sizeGives terms state
     unfolding oldSizeGives
     size-fresh h = rw (← e, h) refl
+
+    pub size-ends : isFresh terms state ≡ true → (w : Writing) → w ≡ sizeGives terms state → w ≡ oldSizeGives terms state
+    size-ends h w x = x ∙ sym (size-fresh h)
 
     pub size-past : isFresh terms state ≡ false → unwritten 12 0 ≡ oldSizeGives terms state
     unfolding oldSizeGives

@@ -41,7 +41,7 @@ module _ (text : List ℕ) (f : File) (e : reading text ≡ accepted f) (terms s
 abbrev WasRead : (form short₁ short₂ : Bool) → Reading → Type 0
 WasRead form x y r = (x ≡ false) × (y ≡ false) × ((f : File) × (r ≡ accepted f) × (f .stored ≡ form))
 
-formOf : Bool → Filling
+abbrev formOf : Bool → Filling
 formOf b = cond b stored old
 
 same-form : (b c : Bool) → formOf b ≡ formOf c → c ≡ b
@@ -82,9 +82,11 @@ module _ (text terms state : List ℕ) where
     f = read-so .2 .0
 
     e : reading text ≡ accepted f
+    unfolding f
     e = read-so .2 .1
 
     form : f .stored ≡ b
+    unfolding f
     form = read-so .2 .2
 
     tl : termsWords ≤ length terms

@@ -61,7 +61,7 @@ returns-2 c =
     let t = m .before .before .before .before in
     let e = t .before .before .before .before in
     step-granted _ _ _ _ _ _ _ (start (e .before) .pre) (sym (e .before .is-named .ensures) ∙ not-false _ (e .if1 .left))
-    (sym (t .if2 .taken) ∙ t .before .is-granted .ensures) (m .next-moment .ensures .0) (m .next-moment .ensures .1)
+    (t .if2 .taken) (t .before .is-granted .ensures) (m .next-moment .ensures .0) (m .next-moment .ensures .1)
 
 same-length-3 : tie.Need-same-length-3
 same-length-3 c = search needs
@@ -70,7 +70,7 @@ returns-3 : tie.Need-returns-3
 returns-3 c =
     let e = c .before .before .before .before in
     step-denied _ _ _ _ _ _ _ (start (e .before) .pre) (sym (e .before .is-named .ensures) ∙ not-false _ (e .if1 .left))
-    (sym (c .if2 .left) ∙ c .before .is-granted .ensures)
+    (c .if2 .left) (c .before .is-granted .ensures)
 
 pub step-spec : {M : Type 1} → statement M
 step-spec =
