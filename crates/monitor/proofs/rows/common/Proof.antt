@@ -6,7 +6,7 @@ use mathlib.Core.Bool.{_&&_}
 use lib.Dec.{ltb, leb}
 use borrow.Author.Needs.{needs}
 use borrow.Author.Tests.{lt-ltb}
-use Rattle.sets.specs.Sets.{bit, anyBelow, countBelow}
+use Rattle.sets.specs.Sets.{bit, countBelow}
 use Rattle.sets.proofs.Finite.{and-implied, count-some}
 use Rattle.sets.proofs.Bits.{bit-below}
 use Rattle.monitor.specs.Rows.{inRow, ahead}
