@@ -1,24 +1,24 @@
 -- What the arms of `decide` along edges show, in plain values: out, in and many.
 use Prim.Native.Nat.{ℕ, _<_}
-use mathlib.Core.Path.{_≡_, refl, sym, ap, ap₂, _∙_}
-use mathlib.Core.Bool.{Bool, true, false, _&&_, _||_, and-false}
+use mathlib.Core.Path.{_≡_, refl, sym, ap, ap₂, _∙_, subst}
+use mathlib.Core.Bool.{Bool, true, false, cond, _&&_, _||_, and-false}
 use mathlib.Core.List.{List}
-use mathlib.Core.Logic.{⊎-elim}
+use mathlib.Core.Logic.{_⊎_, ⊎-elim}
 use native.Mathlib.Omega.{arith}
 use lib.Dec.{eqb, ltb, leb}
 use lib.ListN.{length, replicate}
-use borrow.Author.Tests.{lt-ltb, ltb-true, lt-leb, eqb-true}
+use borrow.Author.Tests.{lt-ltb, ltb-true, lt-leb, eqb-true, eq-eqb, ne-eqb}
 use Rattle.sets.specs.Sets.{anyBelow, countBelow, bit}
 use Rattle.sets.proofs.Finite.{bool-iff, true-or-false, and-left, and-right, and-both, and-under, or-cases, is-false, not-both, any-intro, any-elim}
-use Rattle.sets.proofs.Finite.{count-cong, count-none, count-wider}
+use Rattle.sets.proofs.Finite.{count-cong, count-some, count-none, count-wider}
 use Rattle.theory.specs.Meaning.{Assignment}
 use Rattle.theory.specs.Terms.{Terms}
 use Rattle.memory.specs.Layout.{termsOf}
 use Rattle.monitor.specs.Rows.{edge, pastEvent, opened, nowAt, cell, Rows, Has}
-use Rattle.monitor.specs.Rows.{inRow, Only, ahead, behind, gathered, gatheredMany, scattered, Senders}
+use Rattle.monitor.specs.Rows.{inRow, Only, ahead, behind, gathered, scattered, Senders}
 use Rattle.monitor.proofs.Loops.{zero-rows, zero-long}
 use Rattle.monitor.proofs.Unfolded.{now-out, now-into, now-many}
-use Rattle.monitor.proofs.Sites.{Site, member-short, terms-good, entry-good, op-is, inside, want-below, c-some}
+use Rattle.monitor.proofs.Sites.{Site, member-short, terms-good, entry-good, op-is, inside, ahead-inside, want-below, c-some}
 use Rattle.monitor.proofs.Operators.{sure, operand-row}
 
 module _ {terms plan rel past : List ℕ} {g : Assignment} {x i want o a b r all : ℕ} (s : Site terms plan rel past g x i want o a b r all) where
@@ -56,9 +56,21 @@ module _ {terms plan rel past : List ℕ} {g : Assignment} {x i want o a b r all
       ∙ ap₂ (λ (y w : ℕ). leb (T .entry i .c) (countBelow N (λ k. edge (T .relations) rel (pastEvent past) y m k && H w k v))) (sym (s .a-is)) (sym (s .b-is))
       ∙ ap₂ (λ (y w : ℕ). leb w (countBelow N (λ k. edge y rel (pastEvent past) a m k && H b k v))) (sym (s .r-is)) (sym z)
 
+  -- out asks for one, many for c
+  asks : (k c : ℕ) → c ≡ T .entry i .c → k ≡ cond (eqb o 4) 1 c → (o ≡ 4) ⊎ (o ≡ 11) →
+      (0 < k) × ((m v : ℕ) → H i m v ≡ leb k (countBelow N (λ j. E m j && H b j v)))
+  asks k c z q =
+      ⊎-elim
+      (λ e. let one : k ≡ 1 = q ∙ ap (λ (t : Bool). cond t 1 c) (eq-eqb o 4 e) in (
+        subst (λ (y : ℕ). 0 < y) (sym one) (omega arith),
+        λ m v. out-is e m v ∙ sym (count-some N (λ j. E m j && H b j v)) ∙ ap (λ (y : ℕ). leb y (countBelow N (λ j. E m j && H b j v))) (sym one),
+      ))
+      (λ e. let same : k ≡ c = q ∙ ap (λ (t : Bool). cond t 1 c) (ne-eqb o 4 (λ u. let none : ⊥ = omega arith in none)) in
+      (subst (λ (y : ℕ). 0 < y) (sym same) (c-some s c z e), many-is k (same ∙ z) e))
+
   -- nobody counted is fewer than asked for
-  none-counted : (c n : ℕ) {F : ℕ → Bool} → c ≡ T .entry i .c → o ≡ 11 → ((k : ℕ) → k < n → F k ≡ false) → leb c (countBelow n F) ≡ false
-  none-counted c n z e none = ap (leb c) (count-none n none) ∙ lt-leb c 0 (c-some s c z e)
+  none-counted : (k n : ℕ) {F : ℕ → Bool} → 0 < k → ((j : ℕ) → j < n → F j ≡ false) → leb k (countBelow n F) ≡ false
+  none-counted k n some none = ap (leb k) (count-none n none) ∙ lt-leb k 0 some
 
   -- along a label without an edge
   no-row : (m v : ℕ) (F : ℕ → Bool) → H i m v ≡ anyBelow N (λ k. F k && H b k v) → ((k : ℕ) → F k ≡ false) → false ≡ (ltb v N && H i m v)
@@ -66,9 +78,9 @@ module _ {terms plan rel past : List ℕ} {g : Assignment} {x i want o a b r all
       let y : (k : ℕ) × (k < N) × ((F k && H b k v) ≡ true) = any-elim N (λ k. F k && H b k v) (sym e ∙ and-right (ltb v N) (H i m v) u) in
       not-both (F (y .0)) (and-left (F (y .0)) _ (y .2)) (none (y .0))))
 
-  no-many : (c m v : ℕ) → c ≡ T .entry i .c → o ≡ 11 → ((k : ℕ) → E m k ≡ false) → false ≡ (ltb v N && H i m v)
-  no-many c m v z e none = sym (ap (_&&_ (ltb v N))
-      (many-is c z e m v ∙ none-counted c N z e (λ k l. ap (λ (y : Bool). y && H b k v) (none k))) ∙ and-false (ltb v N))
+  no-ahead : (k m v : ℕ) → 0 < k → H i m v ≡ leb k (countBelow N (λ j. E m j && H b j v)) → ((j : ℕ) → E m j ≡ false) → false ≡ (ltb v N && H i m v)
+  no-ahead k m v some is none = sym (ap (_&&_ (ltb v N))
+      (is ∙ none-counted k N some (λ j l. ap (λ (y : Bool). y && H b j v) (none j))) ∙ and-false (ltb v N))
 
   pub decide-absent : (c : Bool) {t : List ℕ} → (((eqb o 4 || eqb o 5) || eqb o 11) && c) ≡ true
       → (c ≡ true → (l : List ℕ) (j k : ℕ) → edge r l (pastEvent past) a j k ≡ false) → t ≡ replicate 64 0 → Sure t
@@ -79,70 +91,47 @@ module _ {terms plan rel past : List ℕ} {g : Assignment} {x i want o a b r all
       (λ e. no-row m v (λ k. E m k) (out-is (eqb-true o 4 e) m v) (λ k. none m k))
       (λ e. no-row m v (λ k. E k m) (into-is (eqb-true o 5 e) m v) (λ k. none k m))
       (or-cases (eqb o 4) (eqb o 5) u))
-      (λ e. no-many (T .entry i .c) m v refl (eqb-true o 11 e) (λ k. none m k))
+      (λ e. no-ahead (T .entry i .c) m v (c-some s _ refl (eqb-true o 11 e)) (many-is _ refl (eqb-true o 11 e) m v) (λ k. none m k))
       (or-cases (eqb o 4 || eqb o 5) (eqb o 11) (and-left ((eqb o 4 || eqb o 5) || eqb o 11) c q)))
 
-  pub decide-out : (from need : ℕ) {f t : List ℕ} → o ≡ 4 → Senders r (pastEvent past) a want from → Has need (ahead E from)
-      → Rows need (cell T rel past g x b) f → length t ≡ 64 → Only from (gathered E f) t → Sure t
-  decide-out from need {f} {t} e send hn d n h = sure s (record { long = n; bits = λ m v w. h m v }) (λ m v w.
-      let needed : (k : ℕ) → bit from m ≡ true → E m k ≡ true → bit need k ≡ true =
-      λ k sender edge-in. hn k ∙ any-intro 64 (λ j. bit from j && E j k) m (want-below s m w) (and-both (bit from m) (E m k) sender edge-in) in
-      bool-iff _ _
-      (λ u.
-      let sender : bit from m ≡ true = and-left (bit from m) _ u in
-      let y : (k : ℕ) × (k < 64) × ((E m k && inRow f k v) ≡ true) = any-elim 64 (λ k. E m k && inRow f k v) (and-right (bit from m) _ u) in
-      let k = y .0 in
-      let edge-in : E m k ≡ true = and-left (E m k) (inRow f k v) (y .2) in
-      let at-k : (ltb v N && H b k v) ≡ true = sym (operand-row s b d k v (needed k sender edge-in)) ∙ and-right (E m k) (inRow f k v) (y .2) in
-      and-both (ltb v N) (H i m v) (and-left (ltb v N) (H b k v) at-k)
-      (out-is e m v ∙ any-intro N (λ j. E m j && H b j v) k (inside s 4 e refl m k (want-below s m w) edge-in .1)
-      (and-both (E m k) (H b k v) edge-in (and-right (ltb v N) (H b k v) at-k))))
-      (λ u.
-      let y : (k : ℕ) × (k < N) × ((E m k && H b k v) ≡ true) = any-elim N (λ k. E m k && H b k v)
-      (sym (out-is e m v) ∙ and-right (ltb v N) (H i m v) u) in
-      let k = y .0 in
-      let edge-in : E m k ≡ true = and-left (E m k) (H b k v) (y .2) in
-      let sender : bit from m ≡ true = send .enough rel m k w edge-in in
-      and-both (bit from m) _ sender
-      (any-intro 64 (λ j. E m j && inRow f j v) k (member-short (s .ready) k (y .1))
-      (and-both (E m k) (inRow f k v) edge-in
-      (operand-row s b d k v (needed k sender edge-in)
-      ∙ and-both (ltb v N) (H b k v) (and-left (ltb v N) (H i m v) u) (and-right (E m k) (H b k v) (y .2)))))))
-
-  pub decide-many : (c from need : ℕ) {f t : List ℕ} → c ≡ T .entry i .c → o ≡ 11 → Senders r (pastEvent past) a want from → Has need (ahead E from)
-      → Rows need (cell T rel past g x b) f → length t ≡ 64 → Only from (gatheredMany E f c) t → Sure t
-  decide-many c from need {f} {t} z e send hn d n h = sure s (record { long = n; bits = λ m v w. h m v }) (λ m v w.
+  pub decide-ahead : (k c from need : ℕ) {f t : List ℕ} → c ≡ T .entry i .c → k ≡ cond (eqb o 4) 1 c → (o ≡ 4) ⊎ (o ≡ 11)
+      → Senders r (pastEvent past) a want from → Has need (ahead E from)
+      → Rows need (cell T rel past g x b) f → length t ≡ 64 → Only from (gathered E f k) t → Sure t
+  decide-ahead k c from need {f} {t} z q e send hn d n h = sure s (record { long = n; bits = λ m v w. h m v }) (λ m v w.
       ⊎-elim (sends m v w) (stays m v w) (true-or-false (bit from m)))
     where
-      counted : ℕ → ℕ → ℕ → Bool
-      counted m v k = E m k && inRow f k v
+      some : 0 < k
+      some = asks k c z q e .0
+
+      is : (m v : ℕ) → H i m v ≡ leb k (countBelow N (λ j. E m j && H b j v))
+      is = asks k c z q e .1
 
       -- no label leads from m
-      stays : (m v : ℕ) → bit want m ≡ true → bit from m ≡ false → (bit from m && gatheredMany E f c m v) ≡ (ltb v N && H i m v)
+      stays : (m v : ℕ) → bit want m ≡ true → bit from m ≡ false → (bit from m && gathered E f k m v) ≡ (ltb v N && H i m v)
       stays m v w none =
-          ap (λ (y : Bool). y && gatheredMany E f c m v) none
-          ∙ no-many c m v z e (λ k. is-false (E m k) (λ edge-in. not-both (bit from m) (send .enough rel m k w edge-in) none))
+          ap (λ (y : Bool). y && gathered E f k m v) none
+          ∙ no-ahead k m v some (is m v) (λ j. is-false (E m j) (λ edge-in. not-both (bit from m) (send .enough rel m j w edge-in) none))
 
-      row-is : (m v : ℕ) → bit want m ≡ true → bit from m ≡ true → (k : ℕ) → counted m v k ≡ (E m k && (ltb v N && H b k v))
-      row-is m v w sender k = and-under (E m k) (inRow f k v) (ltb v N && H b k v) (λ edge-in.
-          operand-row s b d k v (hn k ∙ any-intro 64 (λ j. bit from j && E j k) m (want-below s m w) (and-both (bit from m) (E m k) sender edge-in)))
+      row-is : (m v : ℕ) → bit want m ≡ true → bit from m ≡ true → (j : ℕ) → (E m j && inRow f j v) ≡ (E m j && (ltb v N && H b j v))
+      row-is m v w sender j = and-under (E m j) (inRow f j v) (ltb v N && H b j v) (λ edge-in.
+          operand-row s b d j v (hn j ∙ any-intro 64 (λ l. bit from l && E l j) m (want-below s m w) (and-both (bit from m) (E m j) sender edge-in)))
 
-      sends : (m v : ℕ) → bit want m ≡ true → bit from m ≡ true → (bit from m && gatheredMany E f c m v) ≡ (ltb v N && H i m v)
+      sends : (m v : ℕ) → bit want m ≡ true → bit from m ≡ true → (bit from m && gathered E f k m v) ≡ (ltb v N && H i m v)
       sends m v w sender =
-          ap (λ (y : Bool). y && gatheredMany E f c m v) sender
+          ap (λ (y : Bool). y && gathered E f k m v) sender
           ∙ ⊎-elim
           (λ u.
           let low : ltb v 64 ≡ true = lt-ltb v 64 (member-short (s .ready) v (ltb-true v N u)) in
-          let same : (k : ℕ) → counted m v k ≡ (E m k && H b k v) = λ k. row-is m v w sender k ∙ ap (λ (y : Bool). E m k && (y && H b k v)) u in
-          let few : countBelow 64 (counted m v) ≡ countBelow N (λ k. E m k && H b k v) =
-          count-cong 64 (λ k l. same k) ∙ count-wider N 64 (λ k. E m k && H b k v) (let q = terms-good s .few-members in omega arith)
-          (λ k l. is-false (E m k && H b k v) (λ q.
-          let below : k < N = inside s 11 e refl m k (want-below s m w) (and-left (E m k) (H b k v) q) .1 in
+          let few : countBelow 64 (λ j. E m j && inRow f j v) ≡ countBelow N (λ j. E m j && H b j v) =
+          count-cong 64 (λ j l. row-is m v w sender j ∙ ap (λ (y : Bool). E m j && (y && H b j v)) u)
+          ∙ count-wider N 64 (λ j. E m j && H b j v) (let q = terms-good s .few-members in omega arith)
+          (λ j l. is-false (E m j && H b j v) (λ q.
+          let below : j < N = ahead-inside s e m j (want-below s m w) (and-left (E m j) (H b j v) q) .1 in
           let none : ⊥ = omega arith in none)) in
-          ap₂ _&&_ (low ∙ sym u) (ap (leb c) few ∙ sym (many-is c z e m v)))
+          ap₂ _&&_ (low ∙ sym u) (ap (leb k) few ∙ sym (is m v)))
           (λ u.
-          ap (_&&_ (ltb v 64)) (none-counted c 64 z e (λ k l.
-          row-is m v w sender k ∙ ap (λ (y : Bool). E m k && (y && H b k v)) u ∙ and-false (E m k)))
+          ap (_&&_ (ltb v 64)) (none-counted k 64 some (λ j l.
+          row-is m v w sender j ∙ ap (λ (y : Bool). E m j && (y && H b j v)) u ∙ and-false (E m j)))
           ∙ and-false (ltb v 64) ∙ sym (ap (λ (y : Bool). y && H i m v) u))
           (true-or-false (ltb v N))
 
