@@ -4,9 +4,10 @@
  * Machine   x86-64 Linux only: the archive is machine code for it.
  * RAM       terms 2,472 bytes, state 24,584 bytes, scratch 16,384 bytes. The
  *           library allocates nothing and has no state of its own.
- * Stack     measured, not proved: reading takes 181 KiB, an opening, look,
- *           request or set list 169 KiB, and each 1.16 KiB more for every
- *           level by which entries nest, at most 476 KiB; the other calls take
+ * Stack     measured, not proved: reading takes 198 KiB, writing a terms text
+ *           or asking for its size 193 KiB, an opening, look, request or set
+ *           list 169 KiB, and each 1.16 KiB more for every level by which
+ *           entries nest, at most 492 KiB; storing and the other calls take
  *           4 KiB. Provide CUCKOOORMOLU_STACK_BYTES.
  * Time      measured, not proved. Entries that share others take no more than
  *           a memo's time; what can still take long is nested binds over

@@ -64,11 +64,13 @@ fn same<T: PartialEq + std::fmt::Debug>(
     got: &[T],
     wanted: &[T],
 ) -> Result<(), Difference> {
-    equal(&format!("{what}, length"), got.len(), wanted.len())?;
-    for (place, (got, wanted)) in got.iter().zip(wanted).enumerate() {
-        equal(&format!("{what}, word {place}"), got, wanted)?;
+    if got.len() != wanted.len() {
+        return equal(&format!("{what}, length"), got.len(), wanted.len());
     }
-    Ok(())
+    match got.iter().zip(wanted).position(|(got, wanted)| got != wanted) {
+        None => Ok(()),
+        Some(place) => equal(&format!("{what}, word {place}"), &got[place], &wanted[place]),
+    }
 }
 
 /// Lent memory full of noise.
