@@ -1,6 +1,7 @@
 #!/bin/sh
 # examples.sh PROGRAM KEEPER: every example as it stands, and with each change that its README tells of under "Change one thing". The first column there is `line 4 to R 1 2 1`, of
-# the requests, or `without G 0 0 2`, of the terms; the second lists the answers that differ, `5, 6 deny; 7 grant`. All others must stay.
+# the requests, or `without G 0 0 2`, of the terms; the second lists the answers that differ, `5, 6 deny; 7 grant`. All others must stay. Where an example has a folder `later`, its terms
+# are what is stored after the example's requests.
 here=$(cd "$(dirname "$0")" && pwd)
 # shellcheck source=tests/hold.sh
 . "$here/hold.sh"
@@ -45,8 +46,11 @@ differ() {
         END { exit left != 0 }' "$dir/expected.tsv" >"$work/wanted"
 }
 
-for dir in "$here"/../examples/*/; do
-    example=$(basename "$dir")
+for dir in "$here"/../examples/*/ "$here"/../examples/*/later/; do
+    example=${dir#"$here"/../examples/} example=${example%/}
+    if [ -d "$dir/later" ]; then
+        "$work/keeper" store "$dir" | cmp -s - "$dir/later/terms.tsv" || { echo "FAIL $example: later/terms.tsv is not what is stored" && failed=$((failed + 1)); }
+    fi
     cp "$dir/terms.tsv" "$dir/requests.tsv" "$work/case"
     cp "$dir/expected.tsv" "$work/wanted"
     hold "$example"

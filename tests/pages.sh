@@ -1,6 +1,6 @@
 #!/bin/sh
 # pages.sh PROGRAM KEEPER: what the pages of docs/ show. The terms file of FORMAT with its requests gives its answers; each line of its table of refusals, put after the F lines,
-# gives the number. The preset of SCOPE is the example's and gives its answers.
+# gives the number; the lines of its stored form are what is stored, and the program goes on from them. The preset of SCOPE is the example's and gives its answers.
 here=$(cd "$(dirname "$0")" && pwd)
 # shellcheck source=tests/hold.sh
 . "$here/hold.sh"
@@ -38,6 +38,17 @@ while IFS=';' read -r number faulty earlier; do
 done <"$work/refusals"
 numbers=$(cut -d ';' -f 1 "$work/refusals" | tr '\n' ' ')
 [ "$numbers" = '1 2 3 4 5 10 ' ] || { echo "FAIL FORMAT: refusals $numbers" && failed=$((failed + 1)); }
+
+# The stored form: the first line, the terms, the last lines; the requests after the first go on from there.
+column FORMAT.md 'The stored form' 1 >"$work/lines"
+cp "$work/terms" "$work/case/terms.tsv"
+column FORMAT.md 'Requests and answers' 1 | head -n 1 >"$work/case/requests.tsv"
+{ head -n 1 "$work/lines"; cat "$work/terms"; tail -n +2 "$work/lines"; } >"$work/stored"
+"$work/keeper" store "$work/case" | cmp - "$work/stored" || failed=$((failed + 1))
+cp "$work/stored" "$work/case/terms.tsv"
+column FORMAT.md 'Requests and answers' 1 | tail -n +2 >"$work/case/requests.tsv"
+column FORMAT.md 'Requests and answers' 2 | awk -F '\t' -v OFS='\t' 'NR > 1 { $1 = NR - 1; print }' >"$work/wanted"
+hold 'FORMAT, the stored form'
 
 sed -n '/^## The preset$/,/^## Cases$/s/^    //p' "$docs/SCOPE.md" | tr ' ' '\t' >"$work/case/terms.tsv"
 column SCOPE.md 'The preset' 1 >"$work/case/requests.tsv"

@@ -82,6 +82,8 @@ pub struct Archive {
     set_list: Option<SetList>,
     read: Read,
     write: Write,
+    /// None in an archive before 0.6.
+    store: Option<Write>,
 }
 
 impl Archive {
@@ -131,6 +133,7 @@ impl Archive {
                 set_list: found("set_list").map(|symbol| transmute::<*mut c_void, SetList>(symbol)),
                 read: transmute::<*mut c_void, Read>(symbol("read")),
                 write: transmute::<*mut c_void, Write>(symbol("write")),
+                store: found("store").map(|store| transmute::<*mut c_void, Write>(store)),
             }
         }
     }
@@ -192,5 +195,13 @@ impl Archive {
         let (words, count) = (terms.as_ptr(), terms.len());
         let (bytes, room) = (output.as_mut_ptr(), output.len());
         unsafe { (self.write)(words, count, state.as_ptr(), state.len(), bytes, room, &mut 0) }
+    }
+
+    /// Writes the stored form, where the archive knows it.
+    pub fn store(&self, terms: &[u16], state: &[u64], output: &mut [u8]) -> Option<usize> {
+        let (words, count) = (terms.as_ptr(), terms.len());
+        let (bytes, room) = (output.as_mut_ptr(), output.len());
+        let store = self.store?;
+        Some(unsafe { store(words, count, state.as_ptr(), state.len(), bytes, room, &mut 0) })
     }
 }

@@ -6,7 +6,7 @@
 
 use keeper::record::after_effects;
 use keeper::terms::memory::{state_of_words, State};
-use keeper::terms::{Edge, Entry, EventEdge, Terms, Variables};
+use keeper::terms::{Edge, Entry, EventEdge, Past, Terms, Variables};
 use std::collections::BTreeSet;
 
 /// Members that variables stand for.
@@ -31,7 +31,7 @@ pub struct Matrices {
 impl Matrices {
     /// Goes on from a state of the monitor.
     pub fn resume(terms: &Terms, words: &[u64]) -> Matrices {
-        let State { edges, tables, event } =
+        let State { edges, past: Past { tables, event } } =
             state_of_words(terms, words).expect("the state keeps the layout");
         let members = terms.members;
         let mut tables = tables.into_iter();
@@ -250,18 +250,19 @@ mod tests {
     use keeper::record::Record;
     use keeper::terms;
 
-    /// Reach and all else: the answers are the keeper's.
+    /// Reach and all else, from both forms: the answers are the keeper's.
     #[test]
     fn answers_are_the_keepers() {
         let mut reaching = 0;
         for seed in 0..400 {
             let case = generate::case(seed, 99_999);
-            let terms = terms::read(&case.text).expect("an accepted text");
+            let file = terms::read(&case.text).expect("an accepted text");
+            let terms = file.terms.clone();
             if terms.members > 8 || terms.entries.len() > 60 {
                 continue;
             }
             reaching += usize::from(terms.entries.iter().any(|e| matches!(e, Entry::Reach(..))));
-            let mut record = Record::new(terms.clone());
+            let mut record = Record::of(file);
             let mut matrices = Matrices::resume(&terms, &record.state_words());
             for call in &case.calls {
                 let right = call.event < terms.events && call.from.max(call.to) < terms.members;

@@ -62,12 +62,16 @@ fn touched(mut work: Work) -> usize {
 pub fn print(archive: &Archive) {
     let bare = touched(Box::new(|| ()));
     println!("stack under 256 entries nested 255 deep, in KiB:");
-    println!("{:<14} {:>8} {:>8} {:>8} {:>8}", "", "request", "set list", "read", "write");
+    println!(
+        "{:<14} {:>8} {:>8} {:>8} {:>8} {:>8}",
+        "", "request", "set list", "read", "write", "store"
+    );
     let mut most = 0;
     for (name, text) in deep() {
         let (mut terms, mut state) = (vec![0; TERMS_WORDS], vec![0; STATE_WORDS]);
         let mut scratch = vec![0; SCRATCH_WORDS];
-        let mut output = vec![0; text.len()];
+        // The tables of a few entries over 64 members are the most that is stored.
+        let mut output = vec![0; text.len() + (1 << 20)];
         let mut code = 0;
         let read = touched(Box::new(|| code = archive.read(&text, &mut terms, &mut state)));
         if !is_done(code) {
@@ -78,6 +82,9 @@ pub fn print(archive: &Archive) {
         let write = touched(Box::new(|| {
             assert!(is_done(archive.write(&terms, &state, &mut output)));
         }));
+        let store = touched(Box::new(|| {
+            assert!(archive.store(&terms, &state, &mut output).is_none_or(is_done));
+        }));
         let request = touched(Box::new(|| {
             assert!(is_granted(archive.request(&terms, &mut state, &mut scratch, [0, 1, 2])));
             archive.request(&terms, &mut state, &mut scratch, [1, 1, 2]);
@@ -87,9 +94,9 @@ pub fn print(archive: &Archive) {
             let code = archive.set_list(&terms, &mut state, &mut scratch, &mut records);
             assert!(code.is_none_or(is_done));
         }));
-        let bytes = [request, list, read, write].map(|bytes| bytes.saturating_sub(bare));
-        let [request, list, read, write] = bytes.map(|bytes| bytes as f64 / 1024.0);
-        println!("{name:<14} {request:>8.1} {list:>8.1} {read:>8.1} {write:>8.1}");
+        let bytes = [request, list, read, write, store].map(|bytes| bytes.saturating_sub(bare));
+        let [request, list, read, write, store] = bytes.map(|bytes| bytes as f64 / 1024.0);
+        println!("{name:<14} {request:>8.1} {list:>8.1} {read:>8.1} {write:>8.1} {store:>8.1}");
         most = bytes.into_iter().fold(most, usize::max);
     }
     let verdict = if most <= MOST { "met   " } else { "MISSED" };

@@ -1,42 +1,91 @@
-//! Reading and writing: the longest file that the program takes, and a full
-//! one, with every edge of 64 members and 16 relations.
+//! Reading and writing: the longest file that the program takes, one with every
+//! edge of 64 members and 16 relations, and the fullest stored ones. The time for
+//! a byte shows that both are linear.
 
 use crate::measure::{in_turn, timed, Batch};
-use cuckooormolu::{raw, STATE_WORDS, TERMS_WORDS};
+use cuckooormolu::{raw, Refusal, STATE_WORDS, TERMS_WORDS};
 use std::hint::black_box;
 use std::time::Duration;
 
-const HEAD: &str = "M\t64\nL\t16\t1\nF\t0\ttop\t0\t0\nP\t0\t0\n";
+/// Lines of every triple below a count and 64.
+fn triples(kind: &str, count: usize) -> String {
+    let line = |n: usize| format!("{kind}\t{}\t{}\t{}\n", n / 4096, n / 64 % 64, n % 64);
+    (0..count * 4096).map(line).collect()
+}
+
+/// Terms of 64 members, 16 relations and one event, with so many prev of top.
+fn head(tables: usize) -> String {
+    let mut text = "M\t64\nL\t16\t1\nF\t0\ttop\t0\t0\n".to_string();
+    text.extend((1..=tables).map(|entry| format!("F\t{entry}\tprev\t0\t0\n")));
+    text + "P\t0\t0\n"
+}
 
 /// A text of edges, no longer than that.
 fn edges(most: usize) -> Vec<u8> {
-    let mut text = HEAD.as_bytes().to_vec();
-    for edge in 0..16 * 64 * 64 {
-        let line = format!("G\t{}\t{}\t{}\n", edge / 4096, edge / 64 % 64, edge % 64);
-        if text.len() + line.len() > most {
-            break;
-        }
-        text.extend(line.as_bytes());
-    }
+    let mut text = head(0).into_bytes();
+    let edges = triples("G", 16);
+    let room = most.saturating_sub(text.len()).min(edges.len());
+    let end = edges[..room].rfind('\n').map_or(0, |end| end + 1);
+    text.extend(&edges.as_bytes()[..end]);
     text
 }
 
-/// Prints what reading and writing a text take.
+/// A stored text with every edge and so many full tables.
+fn stored(tables: usize) -> Vec<u8> {
+    let lines = [triples("G", 16), triples("T", tables), "V\t0\t63\t63\n".to_string()];
+    format!("S\t2\n{}{}", head(tables), lines.concat()).into_bytes()
+}
+
+/// The fullest stored text without its last bit: refused with 11, after all
+/// lines were read.
+fn partly_filled() -> Vec<u8> {
+    let text = String::from_utf8(stored(32)).expect("digits and letters");
+    text.replace("T\t31\t63\t63\n", "").into_bytes()
+}
+
+/// Prints what reading and writing a text take, each in its own form.
 pub fn print() {
     println!("\ntexts, least ms:");
-    println!("{:>9} {:>8} {:>8}", "bytes", "read", "write");
-    for text in [edges(65_536), edges(usize::MAX)] {
-        let (mut terms, mut state) = (vec![0; TERMS_WORDS], vec![0; STATE_WORDS]);
-        raw::read(&text, &mut terms, &mut state).expect("the text is right");
-        let (own_terms, own_state) = (terms.clone(), state.clone());
-        let mut output = vec![0; text.len()];
-        let written = raw::write(&own_terms, &own_state, &mut output);
-        assert!(written.is_ok_and(|count| output[..count] == text));
-        let mut read = || _ = black_box(raw::read(&text, &mut terms, &mut state));
-        let mut write = || _ = black_box(raw::write(&own_terms, &own_state, &mut output));
-        let batches: Vec<Batch> =
-            vec![(1, Box::new(|| timed(&mut read))), (1, Box::new(|| timed(&mut write)))];
-        let times = in_turn(Duration::from_millis(500), 20, batches);
-        println!("{:>9} {:>8.2} {:>8.2}", text.len(), times[0].least / 1e6, times[1].least / 1e6);
-    }
+    println!(
+        "{:<28} {:>9} {:>8} {:>8} {:>13} {:>14}",
+        "", "bytes", "read", "write", "read ns/byte", "write ns/byte"
+    );
+    row("edges, 64 KiB", &edges(65_536), raw::write);
+    row("edges", &edges(usize::MAX), raw::write);
+    row("stored, edges", &stored(0), raw::store);
+    row("stored, edges and 16 tables", &stored(16), raw::store);
+    row("stored, edges and 32 tables", &stored(32), raw::store);
+    refused("the same, partly filled", &partly_filled());
+}
+
+/// Writes one of the forms.
+type Write = fn(&[u16], &[u64], &mut [u8]) -> Result<usize, Refusal>;
+
+fn row(name: &str, text: &[u8], form: Write) {
+    let (mut terms, mut state) = (vec![0; TERMS_WORDS], vec![0; STATE_WORDS]);
+    raw::read(text, &mut terms, &mut state).expect("the text is right");
+    let (own_terms, own_state) = (terms.clone(), state.clone());
+    let mut output = vec![0; text.len()];
+    let written = form(&own_terms, &own_state, &mut output);
+    assert!(written.is_ok_and(|count| &output[..count] == text));
+    let mut read = || _ = black_box(raw::read(text, &mut terms, &mut state));
+    let mut write = || _ = black_box(form(&own_terms, &own_state, &mut output));
+    let batches: Vec<Batch> =
+        vec![(1, Box::new(|| timed(&mut read))), (1, Box::new(|| timed(&mut write)))];
+    let times = in_turn(Duration::from_millis(500), 20, batches);
+    let (read, write, bytes) = (times[0].least, times[1].least, text.len() as f64);
+    let each = (read / bytes, write / bytes);
+    let (read, write) = (read / 1e6, write / 1e6);
+    println!("{name:<28} {bytes:>9} {read:>8.2} {write:>8.2} {:>13.2} {:>14.2}", each.0, each.1);
+}
+
+fn refused(name: &str, text: &[u8]) {
+    let (mut terms, mut state) = (vec![0; TERMS_WORDS], vec![0; STATE_WORDS]);
+    let got = raw::read(text, &mut terms, &mut state).map_err(|(refusal, _)| refusal);
+    assert_eq!(got, Err(Refusal::PartlyFilled));
+    let mut read = || _ = black_box(raw::read(text, &mut terms, &mut state));
+    let batches: Vec<Batch> = vec![(1, Box::new(|| timed(&mut read)))];
+    let read = in_turn(Duration::from_millis(500), 20, batches)[0].least;
+    let (bytes, each) = (text.len(), read / text.len() as f64);
+    println!("{name:<28} {bytes:>9} {:>8.2} {:>8} {each:>13.2}", read / 1e6, "");
 }

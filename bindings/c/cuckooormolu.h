@@ -4,9 +4,10 @@
  * Machine   x86-64 Linux only: the archive is machine code for it.
  * RAM       terms 2,472 bytes, state 24,584 bytes, scratch 16,384 bytes. The
  *           library allocates nothing and has no state of its own.
- * Stack     measured, not proved: reading takes 181 KiB, an opening, look,
- *           request or set list 169 KiB, and each 1.16 KiB more for every
- *           level by which entries nest, at most 476 KiB; the other calls take
+ * Stack     measured, not proved: reading takes 198 KiB, writing a terms text
+ *           or asking for its size 193 KiB, an opening, look, request or set
+ *           list 169 KiB, and each 1.16 KiB more for every level by which
+ *           entries nest, at most 492 KiB; storing and the other calls take
  *           4 KiB. Provide CUCKOOORMOLU_STACK_BYTES.
  * Time      measured, not proved. Entries that share others take no more than
  *           a memo's time; what can still take long is nested binds over
@@ -14,7 +15,8 @@
  *           binds, N the members.
  * Kept      terms and state are plain words: they may be copied, kept and
  *           lent again. In a file they have the machine's byte order,
- *           little-endian. Scratch need not be kept.
+ *           little-endian. Scratch need not be kept. A stored text keeps the
+ *           same for any machine, and for people.
  * Threads   calls over distinct memory may run at the same time; calls over
  *           the same memory must not, unless none of them may write it.
  *
@@ -54,17 +56,19 @@ extern "C" {
 #endif
 
 #define CUCKOOORMOLU_VERSION_MAJOR 0
-#define CUCKOOORMOLU_VERSION_MINOR 5
+#define CUCKOOORMOLU_VERSION_MINOR 6
 #define CUCKOOORMOLU_VERSION_PATCH 0
-#define CUCKOOORMOLU_VERSION "0.5.0"
+#define CUCKOOORMOLU_VERSION "0.6.0"
 
 /* The named words of each memory. */
 #define CUCKOOORMOLU_TERMS_WORDS 1236
 #define CUCKOOORMOLU_STATE_WORDS 3073
 #define CUCKOOORMOLU_SCRATCH_WORDS 2048
 
-/* No written text is longer than this many bytes. */
+/* No text of the old form that is written is longer than this many bytes, and
+ * none of the stored form. */
 #define CUCKOOORMOLU_TEXT_BYTES 728029
+#define CUCKOOORMOLU_STORED_BYTES 2169836
 
 /* More stack than any call was measured to take. */
 #define CUCKOOORMOLU_STACK_BYTES (512 * 1024)
@@ -73,8 +77,8 @@ extern "C" {
  * The code of a call. No code is 0, and a refusal's is below 100; granted and
  * denied differ in five bits. Refusals leave all memory as lent. Where several
  * fit, reading gives 6, then the first faulty line and in it the lowest
- * number; the other calls give 6 (terms, state, scratch), 7, 8, 9, and last 6
- * for the output.
+ * number, and 11 only where no line is faulty; the other calls give 6 (terms,
+ * state, scratch), 7, 8, 9 or 12, and last 6 for the output.
  */
 typedef enum cuckooormolu_code {
     /* The form of a line, its place, or a text that ends too soon. */
@@ -98,6 +102,11 @@ typedef enum cuckooormolu_code {
     /* A reach whose variable is 0, whose first formula has another free
      * variable, or whose second has that variable free. */
     CUCKOOORMOLU_REFUSED_REACH = 10,
+    /* A stored text with a partly filled word in a table without a free
+     * variable. */
+    CUCKOOORMOLU_REFUSED_TABLE = 11,
+    /* The old form is to be written of a state that is no fresh start. */
+    CUCKOOORMOLU_REFUSED_FRESH = 12,
     /* A reading, writing, check, opening or set list that is done. */
     CUCKOOORMOLU_DONE = 100,
     /* A look or request whose policy does not hold. */
@@ -159,7 +168,7 @@ CUCKOOORMOLU_ASSERT(sizeof(size_t) == 8, "lengths and codes have 64 bits");
 CUCKOOORMOLU_ASSERT(sizeof(struct cuckooormolu) == 2472 + 24584 + 16384,
                     "no padding between the memories");
 CUCKOOORMOLU_ASSERT(CUCKOOORMOLU_REFUSED_FORM > 0, "no code is 0");
-CUCKOOORMOLU_ASSERT(CUCKOOORMOLU_REFUSED_REACH < 100,
+CUCKOOORMOLU_ASSERT(CUCKOOORMOLU_REFUSED_FRESH < 100,
                     "refusals are below 100");
 CUCKOOORMOLU_ASSERT(CUCKOOORMOLU_DONE >= 100, "done is no refusal");
 CUCKOOORMOLU_ASSERT(CUCKOOORMOLU_DENIED > CUCKOOORMOLU_DONE,
@@ -211,6 +220,11 @@ static inline const char *cuckooormolu_words(size_t code)
     case CUCKOOORMOLU_REFUSED_REACH:
         return "reach whose variable is 0, whose first formula has another "
                "free variable, or whose second has that variable free";
+    case CUCKOOORMOLU_REFUSED_TABLE:
+        return "partly filled word in a table without a free variable";
+    case CUCKOOORMOLU_REFUSED_FRESH:
+        return "state that is no fresh start, of which the old form would "
+               "lose the past";
     case CUCKOOORMOLU_DONE:
         return "done";
     case CUCKOOORMOLU_DENIED:
@@ -235,6 +249,13 @@ size_t cuckooormolu_raw_size(const uint16_t *terms, size_t terms_length,
                              const uint64_t *state, size_t state_length,
                              size_t *count);
 size_t cuckooormolu_raw_write(const uint16_t *terms, size_t terms_length,
+                              const uint64_t *state, size_t state_length,
+                              uint8_t *output, size_t output_length,
+                              size_t *count);
+size_t cuckooormolu_raw_store_size(const uint16_t *terms, size_t terms_length,
+                                   const uint64_t *state, size_t state_length,
+                                   size_t *count);
+size_t cuckooormolu_raw_store(const uint16_t *terms, size_t terms_length,
                               const uint64_t *state, size_t state_length,
                               uint8_t *output, size_t output_length,
                               size_t *count);
@@ -280,9 +301,11 @@ size_t cuckooormolu_raw_set_list(const uint16_t *terms, size_t terms_length,
         number = &no_##number;
 
 /*
- * Reads a terms text. Done: the named words of terms and state are filled, the
- * state at moment 0, and *line is 0. Refused with 1 to 5 or 10: *line is
- * the first faulty line, from 1. Refused with 6: *line is 0. `line` may be null.
+ * Reads a text of the old or of the stored form. Done: the named words of terms
+ * and state are filled, and *line is 0; the old form gives the state of moment
+ * 0, the stored form the state that was stored. Refused with 1 to 5, 10 or 11:
+ * *line is the first faulty line, from 1. Refused with 6: *line is 0. `line`
+ * may be null.
  */
 CUCKOOORMOLU_USED static inline struct cuckooormolu_result
 cuckooormolu_read(const uint8_t *text, size_t text_length,
@@ -299,8 +322,8 @@ cuckooormolu_read(const uint8_t *text, size_t text_length,
 }
 
 /*
- * How many bytes writing takes. Done: *count is that number. Refused with 6, 7
- * or 8: *count is 0. `count` may be null.
+ * How many bytes writing the old form takes. Done: *count is that number.
+ * Refused with 6, 7, 8 or 12: *count is 0. `count` may be null.
  */
 CUCKOOORMOLU_USED static inline struct cuckooormolu_result
 cuckooormolu_size(const uint16_t *terms, size_t terms_length,
@@ -315,10 +338,11 @@ cuckooormolu_size(const uint16_t *terms, size_t terms_length,
 }
 
 /*
- * Writes the terms with the present relations as a text, numbers without
- * leading zeros. Done: the text stands at the front of output and *count is its
- * count of bytes; the bytes after it are not touched. Refused with 6, 7 or 8:
- * *count is 0. `count` may be null.
+ * Writes the terms with the present relations as a text of the old form, numbers
+ * without leading zeros. The state must be a fresh start, that of moment 0 of
+ * its own relations, so that nothing is lost. Done: the text stands at the front
+ * of output and *count is its count of bytes; the bytes after it are not
+ * touched. Refused with 6, 7, 8 or 12: *count is 0. `count` may be null.
  */
 CUCKOOORMOLU_USED static inline struct cuckooormolu_result
 cuckooormolu_write(const uint16_t *terms, size_t terms_length,
@@ -331,6 +355,40 @@ cuckooormolu_write(const uint16_t *terms, size_t terms_length,
     CUCKOOORMOLU_WANTED(count)
     return cuckooormolu_result_of(
         cuckooormolu_raw_write(terms, terms_length, state, state_length,
+                               output, output_length, count));
+}
+
+/* How many bytes storing takes: as cuckooormolu_size, and never 12. */
+CUCKOOORMOLU_USED static inline struct cuckooormolu_result
+cuckooormolu_store_size(const uint16_t *terms, size_t terms_length,
+                        const uint64_t *state, size_t state_length,
+                        size_t *count)
+{
+    CUCKOOORMOLU_LENT(uint16_t, terms, terms_length)
+    CUCKOOORMOLU_LENT(uint64_t, state, state_length)
+    CUCKOOORMOLU_WANTED(count)
+    return cuckooormolu_result_of(
+        cuckooormolu_raw_store_size(terms, terms_length, state, state_length,
+                                    count));
+}
+
+/*
+ * Writes terms and the whole state as a text of the stored form: relations, what
+ * the policies need of the past, and the event edge. Read again, into any
+ * memory, it gives the same named words, so that the answers go on as if nothing
+ * had stopped. Done and refused as cuckooormolu_write, and never with 12.
+ */
+CUCKOOORMOLU_USED static inline struct cuckooormolu_result
+cuckooormolu_store(const uint16_t *terms, size_t terms_length,
+                   const uint64_t *state, size_t state_length,
+                   uint8_t *output, size_t output_length, size_t *count)
+{
+    CUCKOOORMOLU_LENT(uint16_t, terms, terms_length)
+    CUCKOOORMOLU_LENT(uint64_t, state, state_length)
+    CUCKOOORMOLU_LENT(uint8_t, output, output_length)
+    CUCKOOORMOLU_WANTED(count)
+    return cuckooormolu_result_of(
+        cuckooormolu_raw_store(terms, terms_length, state, state_length,
                                output, output_length, count));
 }
 
@@ -462,6 +520,21 @@ cuckooormolu_monitor_write(const struct cuckooormolu *m, void *output,
                            size_t length, size_t *count)
 {
     return cuckooormolu_write(CUCKOOORMOLU_TERMS(m), CUCKOOORMOLU_STATE(m),
+                              (uint8_t *)output, length, count);
+}
+
+CUCKOOORMOLU_USED static inline struct cuckooormolu_result
+cuckooormolu_monitor_store_size(const struct cuckooormolu *m, size_t *count)
+{
+    return cuckooormolu_store_size(CUCKOOORMOLU_TERMS(m),
+                                   CUCKOOORMOLU_STATE(m), count);
+}
+
+CUCKOOORMOLU_USED static inline struct cuckooormolu_result
+cuckooormolu_monitor_store(const struct cuckooormolu *m, void *output,
+                           size_t length, size_t *count)
+{
+    return cuckooormolu_store(CUCKOOORMOLU_TERMS(m), CUCKOOORMOLU_STATE(m),
                               (uint8_t *)output, length, count);
 }
 

@@ -2,12 +2,12 @@
  * A host of the monitor: reads a terms text and a requests text, makes the
  * requests in one go, as a set list, and prints the answers.
  *
- *     example TERMS REQUESTS [WRITTEN]
+ *     example TERMS REQUESTS [STORED]
  *
  * One line for each request: its number, the answer, and for a refusal its
  * number, parted by tabs. Refused terms print one line only, and the reason on
- * standard error. Where a third file is named, the terms with the relations
- * that then stand are written to it.
+ * standard error. Where a third file is named, the monitor is stored in it; read
+ * as TERMS, later or elsewhere, it goes on from there.
  */
 #include "cuckooormolu.h"
 
@@ -107,16 +107,17 @@ static void print_answers(size_t lines)
     }
 }
 
-/* Asks for the size, writes into memory of that size, and that to a file. */
-static int write_to(const char *name)
+/* Asks for the size, stores into memory of that size, and that to a file. */
+static int store_to(const char *name)
 {
     size_t size;
-    if (!cuckooormolu_done(cuckooormolu_monitor_size(&monitor, &size).code))
+    if (!cuckooormolu_done(
+            cuckooormolu_monitor_store_size(&monitor, &size).code))
         return 1;
     uint8_t *text = malloc(size);
     FILE *file = fopen(name, "wb");
     bool done = text != NULL && file != NULL &&
-                cuckooormolu_done(cuckooormolu_monitor_write(
+                cuckooormolu_done(cuckooormolu_monitor_store(
                     &monitor, text, size, NULL).code) &&
                 fwrite(text, 1, size, file) == size;
     free(text);
@@ -128,7 +129,7 @@ static int write_to(const char *name)
 int main(int argc, char **argv)
 {
     if (argc < 3 || argc > 4) {
-        fprintf(stderr, "usage: example TERMS REQUESTS [WRITTEN]\n");
+        fprintf(stderr, "usage: example TERMS REQUESTS [STORED]\n");
         return 2;
     }
     size_t terms_bytes = contents(argv[1], terms_text);
@@ -157,5 +158,5 @@ int main(int argc, char **argv)
         return 1;
     }
     print_answers(lines);
-    return argc == 4 ? write_to(argv[3]) : 0;
+    return argc == 4 ? store_to(argv[3]) : 0;
 }

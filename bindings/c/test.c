@@ -36,7 +36,7 @@ static void codes(void)
         EXPECT(cuckooormolu_granted(code) == (code == 300));
         EXPECT(cuckooormolu_denied(code) == (code == 200));
         EXPECT(cuckooormolu_done(code) == (code == 100));
-        bool known = (code >= 1 && code <= 10) || code == 100 || code == 200 ||
+        bool known = (code >= 1 && code <= 12) || code == 100 || code == 200 ||
                      code == 300;
         EXPECT((strcmp(cuckooormolu_words(code),
                        "not a code of the monitor") != 0) == known);
@@ -83,12 +83,12 @@ static void calls(void)
     EXPECT(cuckooormolu_granted(cuckooormolu_monitor_look(&m, 1, 0, 2).code));
     EXPECT(cuckooormolu_monitor_look(&m, 2, 0, 2).code ==
            CUCKOOORMOLU_REFUSED_NAME);
-    EXPECT(cuckooormolu_done(cuckooormolu_monitor_size(&m, &count).code));
-    EXPECT(count == length + strlen("G\t0\t0\t2\n"));
-    EXPECT(count > sizeof output);
+    EXPECT(cuckooormolu_monitor_size(&m, &count).code ==
+           CUCKOOORMOLU_REFUSED_FRESH);
+    EXPECT(count == 0);
     count = 77;
     EXPECT(cuckooormolu_monitor_write(&m, output, sizeof output, &count)
-               .code == CUCKOOORMOLU_REFUSED_SHORT);
+               .code == CUCKOOORMOLU_REFUSED_FRESH);
     EXPECT(count == 0);
     EXPECT(cuckooormolu_monitor_read(&m, "M\t3\nL\t", 6, &line).code ==
            CUCKOOORMOLU_REFUSED_FORM);
@@ -197,6 +197,53 @@ static void refused_list(void)
     EXPECT(count == 0 && one.answer == 77);
 }
 
+/* What is stored is read into other memory, where it goes on. */
+static void storing(void)
+{
+    static struct cuckooormolu other;
+    size_t count = 77;
+    size_t stored = 77;
+    size_t line = 77;
+    EXPECT(cuckooormolu_done(
+        cuckooormolu_monitor_read(&m, reach, sizeof reach - 1, NULL).code));
+    EXPECT(
+        cuckooormolu_granted(cuckooormolu_monitor_request(&m, 0, 0, 1).code));
+    EXPECT(cuckooormolu_done(
+        cuckooormolu_monitor_store_size(&m, &count).code));
+    EXPECT(count == sizeof reach - 1 + strlen("S\t2\n") +
+                        strlen("T\t0\t0\t1\n") + strlen("V\t0\t0\t1\n"));
+    char *output = (char *)malloc(count);
+    EXPECT(cuckooormolu_monitor_store(&m, output, count - 1, &stored).code ==
+           CUCKOOORMOLU_REFUSED_SHORT);
+    EXPECT(stored == 0);
+    EXPECT(cuckooormolu_done(
+        cuckooormolu_monitor_store(&m, output, count, &stored).code));
+    EXPECT(stored == count && memcmp(output, "S\t2\nM\t3\n", 8) == 0);
+    EXPECT(cuckooormolu_done(
+        cuckooormolu_monitor_read(&other, output, count, &line).code));
+    EXPECT(memcmp(m.terms, other.terms, sizeof m.terms) == 0);
+    EXPECT(memcmp(m.state, other.state, sizeof m.state) == 0);
+    EXPECT(
+        cuckooormolu_granted(cuckooormolu_monitor_look(&other, 1, 0, 1).code));
+    output[2] = '1';
+    EXPECT(cuckooormolu_monitor_read(&other, output, count, &line).code ==
+           CUCKOOORMOLU_REFUSED_RANGE);
+    EXPECT(line == 1);
+    free(output);
+}
+
+/* One bit of two in a table without a free variable. */
+static void partly_filled(void)
+{
+    static const char partly[] =
+        "S\t2\nM\t2\nL\t0\t1\nF\t0\ttop\t0\t0\nF\t1\tprev\t0\t0\nP\t0\t1\n"
+        "T\t0\t0\t0\nT\t0\t0\t1\nT\t0\t1\t1\n";
+    size_t line = 77;
+    EXPECT(cuckooormolu_monitor_read(&m, partly, sizeof partly - 1, &line)
+               .code == CUCKOOORMOLU_REFUSED_TABLE);
+    EXPECT(line == 9);
+}
+
 /* An output of the size that is told takes the whole text, a byte less none
  * of it. */
 static void size(void)
@@ -228,6 +275,8 @@ static void nulls(void)
     EXPECT(line == 0);
     EXPECT(cuckooormolu_monitor_size(NULL, &count).code == six && count == 0);
     EXPECT(cuckooormolu_monitor_write(NULL, output, 1, NULL).code == six);
+    EXPECT(cuckooormolu_monitor_store_size(NULL, &count).code == six);
+    EXPECT(cuckooormolu_monitor_store(NULL, output, 1, NULL).code == six);
     EXPECT(cuckooormolu_monitor_check(NULL).code == six);
     EXPECT(cuckooormolu_monitor_open(NULL).code == six);
     EXPECT(cuckooormolu_monitor_look(NULL, 0, 0, 0).code == six);
@@ -243,6 +292,8 @@ static void nulls(void)
     EXPECT(cuckooormolu_done(cuckooormolu_monitor_size(&m, NULL).code));
     EXPECT(cuckooormolu_monitor_write(&m, NULL, 0, NULL).code == six);
     EXPECT(cuckooormolu_monitor_write(&m, NULL, 99, &count).code == six);
+    EXPECT(cuckooormolu_done(cuckooormolu_monitor_store_size(&m, NULL).code));
+    EXPECT(cuckooormolu_monitor_store(&m, NULL, 999, &count).code == six);
     EXPECT(cuckooormolu_done(
         cuckooormolu_monitor_write(&m, output, sizeof output, NULL).code));
 
@@ -280,6 +331,8 @@ int main(void)
     reaching();
     set_list();
     refused_list();
+    storing();
+    partly_filled();
     size();
     nulls();
     lengths();

@@ -136,10 +136,26 @@ F 0 not 0 0
     judge "terms too long"
 
     tabs "$preset" >"$work/terms.tsv"
-    cp "$work/terms.tsv" "$work/wanted"
-    head -c 65537 /dev/zero >"$work/requests.tsv"
+    tabs "S 2
+$preset" >"$work/wanted"
     "$work/$build" "$work/terms.tsv" /dev/null "$work/got"
-    judge "the preset written again"
+    judge "the preset stored"
+    tabs 'R 0 0 1
+' >"$work/requests.tsv"
+    "$work/$build" "$work/terms.tsv" "$work/requests.tsv" "$work/stored" >/dev/null
+    cp "$work/stored" "$work/got"
+    tabs "S 2
+${preset}T 0 0 1
+V 0 0 1
+" >"$work/wanted"
+    judge "a share stored"
+    tabs 'R 2 1 2
+' >"$work/requests.tsv"
+    "$work/$build" "$work/stored" "$work/requests.tsv" >"$work/got"
+    tabs '1 grant
+' >"$work/wanted"
+    judge "a share remembered"
+    head -c 65537 /dev/zero >"$work/requests.tsv"
     "$work/$build" "$work/terms.tsv" "$work/requests.tsv" >"$work/got" 2>/dev/null
     tabs 'requests 6 0
 ' >"$work/wanted"

@@ -1,15 +1,18 @@
 //! Holds another implementation against the record, call by call.
 
 mod lists;
+mod written;
 
 pub use lists::{lists, set_list};
+pub use written::write;
 
-use crate::expect;
+use crate::expect::{self, Form};
 use crate::generate::{Case, Rng};
-use crate::record::{after_effects, Answer, Call, Record};
+use crate::record::{Answer, Call, Record};
 use crate::set_list::Item;
-use crate::terms::memory::{self, State, SCRATCH_WORDS, STATE_WORDS, TERMS_WORDS};
-use crate::terms::{self, Refusal, Terms};
+use crate::terms::memory::{SCRATCH_WORDS, STATE_WORDS, TERMS_WORDS};
+use crate::terms::{self, memory, Refusal};
+use written::written_back;
 
 /// Another implementation, spoken to by slices and numbers.
 pub trait Other {
@@ -34,8 +37,11 @@ pub trait Other {
         items: &mut [Item],
     ) -> Result<usize, Refusal>;
 
-    /// Writes a text and gives the count of its bytes.
+    /// Writes a text of the old form and gives the count of its bytes.
     fn write(&mut self, terms: &[u16], state: &[u64], output: &mut [u8]) -> Result<usize, Refusal>;
+
+    /// Writes a text of the stored form and gives the count of its bytes.
+    fn store(&mut self, terms: &[u16], state: &[u64], output: &mut [u8]) -> Result<usize, Refusal>;
 }
 
 /// What differed, in words.
@@ -58,11 +64,13 @@ fn same<T: PartialEq + std::fmt::Debug>(
     got: &[T],
     wanted: &[T],
 ) -> Result<(), Difference> {
-    equal(&format!("{what}, length"), got.len(), wanted.len())?;
-    for (place, (got, wanted)) in got.iter().zip(wanted).enumerate() {
-        equal(&format!("{what}, word {place}"), got, wanted)?;
+    if got.len() != wanted.len() {
+        return equal(&format!("{what}, length"), got.len(), wanted.len());
     }
-    Ok(())
+    match got.iter().zip(wanted).position(|(got, wanted)| got != wanted) {
+        None => Ok(()),
+        Some(place) => equal(&format!("{what}, word {place}"), &got[place], &wanted[place]),
+    }
 }
 
 /// Lent memory full of noise.
@@ -112,32 +120,49 @@ fn read_into(other: &mut impl Other, text: &[u8], lent: &mut Lent) -> Result<(),
 
 /// Reads a case's text, which comes back in its normal form, and makes its
 /// calls; after each, the answer and every word lent is compared, and the text
-/// is written out.
+/// is written out in both forms. Now and then all is stored, loaded into other
+/// memory, and goes on from there.
 pub fn case(other: &mut impl Other, case: &Case) -> Result<(), Difference> {
     let mut rng = Rng::new(case.seed);
     let mut lent = Lent::noise(&mut rng, TERMS_WORDS + BEYOND, STATE_WORDS + BEYOND);
     read_into(other, &case.text, &mut lent)?;
-    let Ok(terms) = terms::read(&case.text) else {
+    let Ok(file) = terms::read(&case.text) else {
         return Ok(());
     };
-    let mut record = Record::new(terms);
+    let form = if file.past.is_none() { Form::Old } else { Form::Stored };
+    let mut record = Record::of(file);
     write(other, &lent.terms, &lent.state)?;
-    written_back(other, &case.text, &lent)?;
+    written_back(other, form, &case.text, &lent)?;
     for (index, call) in case.calls.iter().enumerate() {
         let named = |difference| format!("call {index}: {difference}");
         record_call(other, call, &mut record, &mut lent, &mut rng).map_err(named)?;
         write(other, &lent.terms, &lent.state).map_err(named)?;
+        if rng.percent(25) {
+            lent = carried_over(other, &record, &lent, &mut rng).map_err(named)?;
+        }
     }
     Ok(())
 }
 
-/// What is written of an accepted text that was just read is its normal form.
-fn written_back(other: &mut impl Other, text: &[u8], lent: &Lent) -> Result<(), Difference> {
-    let wanted = terms::normal(text);
-    let mut output = vec![0; wanted.len()];
-    let got = other.write(&lent.terms, &lent.state, &mut output);
-    equal("writing back", got, Ok(wanted.len()))?;
-    same("text written back", &output, &wanted)
+/// Stores what is lent and loads it into other memory, where it has to be the
+/// same: the record goes on as if nothing had stopped.
+fn carried_over(
+    other: &mut impl Other,
+    record: &Record,
+    lent: &Lent,
+    rng: &mut Rng,
+) -> Result<Lent, Difference> {
+    let state = record.state();
+    let wanted = terms::store(record.terms(), &state);
+    let mut text = vec![0; wanted.len()];
+    let got = other.store(&lent.terms, &lent.state, &mut text);
+    equal("storing", got, Ok(wanted.len()))?;
+    same("text stored", &text, &wanted)?;
+    let mut next = Lent::noise(rng, TERMS_WORDS + BEYOND, STATE_WORDS + BEYOND);
+    read_into(other, &text, &mut next)?;
+    same("terms loaded", &next.terms[..TERMS_WORDS], &lent.terms[..TERMS_WORDS])?;
+    same("state loaded", &next.state[..STATE_WORDS], &memory::state_words(&state))?;
+    Ok(next)
 }
 
 fn record_call(
@@ -166,28 +191,8 @@ fn record_call(
     Ok(())
 }
 
-/// Writes lent terms and state: into an output with room to spare, into one
-/// that just fits and into one that is a byte too short.
-pub fn write(other: &mut impl Other, terms: &[u16], state: &[u64]) -> Result<(), Difference> {
-    let whole = expect::writing(terms, state, usize::MAX);
-    let length = whole.as_ref().map_or(0, Vec::len);
-    for room in [length + BEYOND, length, length.saturating_sub(1)] {
-        let wanted = match &whole {
-            Ok(text) if room < text.len() => Err(Refusal::plain(6)),
-            Ok(text) => Ok(&text[..]),
-            Err(refusal) => Err(*refusal),
-        };
-        let mut output = vec![0xa5; room];
-        let got = other.write(terms, state, &mut output);
-        equal("writing", got, wanted.map(<[u8]>::len))?;
-        same("output", &output, &over(&vec![0xa5; room], wanted.unwrap_or_default()))?;
-    }
-    Ok(())
-}
-
-/// Makes one call over any lent memory. Where the memory keeps the layout but
-/// no record is known, the decision stays open; what must hold anyway is
-/// compared.
+/// Makes one call over any lent memory. Where it keeps the layout but no record
+/// is known, its tables stand for one.
 pub fn call(
     other: &mut impl Other,
     call: &Call,
@@ -195,33 +200,19 @@ pub fn call(
     state: &[u64],
 ) -> Result<(), Difference> {
     let mut rng = Rng::new(call.scratch_words as u64);
+    let mut lent = Lent { terms: terms.to_vec(), state: state.to_vec() };
+    let refusal = match expect::calling(terms, state, call) {
+        Err(refusal) => refusal,
+        Ok((terms, state)) => {
+            let mut record = expect::going_on(&terms, &state);
+            return record_call(other, call, &mut record, &mut lent, &mut rng);
+        }
+    };
     let scratch = noise(&mut rng, call.scratch_words);
-    let (mut terms_after, mut state_after, mut scratch_after) =
-        (terms.to_vec(), state.to_vec(), scratch.clone());
-    let got = other.call(call, &mut terms_after, &mut state_after, &mut scratch_after);
-    same("terms after a call", &terms_after, terms)?;
-    let granted = match expect::calling(terms, state, call) {
-        Err(refusal) => equal("answer", got, Answer::Refused(refusal)).map(|()| None)?,
-        Ok(lent) => match got {
-            Answer::Refused(refusal) => return Err(format!("refused without need: {refusal:?}")),
-            Answer::Grant if !call.look => Some(lent),
-            Answer::Grant | Answer::Deny => None,
-        },
-    };
-    let Some((terms, before)) = granted else {
-        same("state without a grant", &state_after, state)?;
-        return same("scratch without a grant", &scratch_after, &scratch);
-    };
-    same("scratch after a grant", &scratch_after, &over(&scratch, &[0; SCRATCH_WORDS]))?;
-    same("words beyond the state", &state_after[STATE_WORDS..], &state[STATE_WORDS..])?;
-    moved_on(call, &terms, &before, &state_after)
-}
-
-/// After a grant the relations and the event are known, the tables only in
-/// their layout.
-fn moved_on(call: &Call, terms: &Terms, before: &State, words: &[u64]) -> Result<(), Difference> {
-    let after = memory::state_of_words(terms, words).ok_or("the state breaks the layout")?;
-    let edges = after_effects(terms, &before.edges, call.event, call.from, call.to);
-    equal("relations after a grant", after.edges, edges)?;
-    equal("event after a grant", after.event, Some((call.event, call.from, call.to)))
+    let mut scratch_after = scratch.clone();
+    let got = other.call(call, &mut lent.terms, &mut lent.state, &mut scratch_after);
+    equal("answer", got, Answer::Refused(refusal))?;
+    same("terms after a refusal", &lent.terms, terms)?;
+    same("state after a refusal", &lent.state, state)?;
+    same("scratch after a refusal", &scratch_after, &scratch)
 }

@@ -2,7 +2,7 @@
 
 use crate::record::{Call, Record};
 use crate::terms::memory::{self, State, SCRATCH_WORDS, STATE_WORDS, TERMS_WORDS};
-use crate::terms::{self, Refusal, Terms};
+use crate::terms::{self, File, Refusal, Terms};
 
 /// Reading a text into memories of the given lengths: the named words of
 /// terms and state, or the refusal.
@@ -14,8 +14,8 @@ pub fn reading(
     if terms_length < TERMS_WORDS || state_length < STATE_WORDS {
         return Err(Refusal::plain(6));
     }
-    let terms = terms::read(text)?;
-    Ok((memory::terms_words(&terms), Record::new(terms).state_words()))
+    let record = Record::of(terms::read(text)?);
+    Ok((memory::terms_words(record.terms()), record.state_words()))
 }
 
 /// The terms and state in the lent memory, or refusal 6, 7 or 8.
@@ -28,10 +28,57 @@ pub fn lent(terms: &[u16], state: &[u64]) -> Result<(Terms, State), Refusal> {
     Ok((terms, state))
 }
 
-/// Writing the lent terms and relations: the text, or the refusal.
+/// The two forms that are written.
+#[derive(Clone, Copy, Debug, PartialEq, Eq)]
+pub enum Form {
+    Old,
+    Stored,
+}
+
+impl Form {
+    /// Writing this form: the text, or the refusal.
+    pub fn writing(
+        self,
+        terms: &[u16],
+        state: &[u64],
+        output_length: usize,
+    ) -> Result<Vec<u8>, Refusal> {
+        match self {
+            Form::Old => writing(terms, state, output_length),
+            Form::Stored => storing(terms, state, output_length),
+        }
+    }
+}
+
+/// Writing the old form: the text, or the refusal. The state has to be a fresh
+/// start of its own relations.
 pub fn writing(terms: &[u16], state: &[u64], output_length: usize) -> Result<Vec<u8>, Refusal> {
     let (terms, state) = lent(terms, state)?;
-    let text = terms::write(&terms, &state.edges);
+    // A fresh start has no event edge, so only without one are tables worked out.
+    if state.past.event.is_some() || fresh(&terms, &state).state() != state {
+        return Err(Refusal::plain(12));
+    }
+    fitting(terms::write(&terms, &state.edges), output_length)
+}
+
+/// Writing the stored form: the text, or the refusal.
+pub fn storing(terms: &[u16], state: &[u64], output_length: usize) -> Result<Vec<u8>, Refusal> {
+    let (terms, state) = lent(terms, state)?;
+    fitting(terms::store(&terms, &state), output_length)
+}
+
+/// The record that begins with the relations of a state, at moment 0.
+pub fn fresh(terms: &Terms, state: &State) -> Record {
+    Record::new(Terms { edges: state.edges.clone(), ..terms.clone() })
+}
+
+/// The record that goes on from a state, whatever made it.
+pub fn going_on(terms: &Terms, state: &State) -> Record {
+    Record::of(File::stored(terms, state))
+}
+
+/// A text, if the output has room for it.
+fn fitting(text: Vec<u8>, output_length: usize) -> Result<Vec<u8>, Refusal> {
     if output_length < text.len() {
         return Err(Refusal::plain(6));
     }

@@ -5,6 +5,7 @@ pub mod formulas;
 pub mod lines;
 mod patterns;
 pub mod size;
+pub mod stored;
 pub mod words;
 
 use crate::record::{Call, Record};
@@ -74,16 +75,21 @@ impl fmt::Display for Case {
     }
 }
 
-/// An accepted text with calls, now and then with padded numbers. No number of
-/// a call is above `largest`.
+/// An accepted text with calls, now and then of the stored form or with padded
+/// numbers. No number of a call is above `largest`.
 pub fn case(seed: u64, largest: usize) -> Case {
     let mut rng = Rng::new(seed);
     let size = Size::random(&mut rng);
     let terms = formulas::terms(&mut rng, &size);
     let count = rng.below(size.calls + 1);
     let calls = calls(&mut rng, &terms, count, largest);
-    let mut text = terms::write(&terms, &terms.edges);
-    if rng.below(6) == 0 {
+    let padded = rng.below(6) == 0;
+    let mut text = if rng.below(5) == 0 {
+        stored::file(&mut rng, &terms).text()
+    } else {
+        terms::write(&terms, &terms.edges)
+    };
+    if padded {
         lines::pad(&mut rng, &mut text);
     }
     Case { seed, text, calls }

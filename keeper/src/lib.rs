@@ -1,9 +1,10 @@
 //! The keeper of the whole record of the sharing-terms monitor.
 //!
 //! It keeps one graph for each moment and works every answer out from the
-//! start, by the meaning of the formulas. No table is ever carried along.
+//! start, by the meaning of the formulas. No table is ever carried along; a
+//! stored file's tables stand for the moments before it, which nobody knows.
 //!
-//! * `terms`: the terms file and the lent memory, read and written
+//! * `terms`: files of both forms and the lent memory, read and written
 //! * `record`: the list of graphs, and the meaning of a formula over it
 //! * `set_list`: many requests in one call
 //! * `expect`: what each call over lent memory must give

@@ -1,7 +1,10 @@
 //! `keeper DIR` prints the answers for DIR/terms.tsv and DIR/requests.tsv;
-//! `keeper cases FILE` prints the lines for the cases of FILE.
+//! `keeper store DIR` prints what is stored after them; `keeper cases FILE`
+//! prints the lines for the cases of FILE.
 
-use std::path::PathBuf;
+use keeper::{cases, program};
+use std::io::{self, Write};
+use std::path::Path;
 use std::process::ExitCode;
 
 fn main() -> ExitCode {
@@ -9,17 +12,20 @@ fn main() -> ExitCode {
     let first = arguments.next().unwrap_or_else(|| ".".into());
     let printed = match arguments.next() {
         Some(file) if first == "cases" => match std::fs::read(file) {
-            Ok(bytes) => keeper::cases::printed(&bytes),
+            Ok(bytes) => cases::printed(&bytes).map(String::into_bytes),
             Err(error) => Err(error.to_string()),
         },
-        Some(_) => Err("give one folder, or cases and a file".into()),
-        None => Ok(keeper::program::run(&PathBuf::from(first))),
+        Some(folder) if first == "store" => program::stored(Path::new(&folder))
+            .map_err(|refusal| format!("the terms are refused: {refusal:?}")),
+        Some(_) => Err("give one folder, or store and a folder, or cases and a file".into()),
+        None => Ok(program::run(Path::new(&first)).into_bytes()),
     };
-    match printed {
-        Ok(text) => {
-            print!("{text}");
-            ExitCode::SUCCESS
-        }
+    let said = match printed {
+        Ok(text) => io::stdout().write_all(&text).map_err(|error| error.to_string()),
+        Err(said) => Err(said),
+    };
+    match said {
+        Ok(()) => ExitCode::SUCCESS,
         Err(said) => {
             eprintln!("keeper: {said}");
             ExitCode::FAILURE

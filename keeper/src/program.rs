@@ -17,6 +17,18 @@ pub fn run(directory: &Path) -> String {
     output(&terms, &requests)
 }
 
+/// What is stored after the requests of a directory; the refusal where its
+/// terms are refused.
+pub fn stored(directory: &Path) -> Result<Vec<u8>, Refusal> {
+    let mut record = Record::of(terms::read(&contents(&directory.join("terms.tsv")))?);
+    for line in contents(&directory.join("requests.tsv")).split_inclusive(|&byte| byte == b'\n') {
+        if let Some([event, from, to]) = request(line) {
+            record.call(false, event, from, to, SCRATCH_WORDS);
+        }
+    }
+    Ok(terms::store(record.terms(), &record.state()))
+}
+
 /// A file's bytes, one more than allowed at most. A file that can't be opened
 /// counts as empty.
 fn contents(path: &Path) -> Vec<u8> {
@@ -36,14 +48,14 @@ pub fn output(terms: &[u8], requests: &[u8]) -> String {
     if terms.len() > MOST_BYTES {
         return refused("terms", Refusal::plain(6));
     }
-    let terms = match terms::read(terms) {
-        Ok(terms) => terms,
+    let file = match terms::read(terms) {
+        Ok(file) => file,
         Err(refusal) => return refused("terms", refusal),
     };
     if requests.len() > MOST_BYTES {
         return refused("requests", Refusal::plain(6));
     }
-    let mut record = Record::new(terms);
+    let mut record = Record::of(file);
     let mut printed = String::new();
     for (index, line) in requests.split_inclusive(|&byte| byte == b'\n').enumerate() {
         let answer = match request(line) {

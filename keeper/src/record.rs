@@ -3,7 +3,7 @@
 pub mod meaning;
 
 use crate::terms::memory::{self, State, SCRATCH_WORDS};
-use crate::terms::{Edge, EventEdge, Refusal, Terms, Variables};
+use crate::terms::{Edge, EventEdge, File, Past, Refusal, Tables, Terms, Variables};
 use meaning::{Assigned, Meaning};
 use std::collections::BTreeSet;
 
@@ -43,17 +43,37 @@ pub enum Answer {
 }
 
 /// The accepted terms and the list of graphs.
+#[derive(Clone)]
 pub struct Record {
     terms: Terms,
     free: Vec<Variables>,
     graphs: Vec<Graph>,
+    /// Where the moments before the first graph are not known: what its
+    /// past-time entries are said to be there. Nothing is carried along; it
+    /// stands for what came before.
+    before: Option<Tables>,
 }
 
 impl Record {
     /// The record at moment 0: the first edges, no event edge.
     pub fn new(terms: Terms) -> Record {
         let first = Graph { edges: terms.edges.clone(), event: None };
-        Record { free: terms.free(), graphs: vec![first], terms }
+        Record { free: terms.free(), graphs: vec![first], terms, before: None }
+    }
+
+    /// A record that begins with the moment of a stored file: its graph, and
+    /// what the tables say of the past.
+    pub fn loaded(terms: Terms, past: Past) -> Record {
+        let first = Graph { edges: terms.edges.clone(), event: past.event };
+        Record { free: terms.free(), graphs: vec![first], terms, before: Some(past.tables) }
+    }
+
+    /// The record of a file: at moment 0 in the old form, loaded in the stored.
+    pub fn of(file: File) -> Record {
+        match file.past {
+            None => Record::new(file.terms),
+            Some(past) => Record::loaded(file.terms, past),
+        }
     }
 
     pub fn terms(&self) -> &Terms {
@@ -111,8 +131,14 @@ impl Record {
         self.meaning().holds(entry, moment, member, assigned)
     }
 
+    /// What the past-time entries are said to be at the first graph, where the
+    /// moments before it are not known.
+    pub fn before(&self) -> Option<&Tables> {
+        self.before.as_ref()
+    }
+
     fn meaning(&self) -> Meaning<'_> {
-        Meaning::new(&self.terms, &self.free, &self.graphs)
+        Meaning::new(&self.terms, &self.free, &self.graphs, self.before())
     }
 
     /// The state after the calls so far, worked out from the record.
@@ -133,7 +159,8 @@ impl Record {
             }
             tables.push(table);
         }
-        State { edges: self.last().edges.clone(), tables, event: self.last().event }
+        let past = Past { tables, event: self.last().event };
+        State { edges: self.last().edges.clone(), past }
     }
 
     /// The 3,073 words the state must hold after the calls so far.

@@ -2,7 +2,8 @@
 
 use crate::record::Call;
 use crate::terms::memory::SCRATCH_WORDS;
-use crate::terms::{self, Entry, Terms};
+use crate::terms::{self, Entry, File, Pair, Past, Terms};
+use std::collections::BTreeSet;
 
 /// Drops calls, lines and leading zeros, makes readable terms smaller and calls
 /// plainer, as long as `fails` stays true of what is left. The given case must
@@ -92,9 +93,9 @@ fn plainer_calls(calls: &mut Vec<Call>, mut fails: impl FnMut(&[Call]) -> bool) 
 /// Takes the first smaller readable text that still fails, again and again.
 fn smaller_terms(text: &mut Vec<u8>, mut fails: impl FnMut(&[u8]) -> bool) -> bool {
     let mut changed = false;
-    'again: while let Ok(terms) = terms::read(text) {
-        for candidate in candidates(&terms) {
-            let smaller = terms::write(&candidate, &candidate.edges);
+    'again: while let Ok(file) = terms::read(text) {
+        for candidate in candidates(&file) {
+            let smaller = candidate.text();
             if terms::read(&smaller).is_ok() && fails(&smaller) {
                 *text = smaller;
                 changed = true;
@@ -106,30 +107,61 @@ fn smaller_terms(text: &mut Vec<u8>, mut fails: impl FnMut(&[u8]) -> bool) -> bo
     changed
 }
 
-/// Terms with one thing less; some are not sound.
-fn candidates(terms: &Terms) -> Vec<Terms> {
+/// Files with one thing less; some are not sound.
+fn candidates(file: &File) -> Vec<File> {
+    let terms = &file.terms;
     let mut all = Vec::new();
+    let past = file.past.as_ref();
+    if past.is_some() {
+        all.push(File { terms: terms.clone(), past: None });
+    }
     for index in (0..terms.entries.len()).rev() {
-        all.push(without_entry(terms, index));
+        let past = past.map(|past| without_table(terms, past, index));
+        all.push(File { terms: without_entry(terms, index), past: past.clone() });
         if terms.entries[index] != Entry::Top {
             let mut other = terms.clone();
             other.entries[index] = Entry::Top;
-            all.push(other);
+            all.push(File { terms: other, past });
         }
     }
     let mut fewer_events = terms.clone();
     fewer_events.events -= 1;
     fewer_events.policies.pop();
     fewer_events.effects.pop();
-    all.push(fewer_events);
+    all.push(File { terms: fewer_events, past: past.map(|past| last_event_less(terms, past)) });
     let mut fewer_members = terms.clone();
     fewer_members.members -= 1;
     fewer_members.edges.retain(|&(_, from, to)| from.max(to) < fewer_members.members);
-    all.push(fewer_members);
+    all.push(File { terms: fewer_members, past: past.map(|past| last_member_less(terms, past)) });
     if terms.relations > 0 {
-        all.push(without_last_relation(terms));
+        all.push(File { terms: without_last_relation(terms), past: past.cloned() });
     }
     all
+}
+
+/// What had passed, without the table of an entry, if it has one.
+fn without_table(terms: &Terms, past: &Past, entry: usize) -> Past {
+    let mut other = past.clone();
+    if let Some(t) = terms.past().into_iter().position(|past| past == entry) {
+        other.tables.remove(t);
+    }
+    other
+}
+
+/// What had passed, the last event's number being that of the one before.
+fn last_event_less(terms: &Terms, past: &Past) -> Past {
+    let last = terms.events.saturating_sub(2);
+    let event = past.event.map(|(event, from, to)| (event.min(last), from, to));
+    Past { event, ..past.clone() }
+}
+
+/// What had passed, the last member's number being that of the one before.
+fn last_member_less(terms: &Terms, past: &Past) -> Past {
+    let last = terms.members.saturating_sub(2);
+    let event = past.event.map(|(event, from, to)| (event, from.min(last), to.min(last)));
+    let pairs =
+        |table: &BTreeSet<Pair>| table.iter().map(|&(a, b)| (a.min(last), b.min(last))).collect();
+    Past { tables: past.tables.iter().map(pairs).collect(), event }
 }
 
 /// The terms without an entry. Who named it names its first operand instead,

@@ -1,5 +1,6 @@
 //! Terms as plain values.
 
+pub mod file;
 pub mod memory;
 pub mod normal;
 pub mod read;
@@ -7,9 +8,10 @@ pub mod write;
 
 use std::collections::BTreeSet;
 
+pub use file::{File, Past, Tables};
 pub use normal::normal;
 pub use read::read;
-pub use write::write;
+pub use write::{store, write};
 
 pub const MOST_MEMBERS: usize = 64;
 pub const MOST_RELATIONS: usize = 16;
@@ -24,6 +26,9 @@ pub type Edge = (usize, usize, usize);
 
 /// An event edge: event, from, to.
 pub type EventEdge = (usize, usize, usize);
+
+/// A set bit of a table: at which member, and for whom the variable stands.
+pub type Pair = (usize, usize);
 
 /// A set of variables: bit x stands for variable x.
 pub type Variables = u16;

@@ -4,6 +4,7 @@
 //! * `clause`, `resolve`: the same with everybody named of whom something is said
 //! * `labels`, `wording`, `verbs`, `grammar`: how relations and events are said
 //! * `render`, `words`: clauses in words, in a line or as an outline
+//! * `stored`: what a stored file remembers
 //! * `quote`: the sentences as a document quotes them
 
 pub mod clause;
@@ -13,6 +14,7 @@ pub mod labels;
 pub mod quote;
 mod render;
 pub mod resolve;
+mod stored;
 mod verbs;
 mod wording;
 mod words;
@@ -21,6 +23,7 @@ use crate::names::Names;
 use clause::{Clause, Who};
 use form::Forms;
 use grammar::Time;
+use keeper::record::Record;
 use keeper::terms::{Effect, Terms, VARIABLES};
 use labels::{Labels, Manner};
 use render::Speaker;
@@ -115,6 +118,8 @@ pub struct Spoken {
 #[derive(Clone, Debug)]
 pub struct Aloud {
     pub events: Vec<Spoken>,
+    /// What a stored file remembers.
+    pub stored: Option<Sentence>,
     /// The numbered clauses, from 1.
     pub clauses: Vec<Sentence>,
 }
@@ -122,6 +127,15 @@ pub struct Aloud {
 impl Aloud {
     /// Reads terms aloud.
     pub fn of(terms: &Terms, names: &Names) -> Aloud {
+        Aloud::with(terms, names, None)
+    }
+
+    /// Reads the terms of a record aloud, and what they were stored with.
+    pub fn of_record(record: &Record, names: &Names) -> Aloud {
+        Aloud::with(record.terms(), names, Some(record))
+    }
+
+    fn with(terms: &Terms, names: &Names, record: Option<&Record>) -> Aloud {
         let (forms, labels) = (Forms::new(terms), Labels::new(terms, names));
         let mut speaker = Speaker { labels: &labels, apart: Vec::new() };
         let mut events = Vec::new();
@@ -139,6 +153,7 @@ impl Aloud {
             let effects = effects(&speaker, &terms.effects[event]);
             events.push(Spoken { event, policy, effects });
         }
+        let stored = record.and_then(|record| stored::stored(record, &forms, &mut speaker, names));
         let mut clauses = Vec::new();
         while let Some(&entry) = speaker.apart.get(clauses.len()) {
             let number = clauses.len() + 1;
@@ -154,7 +169,7 @@ impl Aloud {
             let before = format!("Clause {number} holds of a member M{given} if");
             clauses.push(Sentence::of(&before, words));
         }
-        Aloud { events, clauses }
+        Aloud { events, stored, clauses }
     }
 
     /// The text for people: a paragraph for each event.
@@ -167,7 +182,7 @@ impl Aloud {
             }
             paragraphs.push(text);
         }
-        paragraphs.extend(self.clauses.iter().map(Sentence::wrapped));
+        paragraphs.extend(self.stored.iter().chain(&self.clauses).map(Sentence::wrapped));
         paragraphs.join("\n")
     }
 }

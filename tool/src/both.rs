@@ -2,6 +2,7 @@
 //! the keeper of the whole record. Where they differ, it is an error.
 
 use crate::stop::Stop;
+use keeper::expect;
 use keeper::record::{Graph, Record};
 use keeper::terms::memory::terms_words;
 use keeper::terms::{self, Refusal, Terms};
@@ -33,15 +34,16 @@ pub struct Both {
 }
 
 impl Both {
-    /// Reads a terms text: both accept it, or both refuse it for the same
-    /// reason at the same line.
+    /// Reads a text of either form: both accept it, or both refuse it for the
+    /// same reason at the same line.
     pub fn read(text: &[u8]) -> Result<Result<Both, Refusal>, Stop> {
         match (proved::Monitor::read(text), terms::read(text)) {
-            (Ok(monitor), Ok(terms)) => {
-                let same = monitor.terms().words()[..] == terms_words(&terms)[..];
-                let both = Both { monitor, record: Record::new(terms) };
-                let agreed = same && both.relations_agree();
-                agreed.then_some(Ok(both)).ok_or_else(|| differ("they read other terms"))
+            (Ok(monitor), Ok(file)) => {
+                let both = Both { monitor, record: Record::of(file) };
+                let words = (both.monitor.terms().words(), both.monitor.state().words());
+                let same = words.0[..] == terms_words(both.terms())[..]
+                    && words.1[..] == both.record.state_words()[..];
+                same.then_some(Ok(both)).ok_or_else(|| differ("they read other words"))
             }
             (Err(error), Err(refusal))
                 if error.refusal().number() == usize::from(refusal.number)
@@ -95,15 +97,33 @@ impl Both {
         agreed(proved, kept, event, from, to)
     }
 
-    /// The terms with the present relations, as a terms text.
-    pub fn write(&self) -> Result<Vec<u8>, Stop> {
-        let text = self.monitor.write();
-        let kept = terms::write(self.record.terms(), &self.record.last().edges);
-        if text == kept {
-            Ok(text)
+    /// The old form: the terms with the present relations. Refused with 12
+    /// where that would lose the past.
+    pub fn write(&self) -> Result<Result<Vec<u8>, Refusal>, Stop> {
+        let (terms, state) = (self.monitor.terms().words(), self.monitor.state().words());
+        let kept = expect::writing(terms, state, usize::MAX);
+        let written = self.monitor.write().map_err(|refusal| refusal.number());
+        if written == kept.clone().map_err(|refusal| refusal.number.into()) {
+            Ok(kept)
         } else {
             Err(differ("they write other texts"))
         }
+    }
+
+    /// The stored form: reading it goes on from here.
+    pub fn store(&self) -> Result<Vec<u8>, Stop> {
+        let text = self.monitor.store();
+        if text == terms::store(self.record.terms(), &self.record.state()) {
+            Ok(text)
+        } else {
+            Err(differ("they store other texts"))
+        }
+    }
+
+    /// Whether it began with a stored file, so that moments before it are not
+    /// known.
+    pub fn is_stored(&self) -> bool {
+        self.record.before().is_some()
     }
 
     pub fn terms(&self) -> &Terms {
@@ -184,7 +204,13 @@ mod tests {
         assert_eq!(both.request(0, 0, 1).unwrap(), Verdict::Grant);
         assert_eq!(both.look(1, 0, 1).unwrap(), Verdict::Grant);
         assert_eq!(both.look(2, 0, 1).unwrap(), Verdict::Refused(9));
-        assert!(both.write().unwrap().ends_with(b"G\t0\t0\t1\n"));
+        assert_eq!(both.write().unwrap(), Err(Refusal { number: 12, line: 0 }));
+        let stored = both.store().unwrap();
+        assert!(stored.ends_with(b"G\t0\t0\t1\nV\t0\t0\t1\n"));
+        let later = Both::accepted(&stored).unwrap();
+        assert!(later.is_stored() && !both.is_stored());
+        assert_eq!(later.look(1, 0, 1).unwrap(), Verdict::Grant);
+        assert_eq!(Both::accepted(TEXT).unwrap().write().unwrap(), Ok(TEXT.to_vec()));
     }
 
     #[test]

@@ -37,7 +37,7 @@ pub fn page(title: &str, replay: &Replay, names: &Names) -> Result<String, Stop>
         palette::style(words.terms.relations),
         drawing.definitions(),
         summary(replay),
-        policies::section(&words),
+        policies::section(replay.both.record(), &words),
         moments::section(replay, &words, &drawing)?,
         tables::section(replay, &words)?,
     ))

@@ -33,7 +33,7 @@ fn damaged_files_get_a_cause() {
         *causes.entry((fault.number, kind)).or_default() += 1;
     }
     assert!(causes.len() > 60, "{causes:#?}");
-    for number in 1..=5 {
+    for number in [1, 2, 3, 4, 5, 10, 11] {
         assert!(causes.keys().any(|(of, _)| *of == number), "{number}");
     }
 }
@@ -47,14 +47,17 @@ fn sound_files_get_none() {
 
 #[test]
 fn every_byte_changed_in_turn() {
-    let text = include_bytes!("../../examples/preset/terms.tsv");
-    for place in 0..text.len() {
-        for byte in [b' ', b'\t', b'\n', b'\r', b'0', b'9', b'F', b'x', b'-', 0, 0xff] {
-            let mut damaged = text.to_vec();
-            damaged[place] = byte;
-            held(&damaged, place as u64);
-            damaged.truncate(place);
-            held(&damaged, place as u64);
+    let preset = include_bytes!("../../examples/preset/terms.tsv");
+    let stored = [b"S\t2\n", &preset[..], b"T\t0\t0\t1\nV\t0\t0\t1\n"].concat();
+    for text in [&preset[..], &stored] {
+        for place in 0..text.len() {
+            for byte in b" \t\n\r09FTVx-\0\xff" {
+                let mut damaged = text.to_vec();
+                damaged[place] = *byte;
+                held(&damaged, place as u64);
+                damaged.truncate(place);
+                held(&damaged, place as u64);
+            }
         }
     }
 }

@@ -30,7 +30,8 @@ struct Rebuilt<'a> {
 
 impl<'a> Rebuilt<'a> {
     fn new(record: &'a Record) -> Rebuilt<'a> {
-        let meaning = Meaning::new(record.terms(), &record.terms().free(), record.graphs());
+        let free = record.terms().free();
+        let meaning = Meaning::new(record.terms(), &free, record.graphs(), record.before());
         Rebuilt { reasons: Reasons::new(record), meaning, known: HashMap::new() }
     }
 
@@ -50,8 +51,15 @@ impl<'a> Rebuilt<'a> {
         for premise in &premises {
             values.push(self.truth(*premise)?);
         }
-        let (terms, graphs) = (self.reasons.terms(), self.reasons.graphs());
-        let value = conclusion(terms, graphs, place, &reason, &values);
+        let value = match reason {
+            // What a stored file says has no reason but that.
+            Reason::Stored => {
+                assert!(self.reasons.is_stored(place));
+                assert!(self.reasons.terms().entries[place.entry].is_past());
+                claim.holds
+            }
+            _ => conclusion(&self.reasons, place, &reason, &values),
+        };
         let Place { entry, moment, member, assigned } = place;
         assert_eq!(value, self.meaning.holds(entry, moment, member, assigned), "{reason:?}");
         assert_eq!(value, claim.holds, "{reason:?}");
@@ -62,14 +70,14 @@ impl<'a> Rebuilt<'a> {
 
 /// What a reason shows at a place, given the truth of its premises. Panics if
 /// the premises are not those that the operator asks for.
-fn conclusion(
-    terms: &Terms,
-    graphs: &[Graph],
-    place: Place,
-    reason: &Reason,
-    values: &[bool],
-) -> bool {
+fn conclusion(reasons: &Reasons, place: Place, reason: &Reason, values: &[bool]) -> bool {
+    let (terms, graphs) = (reasons.terms(), reasons.graphs());
     let at = |entry, moment, member| Place { entry, moment, member, ..place };
+    // Where a since may begin: its second operand, or itself as it was stored.
+    let begins = |g, moment| {
+        let entry = if reasons.is_stored(at(g, moment, 0)) { place.entry } else { g };
+        at(entry, moment, place.member)
+    };
     let Place { moment, member, .. } = place;
     let all = |wanted: bool| values.iter().all(|&value| value == wanted);
     match (terms.entries[place.entry], reason) {
@@ -122,7 +130,7 @@ fn conclusion(
         }
         (Entry::Since(f, g), Reason::Began { began, after }) => {
             let first = began.place.moment;
-            assert_eq!(began.place, at(g, first, member));
+            assert_eq!(began.place, begins(g, first));
             let due: Vec<Place> = (first + 1..=moment).map(|j| at(f, j, member)).collect();
             assert_eq!(after.iter().map(|claim| claim.place).collect::<Vec<_>>(), due);
             assert!(all(true));
@@ -130,7 +138,7 @@ fn conclusion(
         }
         (Entry::Since(f, g), Reason::Broken { began, broke, after }) => {
             let (first, broken) = (began.place.moment, broke.place.moment);
-            assert_eq!(began.place, at(g, first, member));
+            assert_eq!(began.place, begins(g, first));
             assert_eq!(broke.place, at(f, broken, member));
             assert!(first < broken && broken <= moment);
             let due: Vec<Place> = (first + 1..=moment).map(|j| at(g, j, member)).collect();
@@ -139,7 +147,7 @@ fn conclusion(
             false
         }
         (Entry::Since(_, g), Reason::Never(claims)) => {
-            let due: Vec<Place> = (0..=moment).map(|j| at(g, j, member)).collect();
+            let due: Vec<Place> = (0..=moment).map(|j| begins(g, j)).collect();
             assert_eq!(claims.iter().map(|claim| claim.place).collect::<Vec<_>>(), due);
             assert!(all(false));
             false
@@ -202,7 +210,10 @@ fn is_so(terms: &Terms, graphs: &[Graph], meaning: &mut Meaning, fact: Fact) -> 
             }),
             _ => false,
         },
-        Fact::Never(place) => (0..=place.moment).all(|moment| !holds(place, moment)),
+        Fact::Never { place, after } => {
+            (usize::from(after)..=place.moment).all(|moment| !holds(place, moment))
+        }
+        Fact::Stored(Claim { place, holds: value }) => holds(place, 0) == value,
         Fact::Since { place, first } => (first..=place.moment).all(|moment| holds(place, moment)),
         Fact::Claim(Claim { place, holds: value }) => holds(place, place.moment) == value,
     }
@@ -213,7 +224,7 @@ fn truth_is_rebuilt_from_reasons() {
     let (mut nodes, mut grants, mut denials) = (0, 0, 0);
     for seed in 0..CASES {
         let case = generate::case(seed, 99_999);
-        let mut record = Record::new(terms::read(&case.text).unwrap());
+        let mut record = Record::of(terms::read(&case.text).unwrap());
         let mut asked = Vec::new();
         for call in &case.calls {
             let moment = record.graphs().len() - 1;

@@ -19,7 +19,8 @@ pub struct Monitor {
 }
 
 impl Monitor {
-    /// Reads a terms text and stands at its moment 0.
+    /// Reads a text: the old form stands at its moment 0, the stored form goes
+    /// on from where it was stored.
     pub fn read(text: &[u8]) -> Result<Monitor, TextError> {
         let (mut terms, mut state) = (Terms::blank(), State::blank());
         raw::read(text, &mut terms.0[..], &mut state.0[..])
@@ -89,18 +90,40 @@ impl Monitor {
         raw::set_list(self.terms.words(), state, scratch, Record::plain(records)).expect(CHECKED)
     }
 
-    /// The terms text with the present relations, numbers without leading
-    /// zeros. Reading it gives the same terms and relations, at moment 0.
+    /// The old form: the terms with the present relations, numbers without
+    /// leading zeros. Reading it gives the same monitor. Where this one is no
+    /// fresh start, that would lose the past: [`Refusal::NotFresh`].
     ///
     /// ```
     /// let text = b"M\t2\nL\t1\t1\nF\t0\ttop\t0\t0\nP\t0\t0\nG\t0\t0\t1\n";
-    /// assert_eq!(cuckooormolu::Monitor::read(text)?.write(), text);
-    /// # Ok::<(), cuckooormolu::TextError>(())
+    /// assert_eq!(cuckooormolu::Monitor::read(text)?.write()?, text);
+    /// # Ok::<(), Box<dyn std::error::Error>>(())
     /// ```
-    pub fn write(&self) -> Vec<u8> {
+    pub fn write(&self) -> Result<Vec<u8>, Refusal> {
         let (terms, state) = (self.terms.words(), self.state.words());
-        let mut output = vec![0; raw::size(terms, state).expect(CHECKED)];
-        raw::write(terms, state, &mut output).expect(CHECKED);
+        let mut output = vec![0; raw::size(terms, state)?];
+        raw::write(terms, state, &mut output)?;
+        Ok(output)
+    }
+
+    /// The stored form: terms, relations, what the policies need of the past,
+    /// and the event edge. Reading it gives the same monitor, anywhere.
+    ///
+    /// ```
+    /// use cuckooormolu::{Event, Member, Monitor, Refusal, Request};
+    ///
+    /// let mut monitor = Monitor::read(b"M\t2\nL\t0\t1\nF\t0\ttop\t0\t0\nP\t0\t0\n")?;
+    /// let request = Request { event: Event(0), from: Member(0), to: Member(1) };
+    /// monitor.request(request)?;
+    /// assert_eq!(monitor.write(), Err(Refusal::NotFresh));
+    /// let later = Monitor::read(&monitor.store())?;
+    /// assert_eq!(later.state(), monitor.state());
+    /// # Ok::<(), Box<dyn std::error::Error>>(())
+    /// ```
+    pub fn store(&self) -> Vec<u8> {
+        let (terms, state) = (self.terms.words(), self.state.words());
+        let mut output = vec![0; raw::store_size(terms, state).expect(CHECKED)];
+        raw::store(terms, state, &mut output).expect(CHECKED);
         output
     }
 

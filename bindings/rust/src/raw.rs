@@ -127,6 +127,24 @@ mod library {
             output_length: usize,
             count: *mut usize,
         ) -> usize;
+
+        pub fn cuckooormolu_raw_store_size(
+            terms: *const u16,
+            terms_length: usize,
+            state: *const u64,
+            state_length: usize,
+            count: *mut usize,
+        ) -> usize;
+
+        pub fn cuckooormolu_raw_store(
+            terms: *const u16,
+            terms_length: usize,
+            state: *const u64,
+            state_length: usize,
+            output: *mut u8,
+            output_length: usize,
+            count: *mut usize,
+        ) -> usize;
     }
 }
 
@@ -243,8 +261,9 @@ pub fn set_list(
     done(code).map(|()| count)
 }
 
-/// Reads a terms text and fills the named words of terms and state; or the
-/// refusal with the first faulty line, 0 where none is at fault.
+/// Reads a text of the old or the stored form and fills the named words of terms
+/// and state; or the refusal with the first faulty line, 0 where none is at
+/// fault.
 pub fn read(text: &[u8], terms: &mut [u16], state: &mut [u64]) -> Result<(), (Refusal, usize)> {
     let mut line = 0;
     let code = unsafe {
@@ -261,7 +280,7 @@ pub fn read(text: &[u8], terms: &mut [u16], state: &mut [u64]) -> Result<(), (Re
     done(code).map_err(|refusal| (refusal, line))
 }
 
-/// How many bytes [`write`] would write. Refused with 6, 7 or 8.
+/// How many bytes [`write`] would write. Refused with 6, 7, 8 or 12.
 pub fn size(terms: &[u16], state: &[u64]) -> Result<usize, Refusal> {
     let mut count = 0;
     let code = unsafe {
@@ -276,12 +295,46 @@ pub fn size(terms: &[u16], state: &[u64]) -> Result<usize, Refusal> {
     done(code).map(|()| count)
 }
 
-/// Writes the terms with the present relations from the output's first byte
-/// on, numbers without leading zeros, and gives the count of bytes.
+/// Writes the old form, the terms with the present relations, from the output's
+/// first byte on, numbers without leading zeros, and gives the count of bytes.
+/// Refused with 12 where the state is no fresh start.
 pub fn write(terms: &[u16], state: &[u64], output: &mut [u8]) -> Result<usize, Refusal> {
     let mut count = 0;
     let code = unsafe {
         library::cuckooormolu_raw_write(
+            terms.as_ptr(),
+            terms.len(),
+            state.as_ptr(),
+            state.len(),
+            output.as_mut_ptr(),
+            output.len(),
+            &mut count,
+        )
+    };
+    done(code).map(|()| count)
+}
+
+/// How many bytes [`store`] would write. Refused with 6, 7 or 8.
+pub fn store_size(terms: &[u16], state: &[u64]) -> Result<usize, Refusal> {
+    let mut count = 0;
+    let code = unsafe {
+        library::cuckooormolu_raw_store_size(
+            terms.as_ptr(),
+            terms.len(),
+            state.as_ptr(),
+            state.len(),
+            &mut count,
+        )
+    };
+    done(code).map(|()| count)
+}
+
+/// Writes the stored form, terms and the whole state, from the output's first
+/// byte on and gives the count of bytes. Reading it gives the same named words.
+pub fn store(terms: &[u16], state: &[u64], output: &mut [u8]) -> Result<usize, Refusal> {
+    let mut count = 0;
+    let code = unsafe {
+        library::cuckooormolu_raw_store(
             terms.as_ptr(),
             terms.len(),
             state.as_ptr(),

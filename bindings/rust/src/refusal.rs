@@ -35,10 +35,15 @@ pub enum Refusal {
     /// 10: a reach whose variable is 0, whose first formula has another free
     /// variable, or whose second has that variable free.
     ReachVariables,
+    /// 11: a stored text with a partly filled word in a table without a free
+    /// variable.
+    PartlyFilled,
+    /// 12: the old form of a state that is no fresh start of its relations.
+    NotFresh,
 }
 
 impl Refusal {
-    pub const ALL: [Refusal; 10] = [
+    pub const ALL: [Refusal; 12] = [
         Refusal::Form,
         Refusal::Range,
         Refusal::Operand,
@@ -49,9 +54,11 @@ impl Refusal {
         Refusal::BadState,
         Refusal::NoSuchName,
         Refusal::ReachVariables,
+        Refusal::PartlyFilled,
+        Refusal::NotFresh,
     ];
 
-    /// The refusal's number, 1 to 10.
+    /// The refusal's number, 1 to 12.
     pub fn number(self) -> usize {
         self as usize + 1
     }
@@ -82,6 +89,10 @@ impl Refusal {
             Refusal::ReachVariables => {
                 "reach whose variable is 0, whose first formula has another free variable, or \
                  whose second has that variable free"
+            }
+            Refusal::PartlyFilled => "partly filled word in a table without a free variable",
+            Refusal::NotFresh => {
+                "state that is no fresh start, of which the old form would lose the past"
             }
         }
     }

@@ -157,14 +157,14 @@ fn numbers_that_name_nothing_are_no_names() {
 
 #[test]
 fn a_text_comes_back_byte_by_byte() {
-    assert_eq!(preset().write(), tabs(PRESET));
+    assert_eq!(preset().write(), Ok(tabs(PRESET)));
 }
 
 #[test]
 fn a_padded_text_comes_back_without_leading_zeros() {
     let padded = "M 002\nL 00000 01\nF 0 top 00 0\nP 00 00000\n";
     let monitor = Monitor::read(&tabs(padded)).unwrap();
-    assert_eq!(monitor.write(), tabs("M 2\nL 0 1\nF 0 top 0 0\nP 0 0\n"));
+    assert_eq!(monitor.write(), Ok(tabs("M 2\nL 0 1\nF 0 top 0 0\nP 0 0\n")));
     assert_eq!(refused("M 000002\n"), (1, 1));
 }
 
@@ -182,16 +182,90 @@ fn the_longest_text_is_written() {
     let monitor = Monitor::read(&tabs(&text)).unwrap();
     assert_eq!(monitor.state().edges().count(), 65_536);
     assert!(text.len() <= defined("CUCKOOORMOLU_TEXT_BYTES"));
-    assert!(monitor.write() == tabs(&text));
+    assert!(monitor.write() == Ok(tabs(&text)));
+}
+
+/// Every bit of 16 relations and 32 tables of 64 members, and an event edge.
+#[test]
+fn the_longest_stored_text_is_stored() {
+    let mut text = "S 2\nM 64\nL 16 16\nF 0 top 0 0\n".to_string();
+    for n in 1..256 {
+        let word =
+            if n < 224 { format!("reach 15 {0}", n - 1) } else { format!("since {}", n - 2) };
+        text.push_str(&format!("F {n} {word} {}\n", n - 1));
+    }
+    text.extend((0..16).map(|event| format!("P {event} 255\n")));
+    for event in 0..16 {
+        text.push_str(&format!("E {event} add 15 back\n").repeat(4));
+    }
+    for (kind, count) in [("G", 16), ("T", 32)] {
+        for place in 0..count * 64 * 64 {
+            let (k, a, b) = (place / 4_096, place / 64 % 64, place % 64);
+            text.push_str(&format!("{kind} {k} {a} {b}\n"));
+        }
+    }
+    text.push_str("V 15 63 63\n");
+    let monitor = Monitor::read(&tabs(&text)).unwrap();
+    assert_eq!((0..32).map(|t| monitor.state().table(t).count()).sum::<usize>(), 131_072);
+    assert!(text.len() <= defined("CUCKOOORMOLU_STORED_BYTES"));
+    assert!(monitor.store() == tabs(&text));
+    assert_eq!(monitor.write(), Err(Refusal::NotFresh));
+}
+
+/// Each line as long as it gets.
+#[test]
+fn the_longest_texts_are_worked_out() {
+    let lines = |count, line: &str| count * (line.len() + 1);
+    let old = lines(1, "M 64")
+        + lines(1, "L 16 16")
+        + lines(256, "F 255 reach 15 255 255")
+        + lines(16, "P 15 255")
+        + lines(64, "E 15 add 15 back")
+        + lines(16 * 64 * 64, "G 15 63 63");
+    let more = lines(1, "S 2") + lines(32 * 64 * 64, "T 31 63 63") + lines(1, "V 15 63 63");
+    assert_eq!(defined("CUCKOOORMOLU_TEXT_BYTES"), old);
+    assert_eq!(defined("CUCKOOORMOLU_STORED_BYTES"), old + more);
 }
 
 #[test]
-fn a_written_text_forgets_the_past() {
+fn a_stored_text_keeps_the_past() {
     let mut monitor = preset();
+    assert_eq!(monitor.store(), tabs(&format!("S 2\n{PRESET}")));
     monitor.request(asked(SHARE, 0, 1)).unwrap();
-    let mut later = Monitor::read(&monitor.write()).unwrap();
-    assert_eq!(later.terms(), monitor.terms());
-    assert_eq!(later.request(asked(LOAD, 1, 2)), Ok(Answer::Deny));
+    let text = monitor.store();
+    assert_eq!(text, tabs(&format!("S 2\n{PRESET}T 0 0 1\nV 0 0 1\n")));
+    let mut later = Monitor::read(&text).unwrap();
+    assert_eq!((later.terms(), later.state()), (monitor.terms(), monitor.state()));
+    assert_eq!(later.request(asked(LOAD, 1, 2)), Ok(Answer::Grant));
+    assert_eq!(later.request(asked(WITHDRAW, 0, 1)), Ok(Answer::Grant));
+    let mut latest = Monitor::read(&later.store()).unwrap();
+    assert_eq!(latest.request(asked(LOAD, 1, 2)), Ok(Answer::Deny));
+}
+
+#[test]
+fn the_old_form_is_written_of_a_fresh_start_only() {
+    let mut monitor = preset();
+    assert_eq!(monitor.request(asked(LOAD, 1, 2)), Ok(Answer::Deny));
+    assert_eq!(monitor.write(), Ok(tabs(PRESET)));
+    monitor.request(asked(SHARE, 0, 1)).unwrap();
+    assert_eq!(monitor.write(), Err(Refusal::NotFresh));
+    let (terms, state) = monitor.into_parts();
+    assert_eq!(raw::size(terms.words(), state.words()), Err(Refusal::NotFresh));
+    assert_eq!(raw::write(terms.words(), state.words(), &mut []), Err(Refusal::NotFresh));
+    assert_eq!(Monitor::open(terms, state).unwrap().write(), Ok(tabs(PRESET)));
+}
+
+#[test]
+fn stored_texts_are_refused_by_line() {
+    let rest = "M 2\nL 0 1\nF 0 top 0 0\nF 1 prev 0 0\nP 0 1\n";
+    assert_eq!(refused(&format!("S 1\n{rest}")), (2, 1));
+    assert_eq!(refused(&format!("{rest}T 0 0 0\n")), (1, 6));
+    assert_eq!(refused(&format!("S 2\n{rest}T 0 0 0\nT 0 0 0\n")), (1, 8));
+    assert_eq!(refused(&format!("S 2\n{rest}T 1 0 0\n")), (2, 7));
+    assert_eq!(refused(&format!("S 2\n{rest}V 0 0 0\nV 0 0 0\n")), (1, 8));
+    assert_eq!(refused(&format!("S 2\n{rest}T 0 0 0\nT 0 0 1\nT 0 1 1\n")), (11, 9));
+    let error = Monitor::read(&tabs(&format!("S 2\n{rest}T 0 1 0\n"))).unwrap_err();
+    assert_eq!((error.refusal(), error.shown()), (Refusal::PartlyFilled, Some("T\\t0\\t1\\t0")));
 }
 
 #[test]
@@ -272,7 +346,7 @@ fn refusals_have_numbers_and_words() {
         assert_eq!(Refusal::of_number(index + 1), Some(refusal));
         assert!(refusal.to_string().ends_with(&format!("(refusal {})", index + 1)));
     }
-    assert_eq!((Refusal::of_number(0), Refusal::of_number(11)), (None, None));
+    assert_eq!((Refusal::of_number(0), Refusal::of_number(13)), (None, None));
 }
 
 #[test]
@@ -327,6 +401,26 @@ fn raw_reading_and_writing_keep_to_their_memory() {
     assert_eq!((&output[..text.len()], output[text.len()]), (&text[..], 9));
 }
 
+#[test]
+fn raw_storing_keeps_to_its_memory() {
+    let stored = tabs(&format!("S 2\n{PRESET}T 0 0 1\nV 0 0 1\n"));
+    let (mut terms, mut state) = (vec![3; TERMS_WORDS + 1], vec![4; STATE_WORDS + 1]);
+    assert_eq!(raw::read(&stored, &mut terms, &mut state), Ok(()));
+    assert_eq!((terms[TERMS_WORDS], state[STATE_WORDS]), (3, 4));
+    assert_eq!(raw::store_size(&terms, &state), Ok(stored.len()));
+    assert_eq!(raw::store_size(&terms, &state[2..]), Err(Refusal::TooShort));
+    let mut output = vec![9; stored.len() + 1];
+    let short = &mut output[2..];
+    assert_eq!(raw::store(&terms, &state, short), Err(Refusal::TooShort));
+    assert_eq!(short, vec![9; stored.len() - 1]);
+    assert_eq!(raw::store(&terms, &state, &mut output), Ok(stored.len()));
+    assert_eq!((&output[..stored.len()], output[stored.len()]), (&stored[..], 9));
+    state[3_072] = 4;
+    assert_eq!(raw::store_size(&terms, &state), Err(Refusal::BadState));
+    terms[0] = 0;
+    assert_eq!(raw::store(&terms, &state, &mut output), Err(Refusal::BadTerms));
+}
+
 /// Event 0 is always granted. Event 1 is for whoever at some time did it to
 /// somebody that is the target, by a step along the past.
 const ONCE: &str = "M 3\nL 0 2\nF 0 top 0 0\nF 1 var 1 0\nF 2 out 0 1\nF 3 since 0 2\n\
@@ -343,7 +437,8 @@ fn a_step_goes_along_the_past() {
     monitor.request(asked(Event(0), 2, 0)).unwrap();
     assert_eq!(monitor.look(asked(Event(1), 0, 1)), Ok(Answer::Grant));
     assert_eq!(monitor.look(asked(Event(1), 1, 0)), Ok(Answer::Deny));
-    assert_eq!(monitor.write(), tabs(ONCE));
+    let tables = "T 0 0 1\nT 0 2 0\nV 0 2 0\n";
+    assert_eq!(monitor.store(), tabs(&format!("S 2\n{ONCE}{tables}")));
 }
 
 /// The number that the C header defines a name as.
@@ -362,8 +457,10 @@ fn the_c_header_has_the_same_numbers() {
     assert_eq!(defined("CUCKOOORMOLU_TERMS_WORDS"), TERMS_WORDS);
     assert_eq!(defined("CUCKOOORMOLU_STATE_WORDS"), STATE_WORDS);
     assert_eq!(defined("CUCKOOORMOLU_SCRATCH_WORDS"), SCRATCH_WORDS);
-    let refusals =
-        ["FORM", "RANGE", "OPERAND", "PAST", "POLICY", "SHORT", "TERMS", "STATE", "NAME", "REACH"];
+    let refusals = [
+        "FORM", "RANGE", "OPERAND", "PAST", "POLICY", "SHORT", "TERMS", "STATE", "NAME", "REACH",
+        "TABLE", "FRESH",
+    ];
     for (name, refusal) in refusals.into_iter().zip(Refusal::ALL) {
         assert_eq!(defined(&format!("CUCKOOORMOLU_REFUSED_{name}")), refusal.number());
     }

@@ -7,8 +7,9 @@ use monitor::Answer;
 use monitor::look;
 use monitor::request;
 use text::read::read;
+use text::write::write;
 use writer::Written;
-use writer::write::write;
+use writer::store::store;
 
 // Bytes of a text, enough for those of the cases.
 pub(crate) const ROOM: usize = 8192;
@@ -122,8 +123,9 @@ pub(crate) fn looking(
     )
 }
 
-// Writes the first t words of terms and s of state into the first n bytes of out.
+// Writes the first t words of terms and s of state into the first n bytes of out, in the stored form or the old.
 pub(crate) fn writing(
+    stored: bool,
     terms: &[u16],
     t: usize,
     state: &[u64],
@@ -139,6 +141,9 @@ pub(crate) fn writing(
     }
     if out.len() < n {
         return Written::Refused(0, 0);
+    }
+    if stored {
+        return store(&terms[0..t], &state[0..s], &mut out[0..n]);
     }
     write(&terms[0..t], &state[0..s], &mut out[0..n])
 }

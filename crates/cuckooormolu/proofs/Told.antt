@@ -5,7 +5,7 @@ use mathlib.Core.Path.{_≡_, refl}
 use mathlib.Core.List.{List, [], _∷_}
 use mathlib.Core.Bool.{Bool, true, false, cond, not, _&&_, _||_}
 use native.Mathlib.Omega.{arith}
-use lib.Dec.{ltb}
+use lib.Dec.{eqb, ltb}
 use lib.ListN.{length}
 use borrow.Author.Tests.{ltb-true}
 use Rattle.sets.proofs.Finite.{and-left, and-right}
@@ -25,13 +25,15 @@ use Rattle.monitor.specs.declared.set_list.Record.{Record}
 use Rattle.fields.specs.Split.{Lines, split, lines}
 use Rattle.fields.specs.Split.Lines.{done, cut, line}
 use Rattle.file.specs.Line.{parsed}
-use Rattle.file.specs.File as file
-use Rattle.file.specs.File.{File, Test, Reading, tests, tried, after, complete, nothing, readOn, reading}
+use Rattle.file.specs.Reading as file
+use Rattle.file.specs.File.{File, after, nothing}
+use Rattle.file.specs.Reading.{Test, Reading, tests, tried, complete, readOn, partlyAt, levelled, reading}
 use Rattle.reader.specs.Read.{short, outcome, readGives}
-use Rattle.writer.specs.Write.{Writing, fitted, sizeGives, writeGives, writtenText}
+use Rattle.writer.specs.Write.{Writing, fitted, sizeGives, writeGives, writtenText, storeSizeGives, storeGives, storedText}
 use Rattle.writer.specs.Write.Writing.{bytes, unwritten}
+use Rattle.text.specs.Text.{isFresh, ifFresh, oldSizeGives, oldWriteGives}
 use Rattle.file.specs.declared.line.Line.{Line}
-use Rattle.file.specs.declared.line.Line.the-variants.{Members, Labels, Entry, Policy, Effect, Edge, Malformed}
+use Rattle.file.specs.declared.line.Line.the-variants.{Members, Labels, Entry, Policy, Effect, Edge, Form, TableBit, EventEdge, Malformed}
 use Rattle.cuckooormolu.specs.Codes.{doneCode, Low, ToldAnswer, ToldOutcome, ToldWriting, ToldListing}
 
 -- ---- a low number for each refusal
@@ -152,6 +154,11 @@ low-fitted true n passed h = low 6 refl
 low-fitted false n passed h = tt
 low-fitted short n (failed k l) h = h
 
+low-fresh : (fresh : Bool) (o : Outcome) (w : Writing) → LowWriting w → LowWriting (ifFresh fresh o w)
+low-fresh fresh (failed k l) w h = h
+low-fresh true passed w h = h
+low-fresh false passed w h = low 12 refl
+
 -- ---- reading
 
 abbrev LowReading : Reading → Type 0
@@ -171,6 +178,9 @@ low-tests f (Entry n o a b c) = refl
 low-tests f (Policy j n) = refl
 low-tests f (Effect j c k d) = refl
 low-tests f (Edge k a b) = refl
+low-tests f (Form n) = refl
+low-tests f (TableBit t a b) = refl
+low-tests f (EventEdge j u v) = refl
 low-tests f Malformed = refl
 
 low-either : (b : Bool) (x y : Reading) → LowReading x → LowReading y → LowReading (cond b x y)
@@ -193,6 +203,12 @@ low-read f n (line l r) =
     let p = parsed (split 9 l) in
     low-tried (tests f p) n (readOn (after f p) (n + 1) r) (low-tests f p) (low-read (after f p) (n + 1) r)
 
+low-levelled : (ls : Lines) (r : Reading) → LowReading r → LowReading (levelled ls r)
+unfolding levelled
+low-levelled ls (file.accepted f) h =
+    low-either (eqb (partlyAt f 1 ls) 0) (file.accepted f) (file.refused 11 (partlyAt f 1 ls)) tt (low 11 refl)
+low-levelled ls (file.refused n l) h = h
+
 low-outcome : (b : Bool) (r : Reading) → LowReading r → LowOutcome (cond b (failed 6 0) (outcome r))
 low-outcome true r h = low 6 refl
 low-outcome false (file.accepted f) h = tt
@@ -200,7 +216,8 @@ low-outcome false (file.refused n l) h = h
 
 low-reading : (text terms state : List ℕ) → LowOutcome (readGives text terms state)
 unfolding readGives reading
-low-reading text terms state = low-outcome (short terms state) (reading text) (low-read nothing 1 (lines text))
+low-reading text terms state =
+    low-outcome (short terms state) (reading text) (low-levelled (lines text) (readOn nothing 1 (lines text)) (low-read nothing 1 (lines text)))
 
 -- ---- the theorems
 
@@ -216,15 +233,31 @@ told-check terms state = told-outcome (checks terms state) (low-checks terms sta
 pub told-open : (terms state : List ℕ) → ToldOutcome (opens terms state)
 told-open terms state = told-outcome (opens terms state) (low-opens terms state)
 
-pub told-size : (terms state : List ℕ) → ToldWriting (sizeGives terms state)
-unfolding sizeGives
-told-size terms state = told-writing (sizeGives terms state) (low-fitted false (length (writtenText terms state)) (checks terms state) (low-checks terms state))
+pub told-size : (terms state : List ℕ) → ToldWriting (oldSizeGives terms state)
+unfolding sizeGives oldSizeGives
+told-size terms state =
+    let o = checks terms state in
+    told-writing (oldSizeGives terms state)
+    (low-fresh (isFresh terms state) o (sizeGives terms state) (low-fitted false (length (writtenText terms state)) o (low-checks terms state)))
 
-pub told-write : (terms state out : List ℕ) → ToldWriting (writeGives terms state out)
-unfolding writeGives
+pub told-write : (terms state out : List ℕ) → ToldWriting (oldWriteGives terms state out)
+unfolding writeGives oldWriteGives
 told-write terms state out =
     let n = length (writtenText terms state) in
-    told-writing (writeGives terms state out) (low-fitted (ltb (length out) n) n (checks terms state) (low-checks terms state))
+    let o = checks terms state in
+    told-writing (oldWriteGives terms state out)
+    (low-fresh (isFresh terms state) o (writeGives terms state out) (low-fitted (ltb (length out) n) n o (low-checks terms state)))
+
+pub told-store-size : (terms state : List ℕ) → ToldWriting (storeSizeGives terms state)
+unfolding storeSizeGives
+told-store-size terms state =
+    told-writing (storeSizeGives terms state) (low-fitted false (length (storedText terms state)) (checks terms state) (low-checks terms state))
+
+pub told-store : (terms state out : List ℕ) → ToldWriting (storeGives terms state out)
+unfolding storeGives
+told-store terms state out =
+    let n = length (storedText terms state) in
+    told-writing (storeGives terms state out) (low-fitted (ltb (length out) n) n (checks terms state) (low-checks terms state))
 
 pub told-list : (terms state scratch : List ℕ) (rs : List Record) → ToldListing (listed terms state scratch rs)
 unfolding listed

@@ -1,21 +1,25 @@
--- What holds of the file that an accepted text says: its terms are good and tidy, its edges lie inside the terms.
+-- What holds of the file that an accepted text says: its terms are good and tidy; its edges, the bits of its tables and its event edge lie inside the terms;
+-- its tables without a free variable are level.
 use Prim.Native.Nat.{ℕ, _≤_, _<_}
 use mathlib.Core.Path.{_≡_, refl, subst}
 use mathlib.Core.List.{List, []}
-use mathlib.Core.Bool.{true}
+use mathlib.Core.Bool.{true, false}
 use native.Mathlib.Omega.{arith}
 use lib.ListN.{length}
 use lib.Dec.{eqb}
 use borrow.Author.Tests.{eqb-true, lt-ltb}
-use Rattle.theory.specs.Terms.{Terms}
-use Rattle.theory.specs.Moment.{Relations}
+use Rattle.theory.specs.Terms.{Terms, tables}
+use Rattle.theory.specs.Moment.{Event}
 use Rattle.theory.specs.Formula.{isPast}
 use Rattle.theory.specs.Fit.{every, entryTests}
 use Rattle.theory.proofs.Good.{Good, GoodEntry, implies}
-use Rattle.file.specs.File.{File, complete, reading}
-use Rattle.file.specs.File.Reading.{accepted}
-use Rattle.file.proofs.Taken.{reading-accepting}
-use Rattle.file.proofs.Fit.{noEntry, PoliciesFit}
+use Rattle.fields.specs.Split.{Lines, lines}
+use Rattle.file.specs.File.{File, nothing}
+use Rattle.file.specs.Reading.{complete, readOn, partlyAt, reading}
+use Rattle.file.specs.Reading.Reading.{accepted}
+use Rattle.file.proofs.Taken.{Accepting, accepting, reading-read, reading-level}
+use Rattle.file.proofs.Level.{Level, level-from, level-to}
+use Rattle.file.proofs.Fit.{noEntry, PoliciesFit, Inside, EventFits}
 use Rattle.file.proofs.Going.{Going, going-first, going-on, complete-phase, complete-policies}
 
 -- Nothing is said beyond the last entry and the last event, and an event has at most 4 effects.
@@ -25,15 +29,16 @@ pub record Tidy (T : Terms) : Type 0 where
   pub effects : (j : ℕ) → T .events ≤ j → T .effects j ≡ []
   pub few-effects : (j : ℕ) → length (T .effects j) ≤ 4
 
--- Each edge is under a relation of the terms and between their members.
-pub record Inside (T : Terms) (R : Relations) : Type 0 where
-  pub within : (k a b : ℕ) → R k a b ≡ true → (k < T .relations) × (a < T .members) × (b < T .members)
-
+-- What holds where all lines pass. A file of the old form says nothing of tables and of an event edge.
 pub record Accepted (f : File) : Type 0 where
   pub good : Good (f .terms)
   pub tidy : Tidy (f .terms)
-  pub inside : Inside (f .terms) (f .edges)
+  pub edges : Inside (f .terms .relations) (f .terms .members) (f .edges)
+  pub bits : Inside (tables (f .terms)) (f .terms .members) (f .table)
+  pub last : EventFits (f .terms .events) (f .terms .members) (f .last)
   pub entry-tests : (n : ℕ) → n < f .terms .entries → every (entryTests (f .terms) n) ≡ true
+  pub old-bits : f .stored ≡ false → (t a b : ℕ) → f .table t a b ≡ false
+  pub old-last : f .stored ≡ false → f .last ≡ Event.none
 
 -- good terms pass the tests of the lent memory
 entry-passes : {T : Terms} {n : ℕ} → GoodEntry T n → every (entryTests T n) ≡ true
@@ -83,14 +88,35 @@ going-good f c g =
       },
     )
 
-pub accepted-good : (text : List ℕ) (f : File) → reading text ≡ accepted f → Accepted f
-accepted-good text f e =
-    let a = reading-accepting text f e in
+accepting-good : (ls : Lines) (f : File) → Accepting nothing ls f → Accepted f
+accepting-good ls f a =
     let g = going-on (a .taken) going-first in
     let h = going-good f (a .whole) g in
     record {
       good = h .0;
       tidy = h .1;
-      inside = record { within = g .edges .inside };
+      edges = g .edges;
+      bits = g .bits;
+      last = g .last;
       entry-tests = λ n l. entry-passes (h .0 .entry n l);
+      old-bits = λ s. g .no-bits (g .old s);
+      old-last = λ s. let l = g .old s in g .no-last (omega arith);
     }
+
+-- all lines pass: nothing is refused with 11 exactly where the tables without a free variable are level
+module _ (text : List ℕ) (f : File) (e : readOn nothing 1 (lines text) ≡ accepted f) where
+  pub read-good : Accepted f
+  read-good = accepting-good (lines text) f (accepting nothing 1 (lines text) f e)
+
+  pub read-level : partlyAt f 1 (lines text) ≡ 0 → Level (f .terms) (f .table)
+  read-level z = level-from (lines text) (accepting nothing 1 (lines text) f e .taken) z
+
+  pub level-read : Level (f .terms) (f .table) → partlyAt f 1 (lines text) ≡ 0
+  level-read v = level-to (lines text) (accepting nothing 1 (lines text) f e .taken) v
+
+module _ (text : List ℕ) (f : File) (e : reading text ≡ accepted f) where
+  pub accepted-good : Accepted f
+  accepted-good = read-good text f (reading-read text f e)
+
+  pub accepted-level : Level (f .terms) (f .table)
+  accepted-level = read-level text f (reading-read text f e) (reading-level text f e)

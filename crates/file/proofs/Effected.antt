@@ -12,13 +12,14 @@ use Rattle.sets.proofs.Finite.{true-or-false, last-or-below}
 use Rattle.theory.specs.Terms.{Terms, Effect}
 use Rattle.theory.proofs.Good.{Good, Within}
 use Rattle.theory.proofs.Good.Within.{more}
-use Rattle.file.specs.File.{File, after, tests}
+use Rattle.file.specs.File.{File, after}
+use Rattle.file.specs.Reading.{tests, complete}
 use Rattle.file.specs.Writing.{listed, effectLines}
 use Rattle.file.specs.declared.line.Line.{Line}
 use Rattle.file.specs.declared.line.Line.the-variants as lines
 use Rattle.file.proofs.Printed.{Ranged}
 use Rattle.file.specs.Refused.{Passed}
-use Rattle.file.proofs.Taken.{Reached, reached-then, reached-one, reached-none}
+use Rattle.file.proofs.Taken.{Reached, reached-so, reached-then, reached-one, reached-none}
 use Rattle.file.specs.Refused.Passed.{none, pass}
 use Rattle.file.proofs.Update.{update-same, update-other}
 use Rattle.file.proofs.Going.{Going, going, complete-is}
@@ -56,22 +57,34 @@ effect-ranged j x h i = Ranged.effect h (some (x .adds)) (few (x .adds)) i (two 
     two true = omega arith
     two false = omega arith
 
-module _ (T : Terms) (good : Good T) (tidy : Tidy T) where
-  -- The effects of the events below j have been read, and these of event j.
-  record Effected (j : ℕ) (so-far : List Effect) (g : File) : Type 0 where
-    low : 2 ≤ g .phase
-    high : g .phase ≤ 5
-    head : Headed T good tidy g
-    entries : g .terms .entries ≡ T .entries
-    entry : (k : ℕ) → g .terms .entry k ≡ T .entry k
-    policies : g .policies ≡ T .events
-    policy : (i : ℕ) → g .terms .policy i ≡ T .policy i
-    event : g .event ≤ j
-    before : (i : ℕ) → i < j → g .terms .effects i ≡ T .effects i
-    here : g .terms .effects j ≡ so-far
-    going-so : Going g
+-- The effects of the events below j have been read, and these of event j.
+record Effected (T : Terms) (stored : Bool) (j : ℕ) (so-far : List Effect) (g : File) : Type 0 where
+  low : 2 ≤ g .phase
+  high : g .phase ≤ 5
+  head : Headed T stored g
+  entries : g .terms .entries ≡ T .entries
+  entry : (k : ℕ) → g .terms .entry k ≡ T .entry k
+  policies : g .policies ≡ T .events
+  policy : (i : ℕ) → g .terms .policy i ≡ T .policy i
+  event : g .event ≤ j
+  before : (i : ℕ) → i < j → g .terms .effects i ≡ T .effects i
+  here : g .terms .effects j ≡ so-far
+  going-so : Going g
 
-  policies-done : (g : File) → Decided T good tidy (T .events) g → Effected 0 [] g
+-- The terms have been read, and of what follows them nothing that has a later phase.
+pub record Settled (T : Terms) (stored : Bool) (phase : ℕ) (g : File) : Type 0 where
+  pub low : 2 ≤ g .phase
+  pub high : g .phase ≤ phase
+  pub form : g .stored ≡ stored
+  pub policies : g .policies ≡ T .events
+  pub terms : g .terms ≡ T
+  pub going-so : Going g
+
+pub settled-complete : {T : Terms} {stored : Bool} {phase : ℕ} (g : File) → Settled T stored phase g → complete g ≡ true
+settled-complete g t = complete-is g (t .low) (t .policies ∙ sym (ap (λ (x : Terms). x .events) (t .terms)))
+
+module _ (T : Terms) (good : Good T) (tidy : Tidy T) (stored : Bool) where
+  policies-done : (g : File) → Decided T stored (T .events) g → Effected T stored 0 [] g
   policies-done g t =
       let h = t .high in let p = t .policies in record {
         low = t .low;
@@ -91,7 +104,7 @@ module _ (T : Terms) (good : Good T) (tidy : Tidy T) where
       }
 
   module _ (j : ℕ) (l : j < T .events) (x : Effect) (r : x .relation < T .relations) (so-far : List Effect) (few : length so-far < 4)
-      (g : File) (t : Effected j so-far g) where
+      (g : File) (t : Effected T stored j so-far g) where
     ranged : Ranged (effectAt j x)
     ranged = let e = good .few-events in let m = good .few-relations in effect-ranged j x (omega arith) (omega arith)
 
@@ -107,12 +120,12 @@ module _ (T : Terms) (good : Good T) (tidy : Tidy T) where
         (pass (lt-ltb (x .relation) (g .terms .relations) (omega arith))
         none)))))
 
-    effected : Effected j (so-far ++ (x ∷ [])) (after g (effectAt j x))
+    effected : Effected T stored j (so-far ++ (x ∷ [])) (after g (effectAt j x))
     unfolding after
     effected = record {
       low = omega arith;
       high = omega arith;
-      head = record { members = t .head .members; relations = t .head .relations; events = t .head .events };
+      head = record { form = t .head .form; members = t .head .members; relations = t .head .relations; events = t .head .events };
       entries = t .entries;
       entry = t .entry;
       policies = t .policies;
@@ -125,9 +138,9 @@ module _ (T : Terms) (good : Good T) (tidy : Tidy T) where
 
   -- the effects of one event
   event-read : (j : ℕ) → j < T .events → (so-far es : List Effect) → Within (T .relations) es → so-far ++ es ≡ T .effects j
-      → (g : File) → Effected j so-far g → Reached g (effectLines j es) (Effected j (T .effects j))
+      → (g : File) → Effected T stored j so-far g → Reached g (effectLines j es) (Effected T stored j (T .effects j))
   unfolding effectLines
-  event-read j l so-far [] w e g t = reached-none (subst (λ (es : List Effect). Effected j es g) (sym (append-nil so-far) ∙ e) t)
+  event-read j l so-far [] w e g t = reached-none (subst (λ (es : List Effect). Effected T stored j es g) (sym (append-nil so-far) ∙ e) t)
   event-read j l so-far (x ∷ es) (more r w) e g t =
       let a = append-assoc so-far (x ∷ []) es in
       let few : length so-far < 4 =
@@ -136,7 +149,7 @@ module _ (T : Terms) (good : Good T) (tidy : Tidy T) where
       (reached-one (ranged j l x r so-far few g t) (passed j l x r so-far few g t) (effected j l x r so-far few g t))
       (λ h u. event-read j l (so-far ++ (x ∷ [])) es w (a ∙ e) h u)
 
-  event-done : (j : ℕ) (g : File) → Effected j (T .effects j) g → Effected (suc j) [] g
+  event-done : (j : ℕ) (g : File) → Effected T stored j (T .effects j) g → Effected T stored (suc j) [] g
   event-done j g t =
       let m = t .event in record {
         low = t .low;
@@ -152,23 +165,14 @@ module _ (T : Terms) (good : Good T) (tidy : Tidy T) where
         going-so = t .going-so;
       }
 
-  events-read : (n : ℕ) → n ≤ T .events → (g : File) → Effected 0 [] g → Reached g (listed n (λ j. effectLines j (T .effects j))) (Effected n [])
+  events-read : (n : ℕ) → n ≤ T .events → (g : File) → Effected T stored 0 [] g → Reached g (listed n (λ j. effectLines j (T .effects j))) (Effected T stored n [])
   unfolding listed
   events-read zero h g t = reached-none t
   events-read (suc n) h g t =
       reached-then (events-read n (omega arith) g t)
-      (λ f u. let s = event-read n h [] (T .effects n) (good .effects n h) refl f u in
-      record { file = s .file; taken = s .taken; holds = event-done n (s .file) (s .holds) })
+      (λ f u. reached-so (event-read n h [] (T .effects n) (good .effects n h) refl f u) (event-done n))
 
-  -- All but the edges has been read.
-  pub record Settled (g : File) : Type 0 where
-    pub low : 2 ≤ g .phase
-    pub high : g .phase ≤ 5
-    pub policies : g .policies ≡ T .events
-    pub terms : g .terms ≡ T
-    pub going-so : Going g
-
-  effects-done : (g : File) → Effected (T .events) [] g → Settled g
+  effects-done : (g : File) → Effected T stored (T .events) [] g → Settled T stored 5 g
   effects-done g t =
       let entry : g .terms .entry ≡ T .entry = fun-ext (t .entry) in
       let policy : g .terms .policy ≡ T .policy = fun-ext (t .policy) in
@@ -180,6 +184,7 @@ module _ (T : Terms) (good : Good T) (tidy : Tidy T) where
       record {
         low = t .low;
         high = t .high;
+        form = t .head .form;
         policies = t .policies;
         terms = λ i. record {
           members = t .head .members i;
@@ -193,7 +198,5 @@ module _ (T : Terms) (good : Good T) (tidy : Tidy T) where
         going-so = t .going-so;
       }
 
-  pub settled : (g : File) → Decided T good tidy (T .events) g → Reached g (listed (T .events) (λ j. effectLines j (T .effects j))) Settled
-  settled g t =
-      let s = events-read (T .events) (omega arith) g (policies-done g t) in
-      record { file = s .file; taken = s .taken; holds = effects-done (s .file) (s .holds) }
+  pub settled : (g : File) → Decided T stored (T .events) g → Reached g (listed (T .events) (λ j. effectLines j (T .effects j))) (Settled T stored 5)
+  settled g t = reached-so (events-read (T .events) (omega arith) g (policies-done g t)) effects-done

@@ -3,7 +3,7 @@ use Prim.Native.Nat.{ℕ, zero, suc, _+_, _≤_, _<_}
 use mathlib.Core.Path.{_≡_, refl, sym, ap, subst, _∙_}
 use mathlib.Core.Logic.{⊎-elim}
 use mathlib.Core.List.{List, [], _∷_, _++_}
-use mathlib.Core.Bool.{true, _||_}
+use mathlib.Core.Bool.{Bool, true, _||_}
 use native.Mathlib.Omega.{arith}
 use native.Mathlib.Numerals.{add-one}
 use lib.Dec.{eqb, ltb, leb}
@@ -16,7 +16,8 @@ use Rattle.theory.specs.Terms.{Terms}
 use Rattle.theory.specs.Fit.{lone, onlyFree}
 use Rattle.theory.proofs.Good.{Good, implies}
 use Rattle.theory.proofs.Spelled.{number-lt}
-use Rattle.file.specs.File.{File, nothing, update, after, tests, inRange}
+use Rattle.file.specs.File.{File, update, after}
+use Rattle.file.specs.Reading.{tests, inRange}
 use Rattle.file.specs.Writing.{listed, lineOfEntry}
 use Rattle.file.specs.declared.line.Line.{Line}
 use Rattle.file.specs.declared.line.Line.the-variants.{Members, Labels, Entry, Policy}
@@ -28,7 +29,7 @@ use Rattle.file.proofs.Taken.Taken.{one}
 use Rattle.theory.proofs.Like.{number-agree, spelled-agree}
 use Rattle.file.proofs.Update.{update-cases}
 use Rattle.file.proofs.Fit.{in-range, is-lower, operand-small, reach-kept, unused-fits, third-unused}
-use Rattle.file.proofs.Going.{Going, going-first, going}
+use Rattle.file.proofs.Going.{Going, going}
 use Rattle.file.proofs.Accepted.{Tidy}
 
 two-or-three : (p : ℕ) → 2 ≤ p → p ≤ 3 → eqb p 2 || eqb p 3 ≡ true
@@ -38,33 +39,49 @@ two-or-three p h k =
     (λ l. let e = ltb-false p 3 l in or-right (eqb p 2) _ (eq-eqb p 3 (omega arith)))
     (true-or-false (ltb p 3))
 
-module _ (T : Terms) (good : Good T) (tidy : Tidy T) where
-  -- Members, relations and events are those of the terms.
-  pub record Headed (g : File) : Type 0 where
-    pub members : g .terms .members ≡ T .members
-    pub relations : g .terms .relations ≡ T .relations
-    pub events : g .terms .events ≡ T .events
+-- The form is as the file began; members, relations and events are those of the terms.
+pub record Headed (T : Terms) (stored : Bool) (g : File) : Type 0 where
+  pub form : g .stored ≡ stored
+  pub members : g .terms .members ≡ T .members
+  pub relations : g .terms .relations ≡ T .relations
+  pub events : g .terms .events ≡ T .events
 
-  -- The first n entries have been read.
-  record Entered (n : ℕ) (g : File) : Type 0 where
-    low : 2 ≤ g .phase
-    high : g .phase ≤ 3
-    head : Headed g
-    entries : g .terms .entries ≡ n
-    entry : (k : ℕ) → k < n → g .terms .entry k ≡ T .entry k
-    going-so : Going g
+-- The first n entries have been read.
+record Entered (T : Terms) (stored : Bool) (n : ℕ) (g : File) : Type 0 where
+  low : 2 ≤ g .phase
+  high : g .phase ≤ 3
+  head : Headed T stored g
+  entries : g .terms .entries ≡ n
+  entry : (k : ℕ) → k < n → g .terms .entry k ≡ T .entry k
+  going-so : Going g
+
+-- The entries and the first n policies have been read.
+pub record Decided (T : Terms) (stored : Bool) (n : ℕ) (g : File) : Type 0 where
+  pub low : 2 ≤ g .phase
+  pub high : g .phase ≤ 4
+  pub head : Headed T stored g
+  pub entries : g .terms .entries ≡ T .entries
+  pub entry : (k : ℕ) → g .terms .entry k ≡ T .entry k
+  pub policies : g .policies ≡ n
+  pub policy : (j : ℕ) → j < n → g .terms .policy j ≡ T .policy j
+  pub going-so : Going g
+
+-- from a file that has said nothing but its form
+module _ (T : Terms) (good : Good T) (tidy : Tidy T) (start : File) (blank : start .phase ≡ 0) (begun : Going start) where
+  abbrev form : Bool
+  form = start .stored
 
   -- ---- members and labels
 
   abbrev first : File
-  first = after nothing (Members (T .members))
+  first = after start (Members (T .members))
 
   abbrev second : File
   second = after first (Labels (T .relations) (T .events))
 
-  members-passed : Passed (tests nothing (Members (T .members)))
-  unfolding tests nothing
-  members-passed = pass refl (pass (lt-ltb 0 (T .members) (good .some-member)) (pass (lt-ltb (T .members) 65 (good .few-members)) none))
+  members-passed : Passed (tests start (Members (T .members)))
+  unfolding tests
+  members-passed = pass (eq-eqb (start .phase) 0 blank) (pass (lt-ltb 0 (T .members) (good .some-member)) (pass (lt-ltb (T .members) 65 (good .few-members)) none))
 
   labels-passed : Passed (tests first (Labels (T .relations) (T .events)))
   unfolding tests after
@@ -78,18 +95,18 @@ module _ (T : Terms) (good : Good T) (tidy : Tidy T) where
   labels-ranged : Ranged (Labels (T .relations) (T .events))
   labels-ranged = let h = good .few-relations in let i = good .few-events in Ranged.labels {r = T .relations} {e = T .events} (omega arith) (omega arith)
 
-  heads-entered : Entered 0 second
-  unfolding after nothing
+  heads-entered : Entered T form 0 second
+  unfolding after
   heads-entered = record {
     low = omega arith;
     high = omega arith;
-    head = record { members = refl; relations = refl; events = refl };
-    entries = refl;
+    head = record { form = refl; members = refl; relations = refl; events = refl };
+    entries = begun .no-entries (omega arith);
     entry = λ k l. absurd (omega arith);
-    going-so = going labels-ranged labels-passed (going members-ranged members-passed going-first);
+    going-so = going labels-ranged labels-passed (going members-ranged members-passed begun);
   }
 
-  heads : Reached nothing (Members (T .members) ∷ Labels (T .relations) (T .events) ∷ []) (Entered 0)
+  heads : Reached start (Members (T .members) ∷ Labels (T .relations) (T .events) ∷ []) (Entered T form 0)
   heads = record {
     file = second;
     taken = one members-ranged members-passed (one labels-ranged labels-passed Taken.none);
@@ -98,7 +115,7 @@ module _ (T : Terms) (good : Good T) (tidy : Tidy T) where
 
   -- ---- entries
 
-  module _ (n : ℕ) (l : n < T .entries) (g : File) (t : Entered n g) where
+  module _ (n : ℕ) (l : n < T .entries) (g : File) (t : Entered T form n g) where
     abbrev v : formulas.Entry
     v = record { op = T .entry n .op; a = T .entry n .a; b = T .entry n .b; c = T .entry n .c }
 
@@ -152,18 +169,18 @@ module _ (T : Terms) (good : Good T) (tidy : Tidy T) where
         (operand-small (thirdOperand (T .entry n .op)) labels n (T .entry n .c) (omega arith) (omega arith) (q .third))
         (λ z. unused-fits labels n (T .entry n .c) (thirdOperand (T .entry n .op)) (q .third) (third-unused (T .entry n .op) z))
 
-    entry-entered : Entered (suc n) (after g (lineOfEntry T n))
+    entry-entered : Entered T form (suc n) (after g (lineOfEntry T n))
     unfolding after
     entry-entered = record {
       low = omega arith;
       high = omega arith;
-      head = record { members = t .head .members; relations = t .head .relations; events = t .head .events };
+      head = record { form = t .head .form; members = t .head .members; relations = t .head .relations; events = t .head .events };
       entries = add-one n;
       entry = agrees;
       going-so = going entry-ranged entry-passed (t .going-so);
     }
 
-  entered : (n : ℕ) → n ≤ T .entries → (g : File) → Entered 0 g → Reached g (listed n (λ n. lineOfEntry T n ∷ [])) (Entered n)
+  entered : (n : ℕ) → n ≤ T .entries → (g : File) → Entered T form 0 g → Reached g (listed n (λ n. lineOfEntry T n ∷ [])) (Entered T form n)
   unfolding listed
   entered zero h g t = reached-none t
   entered (suc n) h g t =
@@ -172,18 +189,7 @@ module _ (T : Terms) (good : Good T) (tidy : Tidy T) where
 
   -- ---- policies
 
-  -- The entries and the first n policies have been read.
-  pub record Decided (n : ℕ) (g : File) : Type 0 where
-    pub low : 2 ≤ g .phase
-    pub high : g .phase ≤ 4
-    pub head : Headed g
-    pub entries : g .terms .entries ≡ T .entries
-    pub entry : (k : ℕ) → g .terms .entry k ≡ T .entry k
-    pub policies : g .policies ≡ n
-    pub policy : (j : ℕ) → j < n → g .terms .policy j ≡ T .policy j
-    pub going-so : Going g
-
-  entries-done : (g : File) → Entered (T .entries) g → Decided 0 g
+  entries-done : (g : File) → Entered T form (T .entries) g → Decided T form 0 g
   entries-done g t =
       let h = t .high in let m = t .entries in record {
         low = t .low;
@@ -199,7 +205,7 @@ module _ (T : Terms) (good : Good T) (tidy : Tidy T) where
         going-so = t .going-so;
       }
 
-  module _ (n : ℕ) (l : n < T .events) (g : File) (t : Decided n g) where
+  module _ (n : ℕ) (l : n < T .events) (g : File) (t : Decided T form n g) where
     policy-passed : Passed (tests g (Policy n (T .policy n)))
     unfolding tests
     policy-passed =
@@ -217,12 +223,12 @@ module _ (T : Terms) (good : Good T) (tidy : Tidy T) where
         let e = good .few-events in let m = good .few-entries in let p = good .policy-exists n l in
         Ranged.policy {j = n} {n = T .policy n} (omega arith) (omega arith)
 
-    policy-decided : Decided (suc n) (after g (Policy n (T .policy n)))
+    policy-decided : Decided T form (suc n) (after g (Policy n (T .policy n)))
     unfolding after
     policy-decided = record {
       low = omega arith;
       high = omega arith;
-      head = record { members = t .head .members; relations = t .head .relations; events = t .head .events };
+      head = record { form = t .head .form; members = t .head .members; relations = t .head .relations; events = t .head .events };
       entries = t .entries;
       entry = t .entry;
       policies = add-one n;
@@ -231,7 +237,7 @@ module _ (T : Terms) (good : Good T) (tidy : Tidy T) where
       going-so = going policy-ranged policy-passed (t .going-so);
     }
 
-  decided : (n : ℕ) → n ≤ T .events → (g : File) → Decided 0 g → Reached g (listed n (λ j. Policy j (T .policy j) ∷ [])) (Decided n)
+  decided : (n : ℕ) → n ≤ T .events → (g : File) → Decided T form 0 g → Reached g (listed n (λ j. Policy j (T .policy j) ∷ [])) (Decided T form n)
   unfolding listed
   decided zero h g t = reached-none t
   decided (suc n) h g t =
@@ -239,8 +245,8 @@ module _ (T : Terms) (good : Good T) (tidy : Tidy T) where
       (λ f u. reached-one (policy-ranged n h f u) (policy-passed n h f u) (policy-decided n h f u))
 
   -- the lines of members, labels, entries and policies, and those after them
-  pub told : {ms : List Line} {Q : File → Type 0} → ((g : File) → Decided (T .events) g → Reached g ms Q)
-      → Reached nothing (Members (T .members) ∷ Labels (T .relations) (T .events) ∷ (listed (T .entries) (λ n. lineOfEntry T n ∷ [])
+  pub told : {ms : List Line} {Q : File → Type 0} → ((g : File) → Decided T form (T .events) g → Reached g ms Q)
+      → Reached start (Members (T .members) ∷ Labels (T .relations) (T .events) ∷ (listed (T .entries) (λ n. lineOfEntry T n ∷ [])
       ++ (listed (T .events) (λ j. Policy j (T .policy j) ∷ []) ++ ms))) Q
   told k =
       reached-then heads (λ g t. reached-then (entered (T .entries) (omega arith) g t)

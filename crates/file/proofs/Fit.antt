@@ -1,24 +1,25 @@
--- What the tests have made sure of so far, part by part: the entries, the policies, the effects, the edges; and that one line more keeps it so.
+-- What the tests have made sure of so far, part by part: the entries, the policies, the effects, the edges, the tables, the event edge; and that one line more keeps it so.
 use Prim.Native.Nat.{ℕ, zero, suc, _+_, _*_, _≤_, _<_}
 use mathlib.Core.Path.{_≡_, refl, sym, ap, subst, subst₂, _∙_}
 use mathlib.Core.Logic.{_⊎_, inl, inr, ⊎-elim}
 use mathlib.Core.List.{List, [], _∷_, _++_}
-use mathlib.Core.Bool.{true, false, cond, _&&_, true≢false, false≢true}
+use mathlib.Core.Bool.{Bool, true, false, _&&_, true≢false, false≢true}
 use native.Mathlib.Omega.{arith}
 use native.Mathlib.Numerals.{add-one}
 use lib.Dec.{eqb, ltb}
 use lib.ListN.{length, length-append}
-use borrow.Author.Tests.{eqb-true, ltb-true}
+use borrow.Author.Tests.{eqb-true, ltb-true, eq-eqb}
 use Rattle.sets.proofs.Finite.{true-or-false, and-left, and-right, last-or-below}
 use Rattle.theory.specs.Formula.{Formula, Entry, Operand, firstOperand, secondOperand, thirdOperand, number, spelled, isPast}
 use Rattle.theory.specs.Formula.Operand.{unused, variable, binder, label, entry}
 use Rattle.theory.specs.Terms.{Effect}
-use Rattle.theory.specs.Moment.{Relations}
+use Rattle.theory.specs.Moment.{Event}
 use Rattle.theory.specs.Fit.{operandFits, lone, onlyFree, reachFits}
 use Rattle.theory.proofs.Good.{Within, fits-entry}
-use Rattle.theory.proofs.Good.Within.{none, more}
+use Rattle.theory.proofs.Good.Within.{more}
 use Rattle.file.specs.Line.{hasThird}
-use Rattle.file.specs.File.{update, inRange, isLower}
+use Rattle.file.specs.File.{update, withBit}
+use Rattle.file.specs.Reading.{inRange, isLower}
 use Rattle.theory.proofs.Like.{number-agree, spelled-agree}
 use Rattle.file.proofs.Update.{update-same, update-other, update-cases}
 
@@ -195,14 +196,14 @@ pub record EffectsFit (event events relations : ℕ) (effects : ℕ → List Eff
 
 pub effects-none : (event events relations : ℕ) (effects : ℕ → List Effect) → ((j : ℕ) → effects j ≡ []) → EffectsFit event events relations effects
 effects-none event events relations effects h = record {
-  within = λ j. subst (Within relations) (sym (h j)) none;
+  within = λ j. subst (Within relations) (sym (h j)) Within.none;
   few = λ j. rw h (omega arith);
   later = λ j l. h j;
   beyond = λ j l. h j;
 }
 
 within-more : {r : ℕ} {es : List Effect} → Within r es → (x : Effect) → x .relation < r → Within r (es ++ (x ∷ []))
-within-more none x h = more h none
+within-more Within.none x h = more h Within.none
 within-more (more p ps) x h = more p (within-more ps x h)
 
 pub effect-more : {i e r : ℕ} {effects : ℕ → List Effect} (j : ℕ) (x : Effect) → i ≤ j → j < e → length (effects j) < 4 → x .relation < r
@@ -217,51 +218,68 @@ effect-more {r = r} {effects = effects} j x h l m q t =
       beyond = λ k p. update-other effects j s k (λ z. omega arith) ∙ t .beyond k p;
     }
 
--- ---- edges
+-- ---- edges and the bits of the tables
 
--- The number of an edge, by relation, from, to.
+-- The number of an edge or a bit, by relation or table, from, to.
 abbrev pub code : (k a b : ℕ) → ℕ
 code k a b = k * 4096 + a * 64 + b
 
-pub record EdgesFit (members relations : ℕ) (edges : Relations) (relation from to : ℕ) : Type 0 where
-  pub inside : (k a b : ℕ) → edges k a b ≡ true → (k < relations) × (a < members) × (b < members)
-  pub rising : (k a b : ℕ) → edges k a b ≡ true → code k a b ≤ code relation from to
-  pub short : (from < 64) × (to < 64)
+-- Each bit is of one of so many relations or tables and between members.
+pub record Inside (kinds members : ℕ) (R : (k a b : ℕ) → Bool) : Type 0 where
+  pub within : (k a b : ℕ) → R k a b ≡ true → (k < kinds) × (a < members) × (b < members)
 
-pub edges-none : (members relations : ℕ) (edges : Relations) (k a b : ℕ) → a < 64 → b < 64 → ((k a b : ℕ) → edges k a b ≡ false)
-    → EdgesFit members relations edges k a b
-edges-none members relations edges k a b p q h = record {
-  inside = λ l c d e. absurd (false≢true (sym (h l c d) ∙ e));
-  rising = λ l c d e. absurd (false≢true (sym (h l c d) ∙ e));
-  short = (p, q);
-}
+-- No bit comes after that of k, a and b.
+pub record UpTo (R : (k a b : ℕ) → Bool) (k a b : ℕ) : Type 0 where
+  pub upto : (l c d : ℕ) → R l c d ≡ true → code l c d ≤ code k a b
 
-abbrev pub withEdge : Relations → (k a b : ℕ) → Relations
-withEdge R k a b l c d = cond (eqb l k && (eqb c a && eqb d b)) true (R l c d)
+pub inside-none : {kinds members : ℕ} {R : (k a b : ℕ) → Bool} → ((k a b : ℕ) → R k a b ≡ false) → Inside kinds members R
+inside-none h = record { within = λ k a b e. absurd (false≢true (sym (h k a b) ∙ e)) }
 
--- an edge of the relations with one more is that one or was there
-edge-cases : (R : Relations) (k a b l c d : ℕ) → withEdge R k a b l c d ≡ true → ((l ≡ k) × (c ≡ a) × (d ≡ b)) ⊎ (R l c d ≡ true)
-edge-cases R k a b l c d e =
-    ⊎-elim
-    (λ p. let q = and-right (eqb l k) _ p in
-    inl (eqb-true l k (and-left (eqb l k) _ p), eqb-true c a (and-left (eqb c a) _ q), eqb-true d b (and-right (eqb c a) _ q)))
-    (λ p. inr (rw p at e))
-    (true-or-false (eqb l k && (eqb c a && eqb d b)))
+pub up-to-none : {R : (k a b : ℕ) → Bool} {k a b : ℕ} → ((k a b : ℕ) → R k a b ≡ false) → UpTo R k a b
+up-to-none h = record { upto = λ k a b e. absurd (false≢true (sym (h k a b) ∙ e)) }
 
--- (relation, from, to) comes before (k, a, b), or nothing has come yet
-pub edge-more : {N r : ℕ} {R : Relations} {l c d : ℕ} (k a b : ℕ) → N < 65 → k < r → a < N → b < N
-    → (((k a b : ℕ) → R k a b ≡ false) ⊎ (code l c d < code k a b)) → EdgesFit N r R l c d → EdgesFit N r (withEdge R k a b) k a b
-edge-more {N = N} {r = r} {R = R} {l = l} {c = c} {d = d} k a b n h i j o t = record {
-  inside = λ x y z e. ⊎-elim
-      (λ p. let p0 = p .0 in let p1 = p .1 in let p2 = p .2 in (omega arith, omega arith, omega arith))
-      (λ p. t .inside x y z p)
-      (edge-cases R k a b x y z e);
-  rising = λ x y z e. ⊎-elim
-      (λ p. let p0 = p .0 in let p1 = p .1 in let p2 = p .2 in rw (p0, p1, p2) (omega arith))
-      (λ p. ⊎-elim
-      (λ q. absurd (false≢true (sym (q x y z) ∙ p)))
-      (λ q. let m = t .rising x y z p in omega arith)
-      o)
-      (edge-cases R k a b x y z e);
-  short = (omega arith, omega arith);
-}
+-- one bit more
+module _ (R : (k a b : ℕ) → Bool) (k a b : ℕ) where
+  -- a bit is that one or was there
+  pub bit-cases : (l c d : ℕ) → withBit R k a b l c d ≡ true → ((l ≡ k) × (c ≡ a) × (d ≡ b)) ⊎ (R l c d ≡ true)
+  bit-cases l c d e =
+      ⊎-elim
+      (λ p. let q = and-right (eqb l k) _ p in
+      inl (eqb-true l k (and-left (eqb l k) _ p), eqb-true c a (and-left (eqb c a) _ q), eqb-true d b (and-right (eqb c a) _ q)))
+      (λ p. inr (rw p at e))
+      (true-or-false (eqb l k && (eqb c a && eqb d b)))
+
+  pub bit-there : withBit R k a b k a b ≡ true
+  bit-there = rw (eq-eqb k k refl, eq-eqb a a refl, eq-eqb b b refl) refl
+
+  pub bit-stays : (l c d : ℕ) → R l c d ≡ true → withBit R k a b l c d ≡ true
+  bit-stays l c d e = ⊎-elim (λ p. rw p refl) (λ p. rw p e) (true-or-false (eqb l k && (eqb c a && eqb d b)))
+
+  pub inside-more : {r N : ℕ} → k < r → a < N → b < N → Inside r N R → Inside r N (withBit R k a b)
+  inside-more h i j t = record {
+    within = λ x y z e. ⊎-elim
+        (λ p. let p0 = p .0 in let p1 = p .1 in let p2 = p .2 in (omega arith, omega arith, omega arith))
+        (λ p. t .within x y z p)
+        (bit-cases x y z e);
+  }
+
+  -- (l, c, d) comes before (k, a, b), or nothing has come yet
+  pub up-to-more : {l c d : ℕ} → (((k a b : ℕ) → R k a b ≡ false) ⊎ (code l c d < code k a b)) → UpTo R l c d → UpTo (withBit R k a b) k a b
+  up-to-more o t = record {
+    upto = λ x y z e. ⊎-elim
+        (λ p. let p0 = p .0 in let p1 = p .1 in let p2 = p .2 in rw (p0, p1, p2) (omega arith))
+        (λ p. ⊎-elim
+        (λ q. absurd (false≢true (sym (q x y z) ∙ p)))
+        (λ q. let m = t .upto x y z p in omega arith)
+        o)
+        (bit-cases x y z e);
+  }
+
+-- ---- the event edge
+
+pub data EventFits (events members : ℕ) : Event → Type 0 where
+  none : EventFits events members Event.none
+  happened : {j u v : ℕ} → j < events → u < members → v < members → EventFits events members (Event.happened j u v)
+
+pub event-none : {events members : ℕ} {x : Event} → x ≡ Event.none → EventFits events members x
+event-none {events} {members} e = subst (EventFits events members) (sym e) none

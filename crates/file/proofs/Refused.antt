@@ -1,25 +1,29 @@
--- A text is refused exactly where its first faulty line is, or where it is cut or ends too soon, and with the lowest number of a test that fails.
+-- A text is refused exactly where its first faulty line is, with the lowest number of a test that fails; or where it is cut or ends too soon;
+-- or else at the first T line of a partly filled word.
 use Prim.Native.Nat.{ℕ, _+_, _≤_}
 use mathlib.Core.Path.{_≡_, refl, ap, subst, subst₂, _∙_}
 use mathlib.Core.Logic.{_⊎_, _↔_, inl, inr, ⊎-elim}
 use mathlib.Core.List.{List, [], _∷_}
 use mathlib.Core.Bool.{true, false}
 use native.Mathlib.Omega.{arith}
-use lib.Dec.{leb}
-use borrow.Author.Tests.{leb-true}
+use lib.Dec.{eqb, leb}
+use borrow.Author.Tests.{leb-true, eqb-false, ne-eqb}
 use Rattle.sets.proofs.Finite.{true-or-false, not-both, and-left, and-right}
 use Rattle.fields.specs.Split.{Lines, split, lines}
 use Rattle.fields.specs.Split.Lines.{done, cut, line}
 use Rattle.file.specs.Line.{parsed}
-use Rattle.file.specs.File.{File, Test, tests, after, complete, nothing, Reading, tried, readOn, reading}
-use Rattle.file.specs.File.Reading.{accepted, refused}
+use Rattle.file.specs.File.{File, after, nothing}
+use Rattle.file.specs.Reading.{Test, tests, complete, Reading, tried, readOn, partlyFilled, partlyAt, levelled, reading}
+use Rattle.file.specs.Reading.Reading.{accepted, refused}
 use Rattle.file.specs.declared.line.Line.{Line}
-use Rattle.file.specs.declared.line.Line.the-variants.{Members, Labels, Entry, Policy, Effect, Edge, Malformed}
-use Rattle.file.specs.Refused.{Passed, Fails, Lowest, Refused, numbersRise}
+use Rattle.file.specs.declared.line.Line.the-variants.{Members, Labels, Entry, Policy, Effect, Edge, Form, TableBit, EventEdge, Malformed}
+use Rattle.file.specs.Refused.{Passed, Fails, Lowest, Refused, FirstPartly, RefusedText, numbersRise}
 use Rattle.file.proofs.Taken.{tried-passed}
 use Rattle.file.specs.Refused.Passed.{none, pass}
 use Rattle.file.specs.Refused.Fails.{this, other}
 use Rattle.file.specs.Refused.Refused.{go-on, faulty, cut-off, ended}
+use Rattle.file.specs.Refused.FirstPartly.{later}
+use Rattle.file.specs.Refused.RefusedText.{by-line, partly-filled}
 
 -- ---- the numbers of a line's tests never fall
 
@@ -31,6 +35,9 @@ tests-rise f (Entry n o a b c) = refl
 tests-rise f (Policy j n) = refl
 tests-rise f (Effect j c k d) = refl
 tests-rise f (Edge k a b) = refl
+tests-rise f (Form n) = refl
+tests-rise f (TableBit t a b) = refl
+tests-rise f (EventEdge j u v) = refl
 tests-rise f Malformed = refl
 
 rise-rest : (m : ℕ) (t : Test) (ts : List Test) → numbersRise m (t ∷ ts) ≡ true → numbersRise (t .number) ts ≡ true
@@ -120,6 +127,47 @@ from-refused {f = f} {at = at} (faulty {l = l} p) = tried-lowest 1 _ (tests-rise
 from-refused cut-off = refl
 from-refused (ended p) = rw p refl
 
-pub refused-only : (text : List ℕ) (n k : ℕ) → (reading text ≡ refused n k) ↔ Refused nothing 1 (lines text) n k
+-- ---- the partly filled words
+
+to-partly : (f : File) (n : ℕ) (ls : Lines) → (partlyAt f n ls ≡ 0 → ⊥) → FirstPartly f n ls (partlyAt f n ls)
+unfolding partlyAt
+to-partly f n done h = absurd (h refl)
+to-partly f n (cut l) h = absurd (h refl)
+to-partly f n (line l r) h =
+    let ih = to-partly f (n + 1) r in
+    ⊎-elim
+    (λ p. rw p (FirstPartly.this p))
+    (λ p. let i : partlyAt f (n + 1) r ≡ 0 → ⊥ = rw p at h in rw p (later p (ih i)))
+    (true-or-false (partlyFilled f (parsed (split 9 l))))
+
+from-partly : {f : File} {n k : ℕ} {ls : Lines} → FirstPartly f n ls k → (partlyAt f n ls ≡ k) × (n ≤ k)
+unfolding partlyAt
+from-partly (FirstPartly.this p) = (rw p refl, omega arith)
+from-partly (later p q) = let h = from-partly q in (rw p (h .0), omega (arith, h .1))
+
+to-text : (text : List ℕ) (x : Reading) → readOn nothing 1 (lines text) ≡ x → (n k : ℕ) → levelled (lines text) x ≡ refused n k → RefusedText text n k
+unfolding levelled
+to-text text (refused m l) s n k e =
+    let u : m ≡ n = cc in
+    let v : l ≡ k = cc in
+    subst₂ (RefusedText text) u v (by-line (to-refused nothing 1 (lines text) m l s))
+to-text text (accepted f) s n k e =
+    ⊎-elim
+    (λ p. let q : accepted f ≡ refused n k = rw p at e in let z : _≡_ {A = ℕ} 0 1 = cc in absurd (omega arith))
+    (λ p. let q : refused 11 (partlyAt f 1 (lines text)) ≡ refused n k = rw p at e in
+    let u : 11 ≡ n = cc in
+    let v : partlyAt f 1 (lines text) ≡ k = cc in
+    subst₂ (RefusedText text) u v (partly-filled s (to-partly f 1 (lines text) (eqb-false (partlyAt f 1 (lines text)) 0 p))))
+    (true-or-false (eqb (partlyAt f 1 (lines text)) 0))
+
+from-text : {text : List ℕ} {n k : ℕ} → RefusedText text n k → reading text ≡ refused n k
+unfolding reading levelled
+from-text (by-line r) = rw (from-refused r) refl
+from-text {text} (partly-filled {f = f} {k = k} e q) =
+    let h = from-partly q in
+    let h1 = h .1 in
+    rw (e, h .0, ne-eqb k 0 (λ z. omega arith)) refl
+
+pub refused-only : (text : List ℕ) (n k : ℕ) → (reading text ≡ refused n k) ↔ RefusedText text n k
 unfolding reading
-refused-only text n k = (to-refused nothing 1 (lines text) n k, from-refused)
+refused-only text n k = (to-text text (readOn nothing 1 (lines text)) refl n k, from-text)

@@ -1,207 +1,257 @@
--- Reading what is written of terms and relations gives the same terms and relations.
-use Prim.Native.Nat.{ℕ, zero, suc, _/_, _%_, _≤_, _<_}
-use mathlib.Core.Path.{_≡_, sym, ap, subst, fun-ext, _∙_}
-use mathlib.Core.Logic.{_⊎_, inl, inr, ⊎-elim}
-use mathlib.Core.Bool.{true, false, _&&_}
+-- Reading what is written of terms and relations, or stored of terms and a state, gives the same again.
+use Prim.Native.Nat.{ℕ, _<_}
+use mathlib.Core.Path.{_≡_, refl, sym, ap, fun-ext, subst, subst₂, _∙_}
+use mathlib.Core.List.{List}
+use mathlib.Core.Bool.{Bool, true, false}
 use native.Mathlib.Omega.{arith}
-use lib.Dec.{eqb, ltb}
-use borrow.Author.Tests.{eq-eqb, eqb-true, ltb-false, lt-ltb}
-use Rattle.sets.proofs.Finite.{bool-iff, is-false, true-or-false, not-both, and-left, and-right, and-both, or-left, or-right, last-or-below}
-use Rattle.theory.specs.Terms.{Terms}
-use Rattle.theory.specs.Moment.{Relations}
+use borrow.Author.Tests.{lt-ltb, le-leb}
+use Rattle.theory.specs.Terms.{Terms, tables}
+use Rattle.theory.specs.Moment.{Relations, Event, first}
+use Rattle.theory.specs.Moment.Event.{happened}
+use Rattle.theory.specs.Tables.{Tables, State}
 use Rattle.theory.proofs.Good.{Good}
-use Rattle.file.specs.File.{File, nothing, after, tests, complete, rises, reading}
-use Rattle.file.specs.File.Reading.{accepted}
-use Rattle.file.specs.Writing.{listed, edgeAt, allLines, written}
-use Rattle.file.specs.declared.line.Line.the-variants.{Edge}
-use Rattle.file.proofs.Printed.{Ranged}
+use Rattle.file.specs.File.{File, nothing, after}
+use Rattle.file.specs.Reading.{tests, complete, rises, reading}
+use Rattle.file.specs.Reading.Reading.{accepted}
+use Rattle.file.specs.Writing.{listed, bitAt, allLines, eventEdgeLine, storedLines, written, stored}
+use Rattle.file.specs.declared.line.Line.the-variants.{Form, TableBit, EventEdge}
 use Rattle.file.specs.Refused.{Passed}
-use Rattle.file.proofs.Taken.{Reached, reached-then, reached-one, reached-none, read-printed}
 use Rattle.file.specs.Refused.Passed.{none, pass}
-use Rattle.file.proofs.Fit.{code, withEdge}
-use Rattle.file.proofs.Going.{Going, going, complete-is}
-use Rattle.file.proofs.Accepted.{Tidy, Inside}
-use Rattle.file.proofs.Entered.{told}
-use Rattle.file.proofs.Effected.{Settled, settled}
+use Rattle.file.proofs.Printed.{Ranged}
+use Rattle.file.proofs.Taken.{Reached, reached-so, reached-then, reached-one, reached-none}
+use Rattle.file.proofs.Level.{Level, level-empty, read-printed}
+use Rattle.file.proofs.Fit.{Inside, EventFits}
+use Rattle.file.proofs.Going.{going-first, going, complete-is}
+use Rattle.file.proofs.Accepted.{Tidy}
+use Rattle.file.proofs.Effected.{settled-complete}
+use Rattle.file.proofs.Rising.{Adds, Kind, Below, bits-read, all-read}
+use Rattle.file.proofs.Edged.{Edged, lines-read}
 
--- What is written of the terms and relations is read as f, which has these.
-pub record Reread (T : Terms) (R : Relations) (f : File) : Type 0 where
-  pub accepts : reading (written T R) ≡ accepted f
+-- What the old form says of a state: its relations, with no bit of a table and no event edge.
+abbrev pub plainState : Relations → State
+plainState R = record { now = first R; table = λ t a b. false }
+
+-- The text is read as f, which has this form, these terms and this state.
+pub record Reread (text : List ℕ) (form : Bool) (T : Terms) (S : State) (f : File) : Type 0 where
+  pub accepts : reading text ≡ accepted f
+  pub form-read : f .stored ≡ form
   pub terms : f .terms ≡ T
-  pub edges : f .edges ≡ R
+  pub edges : f .edges ≡ S .now .edge
+  pub table : f .table ≡ S .table
+  pub last : f .last ≡ S .now .event
 
--- an edge is the first, or its number is above the last one's
-code-rises : (f : File) (k a b : ℕ) → a < 64 → b < 64 → (f .from < 64) × (f .to < 64)
-    → (f .phase < 6) ⊎ (code (f .relation) (f .from) (f .to) < code k a b) → rises f k a b ≡ true
-code-rises f k a b p q s h =
-    let s0 = s .0 in let s1 = s .1 in
-    ⊎-elim
-    (λ l. or-left (ltb (f .phase) 6) _ (lt-ltb (f .phase) 6 l))
-    (λ l. or-right (ltb (f .phase) 6) _ (⊎-elim
-    (λ t. or-left (ltb (f .relation) k) _ t)
-    (λ t. let n = ltb-false (f .relation) k t in
-    let e : f .relation ≡ k = omega arith in
-    or-right (ltb (f .relation) k) _ (and-both (eqb (f .relation) k) _ (eq-eqb (f .relation) k e) (⊎-elim
-    (λ u. or-left (ltb (f .from) a) _ u)
-    (λ u. let m = ltb-false (f .from) a u in
-    let d : f .from ≡ a = omega arith in
-    or-right (ltb (f .from) a) _ (and-both (eqb (f .from) a) _ (eq-eqb (f .from) a d) (lt-ltb (f .to) b (omega arith))))
-    (true-or-false (ltb (f .from) a)))))
-    (true-or-false (ltb (f .relation) k))))
-    h
+-- A state that can be stored: all that it has is inside the terms, and its tables without a free variable are level.
+pub record Storable (T : Terms) (S : State) : Type 0 where
+  pub edges : Inside (T .relations) (T .members) (S .now .edge)
+  pub bits : Inside (tables T) (T .members) (S .table)
+  pub last : EventFits (T .events) (T .members) (S .now .event)
+  pub level : Level T (S .table)
 
-module _ (T : Terms) (R : Relations) (good : Good T) (tidy : Tidy T) (inside : Inside T R) where
-  -- The edges with numbers below q have been read.
-  record Edged (q : ℕ) (g : File) : Type 0 where
-    low : 2 ≤ g .phase
-    policies : g .policies ≡ T .events
-    terms : g .terms ≡ T
-    last : (g .phase < 6) ⊎ (code (g .relation) (g .from) (g .to) < q)
-    edges : (k a b : ℕ) → a < 64 → b < 64 → code k a b < q → g .edges k a b ≡ R k a b
-    going-so : Going g
+-- ---- the bits of the tables
 
-  whole : (q : ℕ) (g : File) → Edged q g → complete g ≡ true
-  whole q g t = complete-is g (t .low) (t .policies ∙ sym (ap (λ (x : Terms). x .events) (t .terms)))
+module _ (T : Terms) (good : Good T) (R : Relations) (X : Tables) (inside : Inside (tables T) (T .members) X) where
+  abbrev Ready : File → Type 0
+  Ready = Edged T R true 7
 
-  -- no edge from q on
-  beyond : (q : ℕ) (g : File) → Edged q g → (k a b : ℕ) → q ≤ code k a b → g .edges k a b ≡ false
-  beyond q g t k a b h =
-      ⊎-elim
-      (λ l. t .going-so .no-edges l k a b)
-      (λ l. is-false (g .edges k a b) (λ e. let m = t .going-so .edges .rising k a b e in omega arith))
-      (t .last)
+  abbrev bits : File → Tables
+  bits f = f .table
 
-  module _ (q : ℕ) (g : File) (t : Edged q g) (e : R (q / 4096) (q / 64 % 64) (q % 64) ≡ true) where
-    abbrev k : ℕ
-    k = q / 4096
-
-    abbrev a : ℕ
-    a = q / 64 % 64
-
-    abbrev b : ℕ
-    b = q % 64
-
-    there : (k < T .relations) × (a < T .members) × (b < T .members)
+  module _ (g : File) (t : Ready g) (k a b : ℕ) (e : X k a b ≡ true) where
+    there : (k < tables T) × (a < T .members) × (b < T .members)
     there = inside .within k a b e
 
-    ranged : Ranged (Edge k a b)
+    ranged : Ranged (TableBit k a b)
     ranged =
         let h0 = there .0 in let h1 = there .1 in let h2 = there .2 in
-        let m = good .few-relations in let n = good .few-members in
-        Ranged.edge {k = k} {a = a} {b = b} (omega arith) (omega arith) (omega arith)
+        let m = good .few-tables in let n = good .few-members in
+        Ranged.bit {t = k} {a = a} {b = b} (omega arith) (omega arith) (omega arith)
 
-    passed : Passed (tests g (Edge k a b))
+    passed : rises 7 g k a b ≡ true → Passed (tests g (TableBit k a b))
     unfolding tests
-    passed =
+    passed z =
         let h0 = there .0 in let h1 = there .1 in let h2 = there .2 in
-        let r : g .terms .relations ≡ T .relations = ap (λ (x : Terms). x .relations) (t .terms) in
-        let m : g .terms .members ≡ T .members = ap (λ (x : Terms). x .members) (t .terms) in
-        let c : code k a b ≡ q = omega arith in
-        pass (whole q g t)
-        (pass (code-rises g k a b (omega arith) (omega arith) (t .going-so .edges .short)
-        (subst (λ (n : ℕ). (g .phase < 6) ⊎ (code (g .relation) (g .from) (g .to) < n)) (sym c) (t .last)))
-        (pass (lt-ltb k (g .terms .relations) (omega arith))
+        let s = t .settled-so in
+        let r : tables (g .terms) ≡ tables T = ap tables (s .terms) in
+        let m : g .terms .members ≡ T .members = ap (λ (x : Terms). x .members) (s .terms) in
+        pass (s .form)
+        (pass (settled-complete g s)
+        (pass (le-leb (g .phase) 7 (s .high))
+        (pass z
+        (pass (lt-ltb k (tables (g .terms)) (omega arith))
         (pass (lt-ltb a (g .terms .members) (omega arith))
         (pass (lt-ltb b (g .terms .members) (omega arith))
-        none))))
+        none))))))
 
-    added : (l c d : ℕ) → c < 64 → d < 64 → code l c d < suc q → withEdge (g .edges) k a b l c d ≡ R l c d
-    added l c d hc hd h =
-        ⊎-elim
-        (λ p. let r = and-right (eqb l k) _ p in
-        let p0 = eqb-true l k (and-left (eqb l k) _ p) in
-        let p1 = eqb-true c a (and-left (eqb c a) _ r) in
-        let p2 = eqb-true d b (and-right (eqb c a) _ r) in
-        let z : R l c d ≡ R k a b = λ i. R (p0 i) (p1 i) (p2 i) in
-        rw p (sym (z ∙ e)))
-        (λ p. rw p (t .edges l c d hc hd (⊎-elim (λ o. o) (λ o. absurd (not-both _ (same o) p)) (last-or-below (code l c d) q h))))
-        (true-or-false (eqb l k && (eqb c a && eqb d b)))
-      where
-        same : code l c d ≡ q → eqb l k && (eqb c a && eqb d b) ≡ true
-        same o =
-            and-both (eqb l k) _ (eq-eqb l k (omega arith))
-            (and-both (eqb c a) _ (eq-eqb c a (omega arith)) (eq-eqb d b (omega arith)))
-
-    edged : Edged (suc q) (after g (Edge k a b))
+    bit-adds : rises 7 g k a b ≡ true → Adds 7 TableBit bits X Ready g k a b
     unfolding after
-    edged = record {
-      low = omega arith;
-      policies = t .policies;
-      terms = t .terms;
-      last = inr (omega arith);
-      edges = added;
-      going-so = going ranged passed (t .going-so);
+    bit-adds z = record {
+      ranged = ranged;
+      passed = passed z;
+      ready = record {
+        settled-so = record {
+          low = omega arith;
+          high = omega arith;
+          form = t .settled-so .form;
+          policies = t .settled-so .policies;
+          terms = t .settled-so .terms;
+          going-so = going ranged (passed z) (t .settled-so .going-so);
+        };
+        edges = t .edges;
+      };
+      added = λ l c d. refl;
+      last = refl;
     }
 
-  absent : (q : ℕ) (g : File) → Edged q g → R (q / 4096) (q / 64 % 64) (q % 64) ≡ false → Edged (suc q) g
-  absent q g t e = record {
-    low = t .low;
-    policies = t .policies;
-    terms = t .terms;
-    last = ⊎-elim (λ l. inl l) (λ l. inr (omega arith)) (t .last);
-    edges = λ l c d hc hd h. ⊎-elim
-        (λ o. t .edges l c d hc hd o)
-        (λ o. let p0 : l ≡ q / 4096 = omega arith in
-        let p1 : c ≡ q / 64 % 64 = omega arith in
-        let p2 : d ≡ q % 64 = omega arith in
-        let z : R l c d ≡ R (q / 4096) (q / 64 % 64) (q % 64) = λ i. R (p0 i) (p1 i) (p2 i) in
-        beyond q g t l c d (omega arith) ∙ sym (z ∙ e))
-        (last-or-below (code l c d) q h);
-    going-so = t .going-so;
+  of-bits : Kind 7 TableBit bits X Ready
+  of-bits = record {
+    none = λ g h l. h .no-bits l;
+    up-to = λ g t h. h .bits-rise;
+    adds = λ g t h k a b e z. bit-adds g t k a b e z;
   }
 
-  edge-read : (q : ℕ) (g : File) → Edged q g → Reached g (edgeAt R q) (Edged (suc q))
-  edge-read q g t =
-      ⊎-elim
-      (λ e. rw e (reached-one (ranged q g t e) (passed q g t e) (edged q g t e)))
-      (λ e. rw e (reached-none (absent q g t e)))
-      (true-or-false (R (q / 4096) (q / 64 % 64) (q % 64)))
+  -- The terms, the edges and the bits have been read, and no event edge.
+  record Bitted (g : File) : Type 0 where
+    edged-so : Edged T R true 7 g
+    table : g .table ≡ X
 
-  edges-read : (q : ℕ) (g : File) → Edged 0 g → Reached g (listed q (edgeAt R)) (Edged q)
-  unfolding listed
-  edges-read zero g t = reached-none t
-  edges-read (suc q) g t = reached-then (edges-read q g t) (λ h u. edge-read q h u)
-
-  settled-edged : (g : File) → Settled T good tidy g → Edged 0 g
-  settled-edged g t = let h = t .high in record {
-    low = t .low;
-    policies = t .policies;
-    terms = t .terms;
-    last = inl (omega arith);
-    edges = λ k a b p q l. absurd (omega arith);
-    going-so = t .going-so;
+  before-bits : (g : File) → Edged T R true 6 g → Ready g
+  before-bits g t = let s = t .settled-so in let h = s .high in record {
+    settled-so = record { low = s .low; high = omega arith; form = s .form; policies = s .policies; terms = s .terms; going-so = s .going-so };
+    edges = t .edges;
   }
 
-  edges-done : (g : File) → Edged 65536 g → g .edges ≡ R
-  edges-done g t = fun-ext (λ k. fun-ext (λ a. fun-ext (λ b. bool-iff (g .edges k a b) (R k a b)
-      (λ e. let h = t .going-so .edges .inside k a b e in
-      let r : g .terms .relations ≡ T .relations = ap (λ (x : Terms). x .relations) (t .terms) in
-      let m : g .terms .members ≡ T .members = ap (λ (x : Terms). x .members) (t .terms) in
-      let h0 = h .0 in let h1 = h .1 in let h2 = h .2 in
-      sym (same k a b (omega arith) (omega arith) (omega arith)) ∙ e)
-      (λ e. let h = inside .within k a b e in
-      let h0 = h .0 in let h1 = h .1 in let h2 = h .2 in
-      same k a b h0 h1 h2 ∙ e))))
-    where
-      same : (k a b : ℕ) → k < T .relations → a < T .members → b < T .members → g .edges k a b ≡ R k a b
-      same k a b p q r =
-          let m = good .few-relations in let n = good .few-members in
-          t .edges k a b (omega arith) (omega arith) (omega arith)
+  bits-done : (g : File) → Below 7 TableBit bits X Ready 131072 g → Bitted g
+  bits-done g t =
+      let s = t .ready .settled-so in
+      let m = good .few-tables in
+      record {
+        edged-so = t .ready;
+        table = all-read 7 TableBit bits X Ready of-bits 131072 (tables T) (T .members) (omega arith) (good .few-members) inside g
+            (subst (λ (x : Terms). Inside (tables x) (x .members) (g .table)) (s .terms) (s .going-so .bits)) t;
+      }
 
-  lines-read : Reached nothing (allLines T R) (Edged 65536)
-  unfolding allLines
-  lines-read =
-      told T good tidy (λ g t. reached-then (settled T good tidy g t) (λ h u. edges-read 65536 h (settled-edged h u)))
+  bits-done-from : (g : File) → Edged T R true 6 g → Reached g (listed 131072 (bitAt TableBit X)) Bitted
+  bits-done-from g t =
+      let h = t .settled-so .high in
+      reached-so (bits-read 7 TableBit bits X Ready of-bits 131072 g (before-bits g t) (t .settled-so .going-so) (omega arith)) bits-done
 
-  pub reread : (f : File) × Reread T R f
+  -- ---- the event edge
+
+  -- All has been read.
+  record Whole (E : Event) (g : File) : Type 0 where
+    whole : complete g ≡ true
+    form : g .stored ≡ true
+    terms : g .terms ≡ T
+    edges : g .edges ≡ R
+    table : g .table ≡ X
+    last : g .last ≡ E
+
+  module _ (j u v : ℕ) (p : j < T .events) (q : u < T .members) (r : v < T .members) (g : File) (t : Bitted g) where
+    event-ranged : Ranged (EventEdge j u v)
+    event-ranged =
+        let m = good .few-events in let n = good .few-members in
+        Ranged.event {j = j} {u = u} {v = v} (omega arith) (omega arith) (omega arith)
+
+    event-passed : Passed (tests g (EventEdge j u v))
+    unfolding tests
+    event-passed =
+        let s = t .edged-so .settled-so in
+        let e : g .terms .events ≡ T .events = ap (λ (x : Terms). x .events) (s .terms) in
+        let m : g .terms .members ≡ T .members = ap (λ (x : Terms). x .members) (s .terms) in
+        pass (s .form)
+        (pass (settled-complete g s)
+        (pass (le-leb (g .phase) 7 (s .high))
+        (pass (lt-ltb j (g .terms .events) (omega arith))
+        (pass (lt-ltb u (g .terms .members) (omega arith))
+        (pass (lt-ltb v (g .terms .members) (omega arith))
+        none)))))
+
+    event-whole : Whole (happened j u v) (after g (EventEdge j u v))
+    unfolding after
+    event-whole =
+        let s = t .edged-so .settled-so in
+        record {
+          whole = complete-is (after g (EventEdge j u v)) (omega arith) (s .policies ∙ sym (ap (λ (x : Terms). x .events) (s .terms)));
+          form = s .form;
+          terms = s .terms;
+          edges = t .edged-so .edges;
+          table = t .table;
+          last = refl;
+        }
+
+  event-read : (E : Event) → EventFits (T .events) (T .members) E → (g : File) → Bitted g → Reached g (eventEdgeLine E) (Whole E)
+  event-read E EventFits.none g t =
+      let s = t .edged-so .settled-so in
+      let h = s .high in
+      reached-none (record {
+        whole = settled-complete g s;
+        form = s .form;
+        terms = s .terms;
+        edges = t .edged-so .edges;
+        table = t .table;
+        last = s .going-so .no-last (omega arith);
+      })
+  event-read E (EventFits.happened {j = j} {u = u} {v = v} p q r) g t =
+      reached-one (event-ranged j u v p q r g t) (event-passed j u v p q r g t) (event-whole j u v p q r g t)
+
+-- ---- the two forms
+
+module _ (T : Terms) (good : Good T) (tidy : Tidy T) where
+  pub reread : (R : Relations) → Inside (T .relations) (T .members) R → (f : File) × Reread (written T R) false T (plainState R) f
   unfolding written
-  reread =
-      let s = lines-read in
-      let t = s .holds in (
+  reread R inside =
+      let s = lines-read T good tidy R inside nothing (unfold nothing in refl) going-first in
+      let t = s .holds in
+      let old : s .file .stored ≡ false = t .settled-so .form ∙ unfold nothing in refl in
+      let h = t .settled-so .going-so in
+      let l = t .settled-so .high in
+      let empty : (k a b : ℕ) → s .file .table k a b ≡ false = h .no-bits (omega arith) in (
         s .file,
         record {
-          accepts = read-printed (s .taken) (whole 65536 (s .file) t);
-          terms = t .terms;
-          edges = edges-done (s .file) t;
+          accepts = read-printed (s .taken) (settled-complete (s .file) (t .settled-so)) (level-empty (s .file .terms) (s .file .table) empty);
+          form-read = old;
+          terms = t .settled-so .terms;
+          edges = t .edges;
+          table = fun-ext (λ k. fun-ext (λ a. fun-ext (λ b. empty k a b)));
+          last = h .no-last (omega arith);
         },
       )
+
+  form-passed : Passed (tests nothing (Form 2))
+  unfolding tests nothing
+  form-passed = pass refl (pass refl (pass refl none))
+
+  module _ (S : State) (fits : Storable T S) where
+    abbrev R : Relations
+    R = S .now .edge
+
+    abbrev begun : File
+    begun = after nothing (Form 2)
+
+    begun-edged : Reached begun (allLines T R) (Edged T R true 6)
+    unfolding after nothing
+    begun-edged = lines-read T good tidy R (fits .edges) begun refl (going (Ranged.form (omega arith)) form-passed going-first)
+
+    stored-read : Reached nothing (storedLines T S) (Whole T good R (S .table) (fits .bits) (S .now .event))
+    unfolding storedLines
+    stored-read =
+        reached-then
+        (reached-one {P = λ (f : File). Reached f (allLines T R) (Edged T R true 6)} (Ranged.form (omega arith)) form-passed begun-edged)
+        (λ f e. reached-then e (λ g t. reached-then (bits-done-from T good R (S .table) (fits .bits) g t)
+        (event-read T good R (S .table) (fits .bits) (S .now .event) (fits .last))))
+
+    pub reread-stored : (f : File) × Reread (stored T S) true T S f
+    unfolding stored
+    reread-stored =
+        let s = stored-read in
+        let t = s .holds in (
+          s .file,
+          record {
+            accepts = read-printed (s .taken) (t .whole) (subst₂ Level (sym (t .terms)) (sym (t .table)) (fits .level));
+            form-read = t .form;
+            terms = t .terms;
+            edges = t .edges;
+            table = t .table;
+            last = t .last;
+          },
+        )

@@ -3,7 +3,7 @@ use Prim.Native.Nat.{ℕ, suc, _+_, _-_, _≤_}
 use mathlib.Core.Path.{_≡_, refl, sym, ap, fun-ext, _∙_}
 use mathlib.Core.Logic.{⊎-elim}
 use mathlib.Core.List.{List, [], _∷_, _++_, append-nil, append-assoc}
-use mathlib.Core.Bool.{cond, _&&_, _||_, or-true, or-false}
+use mathlib.Core.Bool.{cond}
 use native.Mathlib.Omega.{arith}
 use lib.Dec.{eqb, ltb}
 use lib.ListN.{length, getD}
@@ -12,20 +12,20 @@ use Rattle.sets.proofs.Finite.{true-or-false}
 use Rattle.theory.specs.Formula as formulas
 use Rattle.theory.specs.Terms.{Terms}
 use Rattle.theory.specs.Terms as terms
-use Rattle.theory.specs.Moment.{Relations}
 use Rattle.fields.specs.Split.{lines}
-use Rattle.file.specs.File.{File, nothing, update, after, tests, reading}
-use Rattle.file.specs.File.Reading.{accepted}
-use Rattle.file.specs.Said.{records, membersSaid, relationsSaid, eventsSaid, entriesSaid, policiesSaid, effectsSaid, edgesSaid, termsSaid}
+use Rattle.file.specs.File.{File, nothing, update, after}
+use Rattle.file.specs.Reading.{tests, reading}
+use Rattle.file.specs.Reading.Reading.{accepted}
+use Rattle.file.specs.Said.{records, membersSaid, relationsSaid, eventsSaid, entriesSaid, policiesSaid, effectsSaid, edgesSaid, tablesSaid, lastSaid, storedSaid, termsSaid}
 use Rattle.file.specs.declared.line.Line.{Line}
-use Rattle.file.specs.declared.line.Line.the-variants.{Members, Labels, Entry, Policy, Effect, Edge, Malformed}
 use Rattle.file.proofs.Printed.{Ranged}
-use Rattle.file.proofs.Printed.Ranged.{members, labels, entry, policy, effect, edge}
+use Rattle.file.proofs.Printed.Ranged.{members, labels, entry, policy, effect, edge, form, bit, event}
 use Rattle.file.specs.Refused.{Passed}
 use Rattle.file.proofs.Taken.{passed-at, Taken, reading-accepting}
 use Rattle.file.proofs.Taken.Taken.{none, one}
 use Rattle.file.proofs.Update.{update-other}
 use Rattle.file.proofs.Fit.{noEntry}
+use Rattle.file.proofs.SaidState.{beside-said}
 use Rattle.file.proofs.Going.{Going, going-first, going-on, entry-phase, policy-phase, complete-phase}
 
 -- ---- the first n from g, the others from a list
@@ -66,9 +66,6 @@ plus f ls = record {
   policy = extend (f .policies) (f .terms .policy) (policiesSaid ls) 0;
   effects = λ j. f .terms .effects j ++ effectsSaid j ls;
 }
-
-plus-edges : File → List Line → Relations
-plus-edges f ls k a b = f .edges k a b || edgesSaid ls k a b
 
 plus-line : (f : File) {l : Line} → Ranged l → Passed (tests f l) → (ls : List Line) → plus (after f l) ls ≡ plus f (l ∷ ls)
 unfolding plus tests after membersSaid relationsSaid eventsSaid entriesSaid policiesSaid effectsSaid
@@ -126,29 +123,20 @@ plus-line f (effect {j = j} {c = c} {k = k} {d = d} h i q m n) p ls =
       policy = extend (f .policies) (f .terms .policy) (policiesSaid ls) 0;
       effects = all t;
     })
-plus-line f (edge {k = k} {a = a} {b = b} h i j) p ls =
+plus-line f (edge h i j) p ls =
     let z = complete-phase f (passed-at p 0) in
     rw (le-ltb (f .phase) 1 (omega arith), le-ltb (f .phase) 2 z) refl
+plus-line f (form h) p ls = refl
+plus-line f (bit h i j) p ls =
+    let z = complete-phase f (passed-at p 1) in
+    rw (le-ltb (f .phase) 1 (omega arith), le-ltb (f .phase) 2 z) refl
+plus-line f (event h i j) p ls =
+    let z = complete-phase f (passed-at p 1) in
+    rw (le-ltb (f .phase) 1 (omega arith), le-ltb (f .phase) 2 z) refl
 
-edges-line : (f : File) (l : Line) (ls : List Line) (k a b : ℕ) → plus-edges (after f l) ls k a b ≡ plus-edges f (l ∷ ls) k a b
-unfolding plus-edges after edgesSaid
-edges-line f (Members n) ls k a b = refl
-edges-line f (Labels r e) ls k a b = refl
-edges-line f (Entry n o x y z) ls k a b = refl
-edges-line f (Policy j n) ls k a b = refl
-edges-line f (Effect j c x d) ls k a b = refl
-edges-line f (Edge l c d) ls k a b =
-    ⊎-elim
-    (λ t. rw t (sym (or-true (f .edges k a b))))
-    (λ t. rw t refl)
-    (true-or-false (eqb k l && (eqb a c && eqb b d)))
-edges-line f Malformed ls k a b = refl
-
-plus-on : {f g : File} {ls : List Line} → Taken f ls g → (plus g [] ≡ plus f ls) × ((k a b : ℕ) → plus-edges g [] k a b ≡ plus-edges f ls k a b)
-plus-on none = (refl, λ k a b. refl)
-plus-on {f = f} (one {l = l} {ls = ls} r p t) =
-    let h = plus-on t in
-    (h .0 ∙ plus-line f r p ls, λ k a b. h .1 k a b ∙ edges-line f l ls k a b)
+plus-on : {f g : File} {ls : List Line} → Taken f ls g → plus g [] ≡ plus f ls
+plus-on none = refl
+plus-on {f = f} (one {ls = ls} r p t) = plus-on t ∙ plus-line f r p ls
 
 -- ---- the two ends
 
@@ -183,21 +171,24 @@ plus-last f z g =
       effects = λ j. append-nil (f .terms .effects j) t;
     })
 
-edges-last : (f : File) (k a b : ℕ) → plus-edges f [] k a b ≡ f .edges k a b
-unfolding plus-edges edgesSaid
-edges-last f k a b = or-false (f .edges k a b)
-
-edges-first : (ls : List Line) (k a b : ℕ) → plus-edges nothing ls k a b ≡ edgesSaid ls k a b
-unfolding plus-edges nothing
-edges-first ls k a b = refl
+-- What the lines say is what the file says.
+pub record SaidBy (ls : List Line) (f : File) : Type 0 where
+  pub terms : termsSaid ls ≡ f .terms
+  pub edges : (k a b : ℕ) → edgesSaid ls k a b ≡ f .edges k a b
+  pub bits : (t a b : ℕ) → tablesSaid ls t a b ≡ f .table t a b
+  pub last : lastSaid ls ≡ f .last
+  pub form : storedSaid ls ≡ f .stored
 
 -- an accepted text is read as what its lines say
-pub said : (text : List ℕ) (f : File) → reading text ≡ accepted f
-    → (termsSaid (records (lines text)) ≡ f .terms) × ((k a b : ℕ) → edgesSaid (records (lines text)) k a b ≡ f .edges k a b)
+pub said : (text : List ℕ) (f : File) → reading text ≡ accepted f → SaidBy (records (lines text)) f
 said text f e =
     let a = reading-accepting text f e in
-    let ls = records (lines text) in
-    let h = plus-on (a .taken) in (
-      sym (plus-first ls) ∙ sym (h .0) ∙ plus-last f (complete-phase f (a .whole)) (going-on (a .taken) going-first),
-      λ k a b. sym (edges-first ls k a b) ∙ sym (h .1 k a b) ∙ edges-last f k a b,
-    )
+    let g = going-on (a .taken) going-first in
+    let h = beside-said (a .taken) g in
+    record {
+      terms = sym (plus-first (records (lines text))) ∙ sym (plus-on (a .taken)) ∙ plus-last f (complete-phase f (a .whole)) g;
+      edges = λ k a b i. h i .edges k a b;
+      bits = λ t a b i. h i .table t a b;
+      last = λ i. h i .last;
+      form = λ i. h i .stored;
+    }

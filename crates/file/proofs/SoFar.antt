@@ -2,23 +2,22 @@
 use Prim.Native.Nat.{ℕ, zero, suc, _+_, _/_, _%_, _≤_, _<_}
 use mathlib.Core.Path.{_≡_, refl, sym, ap, ap₂, _∙_}
 use mathlib.Core.List.{List, [], _∷_, _++_}
-use mathlib.Core.Bool.{false, cond, _&&_}
+use mathlib.Core.Bool.{Bool, true, false, cond, _&&_}
 use native.Mathlib.Omega.{arith}
 use lib.Dec.{eqb}
 use borrow.Author.Tests.{eqb-true, eq-eqb}
 use Rattle.sets.proofs.Finite.{is-false, and-left, and-right}
 use Rattle.theory.specs.Formula as formulas
 use Rattle.theory.specs.Terms as terms
-use Rattle.theory.specs.Moment.{Relations}
-use Rattle.file.specs.File.{File, update}
-use Rattle.file.specs.Writing.{listed, effectLines, edgeAt}
+use Rattle.file.specs.File.{File, update, withBit}
+use Rattle.file.specs.Writing.{listed, effectLines, bitAt, eventEdgeLine}
 use Rattle.file.specs.declared.line.Line.{Line}
-use Rattle.file.specs.declared.line.Line.the-variants.{Members, Labels, Entry, Policy, Effect, Edge}
+use Rattle.file.specs.declared.line.Line.the-variants.{Members, Labels, Entry, Policy, Effect, Edge, Form, TableBit}
 use Rattle.file.proofs.Update.{update-same, update-other}
-use Rattle.file.proofs.Fit.{code, withEdge}
+use Rattle.file.proofs.Fit.{code}
 use Rattle.file.proofs.Listed.{listed-none, listed-more, listed-changed}
 
--- The members and labels, by phase; the entries, policies, effects and edges.
+-- The members and labels, by phase; the entries, policies and effects.
 unfoldable pub headLines : (phase members relations events : ℕ) → List Line
 headLines zero N r e = []
 headLines (suc zero) N r e = Members N ∷ []
@@ -33,11 +32,19 @@ policyLines n p = listed n (λ j. Policy j (p j) ∷ [])
 unfoldable pub eventLines : ℕ → (ℕ → List terms.Effect) → List Line
 eventLines n s = listed n (λ j. effectLines j (s j))
 
-unfoldable pub edgeLines : Relations → List Line
-edgeLines R = listed 65536 (edgeAt R)
+-- The S line; the lines of set bits with numbers below n.
+unfoldable pub formLines : Bool → List Line
+formLines true = Form 2 ∷ []
+formLines false = []
+
+unfoldable pub bitLines : ℕ → (ℕ → ℕ → ℕ → Line) → ((k a b : ℕ) → Bool) → List Line
+bitLines n says R = listed n (bitAt says R)
 
 -- The parts of what a file has said, and what follows each of them.
 module _ (f : File) where
+  abbrev pub formsOf : List Line
+  formsOf = formLines (f .stored)
+
   abbrev pub headsOf : List Line
   headsOf = headLines (f .phase) (f .terms .members) (f .terms .relations) (f .terms .events)
 
@@ -51,10 +58,19 @@ module _ (f : File) where
   eventsOf = eventLines (f .terms .events) (f .terms .effects)
 
   abbrev pub edgesOf : List Line
-  edgesOf = edgeLines (f .edges)
+  edgesOf = bitLines 65536 Edge (f .edges)
+
+  abbrev pub bitsOf : List Line
+  bitsOf = bitLines 131072 TableBit (f .table)
+
+  abbrev pub afterEdges : List Line
+  afterEdges = bitsOf ++ eventEdgeLine (f .last)
+
+  abbrev pub afterEffects : List Line
+  afterEffects = edgesOf ++ afterEdges
 
   abbrev pub afterPolicies : List Line
-  afterPolicies = eventsOf ++ edgesOf
+  afterPolicies = eventsOf ++ afterEffects
 
   abbrev pub afterEntries : List Line
   afterEntries = policiesOf ++ afterPolicies
@@ -62,10 +78,22 @@ module _ (f : File) where
   abbrev pub afterHeads : List Line
   afterHeads = entriesOf ++ afterEntries
 
-  unfoldable pub soFar : List Line
-  soFar = headsOf ++ afterHeads
+  abbrev pub afterForm : List Line
+  afterForm = headsOf ++ afterHeads
 
--- the first line, the second, and no change after it
+  unfoldable pub soFar : List Line
+  soFar = formsOf ++ afterForm
+
+-- the S line
+pub form-more : (b : Bool) (n : ℕ) → b ≡ false → n ≡ 2 → formLines true ≡ formLines b ++ (Form n ∷ [])
+unfolding formLines
+form-more b n e h = rw (e, h) refl
+
+-- no members yet, the members, the labels, and no change after them
+pub head-none : (p N r e : ℕ) → p ≡ 0 → headLines p N r e ≡ []
+unfolding headLines
+head-none p N r e h = rw h refl
+
 pub head-first : (p N n r e : ℕ) → p ≡ 0 → headLines 1 n r e ≡ headLines p N r e ++ (Members n ∷ [])
 unfolding headLines
 head-first p N n r e h = rw h refl
@@ -141,32 +169,34 @@ events-more n s j c k d p q r l h =
     (λ i z. ap (effectLines i) (update-other s j t i z))
     (λ i m. ap (effectLines i) (h i m) ∙ unfold effectLines in refl)
 
-edge-none : (R : Relations) (q : ℕ) → R (q / 4096) (q / 64 % 64) (q % 64) ≡ false → edgeAt R q ≡ []
-edge-none R q h = rw h refl
+-- edges and bits of tables
+module _ (n : ℕ) (says : ℕ → ℕ → ℕ → Line) (R : (k a b : ℕ) → Bool) where
+  bit-none : (q : ℕ) → R (q / 4096) (q / 64 % 64) (q % 64) ≡ false → bitAt says R q ≡ []
+  bit-none q h = rw h refl
 
-pub edges-none : (R : Relations) → ((k a b : ℕ) → R k a b ≡ false) → edgeLines R ≡ []
-unfolding edgeLines
-edges-none R h = listed-none 65536 (edgeAt R) (λ i l. edge-none R i (h (i / 4096) (i / 64 % 64) (i % 64)))
+  pub bits-none : ((k a b : ℕ) → R k a b ≡ false) → bitLines n says R ≡ []
+  unfolding bitLines
+  bits-none h = listed-none n (bitAt says R) (λ i l. bit-none i (h (i / 4096) (i / 64 % 64) (i % 64)))
 
-pub edges-more : (R : Relations) (k a b : ℕ) → k < 16 → a < 64 → b < 64 → ((l c d : ℕ) → code k a b ≤ code l c d → R l c d ≡ false)
-    → edgeLines (withEdge R k a b) ≡ edgeLines R ++ (Edge k a b ∷ [])
-unfolding edgeLines
-edges-more R k a b p q r h =
-    listed-changed 65536 (code k a b) (edgeAt R) (edgeAt (withEdge R k a b)) (Edge k a b ∷ []) (omega arith)
-    (there (code k a b) (omega arith) (omega arith) (omega arith) ∙ ap (λ (ls : List Line). ls ++ (Edge k a b ∷ [])) (sym (none (code k a b) (omega arith))))
-    (λ i z. other i z (is-false _ (λ e.
-    let t = and-right (eqb (i / 4096) k) _ e in
-    let u = eqb-true (i / 4096) k (and-left (eqb (i / 4096) k) _ e) in
-    let v = eqb-true (i / 64 % 64) a (and-left (eqb (i / 64 % 64) a) _ t) in
-    let w = eqb-true (i % 64) b (and-right (eqb (i / 64 % 64) a) _ t) in
-    z (omega arith))))
-    (λ i z. none i (omega arith))
-  where
-    none : (i : ℕ) → code k a b ≤ i → edgeAt R i ≡ []
-    none i l = edge-none R i (h (i / 4096) (i / 64 % 64) (i % 64) (omega arith))
+  pub bits-more : (k a b : ℕ) → code k a b < n → a < 64 → b < 64 → ((l c d : ℕ) → code k a b ≤ code l c d → R l c d ≡ false)
+      → bitLines n says (withBit R k a b) ≡ bitLines n says R ++ (says k a b ∷ [])
+  unfolding bitLines
+  bits-more k a b p q r h =
+      listed-changed n (code k a b) (bitAt says R) (bitAt says (withBit R k a b)) (says k a b ∷ []) p
+      (there (code k a b) (omega arith) (omega arith) (omega arith) ∙ ap (λ (ls : List Line). ls ++ (says k a b ∷ [])) (sym (none (code k a b) (omega arith))))
+      (λ i z. other i (is-false _ (λ e.
+      let t = and-right (eqb (i / 4096) k) _ e in
+      let u = eqb-true (i / 4096) k (and-left (eqb (i / 4096) k) _ e) in
+      let v = eqb-true (i / 64 % 64) a (and-left (eqb (i / 64 % 64) a) _ t) in
+      let w = eqb-true (i % 64) b (and-right (eqb (i / 64 % 64) a) _ t) in
+      z (omega arith))))
+      (λ i z. none i (omega arith))
+    where
+      none : (i : ℕ) → code k a b ≤ i → bitAt says R i ≡ []
+      none i l = bit-none i (h (i / 4096) (i / 64 % 64) (i % 64) (omega arith))
 
-    there : (i : ℕ) → i / 4096 ≡ k → i / 64 % 64 ≡ a → i % 64 ≡ b → edgeAt (withEdge R k a b) i ≡ Edge k a b ∷ []
-    there i u v w = rw (u, v, w, eq-eqb k k refl, eq-eqb a a refl, eq-eqb b b refl) refl
+      there : (i : ℕ) → i / 4096 ≡ k → i / 64 % 64 ≡ a → i % 64 ≡ b → bitAt says (withBit R k a b) i ≡ says k a b ∷ []
+      there i u v w = rw (u, v, w, eq-eqb k k refl, eq-eqb a a refl, eq-eqb b b refl) refl
 
-    other : (i : ℕ) → (i ≡ code k a b → ⊥) → eqb (i / 4096) k && (eqb (i / 64 % 64) a && eqb (i % 64) b) ≡ false → edgeAt (withEdge R k a b) i ≡ edgeAt R i
-    other i z e = rw e refl
+      other : (i : ℕ) → eqb (i / 4096) k && (eqb (i / 64 % 64) a && eqb (i % 64) b) ≡ false → bitAt says (withBit R k a b) i ≡ bitAt says R i
+      other i e = rw e refl

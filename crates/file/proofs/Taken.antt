@@ -5,18 +5,20 @@ use mathlib.Core.Logic.{⊎-elim}
 use mathlib.Core.List.{List, [], _∷_, _++_}
 use mathlib.Core.Bool.{Bool, true, false≢true}
 use native.Mathlib.Omega.{arith}
+use lib.Dec.{eqb}
+use borrow.Author.Tests.{eqb-true}
 use Rattle.sets.proofs.Finite.{true-or-false}
 use Rattle.fields.specs.Split.{Lines, split, lines}
 use Rattle.fields.specs.Split.Lines.{done, cut, line}
 use Rattle.file.specs.Line.{parsed}
-use Rattle.file.specs.File.{File, Test, tests, after, complete, nothing, Reading, tried, readOn, reading}
-use Rattle.file.specs.File.Reading.{accepted, refused}
+use Rattle.file.specs.File.{File, after, nothing}
+use Rattle.file.specs.Reading.{Test, tests, complete, Reading, tried, readOn, partlyAt, levelled, reading}
+use Rattle.file.specs.Reading.Reading.{accepted, refused}
 use Rattle.file.specs.Refused.{Passed}
 use Rattle.file.specs.Refused.Passed.{pass}
 use Rattle.file.specs.Said.{records}
-use Rattle.file.specs.Writing.{printedAll}
 use Rattle.file.specs.declared.line.Line.{Line}
-use Rattle.file.proofs.Plain.{linesOf, lines-printed}
+use Rattle.file.proofs.Plain.{linesOf}
 use Rattle.file.proofs.Printed.{Ranged, parsed-printed, split-ranged, Formed, formed}
 
 -- ---- tests
@@ -64,6 +66,9 @@ pub record Reached (f : File) (ls : List Line) (P : File → Type 0) : Type 0 wh
   pub taken : Taken f ls file
   pub holds : P file
 
+pub reached-so : {f : File} {ls : List Line} {P Q : File → Type 0} → Reached f ls P → ((g : File) → P g → Q g) → Reached f ls Q
+reached-so r h = record { file = r .file; taken = r .taken; holds = h (r .file) (r .holds) }
+
 pub reached-then : {f : File} {ls ms : List Line} {P Q : File → Type 0} → Reached f ls P → ((g : File) → P g → Reached g ms Q) → Reached f (ls ++ ms) Q
 reached-then r h =
     let s = h (r .file) (r .holds) in
@@ -92,7 +97,7 @@ passed-formed f fs p =
     (λ q. q)
     (formed fs)
 
-accepting : (f : File) (n : ℕ) (ls : Lines) (g : File) → readOn f n ls ≡ accepted g → Accepting f ls g
+pub accepting : (f : File) (n : ℕ) (ls : Lines) (g : File) → readOn f n ls ≡ accepted g → Accepting f ls g
 unfolding readOn records
 accepting f n done g e =
     ⊎-elim
@@ -106,17 +111,31 @@ accepting f n (line l r) g e =
     let a = accepting (after f (parsed (split 9 l))) (n + 1) r g (t .1) in
     record { taken = one (passed-formed f (split 9 l) (t .0) .ranged) (t .0) (a .taken); whole = a .whole }
 
-pub reading-accepting : (text : List ℕ) (f : File) → reading text ≡ accepted f → Accepting nothing (lines text) f
+-- all lines pass, and none is a T line of a partly filled word
+levelled-accepted : (ls : Lines) (r : Reading) (f : File) → levelled ls r ≡ accepted f → (r ≡ accepted f) × (partlyAt f 1 ls ≡ 0)
+unfolding levelled
+levelled-accepted ls (accepted g) f e =
+    ⊎-elim
+    (λ p. let q : accepted g ≡ accepted f = rw p at e in let z : g ≡ f = cc in
+    (q, subst (λ (h : File). partlyAt h 1 ls ≡ 0) z (eqb-true (partlyAt g 1 ls) 0 p)))
+    (λ p. let q : refused 11 (partlyAt g 1 ls) ≡ accepted f = rw p at e in let z : _≡_ {A = ℕ} 0 1 = cc in absurd (omega arith))
+    (true-or-false (eqb (partlyAt g 1 ls) 0))
+levelled-accepted ls (refused n l) f e = let z : _≡_ {A = ℕ} 0 1 = cc in absurd (omega arith)
+
+pub reading-read : (text : List ℕ) (f : File) → reading text ≡ accepted f → readOn nothing 1 (lines text) ≡ accepted f
 unfolding reading
-reading-accepting text f e = accepting nothing 1 (lines text) f e
+reading-read text f e = levelled-accepted (lines text) (readOn nothing 1 (lines text)) f e .0
+
+pub reading-level : (text : List ℕ) (f : File) → reading text ≡ accepted f → partlyAt f 1 (lines text) ≡ 0
+unfolding reading
+reading-level text f e = levelled-accepted (lines text) (readOn nothing 1 (lines text)) f e .1
+
+pub reading-accepting : (text : List ℕ) (f : File) → reading text ≡ accepted f → Accepting nothing (lines text) f
+reading-accepting text f e = accepting nothing 1 (lines text) f (reading-read text f e)
 
 -- ---- the other way round
 
-read-on : {f g : File} {ls : List Line} → Taken f ls g → complete g ≡ true → (n : ℕ) → readOn f n (linesOf ls) ≡ accepted g
+pub read-on : {f g : File} {ls : List Line} → Taken f ls g → complete g ≡ true → (n : ℕ) → readOn f n (linesOf ls) ≡ accepted g
 unfolding readOn linesOf
 read-on none c n = rw c refl
 read-on (one r p t) c n = rw (split-ranged r, parsed-printed r) (tried-passed p n _ ∙ read-on t c (n + 1))
-
-pub read-printed : {g : File} {ls : List Line} → Taken nothing ls g → complete g ≡ true → reading (printedAll ls) ≡ accepted g
-unfolding reading
-read-printed {ls = ls} t c = rw (lines-printed ls) (read-on t c 1)

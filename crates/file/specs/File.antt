@@ -1,37 +1,38 @@
--- A terms file read line by line: what it has said so far, the tests of the next line, and what is made of the whole text.
+-- What the lines of a file have said so far, and what a line more makes of it (docs/SCOPE.md, The terms file and The stored form).
 use Prim.Native.Nat.{ℕ, _+_}
-use mathlib.Core.Bool.{Bool, true, false, cond, _&&_, _||_}
-use mathlib.Core.List.{List, [], _∷_, _++_}
-use lib.Dec.{eqb, ltb, leb}
-use lib.ListN.{length}
-use Rattle.theory.specs.Formula as formula
-use Rattle.theory.specs.Formula.{Operand, firstOperand, secondOperand, thirdOperand, number, isPast}
-use Rattle.theory.specs.Formula.Operand.{unused, variable, binder, label, entry}
-use Rattle.theory.specs.Terms.{Terms, formula}
-use Rattle.theory.specs.Terms as terms
-use Rattle.theory.specs.Moment.{Relations}
-use Rattle.theory.specs.Fit.{_⇒_, lone, onlyFree, reachFits}
-use Rattle.theory.specs.Limits.{maxMembers, maxRelations, maxEvents, maxEntries, maxTables, maxEffects, variables}
-use Rattle.fields.specs.Split.{Lines, split, lines}
-use Rattle.fields.specs.Split.Lines.{done, cut, line}
-use Rattle.file.specs.Line.{parsed}
+use mathlib.Core.Bool.{Bool, true, false, cond, _&&_}
+use mathlib.Core.List.{[], _∷_, _++_}
+use lib.Dec.{eqb}
+use Rattle.theory.specs.Terms.{Terms}
+use Rattle.theory.specs.Moment.{Relations, Event}
+use Rattle.theory.specs.Moment.Event.{none, happened}
+use Rattle.theory.specs.Tables.{Tables, State}
 use Rattle.file.specs.declared.line.Line.{Line}
-use Rattle.file.specs.declared.line.Line.the-variants.{Members, Labels, Entry, Policy, Effect, Edge, Malformed}
+use Rattle.file.specs.declared.line.Line.the-variants.{Members, Labels, Entry, Policy, Effect, Edge, Form, TableBit, EventEdge, Malformed}
 
--- What the lines so far have said. The phase is the number of the last kind: 0 none, 1 M, 2 L, 3 F, 4 P, 5 E, 6 G.
+-- What the lines so far have said. It is the stored form if it began with an S line. The phase is the number of the last kind: 0 none or S, 1 M, 2 L, 3 F, 4 P,
+-- 5 E, 6 G, 7 T, 8 V. The last edge or bit of a table is relation (or table), from, to.
 pub record File : Type 0 where
+  pub stored : Bool
   pub phase : ℕ
   pub terms : Terms
   pub edges : Relations
+  pub table : Tables
+  pub last : Event
   pub policies : ℕ
   pub event : ℕ
   pub relation : ℕ
   pub from : ℕ
   pub to : ℕ
 
+-- The state that a stored file says.
+abbrev pub stateSaid : File → State
+stateSaid f = record { now = record { edge = f .edges; event = f .last }; table = f .table }
+
 -- Nothing yet.
 unfoldable pub nothing : File
 nothing = record {
+  stored = false;
   phase = 0;
   terms = record {
     members = 0;
@@ -43,6 +44,8 @@ nothing = record {
     effects = λ j. [];
   };
   edges = λ k a b. false;
+  table = λ t a b. false;
+  last = none;
   policies = 0;
   event = 0;
   relation = 0;
@@ -88,9 +91,14 @@ withEffect T j c k d = record {
   effects = update (T .effects) j (T .effects j ++ (record { adds = eqb c 1; relation = k; back = eqb d 1 } ∷ []));
 }
 
+-- The bits with one more, of k, a and b.
+abbrev pub withBit : ((k a b : ℕ) → Bool) → (k a b : ℕ) → (l c d : ℕ) → Bool
+withBit R k a b l c d = cond (eqb l k && (eqb c a && eqb d b)) true (R l c d)
+
 -- What has been said once a line is taken in.
 unfoldable pub after : File → Line → File
 after f (Members n) = record {
+  stored = f .stored;
   phase = 1;
   terms = record {
     members = n;
@@ -102,6 +110,8 @@ after f (Members n) = record {
     effects = f .terms .effects;
   };
   edges = f .edges;
+  table = f .table;
+  last = f .last;
   policies = f .policies;
   event = f .event;
   relation = f .relation;
@@ -109,6 +119,7 @@ after f (Members n) = record {
   to = f .to;
 }
 after f (Labels r e) = record {
+  stored = f .stored;
   phase = 2;
   terms = record {
     members = f .terms .members;
@@ -120,6 +131,8 @@ after f (Labels r e) = record {
     effects = f .terms .effects;
   };
   edges = f .edges;
+  table = f .table;
+  last = f .last;
   policies = f .policies;
   event = f .event;
   relation = f .relation;
@@ -127,9 +140,12 @@ after f (Labels r e) = record {
   to = f .to;
 }
 after f (Entry n o a b c) = record {
+  stored = f .stored;
   phase = 3;
   terms = withEntry (f .terms) n o a b c;
   edges = f .edges;
+  table = f .table;
+  last = f .last;
   policies = f .policies;
   event = f .event;
   relation = f .relation;
@@ -137,9 +153,12 @@ after f (Entry n o a b c) = record {
   to = f .to;
 }
 after f (Policy j n) = record {
+  stored = f .stored;
   phase = 4;
   terms = withPolicy (f .terms) j n;
   edges = f .edges;
+  table = f .table;
+  last = f .last;
   policies = j + 1;
   event = f .event;
   relation = f .relation;
@@ -147,9 +166,12 @@ after f (Policy j n) = record {
   to = f .to;
 }
 after f (Effect j c k d) = record {
+  stored = f .stored;
   phase = 5;
   terms = withEffect (f .terms) j c k d;
   edges = f .edges;
+  table = f .table;
+  last = f .last;
   policies = f .policies;
   event = j;
   relation = f .relation;
@@ -157,117 +179,55 @@ after f (Effect j c k d) = record {
   to = f .to;
 }
 after f (Edge k a b) = record {
+  stored = f .stored;
   phase = 6;
   terms = f .terms;
-  edges = λ l c d. cond (eqb l k && (eqb c a && eqb d b)) true (f .edges l c d);
+  edges = withBit (f .edges) k a b;
+  table = f .table;
+  last = f .last;
   policies = f .policies;
   event = f .event;
   relation = k;
   from = a;
   to = b;
 }
+after f (Form n) = record {
+  stored = true;
+  phase = f .phase;
+  terms = f .terms;
+  edges = f .edges;
+  table = f .table;
+  last = f .last;
+  policies = f .policies;
+  event = f .event;
+  relation = f .relation;
+  from = f .from;
+  to = f .to;
+}
+after f (TableBit t a b) = record {
+  stored = f .stored;
+  phase = 7;
+  terms = f .terms;
+  edges = f .edges;
+  table = withBit (f .table) t a b;
+  last = f .last;
+  policies = f .policies;
+  event = f .event;
+  relation = t;
+  from = a;
+  to = b;
+}
+after f (EventEdge j u v) = record {
+  stored = f .stored;
+  phase = 8;
+  terms = f .terms;
+  edges = f .edges;
+  table = f .table;
+  last = happened j u v;
+  policies = f .policies;
+  event = f .event;
+  relation = f .relation;
+  from = f .from;
+  to = f .to;
+}
 after f Malformed = f
-
--- An operand that is no entry is in its range; one that is an entry is lower than its own.
-unfoldable pub inRange : Operand → (labels v : ℕ) → Bool
-inRange unused labels v = eqb v 0
-inRange variable labels v = ltb v variables
-inRange binder labels v = ltb 0 v && ltb v variables
-inRange label labels v = ltb v labels
-inRange entry labels v = true
-
-unfoldable pub isLower : Operand → (n v : ℕ) → Bool
-isLower unused n v = true
-isLower variable n v = true
-isLower binder n v = true
-isLower label n v = true
-isLower entry n v = ltb v n
-
--- All policies have been given, so that E and G lines, or the end, are due.
-abbrev pub complete : File → Bool
-complete f = leb 2 (f .phase) && eqb (f .policies) (f .terms .events)
-
--- The edge comes after the last one, by relation, from, to.
-abbrev pub rises : File → (k a b : ℕ) → Bool
-rises f k a b =
-    ltb (f .phase) 6
-    || (ltb (f .relation) k || (eqb (f .relation) k && (ltb (f .from) a || (eqb (f .from) a && ltb (f .to) b))))
-
--- A test of a line: the number that it is refused with where the test fails, and whether it passes.
-pub record Test : Type 0 where
-  pub number : ℕ
-  pub passes : Bool
-
-abbrev pub test : ℕ → Bool → Test
-test n b = record { number = n; passes = b }
-
--- The tests of a line, their numbers never falling (docs/SCOPE.md, Refusals).
-unfoldable pub tests : File → Line → List Test
-tests f (Members n) =
-    test 1 (eqb (f .phase) 0)
-    ∷ test 2 (ltb 0 n)
-    ∷ test 2 (ltb n (1 + maxMembers))
-    ∷ []
-tests f (Labels r e) =
-    test 1 (eqb (f .phase) 1)
-    ∷ test 2 (ltb r (1 + maxRelations))
-    ∷ test 2 (ltb 0 e)
-    ∷ test 2 (ltb e (1 + maxEvents))
-    ∷ []
-tests f (Entry n o a b c) =
-    test 1 (eqb (f .phase) 2 || eqb (f .phase) 3)
-    ∷ test 1 (eqb n (f .terms .entries))
-    ∷ test 2 (ltb n maxEntries)
-    ∷ test 2 (inRange (firstOperand o) (f .terms .relations + f .terms .events) a)
-    ∷ test 2 (inRange (secondOperand o) (f .terms .relations + f .terms .events) b)
-    ∷ test 2 (inRange (thirdOperand o) (f .terms .relations + f .terms .events) c)
-    ∷ test 2 (isPast o ⇒ ltb (number (f .terms .entry) n) maxTables)
-    ∷ test 3 (isLower (firstOperand o) n a)
-    ∷ test 3 (isLower (secondOperand o) n b)
-    ∷ test 3 (isLower (thirdOperand o) n c)
-    ∷ test 4 (isPast o ⇒ lone (formula (withEntry (f .terms) n o a b c) n))
-    ∷ test 10 (eqb o 10 ⇒ reachFits a (formula (f .terms) b) (formula (f .terms) c))
-    ∷ []
-tests f (Policy j n) =
-    test 1 (leb 2 (f .phase) && leb (f .phase) 4)
-    ∷ test 1 (eqb j (f .policies))
-    ∷ test 1 (ltb j (f .terms .events))
-    ∷ test 2 (ltb n (f .terms .entries))
-    ∷ test 5 (onlyFree 0 (formula (f .terms) n))
-    ∷ []
-tests f (Effect j c k d) =
-    test 1 (complete f)
-    ∷ test 1 (leb (f .phase) 5)
-    ∷ test 1 (leb (f .event) j)
-    ∷ test 2 (ltb j (f .terms .events))
-    ∷ test 2 (ltb (length (f .terms .effects j)) maxEffects)
-    ∷ test 2 (ltb k (f .terms .relations))
-    ∷ []
-tests f (Edge k a b) =
-    test 1 (complete f)
-    ∷ test 1 (rises f k a b)
-    ∷ test 2 (ltb k (f .terms .relations))
-    ∷ test 2 (ltb a (f .terms .members))
-    ∷ test 2 (ltb b (f .terms .members))
-    ∷ []
-tests f Malformed = test 1 false ∷ []
-
--- What comes of reading: the file, or the refusal's number and line.
-pub data Reading : Type 0 where
-  accepted : File → Reading
-  refused : (number line : ℕ) → Reading
-
--- A line goes on where every test passes; else the first that fails gives the number.
-unfoldable pub tried : List Test → (line : ℕ) → Reading → Reading
-tried [] n r = r
-tried (t ∷ ts) n r = cond (t .passes) (tried ts n r) (refused (t .number) n)
-
--- The lines from number n on, after what f has said.
-unfoldable pub readOn : File → (n : ℕ) → Lines → Reading
-readOn f n done = cond (complete f) (accepted f) (refused 1 n)
-readOn f n (cut l) = refused 1 n
-readOn f n (line l r) = tried (tests f (parsed (split 9 l))) n (readOn (after f (parsed (split 9 l))) (n + 1) r)
-
--- What comes of reading a text.
-unfoldable pub reading : List ℕ → Reading
-reading text = readOn nothing 1 (lines text)

@@ -1,6 +1,7 @@
 pub mod Words
 pub mod Line
 pub mod File
+pub mod Reading
 pub mod Refused
 pub mod Said
 pub mod Writing

@@ -9,7 +9,7 @@ use Rattle.fields.specs.Split.{join}
 use Rattle.fields.specs.Number.{isNumber, valueOf, digits}
 use Rattle.file.specs.Words.{operatorWords, actionWords, directionWords, kindWords, operatorOf, actionOf, directionOf, kindOf}
 use Rattle.file.specs.declared.line.Line.{Line}
-use Rattle.file.specs.declared.line.Line.the-variants.{Members, Labels, Entry, Policy, Effect, Edge, Malformed}
+use Rattle.file.specs.declared.line.Line.the-variants.{Members, Labels, Entry, Policy, Effect, Edge, Form, TableBit, EventEdge, Malformed}
 
 -- The value of field k; whether the fields numbered in the list are numbers.
 abbrev pub num : List (List ℕ) → ℕ → ℕ
@@ -51,9 +51,13 @@ effectLine fs =
     cond (every (eqb (length fs) 5 ∷ isNum fs 1 ∷ ltb 0 (actionOf (getD fs 2 [])) ∷ isNum fs 3 ∷ ltb (directionOf (getD fs 4 [])) 2 ∷ []))
     (Effect (num fs 1) (actionOf (getD fs 2 [])) (num fs 3) (directionOf (getD fs 4 []))) Malformed
 
-unfoldable pub edgeLine : List (List ℕ) → Line
-edgeLine fs =
-    cond (every (eqb (length fs) 4 ∷ isNum fs 1 ∷ isNum fs 2 ∷ isNum fs 3 ∷ [])) (Edge (num fs 1) (num fs 2) (num fs 3)) Malformed
+-- A line of three numbers: an edge, a bit of a table or an event edge.
+unfoldable pub tripleLine : (ℕ → ℕ → ℕ → Line) → List (List ℕ) → Line
+tripleLine says fs =
+    cond (every (eqb (length fs) 4 ∷ isNum fs 1 ∷ isNum fs 2 ∷ isNum fs 3 ∷ [])) (says (num fs 1) (num fs 2) (num fs 3)) Malformed
+
+unfoldable pub formLine : List (List ℕ) → Line
+formLine fs = cond (every (eqb (length fs) 2 ∷ isNum fs 1 ∷ [])) (Form (num fs 1)) Malformed
 
 -- What a line of kind k, in the order of the kinds' words, says.
 unfoldable pub lineOf : ℕ → List (List ℕ) → Line
@@ -62,8 +66,11 @@ lineOf (suc zero) fs = labelsLine fs
 lineOf (suc (suc zero)) fs = entryLine fs
 lineOf (suc (suc (suc zero))) fs = policyLine fs
 lineOf (suc (suc (suc (suc zero)))) fs = effectLine fs
-lineOf (suc (suc (suc (suc (suc zero))))) fs = edgeLine fs
-lineOf (suc (suc (suc (suc (suc (suc k)))))) fs = Malformed
+lineOf (suc (suc (suc (suc (suc zero))))) fs = tripleLine Edge fs
+lineOf (suc (suc (suc (suc (suc (suc zero)))))) fs = formLine fs
+lineOf (suc (suc (suc (suc (suc (suc (suc zero))))))) fs = tripleLine TableBit fs
+lineOf (suc (suc (suc (suc (suc (suc (suc (suc zero)))))))) fs = tripleLine EventEdge fs
+lineOf (suc (suc (suc (suc (suc (suc (suc (suc (suc k))))))))) fs = Malformed
 
 -- What the fields of a line say.
 unfoldable pub parsed : List (List ℕ) → Line
@@ -77,6 +84,9 @@ fieldsOf (Entry n o a b c) = getD kindWords 2 [] ∷ digits n ∷ getD operatorW
 fieldsOf (Policy j n) = getD kindWords 3 [] ∷ digits j ∷ digits n ∷ []
 fieldsOf (Effect j c k d) = getD kindWords 4 [] ∷ digits j ∷ getD ([] ∷ actionWords) c [] ∷ digits k ∷ getD directionWords d [] ∷ []
 fieldsOf (Edge k a b) = getD kindWords 5 [] ∷ digits k ∷ digits a ∷ digits b ∷ []
+fieldsOf (Form n) = getD kindWords 6 [] ∷ digits n ∷ []
+fieldsOf (TableBit t a b) = getD kindWords 7 [] ∷ digits t ∷ digits a ∷ digits b ∷ []
+fieldsOf (EventEdge j u v) = getD kindWords 8 [] ∷ digits j ∷ digits u ∷ digits v ∷ []
 fieldsOf Malformed = []
 
 abbrev pub printed : Line → List ℕ

@@ -1,18 +1,20 @@
--- What the lines of a text say, taken line by line and with no test: the terms and the first edges that the keeper is fed.
+-- What the lines of a text say, taken line by line and with no test: the terms and the first edges that the keeper is fed, and the state of a stored file.
 use Prim.Native.Nat.{ℕ}
-use mathlib.Core.Bool.{false, cond, _&&_, _||_}
+use mathlib.Core.Bool.{Bool, true, false, cond, _&&_, _||_}
 use mathlib.Core.List.{List, [], _∷_}
 use lib.Dec.{eqb}
 use lib.ListN.{length, getD}
 use Rattle.theory.specs.Formula as formulas
 use Rattle.theory.specs.Terms as terms
 use Rattle.theory.specs.Terms.{Terms}
-use Rattle.theory.specs.Moment.{Relations}
-use Rattle.fields.specs.Split.{Lines, split, lines}
+use Rattle.theory.specs.Moment.{Relations, Event}
+use Rattle.theory.specs.Moment.Event.{none, happened}
+use Rattle.theory.specs.Tables.{Tables}
+use Rattle.fields.specs.Split.{Lines, split}
 use Rattle.fields.specs.Split.Lines.{done, cut, line}
 use Rattle.file.specs.Line.{parsed}
 use Rattle.file.specs.declared.line.Line.{Line}
-use Rattle.file.specs.declared.line.Line.the-variants.{Members, Labels, Entry, Policy, Effect, Edge, Malformed}
+use Rattle.file.specs.declared.line.Line.the-variants.{Members, Labels, Entry, Policy, Effect, Edge, Form, TableBit, EventEdge, Malformed}
 
 -- The lines of a text.
 unfoldable pub records : Lines → List Line
@@ -29,6 +31,9 @@ membersIn (Entry n o a b c) rest = rest
 membersIn (Policy j n) rest = rest
 membersIn (Effect j c k d) rest = rest
 membersIn (Edge k a b) rest = rest
+membersIn (Form n) rest = rest
+membersIn (TableBit t a b) rest = rest
+membersIn (EventEdge j u v) rest = rest
 membersIn Malformed rest = rest
 
 abbrev pub relationsIn : Line → ℕ → ℕ
@@ -38,6 +43,9 @@ relationsIn (Entry n o a b c) rest = rest
 relationsIn (Policy j n) rest = rest
 relationsIn (Effect j c k d) rest = rest
 relationsIn (Edge k a b) rest = rest
+relationsIn (Form n) rest = rest
+relationsIn (TableBit t a b) rest = rest
+relationsIn (EventEdge j u v) rest = rest
 relationsIn Malformed rest = rest
 
 abbrev pub eventsIn : Line → ℕ → ℕ
@@ -47,6 +55,9 @@ eventsIn (Entry n o a b c) rest = rest
 eventsIn (Policy j n) rest = rest
 eventsIn (Effect j c k d) rest = rest
 eventsIn (Edge k a b) rest = rest
+eventsIn (Form n) rest = rest
+eventsIn (TableBit t a b) rest = rest
+eventsIn (EventEdge j u v) rest = rest
 eventsIn Malformed rest = rest
 
 abbrev pub entryIn : Line → List formulas.Entry → List formulas.Entry
@@ -56,6 +67,9 @@ entryIn (Entry n o a b c) rest = record { op = o; a = a; b = b; c = c } ∷ rest
 entryIn (Policy j n) rest = rest
 entryIn (Effect j c k d) rest = rest
 entryIn (Edge k a b) rest = rest
+entryIn (Form n) rest = rest
+entryIn (TableBit t a b) rest = rest
+entryIn (EventEdge j u v) rest = rest
 entryIn Malformed rest = rest
 
 abbrev pub policyIn : Line → List ℕ → List ℕ
@@ -65,6 +79,9 @@ policyIn (Entry n o a b c) rest = rest
 policyIn (Policy j n) rest = n ∷ rest
 policyIn (Effect j c k d) rest = rest
 policyIn (Edge k a b) rest = rest
+policyIn (Form n) rest = rest
+policyIn (TableBit t a b) rest = rest
+policyIn (EventEdge j u v) rest = rest
 policyIn Malformed rest = rest
 
 -- An effect of event i.
@@ -75,6 +92,9 @@ effectIn i (Entry n o a b c) rest = rest
 effectIn i (Policy j n) rest = rest
 effectIn i (Effect j c k d) rest = cond (eqb i j) (record { adds = eqb c 1; relation = k; back = eqb d 1 } ∷ rest) rest
 effectIn i (Edge k a b) rest = rest
+effectIn i (Form n) rest = rest
+effectIn i (TableBit t a b) rest = rest
+effectIn i (EventEdge j u v) rest = rest
 effectIn i Malformed rest = rest
 
 abbrev pub edgeIn : Line → Relations
@@ -84,7 +104,46 @@ edgeIn (Entry n o a b c′) l c d = false
 edgeIn (Policy j n) l c d = false
 edgeIn (Effect j c' k d') l c d = false
 edgeIn (Edge k a b) l c d = eqb l k && (eqb c a && eqb d b)
+edgeIn (Form n) l c d = false
+edgeIn (TableBit t a b) l c d = false
+edgeIn (EventEdge j u v) l c d = false
 edgeIn Malformed l c d = false
+
+abbrev pub tableIn : Line → Tables
+tableIn (Members n) l c d = false
+tableIn (Labels r e) l c d = false
+tableIn (Entry n o a b c′) l c d = false
+tableIn (Policy j n) l c d = false
+tableIn (Effect j c' k d') l c d = false
+tableIn (Edge k a b) l c d = false
+tableIn (Form n) l c d = false
+tableIn (TableBit t a b) l c d = eqb l t && (eqb c a && eqb d b)
+tableIn (EventEdge j u v) l c d = false
+tableIn Malformed l c d = false
+
+abbrev pub lastIn : Line → Event → Event
+lastIn (Members n) rest = rest
+lastIn (Labels r e) rest = rest
+lastIn (Entry n o a b c) rest = rest
+lastIn (Policy j n) rest = rest
+lastIn (Effect j c k d) rest = rest
+lastIn (Edge k a b) rest = rest
+lastIn (Form n) rest = rest
+lastIn (TableBit t a b) rest = rest
+lastIn (EventEdge j u v) rest = happened j u v
+lastIn Malformed rest = rest
+
+abbrev pub formIn : Line → Bool → Bool
+formIn (Members n) rest = rest
+formIn (Labels r e) rest = rest
+formIn (Entry n o a b c) rest = rest
+formIn (Policy j n) rest = rest
+formIn (Effect j c k d) rest = rest
+formIn (Edge k a b) rest = rest
+formIn (Form n) rest = true
+formIn (TableBit t a b) rest = rest
+formIn (EventEdge j u v) rest = rest
+formIn Malformed rest = rest
 
 -- ---- what all lines say
 
@@ -116,7 +175,20 @@ unfoldable pub edgesSaid : List Line → Relations
 edgesSaid [] k a b = false
 edgesSaid (l ∷ ls) k a b = edgeIn l k a b || edgesSaid ls k a b
 
--- The terms that the lines say, and the first edges.
+unfoldable pub tablesSaid : List Line → Tables
+tablesSaid [] t a b = false
+tablesSaid (l ∷ ls) t a b = tableIn l t a b || tablesSaid ls t a b
+
+unfoldable pub lastSaid : List Line → Event
+lastSaid [] = none
+lastSaid (l ∷ ls) = lastIn l (lastSaid ls)
+
+-- Whether the lines are those of a stored file: one of them is an S line.
+unfoldable pub storedSaid : List Line → Bool
+storedSaid [] = false
+storedSaid (l ∷ ls) = formIn l (storedSaid ls)
+
+-- The terms that the lines say.
 unfoldable pub termsSaid : List Line → Terms
 termsSaid ls = record {
   members = membersSaid ls;

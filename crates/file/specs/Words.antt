@@ -33,7 +33,7 @@ directionWords =
     ∷ (98 ∷ 97 ∷ 99 ∷ 107 ∷ [])  -- back
     ∷ []
 
--- The kinds of lines, in the order in which they come.
+-- The kinds of lines: those of the terms file in the order in which they come, then those that only the stored form has.
 unfoldable pub kindWords : List (List ℕ)
 kindWords =
     (77 ∷ [])  -- M
@@ -42,6 +42,9 @@ kindWords =
     ∷ (80 ∷ [])  -- P
     ∷ (69 ∷ [])  -- E
     ∷ (71 ∷ [])  -- G
+    ∷ (83 ∷ [])  -- S
+    ∷ (84 ∷ [])  -- T
+    ∷ (86 ∷ [])  -- V
     ∷ []
 
 -- The place, counted from k, of the first word that f is; the place after the last where f is none of them.

@@ -15,7 +15,8 @@ ghost use lib.ListN.{getD};
 ghost use Rattle.fields.specs.Split.{split};
 ghost use Rattle.fields.specs.Number.{numberOf};
 ghost use Rattle.file.specs.Words.{operatorOf};
-ghost use Rattle.file.specs.Line.{membersLine, labelsLine, shortEntryLine, longEntryLine, entryLine, policyLine, effectLine, edgeLine, parsed};
+ghost use Rattle.file.specs.Line.{membersLine, labelsLine, shortEntryLine, longEntryLine, entryLine, policyLine, effectLine, tripleLine, formLine, parsed};
+ghost use Rattle.file.specs.declared.line.Line.the-variants.{Edge, TableBit, EventEdge};
 
 // One line of a terms file, as what it says.
 pub enum Line {
@@ -25,6 +26,9 @@ pub enum Line {
     Policy(usize, usize),
     Effect(usize, usize, usize, usize),
     Edge(usize, usize, usize),
+    Form(usize),
+    TableBit(usize, usize, usize),
+    EventEdge(usize, usize, usize),
     Malformed,
 }
 
@@ -162,9 +166,11 @@ fn effect_line(l: &[u8]) -> Line
     Line::Effect(j, action, k, direction)
 }
 
-// A line `G` relation from to.
-fn edge_line(l: &[u8]) -> Line
-    ensures { λ r. ⌜ r ≡ edgeLine (split 9 (now (l .entry))) ⌝ }
+// A line of three numbers, by its kind: `G` relation from to, `T` table member other, `V` event from to.
+fn triple_line(l: &[u8], kind: usize) -> Line
+    ensures { λ r. ⌜ (kind ≡ 5 → r ≡ tripleLine Edge (split 9 (now (l .entry))))
+        × (kind ≡ 7 → r ≡ tripleLine TableBit (split 9 (now (l .entry))))
+        × (kind ≡ 8 → r ≡ tripleLine EventEdge (split 9 (now (l .entry)))) ⌝ }
 {
     if pieces(l, 9) != 4 {
         return Line::Malformed;
@@ -178,7 +184,24 @@ fn edge_line(l: &[u8]) -> Line
     let Number::Value(b) = number_at(l, 3) else {
         return Line::Malformed;
     };
-    Line::Edge(k, a, b)
+    match kind {
+        5 => Line::Edge(k, a, b),
+        7 => Line::TableBit(k, a, b),
+        _ => Line::EventEdge(k, a, b),
+    }
+}
+
+// A line `S` form.
+fn form_line(l: &[u8]) -> Line
+    ensures { λ r. ⌜ r ≡ formLine (split 9 (now (l .entry))) ⌝ }
+{
+    if pieces(l, 9) != 2 {
+        return Line::Malformed;
+    }
+    let Number::Value(n) = number_at(l, 1) else {
+        return Line::Malformed;
+    };
+    Line::Form(n)
 }
 
 // What a line says, by the kind that its first field names.
@@ -191,7 +214,10 @@ pub fn parse_line(l: &[u8]) -> Line
         2 => entry_line(l),
         3 => policy_line(l),
         4 => effect_line(l),
-        5 => edge_line(l),
+        5 => triple_line(l, 5),
+        6 => form_line(l),
+        7 => triple_line(l, 7),
+        8 => triple_line(l, 8),
         _ => Line::Malformed,
     }
 }

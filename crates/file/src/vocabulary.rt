@@ -49,11 +49,14 @@ pub fn read_direction(f: &[u8]) -> usize
     pick(f, b"fwd", 0, back)
 }
 
-// 0 to 5 for the line kinds M, L, F, P, E, G; 6 for any other field.
+// 0 to 8 for the line kinds M, L, F, P, E, G, S, T, V; 9 for any other field.
 pub fn read_kind(f: &[u8]) -> usize
     ensures { λ r. ⌜ r ≡ kindOf (now (f .entry)) ⌝ }
 {
-    let edge = pick(f, b"G", 5, 6);
+    let event = pick(f, b"V", 8, 9);
+    let table = pick(f, b"T", 7, event);
+    let form = pick(f, b"S", 6, table);
+    let edge = pick(f, b"G", 5, form);
     let effect = pick(f, b"E", 4, edge);
     let policy = pick(f, b"P", 3, effect);
     let entry = pick(f, b"F", 2, policy);

@@ -1,21 +1,21 @@
--- The counters stand for what the lines have said: the tests against them come to the same, and a line that passes keeps it so.
-use Prim.Native.Nat.{ℕ, zero, suc, _+_, _-_, _^_, _≤_, _<_}
+-- The counters stand for what the lines have said: the tests against them come to the same.
+use Prim.Native.Nat.{ℕ, suc, _+_, _-_, _^_, _≤_, _<_}
 use native.Mathlib.Omega.{arith}
 use native.Mathlib.Numerals.{add-one}
 use mathlib.Core.Path.{_≡_, refl, sym, ap, subst, _∙_}
 use mathlib.Core.Logic.{⊎-elim}
-use mathlib.Core.List.{List, [], _∷_, _++_}
+use mathlib.Core.List.{List, []}
 use mathlib.Core.Bool.{Bool, true, cond}
 use lib.Bits.{bitAnd}
 use lib.Dec.{eqb, ltb}
-use lib.ListN.{length, getD, drop, set, length-append, length-set}
+use lib.ListN.{length, getD, drop, set, length-set}
 use lib.Seq.{getD-set-same, getD-set-other}
 use borrow.Author.Tests.{eqb-true, eqb-false, ltb-true, leb-true}
 use Rattle.sets.specs.Sets.{bit}
-use Rattle.sets.proofs.Finite.{true-or-false, and-right, last-or-below}
+use Rattle.sets.proofs.Finite.{true-or-false, last-or-below}
 use Rattle.theory.specs.Formula.{Formula, Operand, node, number, below, spelled, free, firstOperand, secondOperand, thirdOperand, isPast}
 use Rattle.theory.specs.Formula as formulas
-use Rattle.theory.specs.Formula.Operand.{unused, variable, binder, label, entry}
+use Rattle.theory.specs.Formula.Operand.{variable, entry}
 use Rattle.theory.specs.Terms.{formula}
 use Rattle.theory.specs.Terms.{tables}
 use Rattle.theory.specs.Fit.{_⇒_, lone, reachFits}
@@ -23,27 +23,24 @@ use Rattle.memory.specs.Plan.{Masked, reachSets}
 use Rattle.theory.proofs.Spelled.{below-spelled, small-below, small-node}
 use Rattle.theory.proofs.Good.{fits-variable}
 use Rattle.memory.proofs.FreeSets.{lone-set, target-set, reach-set}
-use Rattle.file.specs.File.{File, update, withEntry, after, inRange, isLower, tests}
-use Rattle.reader.specs.Memory.{memoryOf, relationsMemory}
-use Rattle.reader.specs.Stepping.{slot, contextTests, FreeIn, reachIn, Ranges, stepped}
-use Rattle.reader.specs.Storing.{storedTerms, storedEdges, storedSets}
+use Rattle.file.specs.File.{File, update, withEntry}
+use Rattle.file.specs.Reading.{inRange, isLower, tests}
+use Rattle.reader.specs.Stepping.{slot}
+use Rattle.reader.specs.Testing.{contextTests, FreeIn, reachIn}
 use Rattle.file.specs.declared.line.Line.{Line}
-use Rattle.file.specs.declared.line.Line.the-variants.{Members, Labels, Entry, Policy, Effect, Edge, Malformed}
+use Rattle.file.specs.declared.line.Line.the-variants.{Members, Labels, Entry, Policy, Effect, Edge, Form, TableBit, EventEdge, Malformed}
 use Rattle.reader.specs.declared.step.Context.{Context}
-use Rattle.file.specs.Refused.{Passed}
-use Rattle.file.proofs.Taken.{passed-at}
 use Rattle.theory.proofs.Like.{number-agree, below-agree, spelled-agree}
 use Rattle.file.proofs.Update.{update-same, update-other}
 use Rattle.file.proofs.Fit.{operand-fits}
-use Rattle.file.proofs.Going.{Going, entry-phase, policy-phase, complete-phase}
-use Rattle.file.proofs.Printed.{Ranged}
-use Rattle.file.proofs.Printed.Ranged.{members, labels, entry as entryLine, policy, effect, edge}
-use Rattle.reader.proofs.Stored.{members-stored, labels-stored, entry-stored, policy-stored, effect-stored, edge-stored}
+use Rattle.file.proofs.Going.{Going}
+use Rattle.file.proofs.Printed.Ranged.{members, event}
 use Rattle.reader.proofs.Tried.{Same, same-all, same-test}
 
 -- The counters of what has been said.
 abbrev pub contextOf : File → Context
 contextOf f = record {
+  stored = f .stored;
   phase = f .phase;
   members = f .terms .members;
   relations = f .terms .relations;
@@ -89,7 +86,7 @@ module _ (f : File) (o a b c : ℕ) where
   old : (k : ℕ) → k < n → e' k ≡ e k
   old k l = update-other e n (record { op = o; a = a; b = b; c = c }) k (λ z. omega arith)
 
-  tables-new : number e' (n + 1) ≡ cond (isPast o) (suc (number e n)) (number e n)
+  pub tables-new : number e' (n + 1) ≡ cond (isPast o) (suc (number e n)) (number e n)
   unfolding number
   tables-new = rw (add-one n, number-agree e' e n old, update-same e n (record { op = o; a = a; b = b; c = c }))
 
@@ -147,7 +144,7 @@ module _ (f : File) (o a b c : ℕ) where
           (λ z. rw z refl)
           (true-or-false (eqb o 10))
 
-      masked-new : n < 256 → Masked (withEntry (f .terms) n o a b c) (set masks n m)
+      pub masked-new : n < 256 → Masked (withEntry (f .terms) n o a b c) (set masks n m)
       masked-new l = record {
         long = length-set masks n m ∙ masked .long;
         bits = λ k x h. ⊎-elim
@@ -161,7 +158,7 @@ module _ (f : File) (o a b c : ℕ) where
 -- ---- effects
 
 module _ (f : File) (g : Going f) (j : ℕ) (l : f .event ≤ j) where
-  slot-is : slot (contextOf f) j ≡ length (f .terms .effects j)
+  pub slot-is : slot (contextOf f) j ≡ length (f .terms .effects j)
   slot-is =
       ⊎-elim
       (λ e. ap (λ (b : Bool). cond b (length (f .terms .effects (f .event))) 0) e
@@ -199,120 +196,7 @@ module _ (f : File) (g : Going f) (masks : List ℕ) (masked : Masked (f .terms)
       same-test refl (λ _. same-test refl (λ _. same-test refl (λ p. same-test refl (λ _.
       same-test (ap (λ (s : ℕ). ltb s 4) (slot-is f g j (leb-true (f .event) j p))) (λ _. same-all _)))))
   tests-same q (Edge k a b) is reach = same-all _
+  tests-same q (Form n) is reach = same-all _
+  tests-same q (TableBit t a b) is reach = same-all _
+  tests-same q (EventEdge j u v) is reach = same-all _
   tests-same q Malformed is reach = same-all _
-
--- ---- a line that passes
-
-operand-low : (k : Operand) (r n v : ℕ) → r < 256 → n < 256 → inRange k r v ≡ true → isLower k n v ≡ true → v < 256
-unfolding inRange isLower
-operand-low unused r n v h l p q = omega (arith, eqb-true v 0 p)
-operand-low variable r n v h l p q = omega (arith, ltb-true v 16 p)
-operand-low binder r n v h l p q = omega (arith, ltb-true v 16 (and-right (ltb 0 v) _ p))
-operand-low label r n v h l p q = omega (arith, ltb-true v r p)
-operand-low entry r n v h l p q = omega (arith, ltb-true v n q)
-
--- what it says is in its range
-pub in-ranges : {f : File} {l : Line} → Ranged l → Going f → Passed (tests f l) → Ranges (contextOf f) l
-unfolding tests
-in-ranges (members {n = n} h) g p = ltb-true n 65 (passed-at p 2)
-in-ranges (labels {r = r} {e = e} h i) g p = (ltb-true r 17 (passed-at p 1), ltb-true e 17 (passed-at p 3))
-in-ranges {f} (entryLine {n = n} {o = o} {a = a} {b = b} {c = c} h i j k m y) g p =
-    let few = g .labels (entry-phase f (passed-at p 0) .0) in
-    let r : f .terms .relations < 17 = few .0 in
-    let e : f .terms .events < 17 = few .2 in
-    let l : n < 256 = ltb-true n 256 (passed-at p 2) in (
-      l,
-      i,
-      operand-low (firstOperand o) (f .terms .relations + f .terms .events) n a (omega arith) l (passed-at p 3) (passed-at p 7),
-      operand-low (secondOperand o) (f .terms .relations + f .terms .events) n b (omega arith) l (passed-at p 4) (passed-at p 8),
-      operand-low (thirdOperand o) (f .terms .relations + f .terms .events) n c (omega arith) l (passed-at p 5) (passed-at p 9),
-    )
-in-ranges {f} (policy {j = j} {n = n} h i) g p =
-    let e : f .terms .events < 17 = g .labels (policy-phase f (passed-at p 0) .0) .2 in (
-      omega (arith, ltb-true j (f .terms .events) (passed-at p 2)),
-      omega (arith, ltb-true n (f .terms .entries) (passed-at p 3), g .entries .few),
-    )
-in-ranges {f} (effect {j = j} {c = c} {k = k} {d = d} h i q m n) g p =
-    let few = g .labels (complete-phase f (passed-at p 0)) in
-    let r : f .terms .relations < 17 = few .0 in
-    let e : f .terms .events < 17 = few .2 in (
-      omega (arith, ltb-true j (f .terms .events) (passed-at p 3)),
-      omega (arith, ltb-true (length (f .terms .effects j)) 4 (passed-at p 4), slot-is f g j (leb-true (f .event) j (passed-at p 2))),
-      q,
-      omega (arith, ltb-true k (f .terms .relations) (passed-at p 5)),
-      n,
-    )
-in-ranges {f} (edge {k = k} {a = a} {b = b} h i j) g p =
-    let z : 2 ≤ f .phase = complete-phase f (passed-at p 0) in
-    let r : f .terms .relations < 17 = g .labels z .0 in
-    let s : f .terms .members < 65 = g .members (omega arith) .1 in (
-      omega (arith, ltb-true k (f .terms .relations) (passed-at p 2)),
-      omega (arith, ltb-true a (f .terms .members) (passed-at p 3)),
-      omega (arith, ltb-true b (f .terms .members) (passed-at p 4)),
-    )
-
--- the counters after it
-pub context-after : {f : File} {l : Line} → Ranged l → Going f → Passed (tests f l) → stepped (contextOf f) l ≡ contextOf (after f l)
-unfolding tests stepped after
-context-after (members h) g p = refl
-context-after (labels h i) g p = refl
-context-after {f} (entryLine {n = n} {o = o} {a = a} {b = b} {c = c} h i j k m y) g p =
-    subst (λ (n : ℕ). stepped (contextOf f) (Entry n o a b c) ≡ contextOf (after f (Entry n o a b c)))
-    (sym (eqb-true n (f .terms .entries) (passed-at p 1))) (rw (tables-new f o a b c) refl)
-context-after (policy h i) g p = refl
-context-after {f} (effect {j = j} {c = c} {k = k} {d = d} h i q m n) g p =
-    rw (
-      slot-is f g j (leb-true (f .event) j (passed-at p 2)),
-      update-same (f .terms .effects) j (f .terms .effects j ++ (record { adds = eqb c 1; relation = k; back = eqb d 1 } ∷ [])),
-      length-append (f .terms .effects j) (record { adds = eqb c 1; relation = k; back = eqb d 1 } ∷ []),
-    ) refl
-context-after (edge h i j) g p = refl
-
--- the sets of free variables after it
-pub masked-after : {f : File} {l : Line} → Ranged l → Going f → Passed (tests f l) → (masks : List ℕ) → Masked (f .terms) masks →
-    (m : ℕ) → FreeIn masks l m → Masked (after f l .terms) (storedSets l m masks)
-unfolding tests after storedSets
-masked-after (members h) g p masks k m is = record { long = k .long; bits = k .bits }
-masked-after (labels h i) g p masks k m is = record { long = k .long; bits = k .bits }
-masked-after {f} (entryLine {n = n} {o = o} {a = a} {b = b} {c = c} h i j q r y) g p masks k m is =
-    let e : n ≡ f .terms .entries = eqb-true n (f .terms .entries) (passed-at p 1) in
-    subst (λ (n : ℕ). Passed (tests f (Entry n o a b c)) → Masked (withEntry (f .terms) n o a b c) (set masks n m)) (sym e)
-    (λ p. masked-new f o a b c g masks k m is (passed-at p 3) (passed-at p 7) (passed-at p 8) (passed-at p 9) (ltb-true (f .terms .entries) 256 (passed-at p 2))) p
-masked-after (policy h i) g p masks k m is = record { long = k .long; bits = k .bits }
-masked-after (effect h i q r n) g p masks k m is = record { long = k .long; bits = k .bits }
-masked-after (edge h i j) g p masks k m is = k
-
--- the words after it
-pub terms-after : {f : File} {l : Line} → Ranged l → Going f → Passed (tests f l) →
-    storedTerms (contextOf f) l (memoryOf (f .terms)) ≡ memoryOf (after f l .terms)
-unfolding tests after storedTerms
-terms-after {f} (members {n = n} h) g p = members-stored (f .terms) n
-terms-after {f} (labels {r = r} {e = e} h i) g p = labels-stored (f .terms) r e
-terms-after {f} (entryLine {n = n} {o = o} {a = a} {b = b} {c = c} h i j k m y) g p = entry-stored (f .terms) n o a b c (ltb-true n 256 (passed-at p 2))
-terms-after {f} (policy {j = j} {n = n} h i) g p = policy-stored (f .terms) j n (in-ranges {l = Policy j n} (policy h i) g p .0)
-terms-after {f} (effect {j = j} {c = c} {k = k} {d = d} h i q m n) g p =
-    rw (slot-is f g j (leb-true (f .event) j (passed-at p 2)))
-    (effect-stored (f .terms) j c k d (action c i q) (direction d n) (ltb-true (length (f .terms .effects j)) 4 (passed-at p 4)))
-  where
-    action : (c : ℕ) → 0 < c → c < 3 → cond (eqb c 1) 1 2 ≡ c
-    action zero p q = absurd (omega arith)
-    action (suc zero) p q = refl
-    action (suc (suc zero)) p q = refl
-    action (suc (suc (suc c))) p q = absurd (omega arith)
-
-    direction : (d : ℕ) → d < 2 → cond (eqb d 1) 1 0 ≡ d
-    direction zero q = refl
-    direction (suc zero) q = refl
-    direction (suc (suc d)) q = absurd (omega arith)
-terms-after (edge h i j) g p = refl
-
-pub relations-after : {f : File} {l : Line} → Ranged l → Going f → Passed (tests f l) →
-    storedEdges l (relationsMemory (f .edges)) ≡ relationsMemory (after f l .edges)
-unfolding after storedEdges
-relations-after (members h) g p = refl
-relations-after (labels h i) g p = refl
-relations-after (entryLine h i j k m y) g p = refl
-relations-after (policy h i) g p = refl
-relations-after (effect h i q m n) g p = refl
-relations-after {f} (edge {k = k} {a = a} {b = b} h i j) g p =
-    let r = in-ranges {l = Edge k a b} (edge h i j) g p in edge-stored (f .edges) k a b (r .0) (r .1) (r .2)

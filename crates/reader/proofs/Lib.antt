@@ -2,9 +2,13 @@ pub mod Operands
 pub mod Tried
 pub mod Effects
 pub mod TermsMemory
-pub mod RelationsMemory
+pub mod Tabulated
 pub mod Stored
+pub mod Bits
 pub mod Counters
+pub mod Passing
 pub mod Turns
+pub mod StateMemory
+pub mod Looking
 pub mod Copied
 pub mod Ended

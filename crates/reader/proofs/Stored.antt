@@ -1,52 +1,21 @@
--- What a line stores, word by word, is the memory of what has been said after it.
-use Prim.Native.Nat.{ℕ, zero, suc, _+_, _-_, _/_, _%_, _^_, _≤_, _<_}
+-- What a line stores in the words of the terms, word by word, is the memory of what has been said after it.
+use Prim.Native.Nat.{ℕ, zero, suc, _+_, _-_, _/_, _%_, _≤_, _<_}
 use native.Mathlib.Omega.{arith}
-use mathlib.Core.Path.{_≡_, refl, sym, ap, ap₂, _∙_}
+use mathlib.Core.Path.{_≡_, refl, ap, _∙_}
 use mathlib.Core.Logic.{⊎-elim}
 use mathlib.Core.List.{List, [], _∷_, _++_}
-use mathlib.Core.Bool.{Bool, true, false, cond, _&&_, _||_}
-use lib.Bits.{bitOr, or-lt}
+use mathlib.Core.Bool.{true, false, cond}
 use lib.Dec.{eqb, ltb, eqb·suc-suc}
-use lib.Pow.{pow-lt}
-use lib.ListN.{length, getD, set, length-set}
-use lib.Seq.{ext-getD, getD-set-same, getD-set-other}
+use lib.ListN.{length, set}
 use borrow.Author.Tests.{eq-eqb, ne-eqb, lt-ltb, le-ltb, ltb-true, ltb-false, eqb-true, eqb-false}
-use Rattle.sets.specs.Sets.{pack}
 use Rattle.sets.proofs.Finite.{true-or-false}
-use Rattle.sets.proofs.Bits.{bits-equal, bit-set}
-use Rattle.sets.proofs.Pack.{bit-pack, pack-cong, pack-lt}
 use Rattle.theory.specs.Terms as terms
 use Rattle.theory.specs.Terms.{Terms}
-use Rattle.theory.specs.Moment.{Relations}
-use Rattle.memory.specs.Layout.{termsWords, entryAt, policyAt, effectAt, relationAt, tabulate}
-use Rattle.memory.proofs.Row.{length-tabulate, getD-tabulate}
+use Rattle.memory.specs.Layout.{termsWords, entryAt, policyAt, effectAt, tabulate}
 use Rattle.file.specs.File.{update, withEntry, withPolicy, withEffect}
-use Rattle.reader.specs.Memory.{effectWord, termsWord, memoryOf, relationsMemory}
-use Rattle.reader.specs.Storing.{three, four, withEdgeBit}
-use Rattle.file.proofs.Fit.{withEdge}
-
--- ---- lists made of words
-
-pub tabulate-cong : (n : ℕ) (g h : ℕ → ℕ) → ((i : ℕ) → i < n → g i ≡ h i) → tabulate n g ≡ tabulate n h
-unfolding tabulate
-tabulate-cong zero g h e = refl
-tabulate-cong (suc n) g h e =
-    ap₂ {C = List ℕ} (λ x l. x ∷ l) (e 0 (omega arith)) (tabulate-cong n (λ i. g (suc i)) (λ i. h (suc i)) (λ i l. e (suc i) (omega arith)))
-
-set-tabulate : (n : ℕ) (g : ℕ → ℕ) (at v : ℕ) → set (tabulate n g) at v ≡ tabulate n (update g at v)
-set-tabulate n g at v =
-    ext-getD 0 (set (tabulate n g) at v) (tabulate n (update g at v))
-    (length-set (tabulate n g) at v ∙ length-tabulate n g ∙ sym (length-tabulate n (update g at v)))
-    (λ i l. let b : i < n = omega (arith, length-set (tabulate n g) at v, length-tabulate n g) in
-    ⊎-elim (same i b) (other i b) (true-or-false (eqb i at)) ∙ sym (getD-tabulate n (update g at v) i b))
-  where
-    same : (i : ℕ) → i < n → eqb i at ≡ true → getD (set (tabulate n g) at v) i 0 ≡ update g at v i
-    same i b e =
-        rw (e, eqb-true i at e)
-        (getD-set-same (tabulate n g) at v 0 (omega (arith, eqb-true i at e, length-tabulate n g)))
-
-    other : (i : ℕ) → i < n → eqb i at ≡ false → getD (set (tabulate n g) at v) i 0 ≡ update g at v i
-    other i b e = rw e (getD-set-other (tabulate n g) at i v 0 (eqb-false i at e) ∙ getD-tabulate n g i b)
+use Rattle.reader.specs.Memory.{effectWord, termsWord, memoryOf}
+use Rattle.reader.specs.Storing.{three, four}
+use Rattle.reader.proofs.Tabulated.{tabulate-cong, set-tabulate}
 
 -- ---- the words of the terms
 
@@ -263,55 +232,3 @@ module _ (T : Terms) where
     pub effect-stored : three (memoryOf T) at a k d ≡ memoryOf (withEffect T j a k d)
     unfolding memoryOf
     effect-stored = three-tabulate (termsWord T) at a k d ∙ tabulate-cong termsWords _ _ (λ i l. effect-word i)
-
--- ---- the words of the relations
-
-module _ (R : Relations) (k a b : ℕ) (kl : k < 16) (al : a < 64) (bl : b < 64) where
-  or-cond : (x y : Bool) → x || y ≡ cond y true x
-  or-cond true true = refl
-  or-cond true false = refl
-  or-cond false true = refl
-  or-cond false false = refl
-
-  edge-word : bitOr (pack 64 (R k a)) (2 ^ b) ≡ pack 64 (withEdge R k a b k a)
-  edge-word =
-      bits-equal 64 (bitOr (pack 64 (R k a)) (2 ^ b)) (pack 64 (withEdge R k a b k a))
-      (or-lt 64 (pack 64 (R k a)) (2 ^ b) (pack-lt 64 (R k a)) (pow-lt bl)) (pack-lt 64 (withEdge R k a b k a))
-      (λ x l. bit-set (pack 64 (R k a)) b x
-      ∙ rw (bit-pack 64 (R k a) x, bit-pack 64 (withEdge R k a b k a) x, lt-ltb x 64 l, eq-eqb k k refl, eq-eqb a a refl)
-      (or-cond (R k a x) (eqb x b)))
-
-  abbrev g : ℕ → ℕ
-  g i = pack 64 (R (i / 64) (i % 64))
-
-  edge-words : (i : ℕ) → update g (relationAt k a) (bitOr (pack 64 (R k a)) (2 ^ b)) i ≡ pack 64 (withEdge R k a b (i / 64) (i % 64))
-  edge-words i =
-      ⊎-elim
-      (λ e. let at : i ≡ relationAt k a = eqb-true i (relationAt k a) e in
-      let quo : i / 64 ≡ k = omega arith in
-      let rem : i % 64 ≡ a = omega arith in
-      rw (e, quo, rem) edge-word)
-      (λ e. let at : i ≡ relationAt k a → ⊥ = eqb-false i (relationAt k a) e in
-      rw e (pack-cong 64 (λ x l. go at x (eqb (i / 64) k) refl (eqb (i % 64) a) refl)))
-      (true-or-false (eqb i (relationAt k a)))
-    where
-      go : (i ≡ relationAt k a → ⊥) → (x : ℕ) (p : Bool) → eqb (i / 64) k ≡ p → (q : Bool) → eqb (i % 64) a ≡ q →
-          R (i / 64) (i % 64) x ≡ cond (p && (q && eqb x b)) true (R (i / 64) (i % 64) x)
-      go at x true e true f = absurd (at (omega (arith, eqb-true (i / 64) k e, eqb-true (i % 64) a f)))
-      go at x true e false f = refl
-      go at x false e q f = refl
-
-  pub edge-stored : withEdgeBit (relationsMemory R) k a b ≡ relationsMemory (withEdge R k a b)
-  unfolding relationsMemory
-  edge-stored =
-      ap (λ w. set (tabulate 1024 g) (relationAt k a) (bitOr w (2 ^ b))) word
-      ∙ set-tabulate 1024 g (relationAt k a) (bitOr (pack 64 (R k a)) (2 ^ b)) ∙ tabulate-cong 1024 _ _ (λ i l. edge-words i)
-    where
-      quo : relationAt k a / 64 ≡ k
-      quo = omega arith
-
-      rem : relationAt k a % 64 ≡ a
-      rem = omega arith
-
-      word : getD (tabulate 1024 g) (relationAt k a) 0 ≡ pack 64 (R k a)
-      word = getD-tabulate 1024 g (relationAt k a) (omega arith) ∙ rw (quo, rem)

@@ -8,9 +8,9 @@ use mathlib.Core.Bool.{Bool, true, false, cond, _&&_}
 use lib.Dec.{ltb}
 use borrow.Author.Tests.{ne-eqb, ltb-true}
 use Rattle.sets.proofs.Finite.{true-or-false, and-left, and-right}
-use Rattle.file.specs.File.{Test, test, Reading, tried}
-use Rattle.file.specs.File.Reading.{refused}
-use Rattle.reader.specs.Stepping.{refusedBy, numberFrom}
+use Rattle.file.specs.Reading.{Test, test, Reading, tried}
+use Rattle.file.specs.Reading.Reading.{refused}
+use Rattle.reader.specs.Testing.{refusedBy, numberFrom}
 use Rattle.file.specs.Refused.{Passed}
 use Rattle.file.specs.Refused.Passed.{none, pass}
 

@@ -1,4 +1,6 @@
 pub mod Memory
 pub mod Read
 pub mod Stepping
+pub mod Testing
 pub mod Storing
+pub mod Partly

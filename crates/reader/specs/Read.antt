@@ -4,12 +4,26 @@ use mathlib.Core.Bool.{Bool, cond, _||_}
 use mathlib.Core.List.{List, _++_}
 use lib.Dec.{ltb}
 use lib.ListN.{length, drop}
-use Rattle.memory.specs.Layout.{termsWords, stateWords, relationWords}
+use Rattle.memory.specs.Layout.{termsWords, stateWords, wordsOf}
 use Rattle.memory.specs.Outcome.{Outcome}
 use Rattle.memory.specs.Outcome.Outcome.{passed, failed}
-use Rattle.file.specs.File.{Reading, reading}
-use Rattle.file.specs.File.Reading.{accepted, refused}
-use Rattle.reader.specs.Memory.{memoryOf, relationsMemory}
+use Rattle.file.specs.File.{stateSaid}
+use Rattle.file.specs.Reading.{Reading, reading}
+use Rattle.file.specs.Reading.Reading.{accepted, refused}
+use Rattle.reader.specs.Memory.{memoryOf}
+use Rattle.reader.specs.declared.Filled.{Filled}
+use Rattle.reader.specs.declared.Filled.the-variants.{Old, Stored, Refused}
+
+-- A text is of the old form or of the stored one, or it is refused with its number and line.
+pub data Filling : Type 0 where
+  old : Filling
+  stored : Filling
+  unfilled : (number line : ℕ) → Filling
+
+abbrev pub fillingOf : Filled → Filling
+fillingOf Old = old
+fillingOf Stored = stored
+fillingOf (Refused n l) = unfilled n l
 
 -- Memory lengths first (6, 0), then the first faulty line and in it the lowest number.
 abbrev pub short : (terms state : List ℕ) → Bool
@@ -22,17 +36,26 @@ outcome (refused n l) = failed n l
 unfoldable pub readGives : (text terms state : List ℕ) → Outcome
 readGives text terms state = cond (short terms state) (failed 6 0) (outcome (reading text))
 
--- An accepted text fills the named words of terms, and in state those of the relations; a refusal leaves all memory as lent. Further words are not touched.
+-- What filling gives says besides which form it is.
+abbrev pub filling : Reading → Filling
+filling (accepted f) = cond (f .stored) stored old
+filling (refused n l) = unfilled n l
+
+unfoldable pub fillGives : (text terms state : List ℕ) → Filling
+fillGives text terms state = cond (short terms state) (unfilled 6 0) (filling (reading text))
+
+-- An accepted text fills the named words of terms and of state with what it says, an old one without tables and event; a refusal leaves all memory as lent.
+-- Further words are not touched.
 abbrev pub filledTerms : List ℕ → Reading → List ℕ
 filledTerms terms (accepted f) = memoryOf (f .terms) ++ drop termsWords terms
 filledTerms terms (refused n l) = terms
 
-abbrev pub filledRelations : List ℕ → Reading → List ℕ
-filledRelations state (accepted f) = relationsMemory (f .edges) ++ drop relationWords state
-filledRelations state (refused n l) = state
+abbrev pub filledWords : List ℕ → Reading → List ℕ
+filledWords state (accepted f) = wordsOf (f .terms) (stateSaid f) ++ drop stateWords state
+filledWords state (refused n l) = state
 
 unfoldable pub readTerms : (text terms state : List ℕ) → List ℕ
 readTerms text terms state = cond (short terms state) terms (filledTerms terms (reading text))
 
-unfoldable pub readRelations : (text terms state : List ℕ) → List ℕ
-readRelations text terms state = cond (short terms state) state (filledRelations state (reading text))
+unfoldable pub readWords : (text terms state : List ℕ) → List ℕ
+readWords text terms state = cond (short terms state) state (filledWords state (reading text))

@@ -1,37 +1,17 @@
--- The step of the reader, on numbers: counters in place of what the lines have said, the tests of a line against them, and the counters after it.
-use Prim.Native.Nat.{ℕ, suc, _+_, _-_, _<_}
+-- The counters of the reader, in place of what the lines have said: before the first line, and after each that has passed.
+use Prim.Native.Nat.{ℕ, suc, _+_, _<_}
 use mathlib.Core.Path.{_≡_}
-use mathlib.Core.Bool.{Bool, true, false, cond, _&&_, _||_}
-use mathlib.Core.List.{List, [], _∷_}
-use lib.Bits.{bitAnd}
-use lib.Dec.{eqb, ltb, leb}
-use lib.ListN.{getD}
-use Rattle.sets.specs.Sets.{bit}
-use Rattle.theory.specs.Formula.{Formula, node, free, firstOperand, secondOperand, thirdOperand, isPast}
-use Rattle.theory.specs.Formula.Operand.{variable, entry}
-use Rattle.theory.specs.Fit.{_⇒_}
-use Rattle.theory.specs.Limits.{maxMembers, maxRelations, maxEvents, maxEntries, maxTables, maxEffects}
-use Rattle.memory.specs.Plan.{reachSets}
-use Rattle.file.specs.File.{Test, test, inRange, isLower}
+use mathlib.Core.Bool.{Bool, true, false, cond, _&&_}
+use lib.Dec.{eqb, leb}
+use Rattle.theory.specs.Formula.{isPast}
 use Rattle.file.specs.declared.line.Line.{Line}
-use Rattle.file.specs.declared.line.Line.the-variants.{Members, Labels, Entry, Policy, Effect, Edge, Malformed}
+use Rattle.file.specs.declared.line.Line.the-variants.{Members, Labels, Entry, Policy, Effect, Edge, Form, TableBit, EventEdge, Malformed}
 use Rattle.reader.specs.declared.step.Context.{Context}
-
--- ---- the number of the first test that fails, or 0
-
--- A number k from the tests before t: it stays, and where it is 0, t gives its own if it fails.
-unfoldable pub refusedBy : ℕ → Test → ℕ
-refusedBy k t = cond (eqb k 0) (cond (t .passes) 0 (t .number)) k
-
-unfoldable pub numberFrom : ℕ → List Test → ℕ
-numberFrom k [] = k
-numberFrom k (t ∷ ts) = numberFrom (refusedBy k t) ts
-
--- ---- the tests of a line
 
 -- No line yet.
 abbrev pub begun : Context
 begun = record {
+  stored = false;
   phase = 0;
   members = 0;
   relations = 0;
@@ -54,88 +34,6 @@ isComplete c = leb 2 (c .phase) && eqb (c .policies) (c .events)
 abbrev pub slot : Context → ℕ → ℕ
 slot c j = cond (eqb j (c .event)) (c .effects) 0
 
--- The edge comes after the last one, by relation, from, to.
-abbrev pub rising : Context → (k a b : ℕ) → Bool
-rising c k a b =
-    ltb (c .phase) 6
-    || (ltb (c .relation) k || (eqb (c .relation) k && (ltb (c .from) a || (eqb (c .from) a && ltb (c .to) b))))
-
--- The tests of File, against counters. m is the set of the free variables of an F line's entry, or of a P line's; reaches says whether an F line's entry, if it is a reach, may be one.
-unfoldable pub contextTests : Context → (m : ℕ) → (reaches : Bool) → Line → List Test
-contextTests c m reaches (Members n) =
-    test 1 (eqb (c .phase) 0)
-    ∷ test 2 (ltb 0 n)
-    ∷ test 2 (ltb n (1 + maxMembers))
-    ∷ []
-contextTests c m reaches (Labels r e) =
-    test 1 (eqb (c .phase) 1)
-    ∷ test 2 (ltb r (1 + maxRelations))
-    ∷ test 2 (ltb 0 e)
-    ∷ test 2 (ltb e (1 + maxEvents))
-    ∷ []
-contextTests c m reaches (Entry n o a b d) =
-    test 1 (eqb (c .phase) 2 || eqb (c .phase) 3)
-    ∷ test 1 (eqb n (c .entries))
-    ∷ test 2 (ltb n maxEntries)
-    ∷ test 2 (inRange (firstOperand o) (c .relations + c .events) a)
-    ∷ test 2 (inRange (secondOperand o) (c .relations + c .events) b)
-    ∷ test 2 (inRange (thirdOperand o) (c .relations + c .events) d)
-    ∷ test 2 (isPast o ⇒ ltb (c .tables) maxTables)
-    ∷ test 3 (isLower (firstOperand o) n a)
-    ∷ test 3 (isLower (secondOperand o) n b)
-    ∷ test 3 (isLower (thirdOperand o) n d)
-    ∷ test 4 (isPast o ⇒ eqb (bitAnd m (m - 1)) 0)
-    ∷ test 10 reaches
-    ∷ []
-contextTests c m reaches (Policy j n) =
-    test 1 (leb 2 (c .phase) && leb (c .phase) 4)
-    ∷ test 1 (eqb j (c .policies))
-    ∷ test 1 (ltb j (c .events))
-    ∷ test 2 (ltb n (c .entries))
-    ∷ test 5 (ltb m 2)
-    ∷ []
-contextTests c m reaches (Effect j a k d) =
-    test 1 (isComplete c)
-    ∷ test 1 (leb (c .phase) 5)
-    ∷ test 1 (leb (c .event) j)
-    ∷ test 2 (ltb j (c .events))
-    ∷ test 2 (ltb (slot c j) maxEffects)
-    ∷ test 2 (ltb k (c .relations))
-    ∷ []
-contextTests c m reaches (Edge k a b) =
-    test 1 (isComplete c)
-    ∷ test 1 (rising c k a b)
-    ∷ test 2 (ltb k (c .relations))
-    ∷ test 2 (ltb a (c .members))
-    ∷ test 2 (ltb b (c .members))
-    ∷ []
-contextTests c m reaches Malformed = test 1 false ∷ []
-
--- m is that set, where masks has the sets of the entries so far.
-abbrev pub FreeIn : List ℕ → Line → (m : ℕ) → Type 0
-FreeIn masks (Members n) m = Unit {0}
-FreeIn masks (Labels r e) m = Unit {0}
-FreeIn masks (Entry n o a b c) m =
-    (t d e x : ℕ) (h : ℕ → Formula) → (firstOperand o ≡ variable → a < 64)
-    → (firstOperand o ≡ entry → bit (getD masks a 0) x ≡ free (h a) x)
-    → (secondOperand o ≡ entry → bit (getD masks b 0) x ≡ free (h d) x)
-    → (thirdOperand o ≡ entry → bit (getD masks c 0) x ≡ free (h e) x)
-    → bit m x ≡ free (node t h o a d e) x
-FreeIn masks (Policy j n) m = m ≡ getD masks n 0
-FreeIn masks (Effect j a k d) m = Unit {0}
-FreeIn masks (Edge k a b) m = Unit {0}
-FreeIn masks Malformed m = Unit {0}
-
--- An F line's entry, if it is a reach, may be one by those sets.
-abbrev pub reachIn : List ℕ → Line → Bool
-reachIn masks (Members n) = true
-reachIn masks (Labels r e) = true
-reachIn masks (Entry n o a b c) = eqb o 10 ⇒ reachSets a (getD masks b 0) (getD masks c 0)
-reachIn masks (Policy j n) = true
-reachIn masks (Effect j a k d) = true
-reachIn masks (Edge k a b) = true
-reachIn masks Malformed = true
-
 -- ---- a line that has passed
 
 -- The ranges of what it says.
@@ -146,11 +44,15 @@ Ranges c (Entry n o a b d) = (n < 256) × (o < 11) × (a < 256) × (b < 256) × 
 Ranges c (Policy j n) = (j < 16) × (n < 256)
 Ranges c (Effect j a k d) = (j < 16) × (slot c j < 4) × (a < 3) × (k < 16) × (d < 2)
 Ranges c (Edge k a b) = (k < 16) × (a < 64) × (b < 64)
+Ranges c (Form n) = n ≡ 2
+Ranges c (TableBit t a b) = (t < 32) × (a < 64) × (b < 64)
+Ranges c (EventEdge j u v) = (j < 16) × (u < 64) × (v < 64)
 Ranges c Malformed = ⊥
 
 -- The counters after it.
 unfoldable pub stepped : Context → Line → Context
 stepped c (Members n) = record {
+  stored = c .stored;
   phase = 1;
   members = n;
   relations = c .relations;
@@ -165,6 +67,7 @@ stepped c (Members n) = record {
   to = c .to;
 }
 stepped c (Labels r e) = record {
+  stored = c .stored;
   phase = 2;
   members = c .members;
   relations = r;
@@ -179,6 +82,7 @@ stepped c (Labels r e) = record {
   to = c .to;
 }
 stepped c (Entry n o a b d) = record {
+  stored = c .stored;
   phase = 3;
   members = c .members;
   relations = c .relations;
@@ -193,6 +97,7 @@ stepped c (Entry n o a b d) = record {
   to = c .to;
 }
 stepped c (Policy j n) = record {
+  stored = c .stored;
   phase = 4;
   members = c .members;
   relations = c .relations;
@@ -207,6 +112,7 @@ stepped c (Policy j n) = record {
   to = c .to;
 }
 stepped c (Effect j a k d) = record {
+  stored = c .stored;
   phase = 5;
   members = c .members;
   relations = c .relations;
@@ -221,6 +127,7 @@ stepped c (Effect j a k d) = record {
   to = c .to;
 }
 stepped c (Edge k a b) = record {
+  stored = c .stored;
   phase = 6;
   members = c .members;
   relations = c .relations;
@@ -233,5 +140,50 @@ stepped c (Edge k a b) = record {
   relation = k;
   from = a;
   to = b;
+}
+stepped c (Form n) = record {
+  stored = true;
+  phase = c .phase;
+  members = c .members;
+  relations = c .relations;
+  events = c .events;
+  entries = c .entries;
+  tables = c .tables;
+  policies = c .policies;
+  event = c .event;
+  effects = c .effects;
+  relation = c .relation;
+  from = c .from;
+  to = c .to;
+}
+stepped c (TableBit t a b) = record {
+  stored = c .stored;
+  phase = 7;
+  members = c .members;
+  relations = c .relations;
+  events = c .events;
+  entries = c .entries;
+  tables = c .tables;
+  policies = c .policies;
+  event = c .event;
+  effects = c .effects;
+  relation = t;
+  from = a;
+  to = b;
+}
+stepped c (EventEdge j u v) = record {
+  stored = c .stored;
+  phase = 8;
+  members = c .members;
+  relations = c .relations;
+  events = c .events;
+  entries = c .entries;
+  tables = c .tables;
+  policies = c .policies;
+  event = c .event;
+  effects = c .effects;
+  relation = c .relation;
+  from = c .from;
+  to = c .to;
 }
 stepped c Malformed = c

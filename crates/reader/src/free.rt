@@ -4,7 +4,7 @@ use memory::plan::free_of;
 use memory::plan::reach_fits;
 use memory::plan::set_at;
 ghost use mathlib.Core.Path.{_≡_};
-ghost use Rattle.reader.specs.Stepping.{FreeIn, reachIn};
+ghost use Rattle.reader.specs.Testing.{FreeIn, reachIn};
 
 // The free variables that a line is tested by: those of the entry that it gives, or of the policy that it names.
 pub(crate) fn free_in(masks: &[u64], line: Line) -> u64

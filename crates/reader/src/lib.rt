@@ -1,5 +1,14 @@
-// The reader of a terms file, into lent memory.
+// The reader of a terms file, of the old form and of the stored one, into lent memory.
 mod free;
+mod partly;
 pub mod read;
+mod refusal;
 mod step;
 mod store;
+
+// A text is of the old form or of the stored one, or it is refused with its number and line.
+pub enum Filled {
+    Old,
+    Stored,
+    Refused(usize, usize),
+}

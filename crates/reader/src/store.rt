@@ -1,20 +1,29 @@
-// What a line that has passed stores: words of the terms, a bit of the relations, a set of free variables.
+// What a line that has passed stores: words of the terms, a word of the state or a bit of one, a set of free variables.
 use crate::step::Context;
 use crate::step::slot_of;
 use file::line::Line;
+use memory::layout;
 use memory::layout::BLOCK;
 use memory::layout::EFFECT;
 use memory::layout::EFFECTS_AT;
 use memory::layout::ENTRIES_AT;
 use memory::layout::ENTRY;
 use memory::layout::EVENT;
+use memory::layout::EVENT_AT;
 use memory::layout::POLICIES_AT;
+use memory::layout::TABLES_AT;
 ghost use mathlib.Core.Path.{_≡_};
 ghost use Prim.Native.Nat.{_+_, _<_};
 ghost use lib.ListN.{length, set};
-ghost use Rattle.memory.specs.Layout.{termsWords, relationWords, entryAt, policyAt, effectAt};
+ghost use Rattle.theory.specs.Moment.Event.{happened};
+ghost use Rattle.memory.specs.Layout.{termsWords, stateWords, entryAt, policyAt, effectAt, relationAt, tableAt, eventAt, eventWord};
 ghost use Rattle.reader.specs.Stepping.{Ranges};
-ghost use Rattle.reader.specs.Storing.{three, four, withEdgeBit, storedTerms, storedEdges, storedSets};
+ghost use Rattle.reader.specs.Storing.{three, four, withBitAt, storedTerms, storedState, storedSets};
+
+// The units of the event word, as numbers.
+const FROM_UNIT: usize = layout::FROM_UNIT as usize;
+
+const EVENT_UNIT: usize = layout::EVENT_UNIT as usize;
 
 // Word at becomes v.
 fn store(words: &mut [u16], at: usize, v: usize)
@@ -83,14 +92,39 @@ fn store_effect(terms: &mut [u16], j: usize, i: usize, a: usize, k: usize, d: us
     store_three(terms, EFFECTS_AT + EVENT * j + EFFECT * i, a, k, d);
 }
 
-// The bit of an edge.
-fn set_edge(relations: &mut [u64], k: usize, a: usize, b: usize)
-    requires { ⌜ (k < 16) × (a < 64) × (b < 64) ⌝ }
-    requires { ⌜ length (now relations) ≡ relationWords ⌝ }
-    ensures { λ _. ⌜ now (relations .exit) ≡ withEdgeBit (now (relations .entry)) k a b ⌝ }
+// Bit b of word at.
+fn set_bit(words: &mut [u64], at: usize, b: usize)
+    requires { ⌜ (at < length (now words)) × (b < 64) ⌝ }
+    ensures { λ _. ⌜ now (words .exit) ≡ withBitAt (now (words .entry)) at b ⌝ }
 {
-    let at = BLOCK * k + a;
-    relations[at] = relations[at] | (1u64 << b);
+    words[at] = words[at] | (1u64 << b);
+}
+
+// The bit of an edge.
+fn store_edge(state: &mut [u64], k: usize, a: usize, b: usize)
+    requires { ⌜ (k < 16) × (a < 64) × (b < 64) ⌝ }
+    requires { ⌜ length (now state) ≡ stateWords ⌝ }
+    ensures { λ _. ⌜ now (state .exit) ≡ withBitAt (now (state .entry)) (relationAt k a) b ⌝ }
+{
+    set_bit(state, BLOCK * k + a, b);
+}
+
+// The bit of a table.
+fn store_bit(state: &mut [u64], t: usize, a: usize, b: usize)
+    requires { ⌜ (t < 32) × (a < 64) × (b < 64) ⌝ }
+    requires { ⌜ length (now state) ≡ stateWords ⌝ }
+    ensures { λ _. ⌜ now (state .exit) ≡ withBitAt (now (state .entry)) (tableAt t a) b ⌝ }
+{
+    set_bit(state, TABLES_AT + BLOCK * t + a, b);
+}
+
+// The event word.
+fn store_event(state: &mut [u64], j: usize, u: usize, v: usize)
+    requires { ⌜ (j < 16) × (u < 64) × (v < 64) ⌝ }
+    requires { ⌜ length (now state) ≡ stateWords ⌝ }
+    ensures { λ _. ⌜ now (state .exit) ≡ set (now (state .entry)) eventAt (eventWord (happened j u v)) ⌝ }
+{
+    state[EVENT_AT] = (1 + j * EVENT_UNIT + u * FROM_UNIT + v) as u64;
 }
 
 // The words of the terms that a line gives.
@@ -105,19 +139,20 @@ pub(crate) fn store_terms(terms: &mut [u16], c: Context, line: Line)
         Line::Entry(n, o, a, b, d) => store_entry(terms, n, o, a, b, d),
         Line::Policy(j, n) => store_policy(terms, j, n),
         Line::Effect(j, a, k, d) => store_effect(terms, j, slot_of(c, j), a, k, d),
-        Line::Edge(_, _, _) => {}
-        Line::Malformed => {}
+        _ => {}
     }
 }
 
-// The bit of the relations that a line gives.
-pub(crate) fn store_edge(relations: &mut [u64], c: Context, line: Line)
+// The word of the state that a line gives, or the bit of one.
+pub(crate) fn store_state(state: &mut [u64], c: Context, line: Line)
     requires { ⌜ Ranges c line ⌝ }
-    requires { ⌜ length (now relations) ≡ relationWords ⌝ }
-    ensures { λ _. ⌜ now (relations .exit) ≡ storedEdges line (now (relations .entry)) ⌝ }
+    requires { ⌜ length (now state) ≡ stateWords ⌝ }
+    ensures { λ _. ⌜ now (state .exit) ≡ storedState line (now (state .entry)) ⌝ }
 {
     match line {
-        Line::Edge(k, a, b) => set_edge(relations, k, a, b),
+        Line::Edge(k, a, b) => store_edge(state, k, a, b),
+        Line::TableBit(t, a, b) => store_bit(state, t, a, b),
+        Line::EventEdge(j, u, v) => store_event(state, j, u, v),
         _ => {}
     }
 }

@@ -1,4 +1,4 @@
--- Terms that are alike have the same words at moment 0, and the words agree with the same records.
+-- Terms that are alike have the same words of a state and at moment 0, keep the same moments inside, and the words agree with the same records.
 use Prim.Native.Nat.{ℕ, _-_, _/_, _%_}
 use native.Mathlib.Omega.{arith}
 use mathlib.Core.Path.{_≡_, ap, subst, _∙_}
@@ -9,12 +9,14 @@ use borrow.Author.Tests.{ltb-true}
 use Rattle.sets.proofs.Finite.{and-under}
 use Rattle.theory.specs.Meaning.{standing, holds}
 use Rattle.theory.specs.Terms.{Terms, formula, tables, pastEntry}
-use Rattle.theory.specs.Moment.{Relations, Moment, graph, first}
+use Rattle.theory.specs.Moment.{Relations, Event, Moment, graph, first}
+use Rattle.theory.specs.Moment.Event.{none, happened}
 use Rattle.theory.specs.Keeper.{recordOf, last, keeperHolds}
-use Rattle.theory.specs.Tables.{opening}
+use Rattle.theory.specs.Tables.{State, opening}
 use Rattle.theory.proofs.Past.{past-entry}
 use Rattle.theory.proofs.Like.{Alike, met, met-is, same-number, same-formula, same-past, since-met}
-use Rattle.memory.specs.Layout.{stateWords, relationWords, eventAt, row, wordAt, tabulate, wordsOf}
+use Rattle.memory.specs.Layout.{stateWords, relationWords, eventAt, eventWord, row, wordAt, tabulate, wordsOf}
+use Rattle.memory.proofs.Inside.{EventInside, Inside}
 use Rattle.monitor.specs.Agreement.{Agrees}
 
 module _ (T U : Terms) (a : Alike T U) where
@@ -40,6 +42,14 @@ module _ (T U : Terms) (a : Alike T U) where
           λ d. holds (T .members) (recordOf T Ms) (φ d) (last Ms) (standing (φ d) b) i)
           ∙ (λ d. ltb t (same-number T U a (T .entries) (omega arith) d) && keeperHolds W Ms (pastEntry W t) (standing (formula W (pastEntry W t)) b) i)
 
+  state-met : (S : State) → wordsOf T S ≡ wordsOf W S
+  unfolding wordsOf wordAt
+  state-met S = λ d. tabulate stateWords (λ i.
+      cond (ltb i relationWords) (cond (ltb (i / 64) (T .relations)) (row (T .members) (S .now .edge (i / 64)) (i % 64)) 0)
+      (cond (ltb i eventAt) (cond (ltb ((i - relationWords) / 64) (same-number T U a (T .entries) (omega arith) d))
+      (row (T .members) (S .table ((i - relationWords) / 64)) (i % 64)) 0)
+      (eventWord (S .now .event))))
+
   words-met : (R : Relations) → wordsOf T (opening T R) ≡ wordsOf W (opening W R)
   unfolding wordsOf wordAt opening
   words-met R = λ d. tabulate stateWords (λ i.
@@ -53,3 +63,13 @@ module _ (T U : Terms) (a : Alike T U) where
 
   pub words-alike : (R : Relations) → wordsOf T (opening T R) ≡ wordsOf U (opening U R)
   words-alike R = words-met R ∙ ap (λ X. wordsOf X (opening X R)) (met-is T U a)
+
+  pub state-alike : (S : State) → wordsOf T S ≡ wordsOf U S
+  state-alike S = state-met S ∙ ap (λ X. wordsOf X S) (met-is T U a)
+
+  event-met : (x : Event) → EventInside T x → EventInside W x
+  event-met none i = i
+  event-met (happened j u v) i = i
+
+  pub inside-alike : (M : Moment) → Inside T M → Inside U M
+  inside-alike M i = subst (λ X. Inside X M) (met-is T U a) (record { edges = i .edges; event = event-met (M .event) (i .event) })

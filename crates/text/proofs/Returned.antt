@@ -1,149 +1,158 @@
--- Over lent memory: writing what reading an accepted text left gives the text in its normal form, where the output has room; a plain text byte by byte.
-use Prim.Native.Nat.{ℕ, _≤_}
+-- Over lent memory: writing what reading an accepted text left, in the text's own form, gives the text in its normal form, where the output has room; a plain
+-- text byte by byte.
+use Prim.Native.Nat.{ℕ, _≤_, _<_}
 use native.Mathlib.Omega.{arith}
 use mathlib.Core.Path.{_≡_, refl, sym, ap, subst, _∙_}
-use mathlib.Core.Bool.{true}
-use mathlib.Core.List.{List, [], _∷_, _++_}
-use lib.ListN.{length, drop, length-append, length-drop}
-use borrow.Author.Tests.{le-ltb}
+use mathlib.Core.Bool.{Bool, true, false, cond}
+use mathlib.Core.List.{List, _++_}
+use lib.ListN.{length, getD, drop, List·getD-append}
+use borrow.Author.Tests.{eq-eqb, le-ltb}
+use Rattle.sets.proofs.Finite.{all-true}
 use Rattle.theory.specs.Terms.{Terms}
-use Rattle.theory.specs.Moment.{Moment, first}
-use Rattle.memory.specs.Layout.{termsWords, stateWords, termsOf, stateOf, wordsOf}
-use Rattle.memory.specs.Checks.{goodState}
+use Rattle.theory.specs.Moment.{Relations}
 use Rattle.theory.specs.Tables.{State, opening}
+use Rattle.memory.specs.Layout.{termsWords, stateWords, termsOf, stateOf, wordAt, wordsOf}
 use Rattle.memory.specs.Outcome.{checks}
 use Rattle.memory.specs.Outcome.Outcome.{passed}
-use Rattle.theory.proofs.Good.{Good}
-use Rattle.memory.proofs.Inside.{Inside}
-use Rattle.memory.proofs.Front.{state-front}
-use Rattle.memory.proofs.Words.{length-words, now-back}
-use Rattle.theory.proofs.Kept.{opening-kept}
-use Rattle.monitor.proofs.Held.{Held, held-words}
-use Rattle.memory.proofs.Outcomes.{check-passed}
-use Rattle.file.specs.File.{File, reading}
-use Rattle.file.specs.File.Reading.{accepted}
-use Rattle.reader.specs.Memory.{memoryOf}
-use Rattle.file.specs.Writing.{written}
+use Rattle.memory.proofs.Row.{getD-tabulate}
+use Rattle.memory.proofs.Words.{length-words}
+use Rattle.file.specs.File.{File, stateSaid}
+use Rattle.file.specs.Reading.{reading}
+use Rattle.file.specs.Reading.Reading.{accepted}
+use Rattle.file.specs.Writing.{written, stored}
 use Rattle.file.specs.Normal.{normalText, isPlain}
-use Rattle.reader.specs.Read.{readGives, readTerms}
-use Rattle.text.specs.Text.{readState}
-use Rattle.writer.specs.Write.{writtenText, writeGives, writeLeaves}
-use Rattle.writer.specs.Write.Writing.{bytes}
-use Rattle.file.proofs.Accepted.{Accepted, accepted-good}
-use Rattle.theory.proofs.Like.{Alike, good-alike}
-use Rattle.text.proofs.AlikeWords.{words-alike}
-use Rattle.file.proofs.AlikeText.{written-alike}
-use Rattle.reader.proofs.TermsMemory.{length-memory, memory-good}
-use Rattle.reader.proofs.RelationsMemory.{filled, filled-alike}
+use Rattle.file.proofs.AlikeText.{written-alike, stored-alike}
 use Rattle.file.proofs.Rewritten.{rewritten, normal-plain, normal-accepted}
+use Rattle.reader.specs.Memory.{memoryOf}
+use Rattle.reader.proofs.StateMemory.{filled-alike, checked}
+use Rattle.reader.specs.Read.{readGives, readTerms}
+use Rattle.writer.specs.Write.{Writing, writtenText, writeGives, writeLeaves, storedText, storeGives, storeLeaves}
+use Rattle.writer.specs.Write.Writing.{bytes}
+use Rattle.text.specs.Text.{beginning, readState, isFresh, oldWriteGives, oldWriteLeaves}
+use Rattle.text.proofs.Begun.{read-opened, begun-like, same-opened, edges-back, begun-checked}
+use Rattle.text.proofs.OldForm.{write-fresh, leaves-fresh}
+use Rattle.text.proofs.Reloaded.{placed-state}
 use Rattle.text.proofs.Yields.{read-terms, read-state}
 
-module _ (text : List ℕ) (f : File) (e : reading text ≡ accepted f) (terms state : List ℕ)
-    (tl : termsWords ≤ length terms) (sl : stateWords ≤ length state)
-  where
-    a : Accepted f
-    a = accepted-good text f e
+-- What reading gives, and what writing over what it left gives and leaves: the text t, of which out has room for all.
+abbrev Back : (gives : List ℕ → List ℕ → List ℕ → Writing) → (leaves : List ℕ → List ℕ → List ℕ → List ℕ) → (text terms state out t : List ℕ) → Type 0
+Back gives leaves text terms state out t =
+    (readGives text terms state ≡ passed)
+    × (gives (readTerms text terms state) (readState text terms state) out ≡ bytes (length t))
+    × (leaves (readTerms text terms state) (readState text terms state) out ≡ t ++ drop (length t) out)
 
-    abbrev T : Terms
-    T = f .terms
+module _ (text : List ℕ) (f : File) (e : reading text ≡ accepted f) (terms state : List ℕ) (tl : termsWords ≤ length terms) (sl : stateWords ≤ length state) where
+  read-done : readGives text terms state ≡ passed
+  unfolding readGives
+  read-done = rw (le-ltb (length terms) termsWords tl, le-ltb (length state) stateWords sl, e)
 
-    abbrev U : Terms
-    U = termsOf (filled f terms)
+  abbrev T : Terms
+  T = f .terms
 
-    like : Alike T U
-    like = filled-alike text f e terms state sl
+  abbrev m : List ℕ
+  m = memoryOf T ++ drop termsWords terms
 
-    fine : Good U
-    fine = good-alike T U like (a .good)
+  abbrev U : Terms
+  U = termsOf m
 
-    inside : Inside U (first (f .edges))
-    inside = record {
-      edges = λ k b c t.
-          let i = a .inside .within k b c t in
-          (rw (sym (like .relations)) (i .0), rw (sym (like .members)) (i .1), rw (sym (like .members)) (i .2));
-      event = tt;
-    }
+  -- ---- the old form
 
+  module _ (form : f .stored ≡ false) where
     abbrev opened : List ℕ
     opened = wordsOf T (opening T (f .edges)) ++ drop stateWords state
 
-    same-opened : opened ≡ wordsOf U (opening U (f .edges)) ++ drop stateWords state
-    same-opened = ap (λ w. w ++ drop stateWords state) (words-alike T U like (f .edges))
-
-    held : Held U fine state (wordsOf U (opening U (f .edges)) ++ drop stateWords state) (first (f .edges) ∷ [])
-    unfolding opening
-    held = held-words U fine state state sl refl refl (opening U (f .edges)) (first (f .edges) ∷ []) (opening-kept U fine (f .edges)) inside
-
-    good-state : goodState U opened ≡ true
-    good-state = ap (goodState U) same-opened ∙ held .good
-
-    edges-back : stateOf opened .now .edge ≡ f .edges
-    unfolding opening
-    edges-back =
+    opened-word : (i : ℕ) → i < stateWords → getD opened i 0 ≡ wordAt U (opening U (stateOf opened .now .edge)) i
+    unfolding wordsOf
+    opened-word i l =
         let S : State = opening U (f .edges) in
-        let front : stateWords ≤ length (wordsOf U S) = omega (arith, length-words U S) in
-        ap (λ w. stateOf w .now .edge) same-opened
-        ∙ ap (λ (s : State). s .now .edge) (state-front (wordsOf U S) (drop stateWords state) front)
-        ∙ ap (λ (M : Moment). M .edge) (now-back U fine S inside)
+        ap (λ w. getD w i 0) (same-opened text f e form terms state tl sl)
+        ∙ List·getD-append (wordsOf U S) (drop stateWords state) 0 i (omega (arith, length-words U S))
+        ∙ getD-tabulate stateWords (wordAt U S) i l
+        ∙ ap (λ (R : Relations). wordAt U (opening U R) i) (sym (edges-back text f e form terms state tl sl))
 
-    checked : passed ≡ checks (filled f terms) opened
-    checked = check-passed (filled f terms) opened (record {
-      long-terms = omega (arith, length-append (memoryOf T) (drop termsWords terms), length-memory T);
-      long-state = omega (arith, length-append (wordsOf T (opening T (f .edges))) (drop stateWords state), length-words T (opening T (f .edges)), length-drop stateWords state);
-      good-terms = memory-good T (a .good) (a .tidy) (drop termsWords terms);
-      good-state = good-state;
-    })
+    fresh : isFresh m opened ≡ true
+    unfolding isFresh
+    fresh = all-true stateWords (λ i l. eq-eqb _ _ (opened-word i l))
 
-    text-back : writtenText (filled f terms) opened ≡ normalText text
+    text-back : writtenText m opened ≡ normalText text
     unfolding writtenText
-    text-back = ap (written U) edges-back ∙ sym (written-alike T U like (f .edges)) ∙ rewritten text f e
+    text-back =
+        ap (written U) (edges-back text f e form terms state tl sl)
+        ∙ sym (written-alike T U (begun-like text f e form terms state tl sl) (f .edges))
+        ∙ sym (ap (λ b. cond b (stored T (stateSaid f)) (written T (f .edges))) form) ∙ rewritten text f e
 
-    -- with an output that has room
     module _ (out : List ℕ) (room : length (normalText text) ≤ length out) where
-      read-done : readGives text terms state ≡ passed
-      unfolding readGives
-      read-done = rw (le-ltb (length terms) termsWords tl, le-ltb (length state) stateWords sl, e)
-
-      write-gives : writeGives (readTerms text terms state) (readState text terms state) out ≡ bytes (length (normalText text))
+      write-gives : writeGives m opened out ≡ bytes (length (normalText text))
       unfolding writeGives
       write-gives =
-          rw (
-            read-terms text f e terms state tl sl,
-            read-state text f e terms state tl sl,
-            sym checked,
-            text-back,
-            le-ltb (length out) (length (normalText text)) room,
-          )
+          rw (sym (begun-checked text f e form terms state tl sl), text-back, le-ltb (length out) (length (normalText text)) room)
 
-      write-leaves : writeLeaves (readTerms text terms state) (readState text terms state) out ≡ normalText text ++ drop (length (normalText text)) out
+      write-leaves : writeLeaves m opened out ≡ normalText text ++ drop (length (normalText text)) out
       unfolding writeLeaves
-      write-leaves = rw (write-gives, read-terms text f e terms state tl sl, read-state text f e terms state tl sl, text-back)
+      write-leaves = rw (write-gives, text-back)
 
--- For every accepted text and all lent memory that is long enough: reading is done, writing over what reading left gives the count of the bytes of
+      pub returned-old : Back oldWriteGives oldWriteLeaves text terms state out (normalText text)
+      returned-old =
+          let c = begun-checked text f e form terms state tl sl in
+          rw (read-terms text f e terms state tl sl, read-opened text f e form terms state tl sl)
+          (read-done, write-fresh m opened out c fresh ∙ write-gives, leaves-fresh m opened out c fresh ∙ write-leaves)
+
+  -- ---- the stored form
+
+  module _ (form : f .stored ≡ true) where
+    abbrev said : List ℕ
+    said = wordsOf T (stateSaid f) ++ drop stateWords state
+
+    read-said : readState text terms state ≡ said
+    read-said =
+        read-state text f e terms state tl sl ∙ ap (λ b. wordsOf T (cond b (stateSaid f) (opening T (f .edges))) ++ drop stateWords state) form
+
+    stored-back : storedText m said ≡ normalText text
+    unfolding storedText
+    stored-back =
+        ap (stored U) (placed-state text f e state)
+        ∙ sym (stored-alike T U (filled-alike text f e terms state sl) (stateSaid f))
+        ∙ sym (ap (λ b. cond b (stored T (stateSaid f)) (written T (f .edges))) form) ∙ rewritten text f e
+
+    module _ (out : List ℕ) (room : length (normalText text) ≤ length out) where
+      store-gives : storeGives m said out ≡ bytes (length (normalText text))
+      unfolding storeGives
+      store-gives = rw (checked text f e terms state sl, stored-back, le-ltb (length out) (length (normalText text)) room)
+
+      store-leaves : storeLeaves m said out ≡ normalText text ++ drop (length (normalText text)) out
+      unfolding storeLeaves
+      store-leaves = rw (store-gives, stored-back)
+
+      returned-said : Back storeGives storeLeaves text terms state out (normalText text)
+      returned-said = rw (read-terms text f e terms state tl sl, read-said) (read-done, store-gives, store-leaves)
+
+-- For every accepted text of the old form and all lent memory that is long enough: reading is done, writing over what reading left gives the count of the bytes of
 -- the text's normal form, and leaves that in the output, with its further bytes as they were.
-pub returned : (text : List ℕ) (f : File) → reading text ≡ accepted f → (terms state out : List ℕ) →
+pub returned : (text : List ℕ) (f : File) → reading text ≡ accepted f → f .stored ≡ false → (terms state out : List ℕ) →
     termsWords ≤ length terms → stateWords ≤ length state → length (normalText text) ≤ length out →
     (readGives text terms state ≡ passed)
-    × (writeGives (readTerms text terms state) (readState text terms state) out ≡ bytes (length (normalText text)))
-    × (writeLeaves (readTerms text terms state) (readState text terms state) out ≡ normalText text ++ drop (length (normalText text)) out)
-returned text f e terms state out tl sl room = (
-  read-done text f e terms state tl sl out room,
-  write-gives text f e terms state tl sl out room,
-  write-leaves text f e terms state tl sl out room,
-)
+    × (oldWriteGives (readTerms text terms state) (readState text terms state) out ≡ bytes (length (normalText text)))
+    × (oldWriteLeaves (readTerms text terms state) (readState text terms state) out ≡ normalText text ++ drop (length (normalText text)) out)
+returned text f e form terms state out tl sl room = returned-old text f e terms state tl sl form out room
 
--- A text without a padded number is returned byte by byte.
+-- The same of the stored form, and storing.
+pub returned-stored : (text : List ℕ) (f : File) → reading text ≡ accepted f → f .stored ≡ true → (terms state out : List ℕ) →
+    termsWords ≤ length terms → stateWords ≤ length state → length (normalText text) ≤ length out →
+    (readGives text terms state ≡ passed)
+    × (storeGives (readTerms text terms state) (readState text terms state) out ≡ bytes (length (normalText text)))
+    × (storeLeaves (readTerms text terms state) (readState text terms state) out ≡ normalText text ++ drop (length (normalText text)) out)
+returned-stored text f e form terms state out tl sl room = returned-said text f e terms state tl sl form out room
+
+-- A text without a padded number is returned byte by byte, in either form.
 pub returned-same : (text : List ℕ) (f : File) → reading text ≡ accepted f → isPlain text ≡ true → (terms state out : List ℕ) →
     termsWords ≤ length terms → stateWords ≤ length state → length text ≤ length out →
-    (readGives text terms state ≡ passed)
-    × (writeGives (readTerms text terms state) (readState text terms state) out ≡ bytes (length text))
-    × (writeLeaves (readTerms text terms state) (readState text terms state) out ≡ text ++ drop (length text) out)
-returned-same text f e p terms state out tl sl =
-    let Back : List ℕ → Type 0 = λ t. length t ≤ length out →
-    (readGives text terms state ≡ passed)
-    × (writeGives (readTerms text terms state) (readState text terms state) out ≡ bytes (length t))
-    × (writeLeaves (readTerms text terms state) (readState text terms state) out ≡ t ++ drop (length t) out) in
-    subst Back (normal-plain text p) (returned text f e terms state out tl sl)
+    (f .stored ≡ false → Back oldWriteGives oldWriteLeaves text terms state out text) × (f .stored ≡ true → Back storeGives storeLeaves text terms state out text)
+returned-same text f e p terms state out tl sl room =
+    let n : normalText text ≡ text = normal-plain text p in
+    let long : length (normalText text) ≤ length out = subst (λ t. length t ≤ length out) (sym n) room in (
+      (λ form. subst (Back oldWriteGives oldWriteLeaves text terms state out) n (returned text f e form terms state out tl sl long)),
+      (λ form. subst (Back storeGives storeLeaves text terms state out) n (returned-stored text f e form terms state out tl sl long)),
+    )
 
 -- The normal form of an accepted text is accepted, and gives the same words of terms and state.
 pub normal-words : (text : List ℕ) (f : File) → reading text ≡ accepted f → (terms state : List ℕ) →
@@ -151,16 +160,16 @@ pub normal-words : (text : List ℕ) (f : File) → reading text ≡ accepted f 
     (readGives (normalText text) terms state ≡ passed)
     × (readTerms (normalText text) terms state ≡ readTerms text terms state)
     × (readState (normalText text) terms state ≡ readState text terms state)
-unfolding readGives
 normal-words text f e terms state tl sl =
     let n = normal-accepted text f e in
     let g : File = n .0 in
-    let a : reading (normalText text) ≡ accepted g = n .1 .accepts in (
-      rw (le-ltb (length terms) termsWords tl, le-ltb (length state) stateWords sl, a) refl,
-      read-terms (normalText text) g a terms state tl sl
-          ∙ ap (λ (T : Terms). memoryOf T ++ drop termsWords terms) (n .1 .terms)
+    let u = n .1 in
+    let same : beginning g ≡ beginning f = λ d. cond (u .form d) (record { now = record { edge = u .edges d; event = u .last d }; table = u .table d }) (opening (u .terms d) (u .edges d)) in (
+      read-done (normalText text) g (u .accepts) terms state tl sl,
+      read-terms (normalText text) g (u .accepts) terms state tl sl
+          ∙ ap (λ (T : Terms). memoryOf T ++ drop termsWords terms) (u .terms)
           ∙ sym (read-terms text f e terms state tl sl),
-      read-state (normalText text) g a terms state tl sl
-          ∙ (λ d. wordsOf (n .1 .terms d) (opening (n .1 .terms d) (n .1 .edges d)) ++ drop stateWords state)
+      read-state (normalText text) g (u .accepts) terms state tl sl
+          ∙ (λ d. wordsOf (u .terms d) (same d) ++ drop stateWords state)
           ∙ sym (read-state text f e terms state tl sl),
     )

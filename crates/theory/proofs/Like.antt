@@ -17,9 +17,11 @@ use Rattle.theory.specs.Keeper.Verdict.{grant, deny}
 use Rattle.theory.specs.Keeper.Answer.{decided, refused}
 use Rattle.theory.specs.Terms.{tables, pastEntry}
 use Rattle.theory.specs.Fit.{operandFits, lone, onlyFree, reachFits}
-use Rattle.theory.specs.Tables.{Tables, store, holdsNow, sinceTables, opening}
+use Rattle.theory.specs.Tables.{Tables, State, store, holdsNow, sinceTables, opening}
 use Rattle.theory.proofs.Good.{Good, GoodEntry, Within, second-lower, third-lower}
 use Rattle.theory.proofs.Past.{past-entry}
+use Rattle.theory.proofs.Now.{Same}
+use Rattle.theory.proofs.Kept.{Kept}
 
 -- ---- tables of entries that agree: the formula of an entry depends on the entries up to it
 
@@ -189,13 +191,30 @@ module _ (T U : Terms) (a : Alike T U) where
       || (holdsNow (T .members) G (Y d) (f d (e d .a)) (standing (φ d) b) i && Y d (s d) i b)) (Y d))
       (Y d)
 
+  kept-met : (S : State) (Ms : List Moment) → Kept T S Ms → Kept W S Ms
+  kept-met S Ms kept = record {
+    some = kept .some;
+    now = kept .now;
+    tables = λ n l p b c bl cl.
+        ap (λ t. S .table t b c) (sym (same-number n (omega arith)))
+        ∙ kept .tables n l (subst (λ (e : Entry). isPast (e .op) ≡ true) (sym (a .entry n l)) p) b c bl cl
+        ∙ (λ d. holds (T .members) (recordOf T Ms) (same-formula n l d) (last Ms) (standing (same-formula n l d) c) b);
+    unused = λ t b c h. kept .unused t b c (subst (λ n. n ≤ t) (sym (same-number (T .entries) (omega arith))) h);
+  }
+
   -- ---- the same of the terms themselves
 
   pub good-alike : Good T → Good U
   good-alike g = subst Good met-is (good-met g)
 
+  pub keepAll-alike : Good T → (Ms : List Moment) (cs : List Call) → keepAll T Ms cs ≡ keepAll U Ms cs
+  keepAll-alike g Ms cs = keepAll-met g Ms cs ∙ ap (λ X. keepAll X Ms cs) met-is
+
   pub keeper-alike : Good T → (R : Relations) (cs : List Call) → keeper T R cs ≡ keeper U R cs
-  keeper-alike g R cs = keepAll-met g (first R ∷ []) cs ∙ ap (λ X. keeper X R cs) met-is
+  keeper-alike g R = keepAll-alike g (first R ∷ [])
+
+  pub kept-alike : (S : State) (Ms : List Moment) → Kept T S Ms → Kept U S Ms
+  kept-alike S Ms kept = subst (λ X. Kept X S Ms) met-is (kept-met S Ms kept)
 
 pub alike-sym : {T U : Terms} → Alike T U → Alike U T
 alike-sym a = record {
@@ -206,4 +225,15 @@ alike-sym a = record {
   entry = λ n l. sym (a .entry n (rw (a .entries) l));
   policy = λ j l. sym (a .policy j (rw (a .events) l));
   effects = λ j l. sym (a .effects j (rw (a .events) l));
+}
+
+pub alike-trans : {T U X : Terms} → Alike T U → Alike U X → Alike T X
+alike-trans a b = record {
+  members = a .members ∙ b .members;
+  relations = a .relations ∙ b .relations;
+  events = a .events ∙ b .events;
+  entries = a .entries ∙ b .entries;
+  entry = λ n l. a .entry n l ∙ b .entry n (rw (sym (a .entries)) l);
+  policy = λ j l. a .policy j l ∙ b .policy j (rw (sym (a .events)) l);
+  effects = λ j l. a .effects j l ∙ b .effects j (rw (sym (a .events)) l);
 }

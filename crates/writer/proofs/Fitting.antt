@@ -1,45 +1,66 @@
--- The ways that writing ends: a refusal leaves the output as it was, a whole text fills it from its first byte. And those of asking for the size.
-use Prim.Native.Nat.{ℕ, _≤_, _<_}
+-- The ways that writing a text ends: a refusal leaves the output as it was, a whole text fills it from its first byte. And those of asking for the size.
+use Prim.Native.Nat.{ℕ, zero, suc, _/_, _≤_, _<_}
 use mathlib.Core.Path.{_≡_, refl, ap, _∙_}
+use mathlib.Core.Bool.{true, false}
 use mathlib.Core.List.{List, _++_}
 use native.Mathlib.Omega.{arith}
 use native.Mathlib.Nat.{zero-add}
-use lib.ListN.{length, drop}
+use lib.Dec.{ltb}
+use lib.ListN.{length, getD, drop}
 use lib.Seq.{sets-eq}
-use borrow.Author.Tests.{lt-ltb, le-ltb}
-use Rattle.memory.specs.Outcome.{checks}
+use borrow.Author.Tests.{lt-ltb, le-ltb, ltb-true}
+use Rattle.sets.proofs.Finite.{and-left}
+use Rattle.theory.specs.Terms.{Terms}
+use Rattle.theory.proofs.Good.{every-at}
+use Rattle.memory.specs.Layout.{eventAt, termsOf}
+use Rattle.memory.specs.Checks.{goodEvent, stateTests, goodState}
+use Rattle.memory.specs.Outcome.{Outcome, checks}
 use Rattle.memory.specs.Outcome.Outcome.{passed, failed}
+use Rattle.memory.proofs.Accepted.{good}
+use Rattle.memory.proofs.Outcomes.{passed-checked}
 use Rattle.fields.specs.Put.{Put}
-use Rattle.writer.specs.Write.{Writing, writtenText, sizeGives, writeGives, writeLeaves}
+use Rattle.writer.specs.Write.{Writing, fitted, filledOut}
 use Rattle.writer.specs.Write.Writing.{bytes, unwritten}
 
-module _ (terms state : List ℕ) where
-  pub size-unchecked : (n l : ℕ) → failed n l ≡ checks terms state → unwritten n l ≡ sizeGives terms state
-  unfolding sizeGives
+-- what the check of terms and state gave, and the text
+module _ (o : Outcome) (text : List ℕ) where
+  pub size-unchecked : (n l : ℕ) → failed n l ≡ o → unwritten n l ≡ fitted false (length text) o
   size-unchecked n l e = rw (← e) refl
 
-  pub size-whole : passed ≡ checks terms state → (m : ℕ) → m ≡ length (writtenText terms state) → bytes m ≡ sizeGives terms state
-  unfolding sizeGives
+  pub size-whole : passed ≡ o → (m : ℕ) → m ≡ length text → bytes m ≡ fitted false (length text) o
   size-whole e m n = rw (← e, n) refl
 
-module _ (terms state out : List ℕ) where
-  abbrev Ends : Writing → List ℕ → Type 0
-  Ends r p = (r ≡ writeGives terms state out) × (p ≡ writeLeaves terms state out)
+  module _ (out : List ℕ) where
+    abbrev pub gives : Writing
+    gives = fitted (ltb (length out) (length text)) (length text) o
 
-  pub ends-unchecked : (n l : ℕ) → failed n l ≡ checks terms state → Ends (unwritten n l) out
-  unfolding writeGives writeLeaves
-  ends-unchecked n l e = rw (← e) (refl, refl)
+    abbrev Ends : Writing → List ℕ → Type 0
+    Ends r p = (r ≡ gives) × (p ≡ filledOut text out gives)
 
-  module _ (e : passed ≡ checks terms state) (m : ℕ) (n : m ≡ length (writtenText terms state)) where
-    pub ends-short : length out < m → Ends (unwritten 6 0) out
-    unfolding writeGives writeLeaves
-    ends-short h = rw (← e, lt-ltb (length out) (length (writtenText terms state)) (omega arith)) (refl, refl)
+    pub ends-unchecked : (n l : ℕ) → failed n l ≡ o → Ends (unwritten n l) out
+    ends-unchecked n l e = rw (← e) (refl, refl)
 
-    pub ends-whole : m ≤ length out → (p : List ℕ) (q : ℕ) → Put out p 0 q (writtenText terms state) → Ends (bytes m) p
-    unfolding writeGives writeLeaves
-    ends-whole h p q x =
-        let w = writtenText terms state in
-        let z : m ≡ length w = omega arith in
-        let s : p ≡ w ++ drop (length w) out =
-        x .left ∙ sets-eq w out 0 (omega arith) ∙ ap (λ (t : ℕ). w ++ drop t out) (zero-add (length w)) in
-        rw (← e, le-ltb (length out) (length w) (omega arith), z) (refl, s)
+    module _ (e : passed ≡ o) (m : ℕ) (n : m ≡ length text) where
+      pub ends-short : length out < m → Ends (unwritten 6 0) out
+      ends-short h = rw (← e, lt-ltb (length out) (length text) (omega arith)) (refl, refl)
+
+      pub ends-whole : m ≤ length out → (p : List ℕ) (q : ℕ) → Put out p 0 q text → Ends (bytes m) p
+      ends-whole h p q x =
+          let s : p ≡ text ++ drop (length text) out =
+          x .left ∙ sets-eq text out 0 (omega arith) ∙ ap (λ (t : ℕ). text ++ drop t out) (zero-add (length text)) in
+          rw (← e, le-ltb (length out) (length text) (omega arith), n) (refl, s)
+
+-- ---- the event word of checked terms and state
+
+event-few : (T : Terms) (w : ℕ) → T .events < 17 → goodEvent T w ≡ true → w ≤ 65536
+event-few T zero h e = omega arith
+event-few T (suc n) h e =
+    let l : n / 4096 < T .events = ltb-true (n / 4096) (T .events) (and-left (ltb (n / 4096) (T .events)) _ e) in
+    omega arith
+
+pub event-small : (terms state : List ℕ) → passed ≡ checks terms state → getD state eventAt 0 ≤ 65536
+unfolding goodState
+event-small terms state e =
+    let k = passed-checked terms state e in
+    let T = termsOf terms in
+    event-few T (getD state eventAt 0) (good terms (k .good-terms) .few-events) (every-at (stateTests T state) (k .good-state) 3)

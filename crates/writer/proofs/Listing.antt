@@ -1,4 +1,4 @@
--- Laws of lines put one after the other: a list of them, the effects of an event, the edges of a word.
+-- Laws of lines put one after the other: a list of them, the bits of a word, the effects of an event.
 use Prim.Native.Nat.{ℕ, zero, suc, _+_, _-_, _*_, _/_, _%_, _<_, _≤_}
 use mathlib.Core.Path.{_≡_, refl, sym, ap, ap₂, subst, _∙_}
 use mathlib.Core.Bool.{Bool, true, false, cond}
@@ -10,13 +10,13 @@ use lib.ListN.{getD}
 use borrow.Author.Tests.{lt-ltb, ne-eqb}
 use Rattle.sets.specs.Sets.{bit}
 use Rattle.sets.proofs.Bits.{bit-zero}
-use Rattle.memory.specs.Layout.{effectAt, effectsFrom, stateOf}
+use Rattle.memory.specs.Layout.{effectAt, effectsFrom, eventOf, stateOf}
 use Rattle.file.specs.Line.{printed}
 use Rattle.fields.specs.Put.{Put}
-use Rattle.file.specs.Writing.{listed, effectLines, edgeAt, printedAll}
-use Rattle.writer.specs.Kinds.{edgeLines, tripleOf, bitOf, rowOf}
+use Rattle.file.specs.Writing.{listed, effectLines, bitAt, eventEdgeLine, printedAll}
+use Rattle.writer.specs.Kinds.{edgeLines, tableLines, tripleOf, says, bitOf, rowOf, rowsOf}
 use Rattle.file.specs.declared.line.Line.{Line}
-use Rattle.file.specs.declared.line.Line.the-variants.{Edge}
+use Rattle.file.specs.declared.line.Line.the-variants.{EventEdge}
 use Rattle.fields.proofs.Output.{put-none, put-then}
 
 -- ---- lists of lines
@@ -80,50 +80,83 @@ pub running-end : {o p : List ℕ} {at m k n i : ℕ} {f : ℕ → List Line}
     → n ≤ i → Running o p at m k n i f → Put o p at m (printedAll (listed n f))
 running-end {n = n} {i = i} l g = let e : i ≡ n = (let w = g .within in omega arith) in rw e at (g .put)
 
--- ---- the edges of a word: those of number 64 i to 64 i + 63
+-- ---- the lines of a word: those of number 64 i to 64 i + 63
 
-edge-at : (w i b : ℕ) → b < 64 → bitOf w i b ≡ cond (bit w b) (Edge (i / 64) (i % 64) b ∷ []) []
-edge-at w i b h =
+bit-at : (t : Bool) (w i b : ℕ) → b < 64 → bitOf t w i b ≡ cond (bit w b) (says t (i / 64) (i % 64) b ∷ []) []
+bit-at t w i b h =
     let p : (64 * i + b) / 4096 ≡ i / 64 = omega arith in
     let q : (64 * i + b) / 64 % 64 ≡ i % 64 = omega arith in
     let r : (64 * i + b) % 64 ≡ b = omega arith in
     rw (p, q, r)
 
-module _ (w i b : ℕ) (h : b < 64) where
-  pub put-edge-there : {o p : List ℕ} {at m : ℕ} (c : Bool) → c ≡ bit w b → c ≡ true
-      → Put o p at m (printed (Edge (i / 64) (i % 64) b) ++ (10 ∷ [])) → Put o p at m (printedAll (bitOf w i b))
-  put-edge-there c e t x = rw (edge-at w i b h, ← e, t) (put-line (Edge (i / 64) (i % 64) b) x)
+module _ (t : Bool) (w i b : ℕ) (h : b < 64) where
+  pub put-bit-there : {o p : List ℕ} {at m : ℕ} (c : Bool) → c ≡ bit w b → c ≡ true
+      → Put o p at m (printed (says t (i / 64) (i % 64) b) ++ (10 ∷ [])) → Put o p at m (printedAll (bitOf t w i b))
+  put-bit-there c e y x = rw (bit-at t w i b h, ← e, y) (put-line (says t (i / 64) (i % 64) b) x)
 
-  pub put-edge-none : (o : List ℕ) (at : ℕ) (c : Bool) → c ≡ bit w b → c ≡ false → Put o o at at (printedAll (bitOf w i b))
+  pub put-bit-none : (o : List ℕ) (at : ℕ) (c : Bool) → c ≡ bit w b → c ≡ false → Put o o at at (printedAll (bitOf t w i b))
   unfolding printedAll
-  put-edge-none o at c e t = rw (edge-at w i b h, ← e, t) (put-none o at)
+  put-bit-none o at c e y = rw (bit-at t w i b h, ← e, y) (put-none o at)
 
--- a word without edges
-pub put-row-none : (o : List ℕ) (at w i : ℕ) → w ≡ 0 → Put o o at at (printedAll (rowOf w i))
+-- a word without bits
+pub put-row-none : (o : List ℕ) (at : ℕ) (t : Bool) (w i : ℕ) → w ≡ 0 → Put o o at at (printedAll (rowOf t w i))
 unfolding printedAll
-put-row-none o at w i e =
-    let none : rowOf w i ≡ [] = listed-cong 64 (λ b h. edge-at w i b h ∙ rw (e, bit-zero b) refl) ∙ listed-empty 64 in
+put-row-none o at t w i e =
+    let none : rowOf t w i ≡ [] = listed-cong 64 (λ b h. bit-at t w i b h ∙ rw (e, bit-zero b) refl) ∙ listed-empty 64 in
     rw none (put-none o at)
 
-edge-state : (w : List ℕ) (i b : ℕ) → i < 1024 → b < 64 → bitOf (getD w i 0) i b ≡ edgeAt (stateOf w .now .edge) (64 * i + b)
+-- ---- the lines of n words from one on are those of the relations or tables that they hold
+
+module _ (t : Bool) (R : (k a b : ℕ) → Bool) (w : List ℕ) (first : ℕ) where
+  abbrev Holds : ℕ → Type 0
+  Holds n = (i b : ℕ) → i < n → R (i / 64) (i % 64) b ≡ bit (getD w (first + i) 0) b
+
+  bit-held : (n : ℕ) → Holds n → (i b : ℕ) → i < n → b < 64 → bitOf t (getD w (first + i) 0) i b ≡ bitAt (says t) R (64 * i + b)
+  bit-held n h i b l g =
+      let p : (64 * i + b) / 4096 ≡ i / 64 = omega arith in
+      let q : (64 * i + b) / 64 % 64 ≡ i % 64 = omega arith in
+      let r : (64 * i + b) % 64 ≡ b = omega arith in
+      rw (p, q, r, h i b l) refl
+
+  rows-held : (n : ℕ) → Holds n → rowsOf t w first n ≡ listed (64 * n) (bitAt (says t) R)
+  rows-held zero h = unfold listed in refl
+  rows-held (suc n) h =
+      let f : ℕ → List Line = bitAt (says t) R in
+      let e : 64 * suc n ≡ 64 * n + 64 = omega arith in
+      listed-suc n (λ i. rowOf t (getD w (first + i) 0) i)
+      ∙ ap₂ _++_ (rows-held n (λ i b l. h i b (omega arith))) (listed-cong 64 (λ b g. bit-held (suc n) h n b (omega arith) g))
+      ∙ listed-span (64 * n) 64 f ∙ ap (λ (m : ℕ). listed m f) (sym e)
+
+edges-held : (w : List ℕ) → Holds false (stateOf w .now .edge) w 0 1024
 unfolding stateOf
-edge-state w i b h g =
-    let p : 64 * ((64 * i + b) / 4096) + (64 * i + b) / 64 % 64 ≡ i = omega arith in
-    rw (lt-ltb ((64 * i + b) / 4096) 16 (omega arith), lt-ltb ((64 * i + b) / 64 % 64) 64 (omega arith), p) refl
+edges-held w i b l =
+    let e : 64 * (i / 64) + i % 64 ≡ 0 + i = omega arith in
+    rw (lt-ltb (i / 64) 16 (omega arith), lt-ltb (i % 64) 64 (omega arith), e) refl
 
-rows-edges : (w : List ℕ) (n : ℕ) → n ≤ 1024 → listed n (λ i. rowOf (getD w i 0) i) ≡ listed (64 * n) (edgeAt (stateOf w .now .edge))
-rows-edges w zero h = unfold listed in refl
-rows-edges w (suc n) h =
-    let f : ℕ → List Line = edgeAt (stateOf w .now .edge) in
-    let e : 64 * suc n ≡ 64 * n + 64 = omega arith in
-    listed-suc n (λ i. rowOf (getD w i 0) i)
-    ∙ ap₂ _++_ (rows-edges w n (omega arith)) (listed-cong 64 (λ b g. edge-state w n b (omega arith) g))
-    ∙ listed-span (64 * n) 64 f ∙ ap (λ (m : ℕ). listed m f) (sym e)
+tables-held : (w : List ℕ) → Holds true (stateOf w .table) w 1024 2048
+unfolding stateOf
+tables-held w i b l =
+    let e : 1024 + 64 * (i / 64) + i % 64 ≡ 1024 + i = omega arith in
+    rw (lt-ltb (i / 64) 32 (omega arith), lt-ltb (i % 64) 64 (omega arith), e) refl
 
--- the edges of all words
-pub put-all-rows : {o p : List ℕ} {at m : ℕ} (w : List ℕ) → Put o p at m (printedAll (listed 1024 (λ i. rowOf (getD w i 0) i)))
-    → Put o p at m (printedAll (edgeLines (stateOf w .now .edge)))
-put-all-rows w x = subst (Put _ _ _ _) (ap printedAll (rows-edges w 1024 (omega arith))) x
+module _ {o p : List ℕ} {at m : ℕ} (w : List ℕ) where
+  pub put-all-edges : Put o p at m (printedAll (rowsOf false w 0 1024)) → Put o p at m (printedAll (edgeLines (stateOf w .now .edge)))
+  put-all-edges x = subst (Put _ _ _ _) (ap printedAll (rows-held false (stateOf w .now .edge) w 0 1024 (edges-held w))) x
+
+  pub put-all-tables : Put o p at m (printedAll (rowsOf true w 1024 2048)) → Put o p at m (printedAll (tableLines (stateOf w .table)))
+  put-all-tables x = subst (Put _ _ _ _) (ap printedAll (rows-held true (stateOf w .table) w 1024 2048 (tables-held w))) x
+
+-- ---- the line of an event word
+
+pub put-event-none : (o : List ℕ) (at w : ℕ) → w ≡ 0 → Put o o at at (printedAll (eventEdgeLine (eventOf w)))
+unfolding printedAll
+put-event-none o at w e = rw e (put-none o at)
+
+pub put-event-there : {o p : List ℕ} {at m : ℕ} (w : ℕ) → (w ≡ 0 → ⊥)
+    → Put o p at m (printed (EventEdge ((w - 1) / 4096) ((w - 1) / 64 % 64) ((w - 1) % 64)) ++ (10 ∷ []))
+    → Put o p at m (printedAll (eventEdgeLine (eventOf w)))
+put-event-there zero h x = absurd (h refl)
+put-event-there (suc n) h x = let e : suc n - 1 ≡ n = omega arith in put-line _ (rw e at x)
 
 -- ---- what is put so far and what is left make the whole
 

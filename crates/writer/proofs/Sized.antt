@@ -9,8 +9,9 @@ use lib.Dec.{ltb}
 use borrow.Author.Tests.{lt-ltb, le-ltb}
 use Rattle.memory.specs.Outcome.{Outcome, checks}
 use Rattle.memory.specs.Outcome.Outcome.{passed, failed}
-use Rattle.writer.specs.Write.{fitted, writtenText, sizeGives, writeGives}
+use Rattle.writer.specs.Write.{fitted, writtenText, storedText, sizeGives, writeGives, storeSizeGives, storeGives}
 use Rattle.writer.specs.Write.Writing.{bytes, unwritten}
+use Rattle.writer.proofs.Fitting.{gives}
 
 -- what passes has the size of the text
 whole : (o : Outcome) (m n : ℕ) → fitted false m o ≡ bytes n → (o ≡ passed) × (m ≡ n)
@@ -22,21 +23,38 @@ same-refusal : (o : Outcome) (s : Bool) (m k l : ℕ) → fitted false m o ≡ u
 same-refusal passed s m k l e = let z : _≡_ {A = ℕ} 0 1 = cc in absurd (omega arith)
 same-refusal (failed i j) s m k l e = e
 
+-- what the check of terms and state gave, the text and the output
+module _ (o : Outcome) (text out : List ℕ) where
+  enough : (n : ℕ) → fitted false (length text) o ≡ bytes n → n ≤ length out → gives o text out ≡ bytes n
+  enough n e h = let w = whole o (length text) n e in rw (w .0, w .1, le-ltb (length out) n h) refl
+
+  short : (n : ℕ) → fitted false (length text) o ≡ bytes n → length out < n → gives o text out ≡ unwritten 6 0
+  short n e h = let w = whole o (length text) n e in rw (w .0, w .1, lt-ltb (length out) n h) refl
+
+  refused : (k l : ℕ) → fitted false (length text) o ≡ unwritten k l → gives o text out ≡ unwritten k l
+  refused k l e = same-refusal o (ltb (length out) (length text)) (length text) k l e
+
 module _ (terms state out : List ℕ) where
   pub size-enough : (n : ℕ) → sizeGives terms state ≡ bytes n → n ≤ length out → writeGives terms state out ≡ bytes n
   unfolding sizeGives writeGives
-  size-enough n e h =
-      let w = whole (checks terms state) (length (writtenText terms state)) n e in
-      rw (w .0, w .1, le-ltb (length out) n h) refl
+  size-enough = enough (checks terms state) (writtenText terms state) out
 
   pub size-short : (n : ℕ) → sizeGives terms state ≡ bytes n → length out < n → writeGives terms state out ≡ unwritten 6 0
   unfolding sizeGives writeGives
-  size-short n e h =
-      let w = whole (checks terms state) (length (writtenText terms state)) n e in
-      rw (w .0, w .1, lt-ltb (length out) n h) refl
+  size-short = short (checks terms state) (writtenText terms state) out
 
   pub size-refused : (k l : ℕ) → sizeGives terms state ≡ unwritten k l → writeGives terms state out ≡ unwritten k l
   unfolding sizeGives writeGives
-  size-refused k l e =
-      let m = length (writtenText terms state) in
-      same-refusal (checks terms state) (ltb (length out) m) m k l e
+  size-refused = refused (checks terms state) (writtenText terms state) out
+
+  pub store-size-enough : (n : ℕ) → storeSizeGives terms state ≡ bytes n → n ≤ length out → storeGives terms state out ≡ bytes n
+  unfolding storeSizeGives storeGives
+  store-size-enough = enough (checks terms state) (storedText terms state) out
+
+  pub store-size-short : (n : ℕ) → storeSizeGives terms state ≡ bytes n → length out < n → storeGives terms state out ≡ unwritten 6 0
+  unfolding storeSizeGives storeGives
+  store-size-short = short (checks terms state) (storedText terms state) out
+
+  pub store-size-refused : (k l : ℕ) → storeSizeGives terms state ≡ unwritten k l → storeGives terms state out ≡ unwritten k l
+  unfolding storeSizeGives storeGives
+  store-size-refused = refused (checks terms state) (storedText terms state) out

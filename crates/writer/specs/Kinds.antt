@@ -1,15 +1,16 @@
--- The lines of a text kind by kind, as `allLines` has them one after the other.
+-- The lines of a text kind by kind, as `allLines` and `storedLines` have them one after the other.
 use Prim.Native.Nat.{ℕ, _+_, _*_}
-use mathlib.Core.Bool.{cond}
+use mathlib.Core.Bool.{Bool, true, false, cond}
 use mathlib.Core.List.{List, [], _∷_}
 use lib.Dec.{eqb}
 use lib.ListN.{getD}
 use Rattle.sets.specs.Sets.{bit}
 use Rattle.theory.specs.Terms.{Terms}
 use Rattle.theory.specs.Moment.{Relations}
-use Rattle.file.specs.Writing.{listed, lineOfEntry, effectLines, edgeAt}
+use Rattle.theory.specs.Tables.{Tables}
+use Rattle.file.specs.Writing.{listed, lineOfEntry, effectLines, bitAt}
 use Rattle.file.specs.declared.line.Line.{Line}
-use Rattle.file.specs.declared.line.Line.the-variants.{Members, Labels, Policy, Effect}
+use Rattle.file.specs.declared.line.Line.the-variants.{Members, Labels, Policy, Effect, Edge, TableBit}
 
 abbrev pub frontLines : Terms → List Line
 frontLines T = Members (T .members) ∷ Labels (T .relations) (T .events) ∷ []
@@ -34,7 +35,10 @@ abbrev pub eventLines : Terms → List Line
 eventLines T = listed (T .events) (effectsOf T)
 
 abbrev pub edgeLines : Relations → List Line
-edgeLines R = listed 65536 (edgeAt R)
+edgeLines R = listed 65536 (bitAt Edge R)
+
+abbrev pub tableLines : Tables → List Line
+tableLines X = listed 131072 (bitAt TableBit X)
 
 -- ---- as memory holds them
 
@@ -42,9 +46,17 @@ edgeLines R = listed 65536 (edgeAt R)
 abbrev pub tripleOf : List ℕ → (j from : ℕ) → List Line
 tripleOf w j from = Effect j (cond (eqb (getD w from 0) 1) 1 2) (getD w (from + 1) 0) (cond (eqb (getD w (from + 2) 0) 1) 1 0) ∷ []
 
--- The edge of bit b of relation word i, which is w, and the edges of all its bits.
-abbrev pub bitOf : (w i b : ℕ) → List Line
-bitOf w i b = edgeAt (λ k a. bit w) (64 * i + b)
+-- What a set bit of a relation or of a table says.
+abbrev pub says : (table : Bool) → (k a b : ℕ) → Line
+says false = Edge
+says true = TableBit
 
-abbrev pub rowOf : (w i : ℕ) → List Line
-rowOf w i = listed 64 (bitOf w i)
+-- The line of bit b of word i of the relations or tables, where that word is w; the lines of all its bits; and those of n words from word `first` of a state on.
+abbrev pub bitOf : (table : Bool) → (w i b : ℕ) → List Line
+bitOf table w i b = bitAt (says table) (λ k a. bit w) (64 * i + b)
+
+abbrev pub rowOf : (table : Bool) → (w i : ℕ) → List Line
+rowOf table w i = listed 64 (bitOf table w i)
+
+abbrev pub rowsOf : (table : Bool) → (state : List ℕ) → (first n : ℕ) → List Line
+rowsOf table state first n = listed n (λ i. rowOf table (getD state (first + i) 0) i)

@@ -1,5 +1,8 @@
-// The writer of a terms file, over lent memory.
+// The writer of a terms file and of its stored form, over lent memory.
+mod bits;
+mod kind;
 mod print;
+pub mod store;
 mod vocabulary;
 pub mod write;
 

@@ -1,4 +1,5 @@
 // Lines: each puts its kind, its fields with a tab before each, and a line feed. A line has at most 32 bytes.
+use crate::kind;
 use crate::vocabulary::put_action;
 use crate::vocabulary::put_direction;
 use crate::vocabulary::put_kind;
@@ -14,7 +15,7 @@ ghost use Rattle.fields.specs.Number.{digits};
 ghost use Rattle.fields.specs.Put.{Put};
 ghost use Rattle.file.specs.Words.{operatorWords, actionWords, directionWords, kindWords};
 ghost use Rattle.file.specs.Line.{printed};
-ghost use Rattle.file.specs.declared.line.Line.the-variants.{Members, Labels, Entry, Policy, Effect, Edge};
+ghost use Rattle.file.specs.declared.line.Line.the-variants.{Entry, Effect};
 
 // Puts a tab and the digits of n.
 fn put_field(out: &mut [u8], at: usize, n: usize) -> usize
@@ -66,25 +67,44 @@ fn put_head(out: &mut [u8], at: usize, kind: usize, n: usize) -> usize
     put_field(out, next, n)
 }
 
-// Puts the M line.
-pub(crate) fn put_members(out: &mut [u8], at: usize, n: usize) -> usize
+// Puts a line of a kind and one number: M and S.
+pub(crate) fn put_single(out: &mut [u8], at: usize, kind: usize, n: usize) -> usize
     requires { ⌜ (n < 100000) × (at < 2 ^ 58) ⌝ }
-    ensures { λ r. ⌜ Put (now (out .entry)) (now (out .exit)) at r (printed (Members n) ++ (10 ∷ [])) ⌝ }
+    ensures { λ r. ⌜ Put (now (out .entry)) (now (out .exit)) at r (join 9 (getD kindWords kind [] ∷ digits n ∷ []) ++ (10 ∷ [])) ⌝ }
     ensures { λ r. ⌜ r ≤ at + 32 ⌝ }
 {
-    let first = put_head(out, at, 0, n);
+    let first = put_head(out, at, kind, n);
     put_byte(out, first, 10)
 }
 
-// Puts the L line.
-pub(crate) fn put_labels(out: &mut [u8], at: usize, r: usize, e: usize) -> usize
-    requires { ⌜ (r < 100000) × (e < 100000) × (at < 2 ^ 58) ⌝ }
-    ensures { λ m. ⌜ Put (now (out .entry)) (now (out .exit)) at m (printed (Labels r e) ++ (10 ∷ [])) ⌝ }
-    ensures { λ m. ⌜ m ≤ at + 32 ⌝ }
+// Puts a line of a kind and two numbers: L and P.
+pub(crate) fn put_pair(out: &mut [u8], at: usize, kind: usize, n: usize, a: usize) -> usize
+    requires { ⌜ (n < 100000) × (a < 100000) × (at < 2 ^ 58) ⌝ }
+    ensures { λ r. ⌜ Put (now (out .entry)) (now (out .exit)) at r (join 9 (getD kindWords kind [] ∷ digits n ∷ digits a ∷ []) ++ (10 ∷ [])) ⌝ }
+    ensures { λ r. ⌜ r ≤ at + 32 ⌝ }
 {
-    let first = put_head(out, at, 1, r);
-    let second = put_field(out, first, e);
+    let first = put_head(out, at, kind, n);
+    let second = put_field(out, first, a);
     put_byte(out, second, 10)
+}
+
+// Puts a line of a kind and three numbers: G, T and V.
+pub(crate) fn put_triple(
+    out: &mut [u8],
+    at: usize,
+    kind: usize,
+    n: usize,
+    a: usize,
+    b: usize,
+) -> usize
+    requires { ⌜ (n < 100000) × (a < 100000) × (b < 100000) × (at < 2 ^ 58) ⌝ }
+    ensures { λ r. ⌜ Put (now (out .entry)) (now (out .exit)) at r (join 9 (getD kindWords kind [] ∷ digits n ∷ digits a ∷ digits b ∷ []) ++ (10 ∷ [])) ⌝ }
+    ensures { λ r. ⌜ r ≤ at + 32 ⌝ }
+{
+    let first = put_head(out, at, kind, n);
+    let second = put_field(out, first, a);
+    let third = put_field(out, second, b);
+    put_byte(out, third, 10)
 }
 
 // Puts an F line, with a sixth field where its operator has a third operand.
@@ -101,7 +121,7 @@ pub(crate) fn put_entry(
     ensures { λ r. ⌜ Put (now (out .entry)) (now (out .exit)) at r (printed (Entry n op a b c) ++ (10 ∷ [])) ⌝ }
     ensures { λ r. ⌜ r ≤ at + 32 ⌝ }
 {
-    let first = put_head(out, at, 2, n);
+    let first = put_head(out, at, kind::ENTRY, n);
     let second = put_operator_field(out, first, op);
     let third = put_field(out, second, a);
     let fourth = put_field(out, third, b);
@@ -112,38 +132,15 @@ pub(crate) fn put_entry(
     put_byte(out, fourth, 10)
 }
 
-// Puts a P line.
-pub(crate) fn put_policy(out: &mut [u8], at: usize, j: usize, n: usize) -> usize
-    requires { ⌜ (j < 100000) × (n < 100000) × (at < 2 ^ 58) ⌝ }
-    ensures { λ r. ⌜ Put (now (out .entry)) (now (out .exit)) at r (printed (Policy j n) ++ (10 ∷ [])) ⌝ }
-    ensures { λ r. ⌜ r ≤ at + 32 ⌝ }
-{
-    let first = put_head(out, at, 3, j);
-    let second = put_field(out, first, n);
-    put_byte(out, second, 10)
-}
-
 // Puts an E line.
 pub(crate) fn put_effect(out: &mut [u8], at: usize, j: usize, c: usize, k: usize, d: usize) -> usize
     requires { ⌜ (j < 100000) × (k < 100000) × (at < 2 ^ 58) ⌝ }
     ensures { λ r. ⌜ Put (now (out .entry)) (now (out .exit)) at r (printed (Effect j c k d) ++ (10 ∷ [])) ⌝ }
     ensures { λ r. ⌜ r ≤ at + 32 ⌝ }
 {
-    let first = put_head(out, at, 4, j);
+    let first = put_head(out, at, kind::EFFECT, j);
     let second = put_action_field(out, first, c);
     let third = put_field(out, second, k);
     let fourth = put_direction_field(out, third, d);
     put_byte(out, fourth, 10)
-}
-
-// Puts a G line.
-pub(crate) fn put_edge(out: &mut [u8], at: usize, k: usize, a: usize, b: usize) -> usize
-    requires { ⌜ (k < 100000) × (a < 100000) × (b < 100000) × (at < 2 ^ 58) ⌝ }
-    ensures { λ r. ⌜ Put (now (out .entry)) (now (out .exit)) at r (printed (Edge k a b) ++ (10 ∷ [])) ⌝ }
-    ensures { λ r. ⌜ r ≤ at + 32 ⌝ }
-{
-    let first = put_head(out, at, 5, k);
-    let second = put_field(out, first, a);
-    let third = put_field(out, second, b);
-    put_byte(out, third, 10)
 }

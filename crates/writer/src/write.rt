@@ -1,19 +1,17 @@
 // The writer: the text of the lent terms and present relations (docs/SCOPE.md, The terms file), kind by kind.
 // Whatever the words are, the text has at most 2 ^ 24 bytes, so that no count wraps.
 use crate::Written;
-use crate::print::put_edge;
+use crate::bits::put_edges;
+use crate::kind;
 use crate::print::put_effect;
 use crate::print::put_entry;
-use crate::print::put_labels;
-use crate::print::put_members;
-use crate::print::put_policy;
+use crate::print::put_pair;
+use crate::print::put_single;
 use memory::Outcome;
 use memory::check;
-use memory::layout::BLOCK;
 use memory::layout::EFFECT;
 use memory::layout::EFFECTS_AT;
 use memory::layout::EVENT;
-use memory::layout::TABLES_AT;
 use memory::layout::entries;
 use memory::layout::events;
 use memory::layout::first_of;
@@ -25,21 +23,18 @@ use memory::layout::second_of;
 use memory::layout::third_of;
 use memory::layout::word;
 use memory::limits::EFFECTS;
-use memory::limits::MEMBERS;
-use sets::has;
 ghost use mathlib.Core.Path.{_≡_};
 ghost use mathlib.Core.Bool.{cond};
 ghost use Prim.Native.Nat.{_+_, _*_, _^_, _<_, _≤_};
 ghost use lib.Dec.{eqb};
 ghost use lib.ListN.{length};
-ghost use Rattle.memory.specs.Layout.{relationWords, termsOf, stateOf};
+ghost use Rattle.memory.specs.Layout.{relationWords, termsOf};
 ghost use Rattle.memory.specs.Outcome.{checks};
 ghost use Rattle.memory.specs.Outcome.Outcome.{passed};
 ghost use Rattle.fields.specs.Put.{Put};
 ghost use Rattle.writer.specs.Write.{writtenText, writingOf, sizeGives, writeGives, writeLeaves};
 ghost use Rattle.file.specs.Writing.{printedAll};
-ghost use Rattle.writer.specs.Kinds.{frontLines, entryOf, entryLines, policyOf, policyLines, effectsOf, eventLines, edgeLines};
-ghost use Rattle.writer.specs.Kinds.{tripleOf, bitOf, rowOf};
+ghost use Rattle.writer.specs.Kinds.{frontLines, entryOf, entryLines, policyOf, policyLines, effectsOf, eventLines, tripleOf};
 
 // Puts the F line of entry n.
 fn put_entry_of(terms: &[u16], out: &mut [u8], at: usize, n: usize) -> usize
@@ -77,7 +72,7 @@ fn put_policy_of(terms: &[u16], out: &mut [u8], at: usize, j: usize) -> usize
     ensures { λ r. ⌜ r ≤ at + 32 ⌝ }
 {
     let n = policy_of(terms, j);
-    put_policy(out, at, j, n)
+    put_pair(out, at, kind::POLICY, j, n)
 }
 
 // Puts the P lines.
@@ -150,70 +145,18 @@ fn put_effects(terms: &[u16], out: &mut [u8], at: usize) -> usize
     next
 }
 
-// Puts the G line of bit b of relation word i, which is w, where it is set.
-fn put_bit(out: &mut [u8], at: usize, w: u64, i: usize, b: usize) -> usize
-    requires { ⌜ (i < relationWords) × (b < 64) × (at < 2 ^ 58) ⌝ }
-    ensures { λ r. ⌜ Put (now (out .entry)) (now (out .exit)) at r (printedAll (bitOf w i b)) ⌝ }
-    ensures { λ r. ⌜ r ≤ at + 32 ⌝ }
-{
-    if has(w, b) {
-        put_edge(out, at, i / BLOCK, i % BLOCK, b)
-    } else {
-        at
-    }
-}
-
-// Puts the G lines of relation word i, which is w, bit by bit.
-fn put_bits(out: &mut [u8], at: usize, w: u64, i: usize) -> usize
-    requires { ⌜ (i < relationWords) × (at < 2 ^ 57) ⌝ }
-    ensures { λ r. ⌜ Put (now (out .entry)) (now (out .exit)) at r (printedAll (rowOf w i)) ⌝ }
-    ensures { λ r. ⌜ r ≤ at + 32 * 64 ⌝ }
-{
-    let mut b = 0;
-    let mut next = at;
-    while b < MEMBERS {
-        next = put_bit(out, next, w, i, b);
-        b += 1;
-    }
-    next
-}
-
-// The same; a word without edges is passed over.
-fn put_row(out: &mut [u8], at: usize, w: u64, i: usize) -> usize
-    requires { ⌜ (i < relationWords) × (at < 2 ^ 57) ⌝ }
-    ensures { λ r. ⌜ Put (now (out .entry)) (now (out .exit)) at r (printedAll (rowOf w i)) ⌝ }
-    ensures { λ r. ⌜ r ≤ at + 32 * 64 ⌝ }
-{
-    if w == 0 { at } else { put_bits(out, at, w, i) }
-}
-
-// Puts the G lines.
-fn put_edges(state: &[u64], out: &mut [u8], at: usize) -> usize
-    requires { ⌜ (relationWords ≤ length (now state)) × (at < 2 ^ 56) ⌝ }
-    ensures { λ r. ⌜ Put (now (out .entry)) (now (out .exit)) at r (printedAll (edgeLines (stateOf (now (state .entry)) .now .edge))) ⌝ }
-    ensures { λ r. ⌜ r ≤ at + 32 * 65536 ⌝ }
-{
-    let mut i = 0;
-    let mut next = at;
-    while i < TABLES_AT {
-        next = put_row(out, next, state[i], i);
-        i += 1;
-    }
-    next
-}
-
 // Puts the M and the L line.
 fn put_front(terms: &[u16], out: &mut [u8], at: usize) -> usize
     requires { ⌜ at < 2 ^ 57 ⌝ }
     ensures { λ r. ⌜ Put (now (out .entry)) (now (out .exit)) at r (printedAll (frontLines (termsOf (now (terms .entry))))) ⌝ }
     ensures { λ r. ⌜ r ≤ at + 64 ⌝ }
 {
-    let next = put_members(out, at, members(terms));
-    put_labels(out, next, relations(terms), events(terms))
+    let next = put_single(out, at, kind::MEMBERS, members(terms));
+    put_pair(out, next, kind::LABELS, relations(terms), events(terms))
 }
 
 // Puts the whole text.
-fn put_text(terms: &[u16], state: &[u64], out: &mut [u8], at: usize) -> usize
+pub(crate) fn put_text(terms: &[u16], state: &[u64], out: &mut [u8], at: usize) -> usize
     requires { ⌜ (relationWords ≤ length (now state)) × (at < 2 ^ 55) ⌝ }
     ensures { λ r. ⌜ Put (now (out .entry)) (now (out .exit)) at r (writtenText (now (terms .entry)) (now (state .entry))) ⌝ }
     ensures { λ r. ⌜ r ≤ at + 2 ^ 24 ⌝ }

@@ -11,22 +11,22 @@ use cuckooormolu::{SCRATCH_WORDS, STATE_WORDS, TERMS_WORDS};
 use keeper::compare::Other;
 use keeper::record::{Answer, Call};
 use keeper::set_list::{self, Item};
-use keeper::terms::{self, memory, Refusal};
+use keeper::terms::{memory, Refusal};
 
 /// The library, and what it and its binding have been seen to do.
 pub struct Library<'a> {
     monitor: Option<Monitor>,
-    written: Vec<u8>,
+    stored: Vec<u8>,
     disagreement: Option<String>,
     tally: &'a mut Tally,
 }
 
 impl Library<'_> {
     pub fn new(tally: &mut Tally) -> Library<'_> {
-        Library { monitor: None, written: Vec::new(), disagreement: None, tally }
+        Library { monitor: None, stored: Vec::new(), disagreement: None, tally }
     }
 
-    /// The text written last, or what the library and its binding disagreed
+    /// The text stored last, or what the library and its binding disagreed
     /// about. What the binding shows of its terms and state is compared once,
     /// here.
     pub fn agrees(mut self) -> Result<Vec<u8>, String> {
@@ -37,7 +37,7 @@ impl Library<'_> {
             self.same("terms shown", shown::terms(&monitor), terms);
             self.same("state shown", shown::state(&monitor), state);
         }
-        self.disagreement.map_or(Ok(self.written), Err)
+        self.disagreement.map_or(Ok(self.stored), Err)
     }
 
     fn same<T: PartialEq + std::fmt::Debug>(&mut self, what: &str, bound: T, lent: T) {
@@ -45,6 +45,19 @@ impl Library<'_> {
             let text = format!("{what} by the binding: {bound:?}, over lent memory: {lent:?}");
             self.disagreement = Some(text);
         }
+    }
+
+    /// The size that is told against what was written into an output.
+    fn told(
+        &mut self,
+        size: Result<usize, cuckooormolu::Refusal>,
+        output: &[u8],
+        got: Result<usize, Refusal>,
+    ) {
+        let short = plain(cuckooormolu::Refusal::TooShort);
+        let size = size.map_err(plain);
+        let told = size.and_then(|n| if n <= output.len() { Ok(n) } else { Err(short) });
+        self.same("size", told, got);
     }
 
     fn same_words(&mut self, terms: &[u16], state: &[u64]) {
@@ -120,7 +133,7 @@ impl Other for Library<'_> {
         let refused =
             |(refusal, line): (cuckooormolu::Refusal, _)| Refusal { line, ..plain(refusal) };
         let got = raw::read(text, terms, state).map_err(refused);
-        self.tally.read(&got, terms::normal(text) != text);
+        self.tally.read(text, &got);
         self.monitor = None;
         if terms.len() >= TERMS_WORDS && state.len() >= STATE_WORDS {
             match Monitor::read(text) {
@@ -197,16 +210,25 @@ impl Other for Library<'_> {
 
     fn write(&mut self, terms: &[u16], state: &[u64], output: &mut [u8]) -> Result<usize, Refusal> {
         let got = raw::write(terms, state, output).map_err(plain);
-        self.tally.write(&got);
-        let short = plain(cuckooormolu::Refusal::TooShort);
-        let size = raw::size(terms, state).map_err(plain);
-        let told = size.and_then(|n| if n <= output.len() { Ok(n) } else { Err(short) });
-        self.same("size", told, got);
+        self.tally.write("write", &got);
+        self.told(raw::size(terms, state), output, got);
         if let Ok(count) = got {
-            self.written = output[..count].to_vec();
             let bound = self.monitor.as_ref().map(Monitor::write);
-            let right = bound.is_none_or(|text| text == self.written);
+            let right = bound.is_none_or(|text| text.as_deref() == Ok(&output[..count]));
             self.same("equal text", right, true);
+        }
+        got
+    }
+
+    fn store(&mut self, terms: &[u16], state: &[u64], output: &mut [u8]) -> Result<usize, Refusal> {
+        let got = raw::store(terms, state, output).map_err(plain);
+        self.tally.write("store", &got);
+        self.told(raw::store_size(terms, state), output, got);
+        if let Ok(count) = got {
+            self.stored = output[..count].to_vec();
+            let bound = self.monitor.as_ref().map(Monitor::store);
+            let right = bound.is_none_or(|text| text == self.stored);
+            self.same("equal stored text", right, true);
         }
         got
     }

@@ -57,19 +57,19 @@ fn shrunk(
 }
 
 /// An accepted text and its calls, answer and every word after each, one by
-/// one and as set lists; then what the library wrote last is read back.
+/// one and as set lists; then what the library stored last is read back.
 fn one_case(case: &Case, tally: &mut Tally) -> Result<(), String> {
     let mut library = Library::new(tally);
     compare::lists(&mut library, case)?;
     library.agrees()?;
     let mut library = Library::new(tally);
     compare::case(&mut library, case)?;
-    let written = library.agrees()?;
-    if written.is_empty() {
+    let stored = library.agrees()?;
+    if stored.is_empty() {
         return Ok(());
     }
     let mut library = Library::new(tally);
-    compare::read(&mut library, &written, TERMS_WORDS + 1, STATE_WORDS + 1)?;
+    compare::read(&mut library, &stored, TERMS_WORDS + 1, STATE_WORDS + 1)?;
     library.agrees().map(drop)
 }
 

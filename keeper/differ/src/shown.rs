@@ -2,7 +2,7 @@
 
 use cuckooormolu::{Action, Direction, Entry, Label, Monitor};
 use keeper::terms::memory::State;
-use keeper::terms::{self, Effect, Terms};
+use keeper::terms::{self, Effect, Past, Terms};
 
 /// The terms, without edges.
 pub fn terms(monitor: &Monitor) -> Terms {
@@ -62,9 +62,8 @@ pub fn state(monitor: &Monitor) -> State {
         });
         pairs.collect()
     };
-    State {
-        edges: shown.edges().map(edge).collect(),
-        tables: (0..monitor.terms().tables().count()).map(table).collect(),
-        event: shown.event().map(|edge| (edge.event.into(), edge.from.into(), edge.to.into())),
-    }
+    let event = |edge: cuckooormolu::Request| (edge.event.into(), edge.from.into(), edge.to.into());
+    let tables = (0..monitor.terms().tables().count()).map(table).collect();
+    let past = Past { tables, event: shown.event().map(event) };
+    State { edges: shown.edges().map(edge).collect(), past }
 }

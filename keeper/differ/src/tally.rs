@@ -2,7 +2,7 @@
 
 use keeper::record::{Answer, Call};
 use keeper::set_list::Item;
-use keeper::terms::Refusal;
+use keeper::terms::{self, Refusal};
 use std::collections::BTreeMap;
 use std::fmt;
 
@@ -26,11 +26,13 @@ impl Tally {
 
     /// Outcomes that a long run has to see and did not.
     pub fn unseen(&self) -> Vec<String> {
-        let read = [1, 2, 3, 4, 5, 6].map(|number| ("read", format!("refuse {number}")));
-        let write = [6, 7, 8].map(|number| ("write", format!("refuse {number}")));
-        let mut wanted = [&read[..], &write].concat();
-        wanted.extend([("read", "accepted".into()), ("read", "padded".into())]);
-        wanted.push(("write", "written".into()));
+        let refused = |kind, number| (kind, format!("refuse {number}"));
+        let mut wanted: Vec<_> =
+            [1, 2, 3, 4, 5, 6, 10, 11].map(|number| refused("read", number)).into();
+        wanted.extend([6, 7, 8, 12].map(|number| refused("write", number)));
+        wanted.extend([6, 7, 8].map(|number| refused("store", number)));
+        wanted.extend(["accepted", "padded", "stored"].map(|form| ("read", form.into())));
+        wanted.extend(["write", "store"].map(|kind| (kind, "written".into())));
         for kind in ["request", "look"] {
             wanted.extend([6, 7, 8, 9].map(|number| (kind, format!("refuse {number}"))));
             wanted.extend([(kind, "grant".into()), (kind, "deny".into())]);
@@ -42,14 +44,20 @@ impl Tally {
         wanted.into_iter().map(|(kind, outcome)| format!("{kind} {outcome}")).collect()
     }
 
-    /// Reading; accepted texts with padded numbers are counted apart.
-    pub fn read(&mut self, got: &Result<(), Refusal>, padded: bool) {
-        let accepted = if padded { "padded" } else { "accepted" };
+    /// Reading; accepted texts with padded numbers, and those of the stored form,
+    /// are counted apart.
+    pub fn read(&mut self, text: &[u8], got: &Result<(), Refusal>) {
+        let accepted = match text {
+            text if terms::normal(text) != text => "padded",
+            [b'S', ..] => "stored",
+            _ => "accepted",
+        };
         self.count("read", got.map_or_else(refused, |()| accepted.into()));
     }
 
-    pub fn write(&mut self, got: &Result<usize, Refusal>) {
-        self.count("write", got.map_or_else(refused, |_| "written".into()));
+    /// Writing or storing.
+    pub fn write(&mut self, kind: &'static str, got: &Result<usize, Refusal>) {
+        self.count(kind, got.map_or_else(refused, |_| "written".into()));
     }
 
     pub fn call(&mut self, call: &Call, got: Answer) {

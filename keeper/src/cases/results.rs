@@ -1,7 +1,7 @@
 //! What each kind of case must give.
 
 use super::source::Case;
-use crate::expect;
+use crate::expect::{self, Form};
 use crate::record::{Answer, Call, Record};
 use crate::terms::memory::{STATE_WORDS, TERMS_WORDS};
 use crate::terms::{self, Refusal};
@@ -52,26 +52,38 @@ pub fn result(case: &Case) -> Option<String> {
         }
         ("asks_damaged_terms", 2) => damaged_terms(case)?.ask(&Call::request(0, 0, 0)),
         ("asks_damaged_state", 2) => damaged_state(case)?.ask(&Call::request(0, 0, 0)),
-        ("writes", 3) => {
-            let lent = Lent::read(head);
-            let (terms, state) = (lent.terms.get(..size(0)?)?, lent.state.get(..size(1)?)?);
-            Some(written(&expect::writing(terms, state, size(2)?)))
-        }
-        ("writes_damaged_terms", 2) => Some(written(&damaged_terms(case)?.write())),
-        ("writes_damaged_state", 2) => Some(written(&damaged_state(case)?.write())),
-        ("writes_back", 0) => Some(same(&Lent::read(head).write(), head)),
-        ("writes_after", 4) => {
+        ("writes", 3) => writes(case, Form::Old),
+        ("writes_damaged_terms", 2) => Some(written(&damaged_terms(case)?.write(Form::Old))),
+        ("writes_damaged_state", 2) => Some(written(&damaged_state(case)?.write(Form::Old))),
+        ("writes_back", 0) => Some(same(&Lent::read(head).write(Form::Old), head)),
+        ("writes_after", 4) => writes_after(case, Form::Old),
+        ("stores", 3) => writes(case, Form::Stored),
+        ("stores_damaged_terms", 2) => Some(written(&damaged_terms(case)?.write(Form::Stored))),
+        ("stores_damaged_state", 2) => Some(written(&damaged_state(case)?.write(Form::Stored))),
+        ("stores_back", 0) => Some(same(&Lent::read(head).write(Form::Stored), head)),
+        ("stores_after", 4) => writes_after(case, Form::Stored),
+        ("asks_stored", 6) => {
             let mut lent = Lent::read(head);
             lent.ask(&request(case, 0)?)?;
-            Some(same(&lent.write(), &case.text(3)?))
-        }
-        ("asks_rewritten", 6) => {
-            let mut lent = Lent::read(head);
-            lent.ask(&request(case, 0)?)?;
-            asked(&lent.write().ok()?, &[request(case, 3)?])
+            asked(&lent.write(Form::Stored).ok()?, &[request(case, 3)?])
         }
         _ => None,
     }
+}
+
+/// Writes so many words of terms and state into so many bytes.
+fn writes(case: &Case, form: Form) -> Option<String> {
+    let mut lent = Lent::read(&case.head);
+    lent.terms = lent.terms.get(..case.size(0)?)?.to_vec();
+    lent.state = lent.state.get(..case.size(1)?)?.to_vec();
+    Some(written(&lent.write_into(form, case.size(2)?)))
+}
+
+/// A request, then a writing that has to give a text.
+fn writes_after(case: &Case, form: Form) -> Option<String> {
+    let mut lent = Lent::read(&case.head);
+    lent.ask(&request(case, 0)?)?;
+    Some(same(&lent.write(form), &case.text(3)?))
 }
 
 /// A request of three arguments: event, from, to.
@@ -109,11 +121,11 @@ fn written(written: &Result<Vec<u8>, Refusal>) -> String {
     }
 }
 
-/// What was written, if it is the wanted text.
+/// What was written, if it is the wanted text, or the refusal.
 fn same(text: &Result<Vec<u8>, Refusal>, wanted: &[u8]) -> String {
     match text {
-        Ok(text) if text == wanted => written(&Ok(text.clone())),
-        _ => "different".into(),
+        Ok(text) if text != wanted => "different".into(),
+        text => written(text),
     }
 }
 
@@ -155,7 +167,7 @@ impl Lent {
         let (mut terms, mut state) = read.unwrap_or_default();
         terms.resize(TERMS_WORDS + BEYOND, 0);
         state.resize(STATE_WORDS + BEYOND, 0);
-        Lent { terms, state, record: terms::read(text).ok().map(Record::new) }
+        Lent { terms, state, record: terms::read(text).ok().map(Record::of) }
     }
 
     /// Answers a call with so many words of terms and state. None if it is
@@ -176,7 +188,11 @@ impl Lent {
         self.call(TERMS_WORDS, STATE_WORDS, call).map(answer)
     }
 
-    fn write(&self) -> Result<Vec<u8>, Refusal> {
-        expect::writing(&self.terms, &self.state, ROOM)
+    fn write(&self, form: Form) -> Result<Vec<u8>, Refusal> {
+        self.write_into(form, ROOM)
+    }
+
+    fn write_into(&self, form: Form, room: usize) -> Result<Vec<u8>, Refusal> {
+        form.writing(&self.terms, &self.state, room)
     }
 }

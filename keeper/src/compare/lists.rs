@@ -1,12 +1,12 @@
-//! Set lists, held against the record, and against what must hold without one.
+//! Set lists, held against the record.
 
 use super::{equal, noise, over, read_into, same, Difference, Lent, Other, BEYOND};
 use crate::expect;
 use crate::generate::{self, Case, Rng};
-use crate::record::{after_effects, Record};
+use crate::record::Record;
 use crate::set_list::{self, Item};
-use crate::terms::memory::{self, State, SCRATCH_WORDS, STATE_WORDS, TERMS_WORDS};
-use crate::terms::{self, Terms};
+use crate::terms;
+use crate::terms::memory::{SCRATCH_WORDS, STATE_WORDS, TERMS_WORDS};
 
 /// Reads a case's text and makes its calls as set lists, looks as requests.
 /// After each list its answers, its count and every word lent are compared.
@@ -14,10 +14,10 @@ pub fn lists(other: &mut impl Other, case: &Case) -> Result<(), Difference> {
     let mut rng = Rng::new(!case.seed);
     let mut lent = Lent::noise(&mut rng, TERMS_WORDS + BEYOND, STATE_WORDS + BEYOND);
     read_into(other, &case.text, &mut lent)?;
-    let Ok(terms) = terms::read(&case.text) else {
+    let Ok(file) = terms::read(&case.text) else {
         return Ok(());
     };
-    let mut record = Record::new(terms);
+    let mut record = Record::of(file);
     let mut left = &case.calls[..];
     while let Some(first) = left.first() {
         let length = generate::list_length(&mut rng).min(left.len());
@@ -58,9 +58,8 @@ fn record_list(
     Ok(())
 }
 
-/// Makes one set list over any lent memory. Where the memory keeps the layout
-/// but no record is known, the decisions stay open; what must hold anyway is
-/// compared.
+/// Makes one set list over any lent memory. Where it keeps the layout but no
+/// record is known, its tables stand for one.
 pub fn set_list(
     other: &mut impl Other,
     items: &[Item],
@@ -69,52 +68,19 @@ pub fn set_list(
     state: &[u64],
 ) -> Result<(), Difference> {
     let scratch = noise(&mut Rng::new(scratch_words as u64), scratch_words);
-    let (mut terms_after, mut state_after, mut scratch_after, mut answered) =
-        (terms.to_vec(), state.to_vec(), scratch.clone(), items.to_vec());
-    let got = other.set_list(&mut terms_after, &mut state_after, &mut scratch_after, &mut answered);
-    same("terms after a set list", &terms_after, terms)?;
-    let grants = match expect::listing(terms, state, scratch_words) {
-        Err(refusal) => {
-            equal("set list", got, Err(refusal))?;
-            same("items of a refused set list", &answered, items).map(|()| 0)?
-        }
-        Ok((terms, before)) => {
-            let after = possible(&terms, before, items, &answered)?;
-            let grants = answered.iter().filter(|item| item.answer == 1).count();
-            equal("grants", got, Ok(grants))?;
-            let layout = memory::state_of_words(&terms, &state_after);
-            let State { edges, event, .. } = layout.ok_or("the state breaks the layout")?;
-            equal("relations and event", (edges, event), (after.edges, after.event))?;
-            grants
+    let mut lent = Lent { terms: terms.to_vec(), state: state.to_vec() };
+    let refusal = match expect::listing(terms, state, scratch_words) {
+        Err(refusal) => refusal,
+        Ok((terms, state)) => {
+            let mut record = expect::going_on(&terms, &state);
+            return record_list(other, items, &scratch, &mut record, &mut lent);
         }
     };
-    if grants == 0 {
-        same("state without a grant", &state_after, state)?;
-        return same("scratch without a grant", &scratch_after, &scratch);
-    }
-    same("scratch after grants", &scratch_after, &over(&scratch, &[0; SCRATCH_WORDS]))?;
-    same("words beyond the state", &state_after[STATE_WORDS..], &state[STATE_WORDS..])
-}
-
-/// Answers that may be: 9 just where a name doesn't exist. What they make of
-/// relations and event.
-fn possible(
-    terms: &Terms,
-    mut state: State,
-    items: &[Item],
-    answered: &[Item],
-) -> Result<State, Difference> {
-    for (item, got) in items.iter().zip(answered) {
-        equal("an item", *got, Item { answer: got.answer, ..*item })?;
-        let [event, from, to] = [item.event, item.from, item.to].map(|number| number as usize);
-        match (terms.has(event, from, to), got.answer) {
-            (false, 9) | (true, 0) => {}
-            (true, 1) => {
-                state.edges = after_effects(terms, &state.edges, event, from, to);
-                state.event = Some((event, from, to));
-            }
-            (named, answer) => return Err(format!("answer {answer}, the names exist: {named}")),
-        }
-    }
-    Ok(state)
+    let (mut scratch_after, mut answered) = (scratch.clone(), items.to_vec());
+    let got = other.set_list(&mut lent.terms, &mut lent.state, &mut scratch_after, &mut answered);
+    equal("set list", got, Err(refusal))?;
+    same("items of a refused set list", &answered, items)?;
+    same("terms after a refusal", &lent.terms, terms)?;
+    same("state after a refusal", &lent.state, state)?;
+    same("scratch after a refusal", &scratch_after, &scratch)
 }

@@ -1,23 +1,30 @@
 //! Damaged texts: each refusal of reading, at varied lines.
 
-use super::{formulas, lines, Rng, Size};
-use crate::terms::{self, Effect, Entry, Terms, MOST_ENTRIES, MOST_PAST};
+use super::{formulas, lines, stored, Rng, Size};
+use crate::terms::{Effect, Entry, File, Terms, MOST_ENTRIES, MOST_PAST};
 
-/// A text with one damage, now and then two.
+/// A text of either form with one damage, now and then two.
 pub fn text(rng: &mut Rng) -> Vec<u8> {
     let size = if rng.percent(4) { Size::large(rng) } else { Size::small(rng) };
-    let mut terms = formulas::terms(rng, &size);
-    let kind = rng.below(10);
-    if kind < 4 {
-        damage_terms(rng, &mut terms);
+    let mut file = File { terms: formulas::terms(rng, &size), past: None };
+    if rng.percent(40) {
+        file = stored::file(rng, &file.terms);
     }
-    let mut text = terms::write(&terms, &terms.edges);
+    let stored = file.past.is_some();
+    let kind = rng.below(10);
+    if kind < 2 && stored {
+        stored::partly_fill(rng, &mut file);
+    } else if kind < 4 {
+        damage_terms(rng, &mut file.terms);
+    }
+    let mut text = file.text();
     if rng.below(6) == 0 {
         lines::pad(rng, &mut text);
     }
     if kind >= 4 || rng.percent(20) {
         match rng.below(4) {
-            0 | 1 => lines::damage_field(rng, &terms, &mut text),
+            _ if stored && rng.percent(60) => stored::damage(rng, &file.terms, &mut text),
+            0 | 1 => lines::damage_field(rng, &file.terms, &mut text),
             2 => lines::damage_line(rng, &mut text),
             _ => lines::damage_byte(rng, &mut text),
         }
@@ -26,7 +33,7 @@ pub fn text(rng: &mut Rng) -> Vec<u8> {
 }
 
 /// Puts new entries in before a place; what stood there moves on.
-fn put_in(terms: &mut Terms, place: usize, new: &[Entry]) {
+pub(super) fn put_in(terms: &mut Terms, place: usize, new: &[Entry]) {
     let moved = |entry: usize| if entry >= place { entry + new.len() } else { entry };
     for entry in &mut terms.entries {
         *entry = entry.with_operands(moved);

@@ -4,16 +4,16 @@ use super::Rng;
 use crate::terms::read::number;
 use crate::terms::Terms;
 
-type Lines = Vec<Vec<Vec<u8>>>;
+pub(super) type Lines = Vec<Vec<Vec<u8>>>;
 
 /// The text as lines of fields.
-fn split(text: &[u8]) -> Lines {
+pub(super) fn split(text: &[u8]) -> Lines {
     let body = text.strip_suffix(b"\n").unwrap_or(text);
     let lines = body.split(|&byte| byte == b'\n');
     lines.map(|line| line.split(|&byte| byte == b'\t').map(<[u8]>::to_vec).collect()).collect()
 }
 
-fn join(lines: &Lines) -> Vec<u8> {
+pub(super) fn join(lines: &Lines) -> Vec<u8> {
     let mut text = Vec::new();
     for line in lines {
         text.extend(line.join(&b'\t'));
@@ -55,7 +55,9 @@ pub fn damage_field(rng: &mut Rng, terms: &Terms, text: &mut Vec<u8>) {
 }
 
 fn other_kind(rng: &mut Rng) -> String {
-    let kinds = ["M", "L", "F", "P", "E", "G", "R", "X", "m", "f", "MM", "", " M", "F "];
+    let kinds = [
+        "M", "L", "F", "P", "E", "G", "S", "T", "V", "R", "X", "m", "f", "t", "MM", "", " M", "F ",
+    ];
     rng.pick(&kinds).to_string()
 }
 
@@ -138,8 +140,15 @@ pub fn damage_line(rng: &mut Rng, text: &mut Vec<u8>) {
             lines[index][field].push(b'\r');
         }
         12 => {
-            let extra =
-                rng.pick(&["P\t0\t0", "E\t0\tadd\t0\tfwd", "F\t0\ttop\t0\t0", "G\t0\t0\t0"]);
+            let extra = rng.pick(&[
+                "P\t0\t0",
+                "E\t0\tadd\t0\tfwd",
+                "F\t0\ttop\t0\t0",
+                "G\t0\t0\t0",
+                "S\t2",
+                "T\t0\t0\t0",
+                "V\t0\t0\t0",
+            ]);
             let extra = split(extra.as_bytes()).remove(0);
             lines.insert(rng.pick(&[index, other]), extra);
         }
@@ -155,7 +164,7 @@ pub fn damage_line(rng: &mut Rng, text: &mut Vec<u8>) {
 /// Changes, puts in or takes out one byte, or cuts the text.
 pub fn damage_byte(rng: &mut Rng, text: &mut Vec<u8>) {
     let place = rng.below(text.len());
-    let likely = rng.pick(b"\t\n\r 0123456789MLFPEG-+");
+    let likely = rng.pick(b"\t\n\r 0123456789MLFPEGSTV-+");
     let byte = if rng.percent(70) { likely } else { rng.below(256) as u8 };
     match rng.below(6) {
         0 | 1 => text[place] = byte,

@@ -1,8 +1,8 @@
 //! The meaning of a formula over a list of graphs.
 
 use super::Graph;
-use crate::terms::{Entry, Terms, Variables, VARIABLES};
-use std::collections::HashMap;
+use crate::terms::{Entry, Pair, Tables, Terms, Variables, VARIABLES};
+use std::collections::{BTreeSet, HashMap};
 use std::hash::{BuildHasherDefault, Hasher};
 
 /// The members variables 0 to 15 stand for, six bits each. A variable not
@@ -28,19 +28,31 @@ pub struct Meaning<'a> {
     graphs: &'a [Graph],
     /// For each entry, the bits of an assignment that its free variables take.
     relevant: Vec<u128>,
+    /// For each past-time entry, what is said of the first graph, where the
+    /// moments before it are not known, and its free variable, if any.
+    said: HashMap<usize, (&'a BTreeSet<Pair>, Option<usize>)>,
     known: Vec<HashMap<u128, bool, BuildHasherDefault<Mix>>>,
 }
 
 impl<'a> Meaning<'a> {
-    pub fn new(terms: &'a Terms, free: &[Variables], graphs: &'a [Graph]) -> Meaning<'a> {
+    pub fn new(
+        terms: &'a Terms,
+        free: &[Variables],
+        graphs: &'a [Graph],
+        before: Option<&'a Tables>,
+    ) -> Meaning<'a> {
         let bits = |&set: &Variables| {
             let chosen = (0..VARIABLES).filter(|x| set >> x & 1 == 1);
             chosen.fold(0, |bits, x| bits | 63 << (6 * x))
         };
+        let variable = |entry: usize| (0..VARIABLES).find(|x| free[entry] >> x & 1 == 1);
+        let entries = terms.past().into_iter().map(|entry| (entry, variable(entry)));
+        let said = entries.zip(before.into_iter().flatten());
         Meaning {
             terms,
             graphs,
             relevant: free.iter().map(bits).collect(),
+            said: said.map(|((entry, x), table)| (entry, (table, x))).collect(),
             known: vec![HashMap::default(); terms.entries.len()],
         }
     }
@@ -74,8 +86,9 @@ impl<'a> Meaning<'a> {
             Entry::In(l, f) => members
                 .into_iter()
                 .any(|other| self.edge(i, l, other, m) && self.holds(f, i, other, assigned)),
-            Entry::Prev(f) => i > 0 && self.holds(f, i - 1, m, assigned),
-            Entry::Since(f, g) => self.since(f, g, i, m, assigned),
+            Entry::Prev(f) if i > 0 => self.holds(f, i - 1, m, assigned),
+            Entry::Prev(_) => self.said(entry, m, assigned).unwrap_or(false),
+            Entry::Since(_, _) => self.since(entry, i, m, assigned),
             Entry::Bind(x, f) => self.holds(f, i, m, assigned.with(x, m)),
             Entry::At(x, f) => self.holds(f, i, assigned.member(x), assigned),
             Entry::Reach(x, f, g) => members.into_iter().any(|other| {
@@ -86,9 +99,14 @@ impl<'a> Meaning<'a> {
     }
 
     /// For some j up to i, g holds at j and f holds at every moment after j up
-    /// to i. Going back from i: once f fails at j, no earlier moment will do.
-    fn since(&mut self, f: usize, g: usize, i: usize, m: usize, assigned: Assigned) -> bool {
+    /// to i. Going back from i: once f fails at j, no earlier moment will do,
+    /// and at the first graph it may be said whether one does.
+    fn since(&mut self, entry: usize, i: usize, m: usize, assigned: Assigned) -> bool {
+        let Entry::Since(f, g) = self.terms.entries[entry] else { return false };
         for j in (0..=i).rev() {
+            if let (0, Some(said)) = (j, self.said(entry, m, assigned)) {
+                return said;
+            }
             if self.holds(g, j, m, assigned) {
                 return true;
             }
@@ -97,6 +115,12 @@ impl<'a> Meaning<'a> {
             }
         }
         false
+    }
+
+    /// What is said of a past-time entry at the first graph.
+    fn said(&self, entry: usize, m: usize, assigned: Assigned) -> Option<bool> {
+        let (table, variable) = self.said.get(&entry)?;
+        Some(table.contains(&(m, variable.map_or(0, |x| assigned.member(x)))))
     }
 
     /// Whether the graph of moment i has an edge under a label.

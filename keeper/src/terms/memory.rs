@@ -60,7 +60,7 @@ pub fn terms_words(terms: &Terms) -> Vec<u16> {
 /// gives must be the same words.
 pub fn terms_of_words(words: &[u16]) -> Option<Terms> {
     let guess = guess_terms(words)?;
-    let terms = read(&write(&guess, &BTreeSet::new())).ok()?;
+    let terms = read(&write(&guess, &BTreeSet::new())).ok()?.terms;
     (terms_words(&terms) == words[..TERMS_WORDS]).then_some(terms)
 }
 
@@ -99,10 +99,7 @@ fn guess_terms(words: &[u16]) -> Option<Terms> {
 #[derive(Clone, Debug, Default, PartialEq, Eq)]
 pub struct State {
     pub edges: BTreeSet<Edge>,
-    /// One set for each past-time entry: the pairs (a, b) such that the entry
-    /// holds at a with its free variable, if any, standing for b.
-    pub tables: Vec<BTreeSet<(usize, usize)>>,
-    pub event: Option<EventEdge>,
+    pub past: Past,
 }
 
 /// The 3,073 words of a state.
@@ -111,12 +108,12 @@ pub fn state_words(state: &State) -> Vec<u64> {
     for &(relation, from, to) in &state.edges {
         words[64 * relation + from] |= 1 << to;
     }
-    for (t, table) in state.tables.iter().enumerate() {
+    for (t, table) in state.past.tables.iter().enumerate() {
         for &(a, b) in table {
             words[FIRST_TABLE + 64 * t + a] |= 1 << b;
         }
     }
-    if let Some((event, from, to)) = state.event {
+    if let Some((event, from, to)) = state.past.event {
         words[EVENT_WORD] = (1 + event * 4_096 + from * 64 + to) as u64;
     }
     words
@@ -143,10 +140,10 @@ pub fn state_of_words(terms: &Terms, words: &[u64]) -> Option<State> {
         // Without a free variable bit 0 speaks for all bits of its word.
         let speaks = |b: usize| if free[entry] == 0 { 0 } else { b };
         let place = FIRST_TABLE + 64 * t;
-        let holds = |&(a, b): &(usize, usize)| bit(place + a, speaks(b));
-        state.tables.push(pairs(members).filter(holds).collect());
+        let holds = |&(a, b): &Pair| bit(place + a, speaks(b));
+        state.past.tables.push(pairs(members).filter(holds).collect());
     }
-    state.event = match words[EVENT_WORD] {
+    state.past.event = match words[EVENT_WORD] {
         0 => None,
         word => Some(event_of_word(terms, word - 1)?),
     };
@@ -161,6 +158,6 @@ fn event_of_word(terms: &Terms, code: u64) -> Option<EventEdge> {
 }
 
 /// All pairs of members.
-pub fn pairs(members: usize) -> impl Iterator<Item = (usize, usize)> {
+pub fn pairs(members: usize) -> impl Iterator<Item = Pair> {
     (0..members).flat_map(move |a| (0..members).map(move |b| (a, b)))
 }

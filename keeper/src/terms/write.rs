@@ -1,10 +1,29 @@
-//! Writes terms and relations as a terms text.
+//! Writes terms and a state as a text.
 
+use super::memory::State;
 use super::*;
 
-/// The text of the terms with the given edges as G lines, no number padded.
+/// The old form: the terms with the given edges as G lines, no number padded.
 /// Nothing is checked: faulty terms give a faulty text.
 pub fn write(terms: &Terms, edges: &BTreeSet<Edge>) -> Vec<u8> {
+    text(old_lines(terms, edges))
+}
+
+/// The stored form: S 2, the old lines, a T line for each set bit, rising, and
+/// a V line if there is an event edge.
+pub fn store(terms: &Terms, state: &State) -> Vec<u8> {
+    let mut lines = vec!["S\t2".to_string()];
+    lines.extend(old_lines(terms, &state.edges));
+    for (t, table) in state.past.tables.iter().enumerate() {
+        lines.extend(table.iter().map(|(a, b)| format!("T\t{t}\t{a}\t{b}")));
+    }
+    if let Some((event, from, to)) = state.past.event {
+        lines.push(format!("V\t{event}\t{from}\t{to}"));
+    }
+    text(lines)
+}
+
+fn old_lines(terms: &Terms, edges: &BTreeSet<Edge>) -> Vec<String> {
     let mut lines =
         vec![format!("M\t{}", terms.members), format!("L\t{}\t{}", terms.relations, terms.events)];
     for (index, entry) in terms.entries.iter().enumerate() {
@@ -23,10 +42,12 @@ pub fn write(terms: &Terms, edges: &BTreeSet<Edge>) -> Vec<u8> {
             lines.push(format!("E\t{event}\t{action}\t{}\t{direction}", effect.relation));
         }
     }
-    for (relation, from, to) in edges {
-        lines.push(format!("G\t{relation}\t{from}\t{to}"));
-    }
-    let mut text = lines.join("\n");
-    text.push('\n');
-    text.into_bytes()
+    lines.extend(edges.iter().map(|(relation, from, to)| format!("G\t{relation}\t{from}\t{to}")));
+    lines
+}
+
+/// The lines, each with its line feed.
+fn text(mut lines: Vec<String>) -> Vec<u8> {
+    lines.push(String::new());
+    lines.join("\n").into_bytes()
 }

@@ -27,6 +27,10 @@ enum Fault {
     KeepsDenials,
     WritesUnchecked,
     TrustsEmptyLists,
+    WritesThePast,
+    StoresNoEvent,
+    StoresOneBitLess,
+    LoadsAsFresh,
 }
 
 /// An implementation that has the record itself, and perhaps a fault.
@@ -39,6 +43,17 @@ impl Mirror {
     fn new(fault: Fault) -> Mirror {
         Mirror { fault, record: None }
     }
+
+    fn put(&self, text: Vec<u8>, output: &mut [u8]) -> Result<usize, Refusal> {
+        if text.len() > output.len() {
+            return Err(Refusal::plain(6));
+        }
+        if self.fault == Fault::WritesTooMuch {
+            output.fill(0);
+        }
+        output[..text.len()].copy_from_slice(&text);
+        Ok(text.len())
+    }
 }
 
 impl Other for Mirror {
@@ -50,11 +65,17 @@ impl Other for Mirror {
             Fault::FixedLine => Refusal { line: 1, ..refusal },
             _ => refusal,
         };
-        let (front_terms, front_state) =
+        let (front_terms, mut front_state) =
             expect::reading(text, terms.len(), state.len()).map_err(line)?;
+        self.record = terms::read(text).ok().map(|file| match self.fault {
+            Fault::LoadsAsFresh => Record::new(file.terms),
+            _ => Record::of(file),
+        });
+        if let (Fault::LoadsAsFresh, Some(record)) = (self.fault, &self.record) {
+            front_state = record.state_words();
+        }
         terms[..front_terms.len()].copy_from_slice(&front_terms);
         state[..front_state.len()].copy_from_slice(&front_state);
-        self.record = terms::read(text).ok().map(Record::new);
         Ok(())
     }
 
@@ -73,7 +94,11 @@ impl Other for Mirror {
             Fault::GrantsAll => return Answer::Grant,
             _ => {}
         }
-        let record = self.record.as_mut().expect("a text was read");
+        // Over memory that was not read, the tables stand for the record.
+        let record = self.record.get_or_insert_with(|| {
+            let (terms, state) = expect::lent(terms, state).expect("nothing was refused");
+            expect::going_on(&terms, &state)
+        });
         let look = call.look && self.fault != Fault::LookMakesMoment;
         let answer = record.answer(&Call { look, ..*call });
         if answer == Answer::Grant && !look {
@@ -133,12 +158,27 @@ impl Other for Mirror {
     }
 
     fn write(&mut self, terms: &[u16], state: &[u64], output: &mut [u8]) -> Result<usize, Refusal> {
-        let text = expect::writing(terms, state, output.len())?;
-        if self.fault == Fault::WritesTooMuch {
-            output.fill(0);
+        let mut text = expect::writing(terms, state, output.len());
+        if self.fault == Fault::WritesThePast {
+            let (terms, state) = expect::lent(terms, state)?;
+            text = Ok(terms::write(&terms, &state.edges));
         }
-        output[..text.len()].copy_from_slice(&text);
-        Ok(text.len())
+        self.put(text?, output)
+    }
+
+    fn store(&mut self, terms: &[u16], state: &[u64], output: &mut [u8]) -> Result<usize, Refusal> {
+        let mut text = expect::storing(terms, state, output.len())?;
+        let last = match self.fault {
+            Fault::StoresNoEvent => b"V\t",
+            Fault::StoresOneBitLess => b"T\t",
+            _ => return self.put(text, output),
+        };
+        let mut lines: Vec<&[u8]> = text.split_inclusive(|&byte| byte == b'\n').collect();
+        if let Some(place) = lines.iter().rposition(|line| line.starts_with(last)) {
+            lines.remove(place);
+        }
+        text = lines.concat();
+        self.put(text, output)
     }
 }
 
@@ -179,6 +219,10 @@ fn impostors_are_caught() {
         TouchesBeyond,
         LookMakesMoment,
         WritesTooMuch,
+        WritesThePast,
+        StoresNoEvent,
+        StoresOneBitLess,
+        LoadsAsFresh,
     ];
     for fault in faults {
         let caught = (0..30).filter(|&seed| differs(fault, &generate::case(seed, 99_999))).count();
@@ -231,14 +275,16 @@ fn a_difference_shrinks() {
 fn damaged_memory_is_compared() {
     for seed in 0..150 {
         let (terms, state) = generate::damaged_memory(seed);
-        let other = &mut Mirror::new(Fault::DeniesAll);
         for call in [Call::request(0, 0, 0), Call::look(0, 0, 0), Call::request(9, 0, 0)] {
+            let other = &mut Mirror::new(Fault::None);
             assert_eq!(compare::call(other, &call, &terms, &state), Ok(()), "seed {seed}");
         }
+        let other = &mut Mirror::new(Fault::None);
         assert_eq!(compare::write(other, &terms, &state), Ok(()), "seed {seed}");
         let items = [(0, 0, 0), (9, 0, 0), (0, u32::MAX, 0)];
         let items = items.map(|(event, from, to)| Item { event, from, to, answer: 7 });
         for (length, scratch) in [(3, 2_048), (3, 2_047), (0, 2_050), (0, 9)] {
+            let other = &mut Mirror::new(Fault::None);
             let result = compare::set_list(other, &items[..length], scratch, &terms, &state);
             assert_eq!(result, Ok(()), "seed {seed}");
         }
@@ -255,12 +301,7 @@ fn set_lists_over_damaged_memory_are_compared() {
             let length = (*seed % 2) as usize;
             compare::set_list(other, &[item][..length], 2_048, &terms, &state).is_err()
         };
-        // Where the memory is accepted the mirror has no record to answer by.
-        let refused = |seed: &u64| {
-            let (terms, state) = generate::damaged_memory(*seed);
-            expect::lent(&terms, &state).is_err()
-        };
-        (0..150).filter(refused).filter(differs).count()
+        (0..150).filter(differs).count()
     };
     assert_eq!(caught(Fault::None), 0);
     assert!(caught(Fault::WritesUnchecked) > 10 && caught(Fault::TrustsEmptyLists) > 10);

@@ -1,8 +1,8 @@
 //! What the generator reaches with sound cases.
 
-use crate::help::accepted;
+use crate::help::{accepted, opened};
 use keeper::generate;
-use keeper::record::{Answer, Record};
+use keeper::record::Answer;
 use keeper::terms::{normal, Entry, Terms};
 
 /// Whether the entries below one hold the given kind.
@@ -86,7 +86,7 @@ fn calls_are_mixed() {
     let mut refusals = [0; 10];
     for seed in 0..600 {
         let case = generate::case(seed, 99_999);
-        let mut record = Record::new(accepted(&case.text));
+        let mut record = opened(&case.text);
         for call in &case.calls {
             looks += usize::from(call.look);
             match record.answer(call) {

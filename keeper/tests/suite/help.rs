@@ -1,7 +1,7 @@
 //! Short ways to texts, records and refusals.
 
 use keeper::record::{Answer, Call, Record};
-use keeper::terms::{self, Refusal, Terms};
+use keeper::terms::{self, File, Refusal, Terms};
 
 /// The preset terms, spaces for tabs.
 pub const PRESET: &str = "\
@@ -32,16 +32,26 @@ pub fn slashes(text: &str) -> Vec<u8> {
     tabs(&format!("{}\n", text.replace('/', "\n")))
 }
 
-pub fn accepted(text: &[u8]) -> Terms {
+/// What an accepted text says.
+pub fn file(text: &[u8]) -> File {
     terms::read(text).unwrap_or_else(|refusal| panic!("{}: {refusal:?}", text.escape_ascii()))
 }
 
+pub fn accepted(text: &[u8]) -> Terms {
+    file(text).terms
+}
+
+/// The record of a text of either form.
+pub fn opened(text: &[u8]) -> Record {
+    Record::of(file(text))
+}
+
 pub fn record(text: &str) -> Record {
-    Record::new(accepted(&slashes(text)))
+    opened(&slashes(text))
 }
 
 pub fn preset() -> Record {
-    Record::new(accepted(&tabs(PRESET)))
+    opened(&tabs(PRESET))
 }
 
 /// The number and line a text is refused with.

@@ -37,7 +37,14 @@ fn results_of_cases() {
     assert_eq!(result("asks_damaged_state\tlabel\t0\t1").unwrap(), "refuse\t8");
     assert_eq!(result("writes\tlabel\t1236\t3073\t27").unwrap(), "6\t0");
     assert_eq!(result("writes_back\tlabel").unwrap(), "bytes\t28");
-    assert_eq!(result("writes_after\tlabel\t0\t0\t1\tM 2/").unwrap(), "different");
+    assert_eq!(result("writes_after\tlabel\t1\t0\t1\tM 2/").unwrap(), "different");
+    assert_eq!(result("writes_after\tlabel\t0\t0\t1\tM 2/").unwrap(), "12\t0");
+    let stored = "S 2/M 2/L 0 1/F 0 top 0 0/P 0 0/V 0 0 1/";
+    assert_eq!(result(&format!("stores_after\tlabel\t0\t0\t1\t{stored}")).unwrap(), "bytes\t40");
+    assert_eq!(result("stores_back\tlabel").unwrap(), "different");
+    assert_eq!(result("stores\tlabel\t1236\t3073\t31").unwrap(), "6\t0");
+    assert_eq!(result("stores_damaged_state\tlabel\t3072\t1").unwrap(), "bytes\t40");
+    assert_eq!(result("asks_stored\tlabel\t0\t0\t1\t0\t1\t0").unwrap(), "grant");
 }
 
 #[test]

@@ -1,6 +1,6 @@
 //! The meaning once more, word for word and without remembering anything.
 
-use crate::help::accepted;
+use crate::help::file;
 use keeper::generate;
 use keeper::record::meaning::Assigned;
 use keeper::record::{Graph, Record};
@@ -53,12 +53,13 @@ fn remembering_changes_nothing() {
     let mut compared = 0;
     for seed in 0..1_500 {
         let case = generate::case(seed, 99_999);
-        let terms = accepted(&case.text);
+        let file = file(&case.text);
+        let terms = &file.terms;
         let nested = terms.past().len();
-        if terms.members > 4 || terms.entries.len() > 16 || nested > 3 {
+        if terms.members > 4 || terms.entries.len() > 16 || nested > 3 || file.past.is_some() {
             continue;
         }
-        let mut record = Record::new(terms);
+        let mut record = Record::of(file);
         for call in &case.calls {
             if record.graphs().len() < 8 {
                 record.answer(call);

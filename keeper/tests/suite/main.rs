@@ -15,4 +15,5 @@ mod refusals;
 mod set_lists;
 mod shrinking;
 mod speed;
+mod stored;
 mod traps;

@@ -3,9 +3,9 @@
 use crate::help::*;
 use keeper::expect;
 use keeper::generate;
-use keeper::record::{Call, Record};
+use keeper::record::Call;
 use keeper::terms::memory::*;
-use keeper::terms::{normal, read, write};
+use keeper::terms::normal;
 
 const SEEDS: std::ops::Range<u64> = 0..600;
 
@@ -56,8 +56,9 @@ fn a_table_without_a_free_variable_has_equal_bits() {
 fn terms_go_to_text_and_words_and_back() {
     for seed in SEEDS {
         let case = generate::case(seed, 99_999);
-        let terms = accepted(&case.text);
-        assert_eq!(write(&terms, &terms.edges), normal(&case.text), "seed {seed}");
+        let file = file(&case.text);
+        assert_eq!(file.text(), normal(&case.text), "seed {seed}");
+        let terms = file.terms;
         let mut bare = terms.clone();
         bare.edges.clear();
         assert_eq!(terms_of_words(&terms_words(&terms)), Some(bare), "seed {seed}");
@@ -68,7 +69,7 @@ fn terms_go_to_text_and_words_and_back() {
 fn state_goes_to_words_and_back() {
     for seed in 0..150 {
         let case = generate::case(seed, 99_999);
-        let mut record = Record::new(accepted(&case.text));
+        let mut record = opened(&case.text);
         case.calls.iter().for_each(|call| {
             record.answer(call);
         });
@@ -76,11 +77,11 @@ fn state_goes_to_words_and_back() {
         let words = state_words(&state);
         assert_eq!(state_of_words(record.terms(), &words), Some(state.clone()), "seed {seed}");
         let terms = terms_words(record.terms());
+        let text = expect::storing(&terms, &words, usize::MAX).unwrap();
+        assert_eq!(expect::reading(&text, TERMS_WORDS, STATE_WORDS), Ok((terms.clone(), words)));
+        let words = expect::fresh(record.terms(), &state).state_words();
         let text = expect::writing(&terms, &words, usize::MAX).unwrap();
-        let again = read(&text).unwrap();
-        assert_eq!(again.edges, state.edges, "seed {seed}");
-        assert_eq!(terms_words(&again), terms, "seed {seed}");
-        assert_eq!(expect::writing(&terms, &words, text.len() - 1).unwrap_err().number, 6);
+        assert_eq!(expect::reading(&text, TERMS_WORDS, STATE_WORDS), Ok((terms, words)));
     }
 }
 
@@ -131,7 +132,10 @@ fn refusals_over_lent_memory_come_in_order() {
     assert_eq!(number(&terms, &state, &Call::request(0, 3, 0)), 9);
     assert_eq!(number(&terms, &state, &Call::request(0, 0, 3)), 9);
     assert_eq!(number(&terms, &state, &good), 0);
-    let write = |terms: &[u16], state: &[u64]| expect::writing(terms, state, 0).unwrap_err().number;
-    assert_eq!([write(&bad_terms, &bad_state), write(&terms, &bad_state)], [7, 8]);
-    assert_eq!(write(&terms, &state), 6);
+    for write in [expect::writing, expect::storing] {
+        let number = |terms: &[u16], state: &[u64]| write(terms, state, 0).unwrap_err().number;
+        assert_eq!(number(&bad_terms[..1_235], &bad_state), 6);
+        assert_eq!([number(&bad_terms, &bad_state), number(&terms, &bad_state)], [7, 8]);
+        assert_eq!(number(&terms, &state), 6);
+    }
 }

@@ -1,6 +1,6 @@
 //! Faulty readings of the meaning, each told apart by many generated cases.
 
-use crate::help::accepted;
+use crate::help::file;
 use keeper::generate;
 use keeper::record::{Answer, Graph, Record};
 use keeper::terms::memory::pairs;
@@ -132,11 +132,13 @@ impl Faulty<'_> {
 /// Whether the fault shows in an answer or in a table after the calls.
 fn shows(fault: Fault, seed: u64) -> Option<bool> {
     let case = generate::case(seed, 99_999);
-    let terms = accepted(&case.text);
-    if terms.members > 5 || terms.entries.len() > 20 || terms.past().len() > 5 {
+    let file = file(&case.text);
+    let terms = &file.terms;
+    let small = terms.members <= 5 && terms.entries.len() <= 20 && terms.past().len() <= 5;
+    if !small || file.past.is_some() {
         return None;
     }
-    let mut record = Record::new(terms);
+    let mut record = Record::of(file);
     let mut shown = false;
     for call in case.calls.iter().take(12) {
         let now = record.graphs().len() - 1;
@@ -154,7 +156,7 @@ fn shows(fault: Fault, seed: u64) -> Option<bool> {
     let state = record.state();
     let now = record.graphs().len() - 1;
     let mut faulty = Faulty { fault, terms: record.terms(), graphs: record.graphs(), bound: 0 };
-    for (entry, table) in record.terms().past().into_iter().zip(&state.tables) {
+    for (entry, table) in record.terms().past().into_iter().zip(&state.past.tables) {
         let free = record.terms().free()[entry];
         for (a, b) in pairs(record.terms().members) {
             let mut members = [0; 16];

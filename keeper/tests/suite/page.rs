@@ -5,6 +5,7 @@ use keeper::record::Answer::Grant;
 use keeper::record::Record;
 use keeper::set_list::{self, Item};
 use keeper::terms::memory::{terms_words, SCRATCH_WORDS, STATE_WORDS, TERMS_WORDS};
+use keeper::terms::store;
 
 const PAGE: &str = include_str!("../../../docs/MEMORY.md");
 
@@ -68,6 +69,12 @@ fn its_words_of_state() {
         }
         assert_eq!(record.state_words(), words, "column {column}");
     }
+    let said = "`G 0 0 2`, `G 0 1 2`, `T 0 0 1` and `V 2 1 2`";
+    assert!(PAGE.contains(said));
+    let stored = store(record.terms(), &record.state());
+    let lines: String =
+        said.split('`').skip(1).step_by(2).map(|line| format!("{line}\n")).collect();
+    assert!(stored.ends_with(&[b"fwd\n", &tabs(&lines)[..]].concat()));
 }
 
 #[test]

@@ -2,7 +2,7 @@
 
 use crate::help::*;
 use keeper::generate::{self, lines, Rng};
-use keeper::program::{output, run, MOST_BYTES};
+use keeper::program::{output, run, stored, MOST_BYTES};
 use keeper::terms::normal;
 use std::fs;
 
@@ -22,6 +22,10 @@ fn files_of_a_directory() {
     fs::write(directory.join("terms.tsv"), tabs(PRESET)).unwrap();
     assert_eq!(run(&directory), "");
     fs::write(directory.join("requests.tsv"), tabs(REQUESTS)).unwrap();
+    assert_eq!(run(&directory), PRINTED);
+    let stored = stored(&directory).unwrap();
+    assert_eq!(stored, tabs(&format!("S 2\n{PRESET}V 1 0 1\n")));
+    fs::write(directory.join("terms.tsv"), &stored).unwrap();
     assert_eq!(run(&directory), PRINTED);
     fs::write(directory.join("requests.tsv"), vec![b'\n'; MOST_BYTES + 9]).unwrap();
     assert_eq!(run(&directory), "requests\t6\t0\n");
@@ -50,6 +54,9 @@ fn padded_requests() {
         let (mut padded_terms, mut padded) = (case.text.clone(), requests.clone());
         lines::pad(&mut rng, &mut padded_terms);
         lines::pad(&mut rng, &mut padded);
+        if padded_terms.len() > MOST_BYTES {
+            continue;
+        }
         let wanted = output(&normal(&case.text), &requests);
         assert_eq!(output(&padded_terms, &padded), wanted, "seed {seed}");
     }

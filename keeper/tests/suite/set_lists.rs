@@ -48,8 +48,8 @@ fn short_scratch_writes_nothing() {
 fn lists_are_single_requests_one_after_another() {
     for seed in 0..200 {
         let case = generate::case(seed, 99_999);
-        let terms = terms::read(&case.text).unwrap();
-        let (mut listed, mut single) = (Record::new(terms.clone()), Record::new(terms));
+        let file = terms::read(&case.text).unwrap();
+        let (mut listed, mut single) = (Record::of(file.clone()), Record::of(file));
         let mut rng = Rng::new(seed);
         let mut items: Vec<Item> =
             case.calls.iter().map(|call| generate::item(&mut rng, call)).collect();

@@ -16,9 +16,10 @@ fn parts_are_dropped() {
 #[test]
 fn accepted_texts_get_small_and_stay_accepted() {
     let since = |text: &[u8], calls: &[Call]| {
-        let Ok(terms) = terms::read(text) else { return false };
-        let has_since = terms.entries.iter().any(|entry| matches!(entry, Entry::Since(_, _)));
-        let mut record = Record::new(terms);
+        let Ok(file) = terms::read(text) else { return false };
+        let entries = &file.terms.entries;
+        let has_since = entries.iter().any(|entry| matches!(entry, Entry::Since(_, _)));
+        let mut record = Record::of(file);
         has_since && calls.iter().any(|call| record.answer(call) == Answer::Grant)
     };
     let mut shrunk = 0;
@@ -46,6 +47,27 @@ fn refused_texts_lose_lines() {
     // Nothing stands after the faulty line.
     let lines = text.iter().filter(|&&byte| byte == b'\n').count();
     assert_eq!(terms::read(&text), Err(Refusal { number: 3, line: lines }));
+}
+
+#[test]
+fn stored_files_lose_lines_and_stay_accepted() {
+    let passed = |text: &[u8], _: &[Call]| {
+        let past = terms::read(text).ok().and_then(|file| file.past);
+        past.is_some_and(|past| {
+            past.event.is_some() && past.tables.iter().any(|table| !table.is_empty())
+        })
+    };
+    let cases = (0..400).map(|seed| generate::case(seed, 99_999));
+    let mut shrunk = 0;
+    for case in cases.filter(|case| case.text.len() < 2_000 && passed(&case.text, &[])) {
+        let (text, _) = shrink(&case.text, &[], passed);
+        assert!(passed(&text, &[]));
+        // S, M, L, an entry or two with a policy, one T line and V.
+        let lines = text.iter().filter(|&&byte| byte == b'\n').count();
+        assert!(lines <= 10, "{}", text.escape_ascii());
+        shrunk += 1;
+    }
+    assert!(shrunk > 10, "{shrunk}");
 }
 
 #[test]

@@ -1,6 +1,6 @@
 //! How long many calls take; run by name, built for release.
 
-use crate::help::accepted;
+use crate::help::opened;
 use keeper::generate::{self, formulas, size::Size, Rng};
 use keeper::record::Record;
 use std::time::{Duration, Instant};
@@ -39,7 +39,7 @@ fn cases_of_every_size() {
     for seed in 0..2_000 {
         let case_begin = Instant::now();
         let case = generate::case(seed, 99_999);
-        let mut record = Record::new(accepted(&case.text));
+        let mut record = opened(&case.text);
         for call in &case.calls {
             record.answer(call);
             record.state_words();

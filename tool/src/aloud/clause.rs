@@ -18,6 +18,8 @@ pub enum Who {
     Given(usize),
     /// Somebody at the far end of an edge; no two edges share a number.
     Guest(usize),
+    /// A member of whom a stored file speaks.
+    Member(usize),
 }
 
 /// A clause.

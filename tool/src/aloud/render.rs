@@ -106,7 +106,10 @@ impl Speaker<'_> {
             (false, Time::Now) => "does not hold",
             (false, Time::Then) => "did not hold",
         };
-        let given = given.iter().map(|(x, who)| format!("{} as x{x}", name(*who)));
+        let given = given.iter().map(|(x, who)| match x {
+            0 => format!("{} as the target", name(*who)),
+            x => format!("{} as x{x}", name(*who)),
+        });
         let given: Vec<String> = given.collect();
         let with = if given.is_empty() { "" } else { ", with " };
         let text = format!("clause {number} {hold} of {}{with}{}", name(of), given.join(", "));

@@ -31,6 +31,13 @@ pub fn of_entry(forms: &Forms, entry: usize) -> Clause {
     Resolver { forms, guests: 0 }.inside(forms.node(entry, true), Who::Here, named)
 }
 
+/// What a past-time entry says of one member with its free variable, if any,
+/// standing for another.
+pub fn of_pair(forms: &Forms, entry: usize, member: usize, other: usize) -> Clause {
+    let named = Named([Who::Member(other); VARIABLES]);
+    Resolver { forms, guests: 0 }.inside(forms.node(entry, true), Who::Member(member), named)
+}
+
 struct Resolver<'a> {
     forms: &'a Forms<'a>,
     guests: usize,
@@ -42,7 +49,8 @@ impl Resolver<'_> {
             return self.inside(node, here, named);
         }
         let free = self.forms.free[node.entry];
-        let given = (1..VARIABLES).filter(|x| free >> x & 1 == 1);
+        let told = |&x: &usize| free >> x & 1 == 1 && (x, named.0[x]) != (0, Who::Target);
+        let given = (0..VARIABLES).filter(told);
         let given = given.map(|x| (x, named.0[x])).collect();
         Clause::Apart { entry: node.entry, of: here, given, holds: node.holds }
     }

@@ -4,6 +4,7 @@
 //! heading with its parts under it, as in a contract.
 
 use super::clause::Who;
+use crate::names::Names;
 
 /// What may follow a line within a longer one.
 #[derive(Clone, Copy, Debug, PartialEq, Eq, PartialOrd, Ord)]
@@ -90,7 +91,8 @@ pub fn full(subject: Option<Who>, text: &str) -> String {
     subject.map_or_else(|| text.to_string(), |who| format!("{} {text}", name(who)))
 }
 
-/// How a member is called. A guest is a token between two control characters.
+/// How a member is called. A guest, or a member with a name of its own, is a token
+/// between two control characters.
 pub fn name(who: Who) -> String {
     match who {
         Who::You => "you".to_string(),
@@ -98,6 +100,7 @@ pub fn name(who: Who) -> String {
         Who::Here => "M".to_string(),
         Who::Given(variable) => format!("x{variable}"),
         Who::Guest(guest) => format!("\u{1}{guest}\u{2}"),
+        Who::Member(member) => format!("\u{3}{member}\u{4}"),
     }
 }
 
@@ -180,6 +183,15 @@ pub fn letters(text: &str) -> String {
         named.push_str(&letter(place));
     }
     named
+}
+
+/// Puts the members' own names in.
+pub fn named(text: &str, names: &Names) -> String {
+    let part = |(index, part): (usize, &str)| match part.parse() {
+        Ok(member) if index % 2 == 1 => names.member(member),
+        _ => part.to_string(),
+    };
+    text.split(['\u{3}', '\u{4}']).enumerate().map(part).collect()
 }
 
 fn letter(place: usize) -> String {

@@ -145,19 +145,26 @@ impl Reader<'_> {
             let right = "edges rise by relation, then from, then to; none comes twice";
             return Err(Fault::new(FORM, place, what).right(right));
         }
-        let (relations, members) = (self.terms.relations, self.terms.members);
+        let relations = self.terms.relations;
         if relation >= relations {
             let right = range("relations", relations);
             return Err(out_of_range(r, format!("no relation {relation}"), right));
         }
-        for (field, member) in [(a, from), (b, to)] {
-            if member >= members {
-                let right = format!("{}: M says {members}", range("members", members));
-                return Err(out_of_range(field, format!("no member {member}"), right));
-            }
-        }
+        self.both_members([(a, from), (b, to)])?;
         self.terms.edges.insert(edge);
         Ok(())
+    }
+
+    /// Both ends of an edge, or both places of a bit, are members.
+    pub fn both_members(&self, ends: [(Field, usize); 2]) -> Result<(), Fault> {
+        let members = self.terms.members;
+        match ends.into_iter().find(|(_, member)| *member >= members) {
+            Some((field, member)) => {
+                let right = format!("{}: M says {members}", range("members", members));
+                Err(out_of_range(field, format!("no member {member}"), right))
+            }
+            None => Ok(()),
+        }
     }
 }
 

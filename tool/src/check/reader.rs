@@ -2,13 +2,13 @@
 
 use super::fault::Fault;
 use super::line::{counted, fields, form, Field, FORM};
+use super::stored::Bit;
 use crate::names::{did_you_mean, Names};
 use keeper::terms::{Terms, Variables, OPERATORS};
 
 /// The first cause for which a text is refused; none if it is accepted.
 pub fn diagnose(text: &[u8], names: &Names) -> Option<Fault> {
-    let (terms, free, last_effect) = (Terms::default(), Vec::new(), 0);
-    let mut reader = Reader { names, terms, free, last_effect };
+    let mut reader = Reader::new(names);
     let mut line = 0;
     for bytes in text.split_inclusive(|&byte| byte == b'\n') {
         line += 1;
@@ -20,8 +20,9 @@ pub fn diagnose(text: &[u8], names: &Names) -> Option<Fault> {
             return Some(Fault { line, ..fault });
         }
     }
-    let fault = reader.ends_too_soon(line == 0)?;
-    Some(Fault { line: line + 1, ..fault })
+    let fault = reader.ends_too_soon(line == 0);
+    let fault = fault.map(|fault| Fault { line: line + 1, ..fault });
+    fault.or_else(|| reader.partly_filled())
 }
 
 fn unended(line: &[u8]) -> Fault {
@@ -45,16 +46,25 @@ pub struct Reader<'a> {
     pub free: Vec<Variables>,
     /// The event of the last E line.
     pub last_effect: usize,
+    /// How many lines were read, this one among them.
+    pub lines: usize,
+    /// The stored form, with its T lines and V line.
+    pub stored: bool,
+    pub bits: Vec<Bit>,
+    pub event: bool,
 }
 
 /// The kinds of lines and the names of their fields.
-const KINDS: [(&str, &[&str]); 6] = [
+const KINDS: [(&str, &[&str]); 9] = [
     ("M", &["kind M", "count of members"]),
     ("L", &["kind L", "count of relations", "count of events"]),
     ("F", &["kind F", "entry number", "word", "first operand", "second operand"]),
     ("P", &["kind P", "event", "entry"]),
     ("E", &["kind E", "event", "action", "relation", "direction"]),
     ("G", &["kind G", "relation", "from", "to"]),
+    ("S", &["kind S", "form"]),
+    ("T", &["kind T", "table", "member", "other"]),
+    ("V", &["kind V", "event", "from", "to"]),
 ];
 
 /// The fields of an F line whose word takes a third operand.
@@ -66,10 +76,17 @@ fn is_long(word: &Field) -> bool {
     OPERATORS.iter().any(|known| known.is_long() && known.word.as_bytes() == word.bytes)
 }
 
-impl Reader<'_> {
+impl<'a> Reader<'a> {
+    fn new(names: &'a Names) -> Reader<'a> {
+        let (terms, free, bits) = (Terms::default(), Vec::new(), Vec::new());
+        let (stored, event) = (false, false);
+        Reader { names, terms, free, last_effect: 0, lines: 0, stored, bits, event }
+    }
+
     /// Reads one line, or finds what is wrong with it. What has the lowest
     /// number is looked for first.
     fn line(&mut self, line: &[u8], first: bool) -> Result<(), Fault> {
+        self.lines += 1;
         if let Some(fault) = form(line, first) {
             return Err(fault);
         }
@@ -91,6 +108,9 @@ impl Reader<'_> {
             }
         })?;
         match fields[1..] {
+            [form] if *word == "S" => self.form(form),
+            [table, a, b] if *word == "T" => self.bit(table, a, b),
+            [event, from, to] if *word == "V" => self.event_edge(event, from, to),
             [n] => self.members(n),
             [relations, events] if *word == "L" => self.labels(relations, events),
             [event, entry] => self.policy(event, entry),
@@ -111,20 +131,29 @@ impl Reader<'_> {
         let (members, labels) = (self.terms.members > 0, self.terms.events > 0);
         let policies = self.terms.policies.len();
         let told = |what: &str, right: &str| Some((what.to_string(), right.to_string()));
-        let order = "the kinds come in the order M, L, F, P, E, G";
+        let order = match self.stored {
+            false => "the kinds come in the order M, L, F, P, E, G",
+            true => "the kinds come in the order S, M, L, F, P, E, G, T, V",
+        };
+        if let Some(told) = self.stored_out_of_order(kind, order) {
+            return Some(told);
+        }
         match kind {
+            "S" => None,
             "M" if members => told("a second M line", order),
             "L" if labels => told("a second L line", order),
             "M" => None,
+            _ if !members && self.stored => told(&format!("{kind} where M is due"), order),
             _ if !members => told(&format!("{kind} where M is due"), "the first line is M"),
             "L" => None,
+            _ if !labels && self.stored => told(&format!("{kind} where L is due"), order),
             _ if !labels => told(&format!("{kind} where L is due"), "the second line is L"),
             "F" if policies > 0 => told("an F line after a P line", order),
             "P" if self.complete() => {
                 let what = format!("a policy too many: {}", events(self.terms.events));
                 told(&what, "each event has its policy above")
             }
-            "E" | "G" if !self.complete() => {
+            "E" | "G" | "T" | "V" if !self.complete() => {
                 let what = format!("{kind} where the policy of event {policies} is due");
                 told(&what, &each_needs_one(self.terms.events))
             }
@@ -141,6 +170,8 @@ impl Reader<'_> {
         let policies = self.terms.policies.len();
         let (what, right) = if empty {
             ("the file is empty".into(), "the first line is M with the count of members".into())
+        } else if self.terms.members == 0 {
+            ("the file ends before M".into(), "M has the count of members".into())
         } else if self.terms.events == 0 {
             ("the file ends before L".into(), "L has the counts of relations and events".into())
         } else {
@@ -181,5 +212,6 @@ fn no_kind(kind: Field) -> Fault {
         return fault(format!("no kind `{shown}`")).right(format!("kinds are capitals: {upper}"));
     }
     let hint = did_you_mean(&shown, kinds);
-    fault(format!("no kind `{shown}`{hint}")).right("kinds are M, L, F, P, E and G")
+    let kinds = "kinds are M, L, F, P, E and G, and in the stored form S, T and V";
+    fault(format!("no kind `{shown}`{hint}")).right(kinds)
 }

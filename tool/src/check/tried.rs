@@ -69,7 +69,7 @@ pub fn one_sided(both: &Both, names: &Names, requests: &[Request]) -> Result<Vec
 fn asked(both: &Both, requests: &[Request]) -> Result<Vec<Count>, Stop> {
     let mut counts = vec![Count::default(); both.terms().events];
     // A record of its own, here and below: the one at hand stays at moment 0.
-    let mut trial = Both::accepted(&both.write()?)?;
+    let mut trial = Both::accepted(&both.store()?)?;
     for request in requests.iter().take(REQUESTS) {
         let Request::Ask { event, from, to } = *request else { continue };
         match trial.request(event, from, to)? {
@@ -86,7 +86,7 @@ fn seen(both: &Both) -> Result<(Vec<Count>, usize), Stop> {
     let terms = both.terms();
     let mut members = busiest(terms);
     let mut counts = vec![Count::default(); terms.events];
-    let mut trial = Both::accepted(&both.write()?)?;
+    let mut trial = Both::accepted(&both.store()?)?;
     look_around(&trial, &members, &mut counts)?;
     members.truncate(TRYING);
     let mut random = 1u64;

@@ -46,6 +46,9 @@ pub fn warnings(both: &Both, names: &Names, requests: &[Request]) -> Result<Vec<
         Some(warning) => warnings.push(warning),
         None => warnings.extend(tried::one_sided(both, names, requests)?),
     }
+    // In the stored form all lines come after S.
+    let moved = usize::from(both.is_stored());
+    warnings.iter_mut().filter(|warning| warning.line > 0).for_each(|w| w.line += moved);
     warnings.sort_by_key(|warning| warning.line);
     Ok(warnings)
 }

@@ -17,14 +17,15 @@ usage: cuckooormolu aloud DIR|FILE [--json] [--verify DOCUMENT | --quote DOCUMEN
 
 Reads every policy and every effect of a terms file aloud, as sentences about
 past events. \"You\" are the one who asks, \"the target\" is whom or what you ask
-about.
+about. Of a stored file it also says what was remembered when it was stored.
 
 Names are those of names.tsv beside it. Known verbs are inflected: own, owns. An
 edge of member-of from A to B says that A is a member of B; one of friend and the
 like, that B is a friend of A. Any other relation's edges are called by its name.
 
   --json             one line for each event: event, name, policy, effects;
-                     then one for each numbered clause: clause, text
+                     for a stored file one: stored; then one for each numbered
+                     clause: clause, text
   --verify DOCUMENT  say whether the block fenced as ```aloud in a document is
                      what is read aloud; exit status 1 if not
   --quote DOCUMENT   write what is read aloud into that block
@@ -34,7 +35,7 @@ pub fn main(arguments: &[String], out: &mut dyn Write) -> Result<i32, Stop> {
     let arguments = Arguments::read(arguments, &["--json"], &["--verify", "--quote"])?;
     let folder = Folder::load(Path::new(arguments.one("a folder or a terms file")?))?;
     let both = Both::accepted(&folder.terms)?;
-    let aloud = Aloud::of(both.terms(), &folder.names);
+    let aloud = Aloud::of_record(both.record(), &folder.names);
     if let Some(document) = arguments.option("--verify") {
         return verify(&aloud, Path::new(document), out);
     }
@@ -53,6 +54,9 @@ pub fn main(arguments: &[String], out: &mut dyn Write) -> Result<i32, Stop> {
             ("effects", spoken.effects.as_ref().map(Sentence::text).into()),
         ]);
         writeln!(out, "{line}")?;
+    }
+    if let Some(stored) = &aloud.stored {
+        writeln!(out, "{}", Json::Object(vec![("stored", stored.text().into())]))?;
     }
     for (index, clause) in aloud.clauses.iter().enumerate() {
         let line =

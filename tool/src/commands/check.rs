@@ -7,6 +7,7 @@ use crate::check::{check, Checked, Fault, Warning};
 use crate::folder::{Folder, TERMS};
 use crate::json::Json;
 use crate::stop::{Stop, FAILING, WELL};
+use std::collections::BTreeSet;
 use std::fs;
 use std::io::Write;
 use std::path::Path;
@@ -101,6 +102,12 @@ fn accepted(out: &mut dyn Write, both: &Both, warnings: &[Warning]) -> Result<()
         counted(terms.edges.len(), "first edge", "first edges"),
     ];
     writeln!(out, "accepted: {}", parts.join(", "))?;
+    if let Some(tables) = both.record().before() {
+        let bits = tables.iter().map(BTreeSet::len).sum();
+        let event = if both.present().event.is_some() { "the last event" } else { "no event" };
+        let bits = counted(bits, "line of the past", "lines of the past");
+        writeln!(out, "stored: with {bits} and {event}; `cuckooormolu aloud` reads them")?;
+    }
     for warning in warnings {
         match warning.line {
             0 => writeln!(out, "warning: {}", warning.what)?,
@@ -135,6 +142,7 @@ fn accepted_json(both: &Both) -> Json {
         ("entries", terms.entries.len().into()),
         ("past", terms.past().len().into()),
         ("edges", terms.edges.len().into()),
+        ("stored", both.is_stored().into()),
     ])
 }
 

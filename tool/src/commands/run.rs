@@ -2,27 +2,33 @@
 
 use crate::arguments::Arguments;
 use crate::both::Verdict;
-use crate::folder::{Folder, Request};
+use crate::folder::{self, Folder, Request};
 use crate::json::Json;
 use crate::replay::{Replay, Step};
 use crate::stop::{Stop, FAILING, WELL};
 use crate::words::{answered, Words};
+use keeper::terms::Refusal;
 use std::io::Write;
 use std::path::Path;
 
 pub const HELP: &str = "\
-usage: cuckooormolu run DIR [--json]
+usage: cuckooormolu run DIR [--json] [--store FILE] [--write FILE]
 
 Makes the requests of DIR/requests.tsv under the terms of DIR/terms.tsv and
-prints each with its answer. Names come from DIR/names.tsv if it is there.
+prints each with its answer. Names come from DIR/names.tsv if it is there. Terms
+that were stored go on from there.
 
-  --json   one JSON object a line
+  --json         one JSON object a line
+  --store FILE   then store terms and state, with what has passed, in FILE
+  --write FILE   then write the terms and relations, as terms to begin with; no
+                 such file is written where something has passed (refusal 12)
 
-Exit status: 0 if every request is granted, 1 if one is denied or refused.
+Exit status: 0 if every request is granted, 1 if one is denied or refused, or if
+no file is written.
 ";
 
 pub fn main(arguments: &[String], out: &mut dyn Write) -> Result<i32, Stop> {
-    let arguments = Arguments::read(arguments, &["--json"], &[])?;
+    let arguments = Arguments::read(arguments, &["--json"], &["--store", "--write"])?;
     let folder = Folder::load(Path::new(arguments.one("DIR")?))?;
     let replay = Replay::of(&folder)?;
     let words = Words::new(replay.both.terms(), &folder.names);
@@ -34,7 +40,22 @@ pub fn main(arguments: &[String], out: &mut dyn Write) -> Result<i32, Stop> {
             writeln!(out, "{}", widths.line(step, &words))?;
         }
     }
+    if let Some(file) = arguments.option("--store") {
+        folder::write(Path::new(file), &replay.both.store()?)?;
+    }
+    if let Some(file) = arguments.option("--write") {
+        let text = replay.both.write()?.map_err(|refusal| Stop::Failed(no_fresh_start(refusal)))?;
+        folder::write(Path::new(file), &text)?;
+    }
     Ok(status(&replay))
+}
+
+/// Why the old form is not written.
+fn no_fresh_start(refusal: Refusal) -> String {
+    format!(
+        "refused with {}: something has passed that terms to begin with cannot say; --store keeps it",
+        refusal.number
+    )
 }
 
 /// The exit status of answers.

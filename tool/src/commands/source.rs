@@ -14,7 +14,7 @@ usage: cuckooormolu source DIR|FILE [-o FILE]
 
 Writes terms.tsv, with the names of names.tsv if it is there, as a source
 (docs/LANGUAGE.md). Compiling that gives terms with the same formulas, effects
-and first edges.
+and first edges. What a stored file remembers of the past is not in a source.
 
   -o FILE   write it to FILE instead of printing it
 
@@ -29,7 +29,10 @@ pub fn main(arguments: &[String], out: &mut dyn Write) -> Result<i32, Stop> {
         let message = "internal error, please report it: the source compiles to other terms";
         return Err(Stop::Failed(message.into()));
     }
-    let text = print(&source);
+    let mut text = print(&source);
+    if both.is_stored() {
+        text = format!("# stored with a past, which a source does not say\n\n{text}");
+    }
     match arguments.option("-o") {
         Some(file) => folder::write(Path::new(file), text.as_bytes())?,
         None => out.write_all(text.as_bytes())?,

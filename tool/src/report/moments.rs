@@ -22,9 +22,12 @@ pub fn section(replay: &Replay, words: &Words, drawing: &Drawing) -> Result<Stri
         legend(words, drawing.count(), graphs.len()),
     );
     for (moment, graph) in graphs.iter().enumerate() {
-        let heading = match graph.event {
-            None => "the first edges".to_string(),
-            Some((event, from, to)) => words.event(event, from, to),
+        let event = graph.event.map(|(event, from, to)| words.event(event, from, to));
+        let heading = match (moment, event) {
+            (0, Some(event)) => format!("as stored, after {event}"),
+            (_, Some(event)) => event,
+            (_, None) if replay.both.is_stored() => "as stored".to_string(),
+            (_, None) => "the first edges".to_string(),
         };
         text.push_str(&format!(
             "<li class=\"moment\" id=\"moment-{moment}\">\n\

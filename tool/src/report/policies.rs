@@ -3,9 +3,10 @@
 use super::html::escaped;
 use crate::aloud::{Aloud, Sentence};
 use crate::words::Words;
+use keeper::record::Record;
 
-pub fn section(words: &Words) -> String {
-    let aloud = Aloud::of(words.terms, words.names);
+pub fn section(record: &Record, words: &Words) -> String {
+    let aloud = Aloud::of_record(record, words.names);
     let mut text = String::from(
         "<section aria-labelledby=\"policies\">\n<h2 id=\"policies\">What may be done</h2>\n\
          <dl class=\"policies\">\n",
@@ -19,6 +20,9 @@ pub fn section(words: &Words) -> String {
         text.push_str("</dd></div>\n");
     }
     text.push_str("</dl>\n");
+    if let Some(stored) = &aloud.stored {
+        text.push_str(&format!("<div class=\"clauses\">\n{}</div>\n", sentence(stored)));
+    }
     if !aloud.clauses.is_empty() {
         text.push_str("<div class=\"clauses\">\n");
         aloud.clauses.iter().for_each(|clause| text.push_str(&sentence(clause)));

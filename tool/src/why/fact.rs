@@ -22,8 +22,11 @@ pub enum Fact {
     Differ { member: usize, other: usize },
     /// Moment 0 is the first.
     NoMomentBefore,
-    /// The place's entry held there at no moment up to the place's.
-    Never(Place),
+    /// So a stored file says of moment 0.
+    Stored(Claim),
+    /// The place's entry held there at no moment up to the place's, from moment 0 on
+    /// or after it.
+    Never { place: Place, after: bool },
     /// The place's entry held there from a moment on, up to the place's.
     Since { place: Place, first: usize },
     /// The step of the place's reach leads to nobody.
@@ -73,7 +76,13 @@ impl Fact {
                 format!("{} is not {}", words.member(member), words.member(other))
             }
             Fact::NoMomentBefore => "there is no moment before moment 0".to_string(),
-            Fact::Never(place) => never(words, place) + &up_to(place.moment),
+            Fact::Stored(Claim { place, holds }) => {
+                format!("as stored: {}", phrase(words, place, holds).text)
+            }
+            Fact::Never { place, after: false } => never(words, place) + &up_to(place.moment),
+            Fact::Never { place, after: true } => {
+                format!("since then {}{}", never(words, place), up_to(place.moment))
+            }
             Fact::Since { place, .. } => {
                 let text = phrase(words, place, true).text;
                 let until = match place.moment == now {

@@ -63,14 +63,18 @@ pub enum Reason {
     NoNeighbour(Vec<Claim>),
     /// `prev` fails at moment 0.
     NoMomentBefore,
+    /// `prev` or `since` at moment 0 of a stored file, which says so.
+    Stored,
     /// `prev` is decided one moment before.
     Before(Claim),
-    /// `since` holds: by the second operand at a moment, and by the first at every one after it.
+    /// `since` holds: by the second operand at a moment, or as a stored file says
+    /// of moment 0, and by the first at every one after it.
     Began { began: Claim, after: Vec<Claim> },
-    /// `since` fails: the second operand held last at a moment, the first failed
+    /// `since` fails: it held last by such a beginning, the first operand failed
     /// after it, and the second has failed at every moment after it.
     Broken { began: Claim, broke: Claim, after: Vec<Claim> },
-    /// `since` fails: the second operand held at no moment.
+    /// `since` fails: the second operand held at no moment. At moment 0 of a stored
+    /// file it is the since itself that did not.
     Never(Vec<Claim>),
     /// `reach` holds: by the first operand of this member, and the second there.
     Reached { step: Claim, there: Claim },
@@ -84,7 +88,8 @@ impl Reason {
     /// The claims it rests on.
     pub fn premises(&self) -> Vec<Claim> {
         match self {
-            Reason::Always | Reason::StandsFor(_) | Reason::NoMomentBefore => Vec::new(),
+            Reason::Always | Reason::StandsFor(_) => Vec::new(),
+            Reason::NoMomentBefore | Reason::Stored => Vec::new(),
             Reason::Opposite(claim) | Reason::Side(claim) | Reason::Neighbour(claim) => {
                 vec![*claim]
             }
@@ -106,14 +111,16 @@ pub struct Reasons<'a> {
     graphs: &'a [Graph],
     free: Vec<Variables>,
     meaning: Meaning<'a>,
+    /// Whether moment 0 is that of a stored file.
+    stored: bool,
 }
 
 impl<'a> Reasons<'a> {
     pub fn new(record: &'a Record) -> Reasons<'a> {
         let (terms, graphs) = (record.terms(), record.graphs());
         let free = terms.free();
-        let meaning = Meaning::new(terms, &free, graphs);
-        Reasons { terms, graphs, free, meaning }
+        let meaning = Meaning::new(terms, &free, graphs, record.before());
+        Reasons { terms, graphs, free, meaning, stored: record.before().is_some() }
     }
 
     pub fn terms(&self) -> &'a Terms {
@@ -156,6 +163,7 @@ impl<'a> Reasons<'a> {
                 }
             }
             Entry::Out(_, f) | Entry::In(_, f) => self.near(place, f),
+            Entry::Prev(_) | Entry::Since(_, _) if self.is_stored(place) => Reason::Stored,
             Entry::Prev(_) if place.moment == 0 => Reason::NoMomentBefore,
             Entry::Prev(f) => Reason::Before(self.claim(place.entry(f).moment(place.moment - 1))),
             Entry::Since(f, g) => self.since(place, f, g),
@@ -201,12 +209,18 @@ impl<'a> Reasons<'a> {
         Reason::NobodyReached(failing)
     }
 
+    /// Whether what is said of the past at a place is a stored file's.
+    pub fn is_stored(&self, place: Place) -> bool {
+        self.stored && place.moment == 0
+    }
+
     /// The last moment of the second operand decides, and after it the first
     /// failure of the first.
     fn since(&mut self, place: Place, f: usize, g: usize) -> Reason {
         let mut failing = Vec::new();
         let began = (0..=place.moment).rev().find_map(|moment| {
-            let claim = self.claim(place.entry(g).moment(moment));
+            let there = place.moment(moment);
+            let claim = self.claim(if self.is_stored(there) { there } else { there.entry(g) });
             if claim.holds {
                 return Some(claim);
             }

@@ -144,6 +144,7 @@ impl Teller<'_, '_> {
             }
             Reason::NobodyReached(failing) => self.nobody_reached(place, failing),
             Reason::NoMomentBefore => vec![Story::of(Fact::NoMomentBefore)],
+            Reason::Stored => vec![Story::of(Fact::Stored(claim))],
             Reason::Began { began, after } => vec![self.began(began, after)],
             Reason::Broken { began, broke, .. } => {
                 let story = Story::default().then(telling(self.tell(began)));
@@ -165,11 +166,23 @@ impl Teller<'_, '_> {
 
     /// That it never was so; for a denial also the moments whose event came near.
     fn never(&mut self, failing: Vec<Claim>) -> Vec<Story> {
-        let Some(last) = failing.last() else { return Vec::new() };
-        let last = last.place;
-        let mut stories = self.near(&failing);
-        stories.push(Story::of(Fact::Never(last)));
+        let [first, .., last] = failing[..] else {
+            return failing.iter().map(|only| self.never_at(only.place, None)).collect();
+        };
+        let stored = self.reasons.is_stored(first.place).then_some(first);
+        let mut stories = self.near(&failing[usize::from(stored.is_some())..]);
+        stories.push(self.never_at(last.place, stored));
         stories
+    }
+
+    /// That an entry held at no moment up to a place's; or that something was not
+    /// so as stored, and that the entry has not held since.
+    fn never_at(&self, place: Place, stored: Option<Claim>) -> Story {
+        let never = Story::of(Fact::Never { place, after: stored.is_some() });
+        match stored {
+            None => never,
+            Some(claim) => Story::of(Fact::Stored(claim)).then(vec![never]),
+        }
     }
 
     /// For a denial, the failing claims whose event came near, the last first.

@@ -138,7 +138,7 @@ fn changed(terms: &Terms, rng: &mut Rng) -> Option<Terms> {
         _ => Entry::of_parts(operator, [a, b ^ 1, c]),
     };
     terms.entries[place] = changed?;
-    read(&write(&terms, &terms.edges)).ok()
+    read(&write(&terms, &terms.edges)).ok().map(|file| file.terms)
 }
 
 #[test]

@@ -7,9 +7,9 @@ use std::fs;
 #[test]
 fn examples_quote_what_is_read_aloud() {
     let examples = concat!(env!("CARGO_MANIFEST_DIR"), "/../examples");
+    let folders = fs::read_dir(examples).unwrap().map(|entry| entry.unwrap().path());
     let mut quoted = 0;
-    for entry in fs::read_dir(examples).unwrap() {
-        let folder = entry.unwrap().path();
+    for folder in folders.flat_map(|folder| [folder.join("later"), folder]) {
         let document = folder.join("README.md");
         if !document.is_file() {
             continue;

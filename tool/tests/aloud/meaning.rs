@@ -8,6 +8,7 @@ use keeper::generate::size::Size;
 use keeper::generate::{calls, formulas, Rng};
 use keeper::record::meaning::Assigned;
 use keeper::record::Record;
+use keeper::terms::memory::pairs;
 use keeper::terms::VARIABLES;
 
 /// One evaluation of clauses over a record.
@@ -27,6 +28,7 @@ impl Evaluation<'_> {
             Who::Here => self.here,
             Who::Given(variable) => self.assigned.member(variable),
             Who::Guest(guest) => self.guests[guest],
+            Who::Member(member) => member,
         }
     }
 
@@ -158,4 +160,28 @@ fn clauses_mean_what_entries_mean() {
         }
     }
     assert!(compared > 10_000 && apart > 20, "{compared} {apart}");
+}
+
+/// What is said of a pair that a stored file has is what its table says.
+#[test]
+fn pairs_mean_what_tables_say() {
+    let (mut compared, mut held) = (0, 0);
+    for seed in 0..600 {
+        let record = random_record(seed);
+        let forms = Forms::new(record.terms());
+        let now = record.graphs().len() - 1;
+        let tables = record.state().past.tables;
+        for (entry, table) in record.terms().past().into_iter().zip(&tables) {
+            for (member, other) in pairs(record.terms().members.min(4)) {
+                let clause = resolve::of_pair(&forms, entry, member, other);
+                let (assigned, guests) = (Assigned::default(), Vec::new());
+                let mut evaluation =
+                    Evaluation { record: &record, you: 0, here: 0, assigned, guests };
+                let meant = table.contains(&(member, other));
+                assert_eq!(evaluation.holds(&clause, now), meant, "seed {seed} entry {entry}");
+                (compared, held) = (compared + 1, held + usize::from(meant));
+            }
+        }
+    }
+    assert!(compared > 5_000 && held > 1_000, "{compared} {held}");
 }

@@ -32,7 +32,7 @@ fn said_with(relations: [&str; 2], formula: &str) -> String {
     let lines = entries.iter().enumerate().map(|(index, entry)| format!("F {index} {entry}\n"));
     let lines: String = lines.collect();
     let text = format!("M 3\nL 2 3\n{lines}P 0 {last}\nP 1 {last}\nP 2 {last}\n");
-    let terms = read(text.replace(' ', "\t").as_bytes()).expect("an accepted formula");
+    let terms = read(text.replace(' ', "\t").as_bytes()).expect("an accepted formula").terms;
     let aloud = Aloud::of(&terms, &names(relations));
     let policy = aloud.events[0].policy.text();
     let clauses = aloud.clauses.iter().map(|clause| format!("\n{}", clause.text()));
@@ -228,7 +228,7 @@ fn deep_parts_are_said_apart() {
 #[test]
 fn any_terms_are_read_aloud() {
     for seed in 0..400 {
-        let terms = read(&case(seed, 99).text).unwrap();
+        let terms = read(&case(seed, 99).text).unwrap().terms;
         let text = Aloud::of(&terms, &Names::default()).text();
         // Never more than so much for each entry and policy.
         let parts = terms.entries.len() + terms.policies.len();

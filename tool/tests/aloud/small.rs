@@ -59,7 +59,7 @@ fn policy(formula: &Formula) -> Option<Terms> {
         effects: vec![Vec::new()],
         ..Terms::default()
     };
-    read(&write(&terms, &terms.edges)).ok()
+    read(&write(&terms, &terms.edges)).ok().map(|file| file.terms)
 }
 
 #[test]

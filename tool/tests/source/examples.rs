@@ -12,7 +12,8 @@ use std::fs;
 use std::path::{Path, PathBuf};
 
 /// Examples whose terms are the compiled file itself.
-const COMPILED: [&str; 5] = ["charities", "chinese-wall", "cliques", "consent", "policy-20"];
+const COMPILED: [&str; 6] =
+    ["charities", "chinese-wall", "cliques", "consent", "policy-20", "saved"];
 
 /// Examples whose policies are the same formulas, listed in another order.
 const REORDERED: [&str; 6] =
@@ -49,7 +50,7 @@ fn the_same_answers() {
 fn the_same_terms() {
     for (path, name, compiled) in examples() {
         let folder = Folder::load(&path).unwrap();
-        let own = terms::read(&folder.terms).unwrap();
+        let own = terms::read(&folder.terms).unwrap().terms;
         assert_eq!(compiled.terms.effects, own.effects, "{name}");
         assert_eq!(compiled.terms.edges, own.edges, "{name}");
         if COMPILED.contains(&name.as_str()) {
@@ -90,7 +91,7 @@ fn the_same_looks() {
 fn the_way_back() {
     for (path, name, _) in examples() {
         let folder = Folder::load(&path).unwrap();
-        let own = terms::read(&folder.terms).unwrap();
+        let own = terms::read(&folder.terms).unwrap().terms;
         assert!(agrees(&decompile(&own, &folder.names), &own), "{name}");
     }
 }

@@ -32,7 +32,7 @@ fn blocks(text: &str, heading: &str) -> Vec<String> {
 fn the_tutorial_compiles_to_the_preset_terms() {
     let compiled = compile(&blocks(&document(), "Five minutes")[0]).unwrap();
     let preset = Path::new(env!("CARGO_MANIFEST_DIR")).join("../examples/preset/terms.tsv");
-    let preset = terms::read(&fs::read(preset).unwrap()).unwrap();
+    let preset = terms::read(&fs::read(preset).unwrap()).unwrap().terms;
     assert!(differing(&compiled.terms, &preset).is_empty());
     assert_eq!(compiled.terms.edges, preset.edges);
 }

@@ -1,5 +1,5 @@
 -- `file::line::parse_line` meets its contract: the arms are the kinds in the order of their words.
-use mathlib.Core.Path.{_≡_, sym, ap, _∙_}
+use mathlib.Core.Path.{_≡_, refl, sym, ap, _∙_}
 use mathlib.Core.List.{[]}
 use lib.ListN.{getD}
 use Rattle.fields.specs.Split.{split}
@@ -34,8 +34,17 @@ policy-line-requires c κs = search needs
 effect-line-requires : tie.Need-effect-line-requires
 effect-line-requires c κs = search needs
 
-edge-line-requires : tie.Need-edge-line-requires
-edge-line-requires c κs = search needs
+triple-line-requires : tie.Need-triple-line-requires
+triple-line-requires c κs = search needs
+
+form-line-requires : tie.Need-form-line-requires
+form-line-requires c κs = search needs
+
+triple-line-requires-2 : tie.Need-triple-line-requires-2
+triple-line-requires-2 c κs = search needs
+
+triple-line-requires-3 : tie.Need-triple-line-requires-3
+triple-line-requires-3 c κs = search needs
 
 returns : tie.Need-returns
 unfolding lineOf
@@ -59,12 +68,27 @@ returns-5 c = line-kind 4 _ (c .effect-line .ensures) (sym (c .before .match .ke
 
 returns-6 : tie.Need-returns-6
 unfolding lineOf
-returns-6 c = line-kind 5 _ (c .edge-line .ensures) (sym (c .before .match .keys6) ∙ kind (c .before .before))
+returns-6 c = line-kind 5 _ (c .triple-line .ensures .0 refl) (sym (c .before .match .keys6) ∙ kind (c .before .before))
 
 returns-7 : tie.Need-returns-7
-returns-7 c =
+unfolding lineOf
+returns-7 c = line-kind 6 _ (c .form-line .ensures) (sym (c .before .match .keys7) ∙ kind (c .before .before))
+
+returns-8 : tie.Need-returns-8
+unfolding lineOf
+returns-8 c = line-kind 7 _ (c .triple-line2 .ensures .1 refl) (sym (c .before .match .keys8) ∙ kind (c .before .before))
+
+returns-9 : tie.Need-returns-9
+unfolding lineOf
+returns-9 c = line-kind 8 _ (c .triple-line3 .ensures .2 refl) (sym (c .before .match .keys9) ∙ kind (c .before .before))
+
+returns-10 : tie.Need-returns-10
+returns-10 c =
     let r = c .match .rest in
-    line-kind _ _ (line-none _ _ (r .0 .0 .0 .0 .0 .1) (r .0 .0 .0 .0 .1) (r .0 .0 .0 .1) (r .0 .0 .1) (r .0 .1) (r .1)) (kind (c .before))
+    let r6 = r .0 .0 .0 in
+    line-kind _ _
+    (line-none _ _ (r6 .0 .0 .0 .0 .0 .1) (r6 .0 .0 .0 .0 .1) (r6 .0 .0 .0 .1) (r6 .0 .0 .1) (r6 .0 .1) (r6 .1) (r .0 .0 .1) (r .0 .1) (r .1))
+    (kind (c .before))
 
 pub parse-line-spec : {M : Type 1} → statement M
 parse-line-spec =
@@ -77,11 +101,17 @@ parse-line-spec =
     entry-line-requires
     policy-line-requires
     effect-line-requires
-    edge-line-requires
+    triple-line-requires
+    form-line-requires
+    triple-line-requires-2
+    triple-line-requires-3
     returns
     returns-2
     returns-3
     returns-4
     returns-5
     returns-6
-    returns-7)
+    returns-7
+    returns-8
+    returns-9
+    returns-10)

@@ -41,20 +41,44 @@ slice-aggregate-pick-6 c = search needs
 pick-requires-6 : tie.Need-pick-requires-6
 pick-requires-6 c κs = search needs
 
+slice-aggregate-pick-7 : tie.Need-slice-aggregate-pick-7
+slice-aggregate-pick-7 c = search needs
+
+pick-requires-7 : tie.Need-pick-requires-7
+pick-requires-7 c κs = search needs
+
+slice-aggregate-pick-8 : tie.Need-slice-aggregate-pick-8
+slice-aggregate-pick-8 c = search needs
+
+pick-requires-8 : tie.Need-pick-requires-8
+pick-requires-8 c κs = search needs
+
+slice-aggregate-pick-9 : tie.Need-slice-aggregate-pick-9
+slice-aggregate-pick-9 c = search needs
+
+pick-requires-9 : tie.Need-pick-requires-9
+pick-requires-9 c κs = search needs
+
 returns : tie.Need-returns
 unfolding kindOf kindWords
 returns c =
-    let c5 = c .before .before in
+    let c8 = c .before .before in
+    let c7 = c8 .before .before in
+    let c6 = c7 .before .before in
+    let c5 = c6 .before .before in
     let c4 = c5 .before .before in
     let c3 = c4 .before .before in
     let c2 = c3 .before .before in
     let c1 = c2 .before .before in
-    picked _ _ _ _ (c .pick6 .ensures)
+    picked _ _ _ _ (c .pick9 .ensures)
+    (picked _ _ _ _ (c8 .pick8 .ensures)
+    (picked _ _ _ _ (c7 .pick7 .ensures)
+    (picked _ _ _ _ (c6 .pick6 .ensures)
     (picked _ _ _ _ (c5 .pick5 .ensures)
     (picked _ _ _ _ (c4 .pick4 .ensures)
     (picked _ _ _ _ (c3 .pick3 .ensures)
     (picked _ _ _ _ (c2 .pick2 .ensures)
-    (picked _ _ _ _ (c1 .pick .ensures) (picked-none _ _))))))
+    (picked _ _ _ _ (c1 .pick .ensures) (picked-none _ _)))))))))
 
 pub read-kind-spec : {M : Type 1} → statement M
 read-kind-spec =
@@ -72,4 +96,10 @@ read-kind-spec =
     pick-requires-5
     slice-aggregate-pick-6
     pick-requires-6
+    slice-aggregate-pick-7
+    pick-requires-7
+    slice-aggregate-pick-8
+    pick-requires-8
+    slice-aggregate-pick-9
+    pick-requires-9
     returns)

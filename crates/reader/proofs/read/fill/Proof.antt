@@ -1,10 +1,22 @@
 -- `reader::read::fill` meets its contract: one law for each way that it goes.
 use mathlib.Core.Path.{sym, ap, _∙_}
-use Rattle.memory.specs.Outcome.{outcomeOf}
-use Rattle.reader.proofs.Ended.{short-terms, short-state, text-refused, text-accepted}
+use mathlib.Core.List.{[], _∷_}
+use denote.Enum.Declared.{tagOf}
+use types.Run.{OneOf, miss}
+use Rattle.reader.specs.Read.{fillingOf}
+use Rattle.reader.proofs.Ended.{Unrefused, short-terms, short-state, text-refused, text-partly, text-accepted}
+use Rattle.reader.specs.declared.Filled.{Filled}
+use Rattle.reader.specs.declared.Filled.the-variants.{Old, Stored, Refused}
+use Rattle.reader.proofs.Filled.{the-type}
 use borrow.Author.Needs.{needs}
 use Rattle.reader.proofs.read.fill.Statement.{statement}
 use Rattle.reader.proofs.read.fill.Tie as tie
+
+-- a text whose lines all pass
+unrefused : (x : Filled) → OneOf (0 ∷ 1 ∷ []) (tagOf the-type x) → Unrefused (fillingOf x)
+unrefused Old h = tt
+unrefused Stored h = tt
+unrefused (Refused n l) h = absurd (miss (0 ∷ 1 ∷ []) 2 tt h)
 
 returns : tie.Need-returns
 returns c = short-terms _ _ _ (c .if1 .taken)
@@ -24,8 +36,36 @@ slice-aggregate-read-lines-3 c = search needs
 read-lines-requires : tie.Need-read-lines-requires
 read-lines-requires c κs = search needs
 
-enum-told : tie.Need-enum-told
-enum-told c = search needs
+enum-known-filled : tie.Need-enum-known-filled
+enum-known-filled c = search needs
+
+returns-3 : tie.Need-returns-3
+returns-3 c =
+    let k1 = c .before in
+    let k2 = k1 .before .before .before .before .before in
+    let k3 = k2 .before .before .before .before in
+    text-refused _ _ _ (k3 .before .if1 .left) (k3 .if2 .left) _ _ (sym (ap fillingOf (k1 .filled .given .1)) ∙ k2 .read-lines .ensures .given)
+
+slice-aggregate-partly-at : tie.Need-slice-aggregate-partly-at
+slice-aggregate-partly-at c = search needs
+
+slice-aggregate-partly-at-2 : tie.Need-slice-aggregate-partly-at-2
+slice-aggregate-partly-at-2 c = search needs
+
+slice-aggregate-partly-at-3 : tie.Need-slice-aggregate-partly-at-3
+slice-aggregate-partly-at-3 c = search needs
+
+partly-at-requires : tie.Need-partly-at-requires
+partly-at-requires c κs = search needs
+
+returns-4 : tie.Need-returns-4
+returns-4 c =
+    let k1 = c .before in
+    let k2 = k1 .before .before .before .before in
+    let k3 = k2 .before .before .before .before in
+    let k4 = k3 .before .before .before .before in
+    text-partly _ _ _ (k4 .before .if1 .left) (k4 .if2 .left) _ _ _ _ (k3 .read-lines .ensures) (unrefused (k3 .read-lines .result) (k2 .match .keys2)) _
+    (k1 .partly-at .ensures) (c .if3 .taken)
 
 slice-aggregate-copy-terms : tie.Need-slice-aggregate-copy-terms
 slice-aggregate-copy-terms c = search needs
@@ -33,14 +73,11 @@ slice-aggregate-copy-terms c = search needs
 copy-terms-requires : tie.Need-copy-terms-requires
 copy-terms-requires c κs = search needs
 
-slice-aggregate-copy-relations : tie.Need-slice-aggregate-copy-relations
-slice-aggregate-copy-relations c = search needs
+slice-aggregate-copy-state : tie.Need-slice-aggregate-copy-state
+slice-aggregate-copy-state c = search needs
 
-copy-relations-requires : tie.Need-copy-relations-requires
-copy-relations-requires c κs = search needs
-
-enum-known-outcome : tie.Need-enum-known-outcome
-enum-known-outcome c = search needs
+copy-state-requires : tie.Need-copy-state-requires
+copy-state-requires c κs = search needs
 
 same-length : tie.Need-same-length
 same-length c = search needs
@@ -48,24 +85,17 @@ same-length c = search needs
 same-length-2 : tie.Need-same-length-2
 same-length-2 c = search needs
 
-returns-3 : tie.Need-returns-3
-returns-3 c =
-    let k2 = c .before .before in
-    let k3 = k2 .before .before .before .before .before in
-    let k4 = k3 .before .before .before in
-    let k5 = k4 .before .before .before .before .before in
-    let k6 = k5 .before .before .before .before in
-    let k7 = k6 .before in
-    text-accepted _ _ _ (k7 .if1 .left) (k6 .if2 .left) _ _ (rw (k4 .enum-told .given .1) at (k5 .read-lines .ensures)) _ _
-    (k3 .copy-terms .ensures) (k2 .copy-relations .ensures)
-
-returns-4 : tie.Need-returns-4
-returns-4 c =
-    let k1 = c .before in
+returns-5 : tie.Need-returns-5
+returns-5 c =
+    let k1 = c .before .before in
     let k2 = k1 .before .before .before .before .before in
-    let k3 = k2 .before .before .before .before in
+    let k3 = k2 .before .before .before in
     let k4 = k3 .before in
-    text-refused _ _ _ (k4 .if1 .left) (k3 .if2 .left) _ _ (sym (ap outcomeOf (k1 .outcome .given .1)) ∙ k2 .read-lines .ensures .given)
+    let k5 = k4 .before .before .before .before in
+    let k6 = k5 .before .before .before .before in
+    let k7 = k6 .before .before .before .before in
+    text-accepted _ _ _ (k7 .before .if1 .left) (k7 .if2 .left) _ _ _ _ (k6 .read-lines .ensures) (unrefused (k6 .read-lines .result) (k5 .match .keys2)) _
+    (k4 .partly-at .ensures) (k3 .if3 .left) _ _ (k2 .copy-terms .ensures) (k1 .copy-state .ensures)
 
 pub fill-spec : {M : Type 1} → statement M
 fill-spec =
@@ -77,13 +107,17 @@ fill-spec =
     slice-aggregate-read-lines-2
     slice-aggregate-read-lines-3
     read-lines-requires
-    enum-told
+    enum-known-filled
+    returns-3
+    slice-aggregate-partly-at
+    slice-aggregate-partly-at-2
+    slice-aggregate-partly-at-3
+    partly-at-requires
+    returns-4
     slice-aggregate-copy-terms
     copy-terms-requires
-    slice-aggregate-copy-relations
-    copy-relations-requires
-    enum-known-outcome
+    slice-aggregate-copy-state
+    copy-state-requires
     same-length
     same-length-2
-    returns-3
-    returns-4)
+    returns-5)

@@ -1,23 +1,25 @@
 -- `reader::read::read_lines` meets its contract. The loop's invariant is `Along`; a turn is put together once, where all that is known of its line is.
 use mathlib.Core.Path.{_≡_, refl, sym, ap, _∙_}
 use native.Mathlib.Omega.{arith}
+use mathlib.Core.Bool.{true, false}
 use borrow.Author.Needs.{needs}
+use borrow.Author.Tests.{not-true, not-false}
 use lib.ListN.{length}
 use lib.Seq.{length-take-le}
 use Rattle.fields.proofs.Split.{rest-shorter}
 use Rattle.reader.proofs.TermsMemory.{length-memory}
-use Rattle.reader.proofs.RelationsMemory.{length-relations}
+use Rattle.reader.proofs.Bits.{length-bits}
 use Rattle.reader.proofs.Turns.{Along, Turn, along-first, along-done, along-short, along-cut, few-tables, turn-refused, turn-ranges, turn-next}
 use Rattle.reader.proofs.read.read_lines.Statement.{statement}
 use Rattle.reader.proofs.read.read_lines.Tie as tie
 
 abbrev Inv-loop : tie.InvT-loop
-Inv-loop text terms₀ relations₀ masks₀ t₀ c₀ n₀ terms relations masks t c n =
-    Along text terms relations masks t c n
-    × (length terms ≡ length terms₀) × (length relations ≡ length relations₀) × (length masks ≡ length masks₀)
+Inv-loop text terms₀ state₀ masks₀ t₀ c₀ n₀ terms state masks t c n =
+    Along text terms state masks t c n
+    × (length terms ≡ length terms₀) × (length state ≡ length state₀) × (length masks ≡ length masks₀)
 
 abbrev μ-loop : tie.MeasureT-loop
-μ-loop text terms₀ relations₀ masks₀ t₀ c₀ n₀ terms relations masks t c n = length t
+μ-loop text terms₀ state₀ masks₀ t₀ c₀ n₀ terms state masks t c n = length t
 
 abbrev numbered : tie.After-step Inv-loop μ-loop → tie.After-number-of Inv-loop μ-loop
 numbered c = c .before .before .before .before .before .before .before .before .before .before .before .before .before .before
@@ -33,7 +35,7 @@ start c = c .before .before .before .before .before .before
 
 turn : (c : tie.After-number-of Inv-loop μ-loop) →
     let l = head c .loop in
-    Turn (start (head c) .args .text .now) (l .terms) (l .relations) (l .masks) (l .t .now) (l .c) (l .n)
+    Turn (start (head c) .args .text .now) (l .terms) (l .state) (l .masks) (l .t .now) (l .c) (l .n)
     (found c .find .result) (c .before .before .before .before .before .parse-line .result) (c .before .before .before .free-in .result)
     (c .before .reach-in .result) (c .number-of .result)
 turn c = record {
@@ -112,12 +114,12 @@ store-terms-requires c κs =
     let k3 = k2 .before .before .before .before .before .before .before .before .before .before in
     (turn-ranges (turn k2) (k1 .if2 .left), ap length (k3 .loop .inv .0 .words) ∙ length-memory _)
 
-store-edge-requires : tie.Need-store-edge-requires Inv-loop μ-loop
-store-edge-requires c κs =
+store-state-requires : tie.Need-store-state-requires Inv-loop μ-loop
+store-state-requires c κs =
     let k1 = c .before .before .before .before .before in
     let k2 = k1 .before in
     let k3 = k2 .before .before .before .before .before .before .before .before .before .before in
-    (turn-ranges (turn k2) (k1 .if2 .left), ap length (k3 .loop .inv .0 .edges) ∙ length-relations _)
+    (turn-ranges (turn k2) (k1 .if2 .left), ap length (k3 .loop .inv .0 .bits) ∙ length-bits _ _)
 
 store-set-requires : tie.Need-store-set-requires Inv-loop μ-loop
 store-set-requires c κs =
@@ -159,9 +161,9 @@ loop-again c =
     let k5 = k4 .before .before in
     let k6 = k5 .before in
     let k7 = k6 .before .before .before .before .before .before .before .before .before .before in (
-      rw (k4 .store-terms .ensures, k3 .store-edge .ensures, k2 .store-set .ensures, k1 .step .ensures) (turn-next (turn k6) (k5 .if2 .left)),
+      rw (k4 .store-terms .ensures, k3 .store-state .ensures, k2 .store-set .ensures, k1 .step .ensures) (turn-next (turn k6) (k5 .if2 .left)),
       k4 .store-terms .kept .0 ∙ k7 .loop .inv .1,
-      k3 .store-edge .kept .0 ∙ k7 .loop .inv .2,
+      k3 .store-state .kept .0 ∙ k7 .loop .inv .2,
       k2 .store-set .kept .0 ∙ k7 .loop .inv .3,
     )
 
@@ -179,22 +181,36 @@ same-length-9 c = c .before .before .before .loop .inv .3
 
 returns-3 : tie.Need-returns-3 Inv-loop μ-loop
 returns-3 c =
-    along-done _ _ _ _ _ _ _ (c .before .before .before .loop .inv .0) (c .before .before .loop-test .left)
-    (sym (c .before .is-complete .ensures) ∙ c .if3 .taken)
+    along-short _ _ _ _ _ _ _ (c .before .before .before .loop .inv .0) (c .before .before .loop-test .left)
+    (sym (c .before .is-complete .ensures) ∙ not-true _ (c .if3 .taken))
 
 same-length-10 : tie.Need-same-length-10 Inv-loop μ-loop
-same-length-10 c = c .before .before .before .loop .inv .1
+same-length-10 c = c .before .before .before .before .loop .inv .1
 
 same-length-11 : tie.Need-same-length-11 Inv-loop μ-loop
-same-length-11 c = c .before .before .before .loop .inv .2
+same-length-11 c = c .before .before .before .before .loop .inv .2
 
 same-length-12 : tie.Need-same-length-12 Inv-loop μ-loop
-same-length-12 c = c .before .before .before .loop .inv .3
+same-length-12 c = c .before .before .before .before .loop .inv .3
 
 returns-4 : tie.Need-returns-4 Inv-loop μ-loop
 returns-4 c =
-    along-short _ _ _ _ _ _ _ (c .before .before .before .loop .inv .0) (c .before .before .loop-test .left)
-    (sym (c .before .is-complete .ensures) ∙ c .if3 .left)
+    along-done _ _ _ _ _ _ _ (c .before .before .before .before .loop .inv .0) (c .before .before .before .loop-test .left)
+    (sym (c .before .before .is-complete .ensures) ∙ not-false _ (c .before .if3 .left)) true (c .if4 .taken)
+
+same-length-13 : tie.Need-same-length-13 Inv-loop μ-loop
+same-length-13 c = c .before .before .before .before .loop .inv .1
+
+same-length-14 : tie.Need-same-length-14 Inv-loop μ-loop
+same-length-14 c = c .before .before .before .before .loop .inv .2
+
+same-length-15 : tie.Need-same-length-15 Inv-loop μ-loop
+same-length-15 c = c .before .before .before .before .loop .inv .3
+
+returns-5 : tie.Need-returns-5 Inv-loop μ-loop
+returns-5 c =
+    along-done _ _ _ _ _ _ _ (c .before .before .before .before .loop .inv .0) (c .before .before .before .loop-test .left)
+    (sym (c .before .before .is-complete .ensures) ∙ not-false _ (c .before .if3 .left)) false (c .if4 .left)
 
 pub read-lines-spec : {M : Type 1} → statement M
 read-lines-spec =
@@ -219,7 +235,7 @@ read-lines-spec =
     same-length-6
     returns-2
     store-terms-requires
-    store-edge-requires
+    store-state-requires
     store-set-requires
     step-requires
     add-t
@@ -237,4 +253,8 @@ read-lines-spec =
     same-length-10
     same-length-11
     same-length-12
-    returns-4)
+    returns-4
+    same-length-13
+    same-length-14
+    same-length-15
+    returns-5)

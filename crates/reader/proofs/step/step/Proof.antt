@@ -52,6 +52,15 @@ enum-known-line-6 c = search needs
 enum-told : tie.Need-enum-told
 enum-told c = search needs
 
+enum-known-line-7 : tie.Need-enum-known-line-7
+enum-known-line-7 c = search needs
+
+enum-told-2 : tie.Need-enum-told-2
+enum-told-2 c = search needs
+
+enum-told-3 : tie.Need-enum-told-3
+enum-told-3 c = search needs
+
 returns : tie.Need-returns
 unfolding stepped
 returns c = rw (c .before .line .given .1)
@@ -89,6 +98,18 @@ returns-8 : tie.Need-returns-8
 unfolding stepped
 returns-8 c = rw (c .enum-told .given .1)
 
+returns-9 : tie.Need-returns-9
+unfolding stepped
+returns-9 c = rw (c .before .line7 .given .1)
+
+returns-10 : tie.Need-returns-10
+unfolding stepped
+returns-10 c = rw (c .enum-told2 .given .1)
+
+returns-11 : tie.Need-returns-11
+unfolding stepped
+returns-11 c = rw (c .enum-told3 .given .1)
+
 pub step-spec : {M : Type 1} → statement M
 step-spec =
     tie.close
@@ -106,6 +127,9 @@ step-spec =
     add-d-4
     enum-known-line-6
     enum-told
+    enum-known-line-7
+    enum-told-2
+    enum-told-3
     returns
     returns-2
     returns-3
@@ -113,4 +137,7 @@ step-spec =
     returns-5
     returns-6
     returns-7
-    returns-8)
+    returns-8
+    returns-9
+    returns-10
+    returns-11)

@@ -1,10 +1,32 @@
 -- `reader::store::store_terms` meets its contract, kind by kind.
-use mathlib.Core.Path.{subst}
+use Prim.Native.Nat.{ℕ}
+use mathlib.Core.Path.{_≡_, refl, subst}
+use mathlib.Core.List.{List, [], _∷_}
+use denote.Enum.Declared.{tagOf}
+use types.Run.{OneOf, miss}
 use Rattle.reader.specs.Stepping.{Ranges}
 use Rattle.reader.specs.Storing.{storedTerms}
+use Rattle.file.specs.declared.line.Line.{Line}
+use Rattle.file.specs.declared.line.Line.the-variants.{Members, Labels, Entry, Policy, Effect, Edge, Form, TableBit, EventEdge, Malformed}
+use Rattle.file.proofs.line.Line.{the-type}
+use Rattle.reader.specs.declared.step.Context.{Context}
 use borrow.Author.Needs.{needs}
 use Rattle.reader.proofs.store.store_terms.Statement.{statement}
 use Rattle.reader.proofs.store.store_terms.Tie as tie
+
+-- the kinds that give no word of the terms
+no-word : (c : Context) (l : Line) (w : List ℕ) → OneOf (5 ∷ 6 ∷ 7 ∷ 8 ∷ 9 ∷ []) (tagOf the-type l) → w ≡ storedTerms c l w
+unfolding storedTerms
+no-word c (Members n) w h = absurd (miss (5 ∷ 6 ∷ 7 ∷ 8 ∷ 9 ∷ []) 0 tt h)
+no-word c (Labels r e) w h = absurd (miss (5 ∷ 6 ∷ 7 ∷ 8 ∷ 9 ∷ []) 1 tt h)
+no-word c (Entry n o a b d) w h = absurd (miss (5 ∷ 6 ∷ 7 ∷ 8 ∷ 9 ∷ []) 2 tt h)
+no-word c (Policy j n) w h = absurd (miss (5 ∷ 6 ∷ 7 ∷ 8 ∷ 9 ∷ []) 3 tt h)
+no-word c (Effect j a k d) w h = absurd (miss (5 ∷ 6 ∷ 7 ∷ 8 ∷ 9 ∷ []) 4 tt h)
+no-word c (Edge k a b) w h = refl
+no-word c (Form n) w h = refl
+no-word c (TableBit t a b) w h = refl
+no-word c (EventEdge j u v) w h = refl
+no-word c Malformed w h = refl
 
 enum-known-line : tie.Need-enum-known-line
 enum-known-line c = search needs
@@ -53,12 +75,6 @@ store-effect-requires c κs =
     let k1 = c .before .before .before in
     let k2 = k1 .before .before .before in
     (rw (c .slot-of .ensures) (subst (Ranges (k2 .args .c)) (k1 .line5 .given .1) (k2 .pre .0)), k2 .pre .1)
-
-enum-told : tie.Need-enum-told
-enum-told c = search needs
-
-enum-told-2 : tie.Need-enum-told-2
-enum-told-2 c = search needs
 
 same-length : tie.Need-same-length
 same-length c = search needs
@@ -112,12 +128,7 @@ returns-5 c =
     rw (k3 .line5 .given .1, ← k2 .slot-of .ensures) (k1 .store-effect .ensures)
 
 returns-6 : tie.Need-returns-6
-unfolding storedTerms
-returns-6 c = rw (c .enum-told .given .1)
-
-returns-7 : tie.Need-returns-7
-unfolding storedTerms
-returns-7 c = rw (c .enum-told2 .given .1)
+returns-6 c = no-word (c .before .before .args .c) (c .before .before .args .line) (c .before .before .args .terms .now) (c .match .keys6)
 
 pub store-terms-spec : {M : Type 1} → statement M
 store-terms-spec =
@@ -134,8 +145,6 @@ store-terms-spec =
     enum-known-line-5
     slot-of-requires
     store-effect-requires
-    enum-told
-    enum-told-2
     same-length
     returns
     same-length-2
@@ -146,5 +155,4 @@ store-terms-spec =
     returns-4
     same-length-5
     returns-5
-    returns-6
-    returns-7)
+    returns-6)

@@ -2,6 +2,7 @@
 use mathlib.Core.List.{[], _∷_}
 use borrow.Author.Needs.{needs}
 use Rattle.memory.specs.Layout.{termsOf}
+use Rattle.file.specs.Line.{fieldsOf}
 use Rattle.file.specs.declared.line.Line.the-variants.{Members, Labels}
 use Rattle.writer.proofs.Listing.{put-line, put-lines}
 use Rattle.writer.proofs.write.put_front.Statement.{statement}
@@ -10,8 +11,8 @@ use Rattle.writer.proofs.write.put_front.Tie as tie
 members-requires : tie.Need-members-requires
 members-requires c κs = search needs
 
-put-members-requires : tie.Need-put-members-requires
-put-members-requires c κs = search needs
+put-single-requires : tie.Need-put-single-requires
+put-single-requires c κs = search needs
 
 relations-requires : tie.Need-relations-requires
 relations-requires c κs = search needs
@@ -19,20 +20,20 @@ relations-requires c κs = search needs
 events-requires : tie.Need-events-requires
 events-requires c κs = search needs
 
-put-labels-requires : tie.Need-put-labels-requires
-put-labels-requires c κs = search needs
+put-pair-requires : tie.Need-put-pair-requires
+put-pair-requires c κs = search needs
 
 same-length : tie.Need-same-length
 same-length c = search needs
 
 returns : tie.Need-returns
-unfolding termsOf
+unfolding termsOf fieldsOf
 returns c =
     let w = c .before .before .before in
     let m = w .before .before .before .before .before in (
       put-lines (Members _ ∷ []) (Labels _ _ ∷ [])
-          (put-line _ (rw (m .before .members .ensures .0) at (m .put-members .ensures .0)))
-          (put-line _ (rw (w .before .relations .ensures .0, w .events .ensures .0) at (c .before .before .put-labels .ensures .0))),
+          (put-line (Members _) (rw (m .before .members .ensures .0) at (m .put-single .ensures .0)))
+          (put-line (Labels _ _) (rw (w .before .relations .ensures .0, w .events .ensures .0) at (c .before .before .put-pair .ensures .0))),
       search needs,
     )
 
@@ -41,9 +42,9 @@ put-front-spec =
     tie.close
     (tie.spec
     members-requires
-    put-members-requires
+    put-single-requires
     relations-requires
     events-requires
-    put-labels-requires
+    put-pair-requires
     same-length
     returns)

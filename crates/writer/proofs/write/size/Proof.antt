@@ -5,6 +5,7 @@ use borrow.Author.Needs.{needs}
 use Rattle.memory.specs.Outcome.{outcomeOf, checks}
 use Rattle.memory.specs.Outcome.Outcome.{passed}
 use Rattle.memory.proofs.Outcomes.{passed-checked}
+use Rattle.writer.specs.Write.{writtenText, sizeGives}
 use Rattle.writer.proofs.Fitting.{size-unchecked, size-whole}
 use Rattle.writer.proofs.write.size.Statement.{statement}
 use Rattle.writer.proofs.write.size.Tie as tie
@@ -24,12 +25,14 @@ enum-known-n : tie.Need-enum-known-n
 enum-known-n c = search needs
 
 returns : tie.Need-returns
+unfolding sizeGives
 returns c =
     let k = c .before in
-    size-whole _ _ (sym (ap outcomeOf (k .enum-told .given .1)) ∙ k .before .before .check .ensures) _ (c .count .ensures)
+    size-whole _ (writtenText _ _) (sym (ap outcomeOf (k .enum-told .given .1)) ∙ k .before .before .check .ensures) _ (c .count .ensures)
 
 returns-2 : tie.Need-returns-2
-returns-2 c = size-unchecked _ _ _ _ (sym (ap outcomeOf (c .before .n .given .1)) ∙ c .before .before .before .check .ensures)
+unfolding sizeGives
+returns-2 c = size-unchecked _ (writtenText _ _) _ _ (sym (ap outcomeOf (c .before .n .given .1)) ∙ c .before .before .before .check .ensures)
 
 pub size-spec : {M : Type 1} → statement M
 size-spec =

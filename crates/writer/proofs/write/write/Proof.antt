@@ -2,6 +2,7 @@
 use mathlib.Core.Path.{sym, ap, _∙_}
 use borrow.Author.Needs.{needs}
 use Rattle.memory.specs.Outcome.{outcomeOf}
+use Rattle.writer.specs.Write.{writtenText, writeGives, writeLeaves}
 use Rattle.writer.proofs.Fitting.{ends-unchecked}
 use Rattle.writer.proofs.write.write.Statement.{statement}
 use Rattle.writer.proofs.write.write.Tie as tie
@@ -25,7 +26,8 @@ returns : tie.Need-returns
 returns c = search needs
 
 returns-2 : tie.Need-returns-2
-returns-2 c = ends-unchecked _ _ _ _ _ (sym (ap outcomeOf (c .before .n .given .1)) ∙ c .before .before .before .check .ensures)
+unfolding writeGives writeLeaves
+returns-2 c = ends-unchecked _ (writtenText _ _) _ _ _ (sym (ap outcomeOf (c .before .n .given .1)) ∙ c .before .before .before .check .ensures)
 
 pub write-spec : {M : Type 1} → statement M
 write-spec =

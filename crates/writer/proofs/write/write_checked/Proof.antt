@@ -4,6 +4,7 @@ use native.Mathlib.Omega.{arith}
 use lib.ListN.{length}
 use borrow.Author.Needs.{needs}
 use Rattle.memory.proofs.Outcomes.{passed-checked}
+use Rattle.writer.specs.Write.{writtenText, writeGives, writeLeaves}
 use Rattle.writer.proofs.Fitting.{ends-short, ends-whole}
 use Rattle.writer.proofs.write.write_checked.Statement.{statement}
 use Rattle.writer.proofs.write.write_checked.Tie as tie
@@ -15,8 +16,9 @@ count-requires : tie.Need-count-requires
 count-requires c κs = long-enough (c .before .before .before) .0
 
 returns : tie.Need-returns
+unfolding writeGives writeLeaves
 returns c =
-    let k = c .before in ends-short _ _ _ (k .before .before .before .before .pre) _ (k .count .ensures) (c .if1 .taken)
+    let k = c .before in ends-short _ (writtenText _ _) _ (k .before .before .before .before .pre) _ (k .count .ensures) (c .if1 .taken)
 
 put-text-requires : tie.Need-put-text-requires
 put-text-requires c κs = long-enough (c .before .before .before .before .before .before)
@@ -25,11 +27,12 @@ same-length : tie.Need-same-length
 same-length c = search needs
 
 returns-2 : tie.Need-returns-2
+unfolding writeGives writeLeaves
 returns-2 c =
     let p = c .before .before in
     let i = p .before .before in
     let k = i .before in
-    ends-whole _ _ _ (k .before .before .before .before .pre) _ (k .count .ensures) (i .if1 .left) _ _ (p .put-text .ensures .0)
+    ends-whole _ (writtenText _ _) _ (k .before .before .before .before .pre) _ (k .count .ensures) (i .if1 .left) _ _ (p .put-text .ensures .0)
 
 pub write-checked-spec : {M : Type 1} → statement M
 write-checked-spec =

@@ -1,0 +1,25 @@
+use borrow.Author.Needs.{needs}
+use mathlib.Core.Path.{ap, _∙_}
+use Rattle.cuckooormolu.specs.Codes.{writingCode, writingCount}
+use Rattle.cuckooormolu.proofs.cuckooormolu_raw_store_size.Statement.{statement}
+use Rattle.cuckooormolu.proofs.cuckooormolu_raw_store_size.Tie as tie
+
+store-size-requires : tie.Need-store-size-requires
+store-size-requires c κs = search needs
+
+writing-count-requires : tie.Need-writing-count-requires
+writing-count-requires c κs = search needs
+
+writing-code-requires : tie.Need-writing-code-requires
+writing-code-requires c κs = search needs
+
+returns : tie.Need-returns
+returns c =
+    let l = c .before in
+    let k = l .before in
+    (c .writing-code .ensures ∙ ap writingCode (k .store-size .ensures), l .writing-count .ensures ∙ ap writingCount (k .store-size .ensures))
+
+pub cuckooormolu-raw-store-size-spec : {M : Type 1} → statement M
+cuckooormolu-raw-store-size-spec =
+    tie.close
+    (tie.spec store-size-requires writing-count-requires writing-code-requires returns)

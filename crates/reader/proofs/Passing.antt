@@ -1,0 +1,179 @@
+-- A line that passes: what it says is in its range, and counters, sets and words after it stand for what has been said.
+use Prim.Native.Nat.{ℕ, zero, suc, _+_, _≤_, _<_}
+use native.Mathlib.Omega.{arith}
+use mathlib.Core.Path.{_≡_, refl, sym, subst}
+use mathlib.Core.List.{List, [], _∷_, _++_}
+use mathlib.Core.Bool.{true, cond}
+use lib.Dec.{eqb, ltb}
+use lib.ListN.{length, set, length-append}
+use borrow.Author.Tests.{eqb-true, ltb-true, leb-true}
+use Rattle.sets.proofs.Finite.{and-right}
+use Rattle.theory.specs.Formula.{Operand, firstOperand, secondOperand, thirdOperand}
+use Rattle.theory.specs.Formula as formulas
+use Rattle.theory.specs.Formula.Operand.{unused, variable, binder, label, entry}
+use Rattle.theory.specs.Terms.{tables}
+use Rattle.theory.specs.Moment.Event.{happened}
+use Rattle.memory.specs.Layout.{eventWord}
+use Rattle.memory.specs.Plan.{Masked}
+use Rattle.file.specs.File.{File, withEntry, after}
+use Rattle.file.specs.Reading.{inRange, isLower, tests}
+use Rattle.reader.specs.Memory.{memoryOf}
+use Rattle.reader.specs.Stepping.{Ranges, stepped}
+use Rattle.reader.specs.Testing.{FreeIn}
+use Rattle.reader.specs.Storing.{storedTerms, storedState, storedSets}
+use Rattle.file.specs.declared.line.Line.{Line}
+use Rattle.file.specs.declared.line.Line.the-variants.{Entry, Policy, Edge, TableBit}
+use Rattle.file.specs.Refused.{Passed}
+use Rattle.file.proofs.Taken.{passed-at}
+use Rattle.file.proofs.Update.{update-same}
+use Rattle.file.proofs.Going.{Going, entry-phase, policy-phase, complete-phase}
+use Rattle.file.proofs.Printed.{Ranged}
+use Rattle.file.proofs.Printed.Ranged.{members, labels, entry as entryLine, policy, effect, edge, form, bit as tableBit, event}
+use Rattle.reader.proofs.Stored.{members-stored, labels-stored, entry-stored, policy-stored, effect-stored}
+use Rattle.reader.proofs.Bits.{together, bitsOf, edge-stored, table-stored, event-stored}
+use Rattle.reader.proofs.Counters.{contextOf, tables-new, slot-is, masked-new}
+
+operand-low : (k : Operand) (r n v : ℕ) → r < 256 → n < 256 → inRange k r v ≡ true → isLower k n v ≡ true → v < 256
+unfolding inRange isLower
+operand-low unused r n v h l p q = omega (arith, eqb-true v 0 p)
+operand-low variable r n v h l p q = omega (arith, ltb-true v 16 p)
+operand-low binder r n v h l p q = omega (arith, ltb-true v 16 (and-right (ltb 0 v) _ p))
+operand-low label r n v h l p q = omega (arith, ltb-true v r p)
+operand-low entry r n v h l p q = omega (arith, ltb-true v n q)
+
+-- what it says is in its range
+pub in-ranges : {f : File} {l : Line} → Ranged l → Going f → Passed (tests f l) → Ranges (contextOf f) l
+unfolding tests
+in-ranges (members {n = n} h) g p = ltb-true n 65 (passed-at p 2)
+in-ranges (labels {r = r} {e = e} h i) g p = (ltb-true r 17 (passed-at p 1), ltb-true e 17 (passed-at p 3))
+in-ranges {f} (entryLine {n = n} {o = o} {a = a} {b = b} {c = c} h i j k m y) g p =
+    let few = g .labels (entry-phase f (passed-at p 0) .0) in
+    let r : f .terms .relations < 17 = few .0 in
+    let e : f .terms .events < 17 = few .2 in
+    let l : n < 256 = ltb-true n 256 (passed-at p 2) in (
+      l,
+      i,
+      operand-low (firstOperand o) (f .terms .relations + f .terms .events) n a (omega arith) l (passed-at p 3) (passed-at p 7),
+      operand-low (secondOperand o) (f .terms .relations + f .terms .events) n b (omega arith) l (passed-at p 4) (passed-at p 8),
+      operand-low (thirdOperand o) (f .terms .relations + f .terms .events) n c (omega arith) l (passed-at p 5) (passed-at p 9),
+    )
+in-ranges {f} (policy {j = j} {n = n} h i) g p =
+    let e : f .terms .events < 17 = g .labels (policy-phase f (passed-at p 0) .0) .2 in (
+      omega (arith, ltb-true j (f .terms .events) (passed-at p 2)),
+      omega (arith, ltb-true n (f .terms .entries) (passed-at p 3), g .entries .few),
+    )
+in-ranges {f} (effect {j = j} {c = c} {k = k} {d = d} h i q m n) g p =
+    let few = g .labels (complete-phase f (passed-at p 0)) in
+    let r : f .terms .relations < 17 = few .0 in
+    let e : f .terms .events < 17 = few .2 in (
+      omega (arith, ltb-true j (f .terms .events) (passed-at p 3)),
+      omega (arith, ltb-true (length (f .terms .effects j)) 4 (passed-at p 4), slot-is f g j (leb-true (f .event) j (passed-at p 2))),
+      q,
+      omega (arith, ltb-true k (f .terms .relations) (passed-at p 5)),
+      n,
+    )
+in-ranges {f} (edge {k = k} {a = a} {b = b} h i j) g p =
+    let z : 2 ≤ f .phase = complete-phase f (passed-at p 0) in
+    let r : f .terms .relations < 17 = g .labels z .0 in
+    let s : f .terms .members < 65 = g .members (omega arith) .1 in (
+      omega (arith, ltb-true k (f .terms .relations) (passed-at p 3)),
+      omega (arith, ltb-true a (f .terms .members) (passed-at p 4)),
+      omega (arith, ltb-true b (f .terms .members) (passed-at p 5)),
+    )
+in-ranges (form {n = n} h) g p = eqb-true n 2 (passed-at p 2)
+in-ranges {f} (tableBit {t = t} {a = a} {b = b} h i j) g p =
+    let z : 2 ≤ f .phase = complete-phase f (passed-at p 1) in
+    let s : f .terms .members < 65 = g .members (omega arith) .1 in (
+      omega (arith, ltb-true t (tables (f .terms)) (passed-at p 4), g .entries .few-tables),
+      omega (arith, ltb-true a (f .terms .members) (passed-at p 5)),
+      omega (arith, ltb-true b (f .terms .members) (passed-at p 6)),
+    )
+in-ranges {f} (event {j = j} {u = u} {v = v} h i k) g p =
+    let z : 2 ≤ f .phase = complete-phase f (passed-at p 1) in
+    let e : f .terms .events < 17 = g .labels z .2 in
+    let s : f .terms .members < 65 = g .members (omega arith) .1 in (
+      omega (arith, ltb-true j (f .terms .events) (passed-at p 3)),
+      omega (arith, ltb-true u (f .terms .members) (passed-at p 4)),
+      omega (arith, ltb-true v (f .terms .members) (passed-at p 5)),
+    )
+
+-- the counters after it
+pub context-after : {f : File} {l : Line} → Ranged l → Going f → Passed (tests f l) → stepped (contextOf f) l ≡ contextOf (after f l)
+unfolding tests stepped after
+context-after (members h) g p = refl
+context-after (labels h i) g p = refl
+context-after {f} (entryLine {n = n} {o = o} {a = a} {b = b} {c = c} h i j k m y) g p =
+    subst (λ (n : ℕ). stepped (contextOf f) (Entry n o a b c) ≡ contextOf (after f (Entry n o a b c)))
+    (sym (eqb-true n (f .terms .entries) (passed-at p 1))) (rw (tables-new f o a b c) refl)
+context-after (policy h i) g p = refl
+context-after {f} (effect {j = j} {c = c} {k = k} {d = d} h i q m n) g p =
+    rw (
+      slot-is f g j (leb-true (f .event) j (passed-at p 2)),
+      update-same (f .terms .effects) j (f .terms .effects j ++ (record { adds = eqb c 1; relation = k; back = eqb d 1 } ∷ [])),
+      length-append (f .terms .effects j) (record { adds = eqb c 1; relation = k; back = eqb d 1 } ∷ []),
+    ) refl
+context-after (edge h i j) g p = refl
+context-after (form h) g p = refl
+context-after (tableBit h i j) g p = refl
+context-after (event h i k) g p = refl
+
+-- the sets of free variables after it
+pub masked-after : {f : File} {l : Line} → Ranged l → Going f → Passed (tests f l) → (masks : List ℕ) → Masked (f .terms) masks →
+    (m : ℕ) → FreeIn masks l m → Masked (after f l .terms) (storedSets l m masks)
+unfolding tests after storedSets
+masked-after (members h) g p masks k m is = record { long = k .long; bits = k .bits }
+masked-after (labels h i) g p masks k m is = record { long = k .long; bits = k .bits }
+masked-after {f} (entryLine {n = n} {o = o} {a = a} {b = b} {c = c} h i j q r y) g p masks k m is =
+    let e : n ≡ f .terms .entries = eqb-true n (f .terms .entries) (passed-at p 1) in
+    subst (λ (n : ℕ). Passed (tests f (Entry n o a b c)) → Masked (withEntry (f .terms) n o a b c) (set masks n m)) (sym e)
+    (λ p. masked-new f o a b c g masks k m is (passed-at p 3) (passed-at p 7) (passed-at p 8) (passed-at p 9) (ltb-true (f .terms .entries) 256 (passed-at p 2))) p
+masked-after (policy h i) g p masks k m is = record { long = k .long; bits = k .bits }
+masked-after (effect h i q r n) g p masks k m is = record { long = k .long; bits = k .bits }
+masked-after (edge h i j) g p masks k m is = k
+masked-after (form h) g p masks k m is = k
+masked-after (tableBit h i j) g p masks k m is = k
+masked-after (event h i j) g p masks k m is = k
+
+-- the words after it
+pub terms-after : {f : File} {l : Line} → Ranged l → Going f → Passed (tests f l) →
+    storedTerms (contextOf f) l (memoryOf (f .terms)) ≡ memoryOf (after f l .terms)
+unfolding tests after storedTerms
+terms-after {f} (members {n = n} h) g p = members-stored (f .terms) n
+terms-after {f} (labels {r = r} {e = e} h i) g p = labels-stored (f .terms) r e
+terms-after {f} (entryLine {n = n} {o = o} {a = a} {b = b} {c = c} h i j k m y) g p = entry-stored (f .terms) n o a b c (ltb-true n 256 (passed-at p 2))
+terms-after {f} (policy {j = j} {n = n} h i) g p = policy-stored (f .terms) j n (in-ranges {l = Policy j n} (policy h i) g p .0)
+terms-after {f} (effect {j = j} {c = c} {k = k} {d = d} h i q m n) g p =
+    rw (slot-is f g j (leb-true (f .event) j (passed-at p 2)))
+    (effect-stored (f .terms) j c k d (action c i q) (direction d n) (ltb-true (length (f .terms .effects j)) 4 (passed-at p 4)))
+  where
+    action : (c : ℕ) → 0 < c → c < 3 → cond (eqb c 1) 1 2 ≡ c
+    action zero p q = absurd (omega arith)
+    action (suc zero) p q = refl
+    action (suc (suc zero)) p q = refl
+    action (suc (suc (suc c))) p q = absurd (omega arith)
+
+    direction : (d : ℕ) → d < 2 → cond (eqb d 1) 1 0 ≡ d
+    direction zero q = refl
+    direction (suc zero) q = refl
+    direction (suc (suc d)) q = absurd (omega arith)
+terms-after (edge h i j) g p = refl
+terms-after (form h) g p = refl
+terms-after (tableBit h i j) g p = refl
+terms-after (event h i k) g p = refl
+
+pub state-after : {f : File} {l : Line} → Ranged l → Going f → Passed (tests f l) → storedState l (bitsOf f) ≡ bitsOf (after f l)
+unfolding after storedState
+state-after (members h) g p = refl
+state-after (labels h i) g p = refl
+state-after (entryLine h i j k m y) g p = refl
+state-after (policy h i) g p = refl
+state-after (effect h i q m n) g p = refl
+state-after {f} (edge {k = k} {a = a} {b = b} h i j) g p =
+    let r = in-ranges {l = Edge k a b} (edge h i j) g p in
+    edge-stored (f .edges) (f .table) k a b (r .0) (r .1) (r .2) (eventWord (f .last))
+state-after (form h) g p = refl
+state-after {f} (tableBit {t = t} {a = a} {b = b} h i j) g p =
+    let r = in-ranges {l = TableBit t a b} (tableBit h i j) g p in
+    table-stored (f .edges) (f .table) t a b (r .0) (r .1) (r .2) (eventWord (f .last))
+state-after {f} (event {j = j} {u = u} {v = v} h i k) g p =
+    event-stored (together (f .edges) (f .table)) (eventWord (f .last)) (eventWord (happened j u v))

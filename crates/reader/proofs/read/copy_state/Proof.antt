@@ -1,0 +1,71 @@
+-- `reader::read::copy_state` meets its contract. The invariant: the words below i have been copied.
+use Prim.Native.Nat.{ℕ, _-_, _≤_}
+use mathlib.Core.Path.{_≡_, ap, _∙_}
+use mathlib.Core.List.{List}
+use native.Mathlib.Omega.{arith}
+use borrow.Author.Needs.{needs}
+use lib.ListN.{length, getD, set, length-set}
+use Rattle.reader.proofs.Copied.{copied, copied-next, copied-all}
+use Rattle.reader.proofs.read.copy_state.Statement.{statement}
+use Rattle.reader.proofs.read.copy_state.Tie as tie
+
+abbrev Inv-loop : tie.InvT-loop
+Inv-loop dst₀ src i₀ dst i = (i ≤ length src) × (length dst ≡ length dst₀) × (dst ≡ copied dst₀ src i)
+
+abbrev μ-loop : tie.MeasureT-loop
+μ-loop dst₀ src i₀ dst i = length src - i
+
+loop-holds : tie.Need-loop-holds Inv-loop μ-loop
+loop-holds c = search needs
+
+mul-dst : tie.Need-mul-dst Inv-loop μ-loop
+mul-dst c = search needs
+
+shared-slice-read-dst : tie.Need-shared-slice-read-dst Inv-loop μ-loop
+shared-slice-read-dst c = search needs
+
+mul-dst-2 : tie.Need-mul-dst-2 Inv-loop μ-loop
+mul-dst-2 c = search needs
+
+slice-write-dst : tie.Need-slice-write-dst Inv-loop μ-loop
+slice-write-dst c = search needs
+
+add-i : tie.Need-add-i Inv-loop μ-loop
+add-i c = search needs
+
+loop-less : tie.Need-loop-less Inv-loop μ-loop
+loop-less c = search needs
+
+loop-again : tie.Need-loop-again Inv-loop μ-loop
+loop-again c =
+    let d = c .before .before .before .args .dst .now in
+    let s = c .before .before .before .args .src .now in
+    let l = c .before .before .loop in (
+      omega arith,
+      length-set (l .dst) (l .i) _ ∙ l .inv .1,
+      ap (λ (w : List ℕ). set w (l .i) (getD s (l .i) 0)) (l .inv .2)
+          ∙ copied-next d s (c .before .before .before .pre) (l .i) (c .before .loop-test .taken),
+    )
+
+same-length : tie.Need-same-length Inv-loop μ-loop
+same-length c = search needs
+
+returns : tie.Need-returns Inv-loop μ-loop
+returns c = c .before .loop .inv .2 ∙ copied-all _ _ (c .before .before .pre) _ (c .before .loop .inv .0) (c .loop-test .left)
+
+pub copy-state-spec : {M : Type 1} → statement M
+copy-state-spec =
+    tie.close
+    (tie.spec
+    Inv-loop
+    μ-loop
+    loop-holds
+    mul-dst
+    shared-slice-read-dst
+    mul-dst-2
+    slice-write-dst
+    add-i
+    loop-less
+    loop-again
+    same-length
+    returns)

@@ -1,0 +1,70 @@
+-- `reader::refusal::bit_number` meets its contract: the tests are taken one after the other.
+use Rattle.reader.specs.Testing.{numberFrom, contextTests}
+use borrow.Author.Needs.{needs}
+use Rattle.reader.proofs.refusal.bit_number.Statement.{statement}
+use Rattle.reader.proofs.refusal.bit_number.Tie as tie
+
+first-requires : tie.Need-first-requires
+first-requires c κs = search needs
+
+is-complete-requires : tie.Need-is-complete-requires
+is-complete-requires c κs = search needs
+
+first-requires-2 : tie.Need-first-requires-2
+first-requires-2 c κs = search needs
+
+first-requires-3 : tie.Need-first-requires-3
+first-requires-3 c κs = search needs
+
+is-rising-requires : tie.Need-is-rising-requires
+is-rising-requires c κs = search needs
+
+first-requires-4 : tie.Need-first-requires-4
+first-requires-4 c κs = search needs
+
+first-requires-5 : tie.Need-first-requires-5
+first-requires-5 c κs = search needs
+
+first-requires-6 : tie.Need-first-requires-6
+first-requires-6 c κs = search needs
+
+first-requires-7 : tie.Need-first-requires-7
+first-requires-7 c κs = search needs
+
+returns : tie.Need-returns
+unfolding numberFrom contextTests
+returns c =
+    let k1 = c .before .before in
+    let k2 = k1 .before .before in
+    let k3 = k2 .before .before in
+    let k4 = k3 .before in
+    let k5 = k4 .before in
+    let k6 = k5 .before .before in
+    let k7 = k6 .before in
+    let k8 = k7 .before in
+    rw (
+      c .first7 .ensures,
+      k1 .first6 .ensures,
+      k2 .first5 .ensures,
+      k3 .first4 .ensures,
+      k5 .first3 .ensures,
+      k6 .first2 .ensures,
+      k8 .first .ensures,
+      k7 .is-complete .ensures,
+      k4 .is-rising .ensures,
+    )
+
+pub bit-number-spec : {M : Type 1} → statement M
+bit-number-spec =
+    tie.close
+    (tie.spec
+    first-requires
+    is-complete-requires
+    first-requires-2
+    first-requires-3
+    is-rising-requires
+    first-requires-4
+    first-requires-5
+    first-requires-6
+    first-requires-7
+    returns)

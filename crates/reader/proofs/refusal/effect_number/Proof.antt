@@ -1,0 +1,64 @@
+-- `reader::refusal::effect_number` meets its contract: the tests are taken one after the other.
+use Rattle.reader.specs.Testing.{numberFrom, contextTests}
+use borrow.Author.Needs.{needs}
+use Rattle.reader.proofs.refusal.effect_number.Statement.{statement}
+use Rattle.reader.proofs.refusal.effect_number.Tie as tie
+
+is-complete-requires : tie.Need-is-complete-requires
+is-complete-requires c κs = search needs
+
+first-requires : tie.Need-first-requires
+first-requires c κs = search needs
+
+first-requires-2 : tie.Need-first-requires-2
+first-requires-2 c κs = search needs
+
+first-requires-3 : tie.Need-first-requires-3
+first-requires-3 c κs = search needs
+
+first-requires-4 : tie.Need-first-requires-4
+first-requires-4 c κs = search needs
+
+slot-of-requires : tie.Need-slot-of-requires
+slot-of-requires c κs = search needs
+
+first-requires-5 : tie.Need-first-requires-5
+first-requires-5 c κs = search needs
+
+first-requires-6 : tie.Need-first-requires-6
+first-requires-6 c κs = search needs
+
+returns : tie.Need-returns
+unfolding numberFrom contextTests
+returns c =
+    let k1 = c .before .before in
+    let k2 = k1 .before in
+    let k3 = k2 .before in
+    let k4 = k3 .before .before in
+    let k5 = k4 .before .before in
+    let k6 = k5 .before .before in
+    let k7 = k6 .before in
+    rw (
+      c .first6 .ensures,
+      k1 .first5 .ensures,
+      k3 .first4 .ensures,
+      k4 .first3 .ensures,
+      k5 .first2 .ensures,
+      k6 .first .ensures,
+      k7 .is-complete .ensures,
+      k2 .slot-of .ensures,
+    )
+
+pub effect-number-spec : {M : Type 1} → statement M
+effect-number-spec =
+    tie.close
+    (tie.spec
+    is-complete-requires
+    first-requires
+    first-requires-2
+    first-requires-3
+    first-requires-4
+    slot-of-requires
+    first-requires-5
+    first-requires-6
+    returns)

@@ -1,0 +1,106 @@
+-- `reader::store::store_state` meets its contract, kind by kind.
+use mathlib.Core.Path.{_≡_, refl, subst}
+use Rattle.reader.specs.Stepping.{Ranges}
+use Rattle.reader.specs.Storing.{storedState}
+use Prim.Native.Nat.{ℕ}
+use mathlib.Core.List.{List, [], _∷_}
+use denote.Enum.Declared.{tagOf}
+use types.Run.{OneOf, miss}
+use Rattle.file.specs.declared.line.Line.{Line}
+use Rattle.file.specs.declared.line.Line.the-variants.{Members, Labels, Entry, Policy, Effect, Edge, Form, TableBit, EventEdge, Malformed}
+use Rattle.file.proofs.line.Line.{the-type}
+use borrow.Author.Needs.{needs}
+use Rattle.reader.proofs.store.store_state.Statement.{statement}
+use Rattle.reader.proofs.store.store_state.Tie as tie
+
+-- the kinds that give no word of the state
+no-word : (l : Line) (w : List ℕ) → OneOf (0 ∷ 1 ∷ 2 ∷ 3 ∷ 4 ∷ 6 ∷ 9 ∷ []) (tagOf the-type l) → w ≡ storedState l w
+unfolding storedState
+no-word (Members n) w h = refl
+no-word (Labels r e) w h = refl
+no-word (Entry n o a b c) w h = refl
+no-word (Policy j n) w h = refl
+no-word (Effect j a k d) w h = refl
+no-word (Edge k a b) w h = absurd (miss (0 ∷ 1 ∷ 2 ∷ 3 ∷ 4 ∷ 6 ∷ 9 ∷ []) 5 tt h)
+no-word (Form n) w h = refl
+no-word (TableBit t a b) w h = absurd (miss (0 ∷ 1 ∷ 2 ∷ 3 ∷ 4 ∷ 6 ∷ 9 ∷ []) 7 tt h)
+no-word (EventEdge j u v) w h = absurd (miss (0 ∷ 1 ∷ 2 ∷ 3 ∷ 4 ∷ 6 ∷ 9 ∷ []) 8 tt h)
+no-word Malformed w h = refl
+
+enum-known-line : tie.Need-enum-known-line
+enum-known-line c = search needs
+
+store-edge-requires : tie.Need-store-edge-requires
+store-edge-requires c κs =
+    let k1 = c .before .before in
+    let k2 = k1 .before .before .before in
+    (subst (Ranges (k2 .args .c)) (k1 .line .given .1) (k2 .pre .0), k2 .pre .1)
+
+enum-known-line-2 : tie.Need-enum-known-line-2
+enum-known-line-2 c = search needs
+
+store-bit-requires : tie.Need-store-bit-requires
+store-bit-requires c κs =
+    let k1 = c .before .before in
+    let k2 = k1 .before .before .before in
+    (subst (Ranges (k2 .args .c)) (k1 .line2 .given .1) (k2 .pre .0), k2 .pre .1)
+
+enum-known-line-3 : tie.Need-enum-known-line-3
+enum-known-line-3 c = search needs
+
+store-event-requires : tie.Need-store-event-requires
+store-event-requires c κs =
+    let k1 = c .before .before in
+    let k2 = k1 .before .before .before in
+    (subst (Ranges (k2 .args .c)) (k1 .line3 .given .1) (k2 .pre .0), k2 .pre .1)
+
+same-length : tie.Need-same-length
+same-length c = search needs
+
+returns : tie.Need-returns
+unfolding storedState
+returns c =
+    let k1 = c .before .before in
+    let k2 = k1 .before .before .before in
+    rw (k2 .line .given .1) (k1 .store-edge .ensures)
+
+same-length-2 : tie.Need-same-length-2
+same-length-2 c = search needs
+
+returns-2 : tie.Need-returns-2
+unfolding storedState
+returns-2 c =
+    let k1 = c .before .before in
+    let k2 = k1 .before .before .before in
+    rw (k2 .line2 .given .1) (k1 .store-bit .ensures)
+
+same-length-3 : tie.Need-same-length-3
+same-length-3 c = search needs
+
+returns-3 : tie.Need-returns-3
+unfolding storedState
+returns-3 c =
+    let k1 = c .before .before in
+    let k2 = k1 .before .before .before in
+    rw (k2 .line3 .given .1) (k1 .store-event .ensures)
+
+returns-4 : tie.Need-returns-4
+returns-4 c = no-word (c .before .before .args .line) (c .before .before .args .state .now) (c .match .keys4)
+
+pub store-state-spec : {M : Type 1} → statement M
+store-state-spec =
+    tie.close
+    (tie.spec
+    enum-known-line
+    store-edge-requires
+    enum-known-line-2
+    store-bit-requires
+    enum-known-line-3
+    store-event-requires
+    same-length
+    returns
+    same-length-2
+    returns-2
+    same-length-3
+    returns-3
+    returns-4)

@@ -1,0 +1,139 @@
+-- Lent memory that holds what a book says: through a list of steps, and through storing and loading again into other memory.
+use Prim.Native.Nat.{ℕ, _≤_}
+use native.Mathlib.Omega.{arith}
+use mathlib.Core.Path.{_≡_, refl, sym, ap, subst, subst₂, _∙_}
+use mathlib.Core.Bool.{Bool, true, false, cond}
+use mathlib.Core.List.{List, [], _∷_, _++_}
+use lib.Dec.{ltb}
+use lib.ListN.{length, take, drop, length-append}
+use lib.Seq.{take-at}
+use Rattle.theory.specs.Terms.{Terms}
+use Rattle.theory.specs.Moment.{Moment, first}
+use Rattle.theory.specs.Keeper.{Call, Answer, keepAll}
+use Rattle.theory.specs.Tables.{State, opening}
+use Rattle.theory.proofs.Good.{Good}
+use Rattle.theory.proofs.Like.{Alike, alike-sym, alike-trans, good-alike, keepAll-alike, kept-alike}
+use Rattle.memory.specs.Layout.{termsWords, stateWords, termsOf, stateOf, wordsOf}
+use Rattle.memory.specs.Checks.{goodMemory, goodState}
+use Rattle.memory.specs.Outcome.{Outcome, checks}
+use Rattle.memory.specs.Outcome.Outcome.{passed, failed}
+use Rattle.memory.proofs.Accepted.{good}
+use Rattle.memory.proofs.Inside.{Inside, state-inside}
+use Rattle.memory.proofs.Outcomes.{Checked, passed-checked}
+use Rattle.monitor.specs.Agreement.{LentStep, fedSteps, serveSteps, Agrees}
+use Rattle.monitor.proofs.Held.{Held, held-words, agrees}
+use Rattle.monitor.proofs.Demand.{run}
+use Rattle.file.specs.File.{File}
+use Rattle.file.proofs.Accepted.{Accepted, accepted-good}
+use Rattle.reader.specs.Memory.{memoryOf}
+use Rattle.reader.specs.Read.{readTerms}
+use Rattle.reader.proofs.TermsMemory.{length-memory, memory-alike, memory-good}
+use Rattle.writer.specs.Write.{Writing, storedText, storeGives, storeLeaves, fitted, filledOut}
+use Rattle.writer.specs.Write.Writing.{bytes, unwritten}
+use Rattle.text.specs.Text.{readState}
+use Rattle.text.specs.Recorded.{Book, laterBook}
+use Rattle.text.proofs.AlikeWords.{agrees-alike, state-alike, inside-alike}
+use Rattle.text.proofs.Tidied.{tidied, tidied-alike}
+use Rattle.text.proofs.Yields.{read-terms}
+use Rattle.text.proofs.Reloaded.{Reloaded, reloaded, reread-stored-memory, named-words}
+
+-- Lent memory that holds what the book says: the terms m, and the state s, which was m₀ when it was lent.
+pub record Loaded (B : Book) (m₀ m s : List ℕ) : Type 0 where
+  pub good-terms : Good (B .terms)
+  pub like : Alike (B .terms) (termsOf m)
+  pub long : termsWords ≤ length m
+  pub good-memory : goodMemory m ≡ true
+  pub held : Held (termsOf m) (good m good-memory) m₀ s (B .moments)
+
+-- ---- a list of steps
+
+module _ (B : Book) (m₀ m s : List ℕ) (sl : stateWords ≤ length m₀) (l : Loaded B m₀ m s) (ss : List LentStep) where
+  ran : (serveSteps m s ss .0 ≡ keepAll (termsOf m) (B .moments) (fedSteps ss) .0)
+      × Held (termsOf m) (good m (l .good-memory)) m₀ (serveSteps m s ss .1) (keepAll (termsOf m) (B .moments) (fedSteps ss) .1)
+  ran = run m (l .long) (good m (l .good-memory)) (l .good-memory) m₀ sl ss s (B .moments) (l .held)
+
+  same : keepAll (termsOf m) (B .moments) (fedSteps ss) ≡ keepAll (B .terms) (B .moments) (fedSteps ss)
+  same = sym (keepAll-alike (B .terms) (termsOf m) (l .like) (l .good-terms) (B .moments) (fedSteps ss))
+
+  pub answers : serveSteps m s ss .0 ≡ keepAll (B .terms) (B .moments) (fedSteps ss) .0
+  answers = ran .0 ∙ ap (λ (x : List Answer × List Moment). x .0) same
+
+  pub stays : Loaded (laterBook B ss) m₀ m (serveSteps m s ss .1)
+  stays = record {
+    good-terms = l .good-terms;
+    like = l .like;
+    long = l .long;
+    good-memory = l .good-memory;
+    held = subst (λ (x : List Answer × List Moment). Held (termsOf m) (good m (l .good-memory)) m₀ (serveSteps m s ss .1) (x .1)) same (ran .1);
+  }
+
+  pub words : Agrees (B .terms) m₀ (serveSteps m s ss .1) (laterBook B ss .moments)
+  unfolding stays
+  words = agrees-alike (termsOf m) (B .terms) (alike-sym (l .like))
+      (agrees (termsOf m) (good m (l .good-memory)) m₀ (serveSteps m s ss .1) (laterBook B ss .moments) sl (stays .held))
+
+-- ---- stored and loaded again
+
+-- what was stored
+was-stored : (o : Outcome) (c : Bool) (k n : ℕ) → fitted c k o ≡ bytes n → (passed ≡ o) × (k ≡ n)
+was-stored passed true k n e = let z : _≡_ {A = ℕ} 0 1 = cc in absurd (omega arith)
+was-stored passed false k n e = (refl, cc)
+was-stored (failed i j) c k n e = let z : _≡_ {A = ℕ} 0 1 = cc in absurd (omega arith)
+
+module _ (m s out : List ℕ) (n : ℕ) (e : storeGives m s out ≡ bytes n) where
+  passed-so : (passed ≡ checks m s) × (length (storedText m s) ≡ n)
+  unfolding storeGives
+  passed-so = was-stored (checks m s) (ltb (length out) (length (storedText m s))) (length (storedText m s)) n e
+
+  pub text-stored : take n (storeLeaves m s out) ≡ storedText m s
+  unfolding storeLeaves
+  text-stored =
+      ap (λ w. take n (filledOut (storedText m s) out w)) e
+      ∙ take-at (storedText m s) (drop (length (storedText m s)) out) n (passed-so .1)
+
+  module _ (B : Book) (m₀ : List ℕ) (sl : stateWords ≤ length m₀) (l : Loaded B m₀ m s) (terms state : List ℕ) (tl' : termsWords ≤ length terms) (sl' : stateWords ≤ length state) where
+    checked : Checked m s
+    checked = passed-checked m s (passed-so .0)
+
+    abbrev U : Terms
+    U = termsOf m
+
+    abbrev m' : List ℕ
+    m' = take termsWords m ++ drop termsWords terms
+
+    f : File
+    f = reloaded m s (l .long) (checked .long-state) (checked .good-terms) (checked .good-state) .0
+
+    r : Reloaded m s f
+    unfolding f
+    r = reloaded m s (l .long) (checked .long-state) (checked .good-terms) (checked .good-state) .1
+
+    again : (readTerms (storedText m s) terms state ≡ m') × (readState (storedText m s) terms state ≡ take stateWords s ++ drop stateWords state)
+    again = reread-stored-memory m s (l .long) (checked .long-state) (checked .good-terms) (checked .good-state) terms state tl' sl'
+
+    filled-is : memoryOf (f .terms) ++ drop termsWords terms ≡ m'
+    filled-is = sym (read-terms (storedText m s) f (r .accepts) terms state tl' sl') ∙ again .0
+
+    accepts : Accepted f
+    accepts = accepted-good (storedText m s) f (r .accepts)
+
+    good' : goodMemory m' ≡ true
+    good' = subst (λ w. goodMemory w ≡ true) filled-is (memory-good (f .terms) (accepts .good) (accepts .tidy) (drop termsWords terms))
+
+    like' : Alike U (termsOf m')
+    like' =
+        alike-trans (tidied-alike U) (subst₂ (λ (T : Terms) (w : List ℕ). Alike T (termsOf w)) (r .terms-are) filled-is
+        (memory-alike (f .terms) (accepts .good) (accepts .tidy) (drop termsWords terms)))
+
+    pub loaded-again : Loaded B state (readTerms (storedText m s) terms state) (readState (storedText m s) terms state)
+    loaded-again = subst₂ (Loaded B state) (sym (again .0)) (sym (again .1)) (record {
+      good-terms = l .good-terms;
+      like = alike-trans (l .like) like';
+      long = omega (arith, ap length filled-is, length-append (memoryOf (f .terms)) (drop termsWords terms), length-memory (f .terms));
+      good-memory = good';
+      held = subst (λ (w : List ℕ). Held (termsOf m') (good m' good') state (w ++ drop stateWords state) (B .moments))
+          (sym (state-alike U (termsOf m') like' (stateOf s)) ∙ named-words U s (checked .long-state) (checked .good-state))
+          (held-words (termsOf m') (good m' good') state state sl' refl refl (stateOf s) (B .moments)
+          (kept-alike U (termsOf m') like' (stateOf s) (B .moments) (l .held .kept))
+          (inside-alike U (termsOf m') like' (stateOf s .now) (state-inside U s (checked .good-state))));
+    })

@@ -1,0 +1,55 @@
+-- The ways that writing the old form ends: refused for its memory, refused with 12 for a past, or as the writer gives it.
+use Prim.Native.Nat.{ℕ}
+use mathlib.Core.Path.{_≡_, refl, sym, ap, _∙_}
+use mathlib.Core.Bool.{Bool, true, false}
+use mathlib.Core.List.{List}
+use Rattle.memory.specs.Outcome.{checks}
+use Rattle.memory.specs.Outcome.Outcome.{passed, failed}
+use Rattle.writer.specs.Write.{Writing, writtenText, sizeGives, writeGives, writeLeaves, filledOut}
+use Rattle.writer.specs.Write.Writing.{unwritten}
+use Rattle.text.specs.Text.{isFresh, oldSizeGives, oldWriteGives, oldWriteLeaves}
+
+-- what a test of freshness found
+pub found : (terms state : List ℕ) {r b : Bool} → r ≡ b → r ≡ isFresh terms state → isFresh terms state ≡ b
+found terms state q h = sym h ∙ q
+
+module _ (terms state : List ℕ) where
+  pub size-failed : (n l : ℕ) → failed n l ≡ checks terms state → unwritten n l ≡ oldSizeGives terms state
+  unfolding oldSizeGives sizeGives
+  size-failed n l e = rw (← e) refl
+
+  module _ (e : passed ≡ checks terms state) where
+    size-fresh : isFresh terms state ≡ true → oldSizeGives terms state ≡ sizeGives terms state
+    unfolding oldSizeGives
+    size-fresh h = rw (← e, h) refl
+
+    pub size-ends : isFresh terms state ≡ true → (w : Writing) → w ≡ sizeGives terms state → w ≡ oldSizeGives terms state
+    size-ends h w x = x ∙ sym (size-fresh h)
+
+    pub size-past : isFresh terms state ≡ false → unwritten 12 0 ≡ oldSizeGives terms state
+    unfolding oldSizeGives
+    size-past h = rw (← e, h) refl
+
+module _ (terms state out : List ℕ) where
+  abbrev Ends : Writing → List ℕ → Type 0
+  Ends r p = (r ≡ oldWriteGives terms state out) × (p ≡ oldWriteLeaves terms state out)
+
+  pub ends-failed : (n l : ℕ) → failed n l ≡ checks terms state → Ends (unwritten n l) out
+  unfolding oldWriteGives oldWriteLeaves writeGives
+  ends-failed n l e = rw (← e) (refl, refl)
+
+  module _ (e : passed ≡ checks terms state) where
+    pub write-fresh : isFresh terms state ≡ true → oldWriteGives terms state out ≡ writeGives terms state out
+    unfolding oldWriteGives
+    write-fresh h = rw (← e, h) refl
+
+    pub leaves-fresh : isFresh terms state ≡ true → oldWriteLeaves terms state out ≡ writeLeaves terms state out
+    unfolding oldWriteLeaves writeLeaves
+    leaves-fresh h = ap (filledOut (writtenText terms state) out) (write-fresh h)
+
+    pub ends-fresh : isFresh terms state ≡ true → (r : Writing) (p : List ℕ) → r ≡ writeGives terms state out → p ≡ writeLeaves terms state out → Ends r p
+    ends-fresh h r p x y = (x ∙ sym (write-fresh h), y ∙ sym (leaves-fresh h))
+
+    pub ends-past : isFresh terms state ≡ false → Ends (unwritten 12 0) out
+    unfolding oldWriteGives oldWriteLeaves
+    ends-past h = rw (← e, h) (refl, refl)

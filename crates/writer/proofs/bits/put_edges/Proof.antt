@@ -1,0 +1,17 @@
+-- `writer::bits::put_edges` meets its contract: the bits of the words are the edges of all relations.
+use borrow.Author.Needs.{needs}
+use Rattle.writer.proofs.Listing.{put-all-edges}
+use Rattle.writer.proofs.bits.put_edges.Statement.{statement}
+use Rattle.writer.proofs.bits.put_edges.Tie as tie
+
+put-rows-requires : tie.Need-put-rows-requires
+put-rows-requires c κs = search needs
+
+same-length : tie.Need-same-length
+same-length c = search needs
+
+returns : tie.Need-returns
+returns c = let e = c .before .before .put-rows .ensures in (put-all-edges _ (e .0), e .1)
+
+pub put-edges-spec : {M : Type 1} → statement M
+put-edges-spec = tie.close (tie.spec put-rows-requires same-length returns)

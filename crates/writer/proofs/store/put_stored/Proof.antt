@@ -1,0 +1,54 @@
+-- `writer::store::put_stored` meets its contract: the S line, the text, the T lines and the V line are all lines.
+use mathlib.Core.List.{[], _∷_}
+use borrow.Author.Needs.{needs}
+use Rattle.memory.specs.Layout.{stateOf}
+use Rattle.file.specs.Line.{fieldsOf}
+use Rattle.file.specs.Writing.{storedLines, stored, written}
+use Rattle.file.specs.declared.line.Line.the-variants.{Form}
+use Rattle.writer.specs.Write.{writtenText, storedText}
+use Rattle.writer.proofs.Listing.{put-line, put-lines}
+use Rattle.writer.proofs.store.put_stored.Statement.{statement}
+use Rattle.writer.proofs.store.put_stored.Tie as tie
+
+put-single-requires : tie.Need-put-single-requires
+put-single-requires c κs = search needs
+
+put-text-requires : tie.Need-put-text-requires
+put-text-requires c κs = search needs
+
+put-tables-requires : tie.Need-put-tables-requires
+put-tables-requires c κs = search needs
+
+shared-slice-read-put-event : tie.Need-shared-slice-read-put-event
+shared-slice-read-put-event c = search needs
+
+put-event-requires : tie.Need-put-event-requires
+put-event-requires c κs = search needs
+
+same-length : tie.Need-same-length
+same-length c = search needs
+
+returns : tie.Need-returns
+unfolding storedText stored storedLines writtenText written stateOf fieldsOf
+returns c =
+    let c4 = c .before .before in
+    let c3 = c4 .before .before .before .before .before in
+    let c2 = c3 .before .before .before .before in
+    let c1 = c2 .before .before .before .before in (
+      put-lines (Form 2 ∷ []) _ (put-line (Form 2) (c1 .put-single .ensures .0))
+          (put-lines _ _ (c2 .put-text .ensures .0)
+          (put-lines _ _ (c3 .put-tables .ensures .0) (c4 .put-event .ensures .0))),
+      search needs,
+    )
+
+pub put-stored-spec : {M : Type 1} → statement M
+put-stored-spec =
+    tie.close
+    (tie.spec
+    put-single-requires
+    put-text-requires
+    put-tables-requires
+    shared-slice-read-put-event
+    put-event-requires
+    same-length
+    returns)

@@ -1,0 +1,159 @@
+//! Stored files, and damage to the lines that only the stored form has.
+
+use super::damage::put_in;
+use super::lines::{join, split, Lines};
+use super::{calls, Rng};
+use crate::record::Record;
+use crate::terms::memory::pairs;
+use crate::terms::{Entry, EventEdge, File, Past, Tables, Terms, MOST_PAST};
+use std::collections::BTreeSet;
+
+/// A stored file of sound terms: that of a record after some calls, or one
+/// whose tables are drawn and, mostly, true of no record.
+pub fn file(rng: &mut Rng, terms: &Terms) -> File {
+    if rng.percent(50) {
+        let mut record = Record::new(terms.clone());
+        let count = rng.below(9);
+        for call in calls(rng, terms, count, 99_999) {
+            record.answer(&call);
+        }
+        return File::stored(terms, &record.state());
+    }
+    let past = Past { tables: drawn_tables(rng, terms), event: drawn_event(rng, terms) };
+    File { terms: terms.clone(), past: Some(past) }
+}
+
+/// Tables within the layout: without a free variable a word is full or empty.
+fn drawn_tables(rng: &mut Rng, terms: &Terms) -> Tables {
+    let free = terms.free();
+    let mut table = |entry: usize| {
+        let share = rng.pick(&[0, 3, 30, 70, 100]);
+        let closed = free[entry] == 0;
+        let mut full = false;
+        let chosen = pairs(terms.members).filter(|&(_, b)| {
+            if b == 0 || !closed {
+                full = rng.percent(share);
+            }
+            full
+        });
+        chosen.collect()
+    };
+    terms.past().into_iter().map(&mut table).collect()
+}
+
+fn drawn_event(rng: &mut Rng, terms: &Terms) -> Option<EventEdge> {
+    let member = |rng: &mut Rng| rng.below(terms.members);
+    rng.percent(60).then(|| (rng.below(terms.events), member(rng), member(rng)))
+}
+
+/// Takes some bits, and not all, from a word of a table without a free
+/// variable; where there is no such table, one is put in.
+pub fn partly_fill(rng: &mut Rng, file: &mut File) {
+    let File { terms, past: Some(Past { tables, .. }) } = file else { return };
+    let (free, past) = (terms.free(), terms.past());
+    let closed: Vec<usize> = (0..past.len()).filter(|&t| free[past[t]] == 0).collect();
+    let t = match &closed[..] {
+        [] if past.len() == MOST_PAST => return,
+        [] => {
+            let place = terms.entries.len();
+            put_in(terms, place, &[Entry::Top, Entry::Prev(place)]);
+            tables.push(BTreeSet::new());
+            past.len()
+        }
+        some => rng.pick(some),
+    };
+    for _ in 0..if rng.percent(80) { 1 } else { 2 } {
+        let a = rng.below(terms.members);
+        let left = rng.below(terms.members);
+        tables[t].retain(|&(at, _)| at != a);
+        let kept = (0..terms.members).filter(|&b| b != left && rng.percent(60));
+        tables[t].extend(kept.map(|b| (a, b)));
+    }
+}
+
+/// The places of the lines of a kind.
+fn places(lines: &Lines, kind: &[u8]) -> Vec<usize> {
+    (0..lines.len()).filter(|&place| lines[place][0] == kind).collect()
+}
+
+/// One of these places, or any.
+fn some(rng: &mut Rng, places: &[usize], count: usize) -> usize {
+    match places {
+        [] => rng.below(count),
+        places => rng.pick(places),
+    }
+}
+
+fn line(kind: &str, numbers: &[usize]) -> Vec<Vec<u8>> {
+    let numbers = numbers.iter().map(|number| number.to_string().into_bytes());
+    std::iter::once(kind.as_bytes().to_vec()).chain(numbers).collect()
+}
+
+/// Damages what only the stored form has: its first line, the order and number
+/// of its T and V lines, or what these name.
+pub fn damage(rng: &mut Rng, terms: &Terms, text: &mut Vec<u8>) {
+    let mut lines = split(text);
+    let count = lines.len();
+    let bits = places(&lines, b"T");
+    let events = places(&lines, b"V");
+    match rng.below(12) {
+        0 => lines[0] = line("S", &[rng.pick(&[0, 1, 2, 3, 20, 22, 99_999])]),
+        1 => {
+            lines.remove(0);
+        }
+        2 => {
+            let first = lines.remove(0);
+            lines.insert(rng.below(count), first);
+        }
+        3 => lines.insert(rng.below(count + 1), line("S", &[2])),
+        4 => {
+            let (one, other) = (some(rng, &bits, count), some(rng, &bits, count));
+            lines.swap(one, other);
+        }
+        5 => {
+            let place = some(rng, &bits, count);
+            lines.insert(place, lines[place].clone());
+        }
+        6 => {
+            // A T line elsewhere: among the old lines, or after the V line.
+            let bit = lines.remove(some(rng, &bits, count));
+            lines.insert(rng.below(count), bit);
+        }
+        7 => lines.insert(rng.below(count + 1), line("T", &bit(rng, terms))),
+        8 => {
+            let place = some(rng, &bits, count);
+            lines[place] = line("T", &bit(rng, terms));
+        }
+        9 => {
+            let place = if rng.percent(70) { count } else { some(rng, &events, count) };
+            lines.insert(place, line("V", &event(rng, terms)));
+        }
+        10 => {
+            let place = some(rng, &events, count);
+            lines[place] = line("V", &event(rng, terms));
+        }
+        _ => {
+            let after = [("G", [0, 0, 0]), ("T", [0, 0, 0]), ("V", [0, 0, 0])];
+            let (kind, numbers) = rng.pick(&after);
+            lines.push(line(kind, &numbers));
+        }
+    }
+    *text = join(&lines);
+}
+
+/// A number below a bound, at it, or far.
+fn near(rng: &mut Rng, bound: usize) -> usize {
+    match rng.below(10) {
+        0 => bound,
+        1 => rng.pick(&[bound + 1, 15, 16, 31, 32, 63, 64, 65, 99_999]),
+        _ => rng.below(bound),
+    }
+}
+
+fn bit(rng: &mut Rng, terms: &Terms) -> [usize; 3] {
+    [near(rng, terms.past().len()), near(rng, terms.members), near(rng, terms.members)]
+}
+
+fn event(rng: &mut Rng, terms: &Terms) -> [usize; 3] {
+    [near(rng, terms.events), near(rng, terms.members), near(rng, terms.members)]
+}

@@ -1,0 +1,50 @@
+//! What a stored file remembers: its T and V lines as sentences.
+
+use super::clause::Who;
+use super::form::Forms;
+use super::grammar::Time;
+use super::labels::Manner;
+use super::render::Speaker;
+use super::words::{letters, named};
+use super::{outline, resolve, Sentence};
+use crate::names::Names;
+use keeper::record::Record;
+
+/// So many lines are told of a table.
+const MOST: usize = 12;
+
+/// What had passed when a record was stored; nothing of one that began afresh.
+pub fn stored(
+    record: &Record,
+    forms: &Forms,
+    speaker: &mut Speaker,
+    names: &Names,
+) -> Option<Sentence> {
+    let tables = record.before()?;
+    let mut lines = Vec::new();
+    for (entry, table) in forms.terms.past().into_iter().zip(tables) {
+        // Without a free variable a member's bits are all set: one sentence says it.
+        let closed = forms.free[entry] == 0;
+        let pairs: Vec<(usize, usize)> =
+            table.iter().copied().filter(|&(_, other)| other == 0 || !closed).collect();
+        for &(member, other) in pairs.iter().take(MOST) {
+            let clause = resolve::of_pair(forms, entry, member, other);
+            outline(speaker.say(&clause, Time::Now, None), 1, &mut lines);
+        }
+        if pairs.len() > MOST {
+            lines.push((1, format!("and {} more like these", pairs.len() - MOST)));
+        }
+    }
+    if let Some((event, from, to)) = record.graphs()[0].event {
+        let (label, from, to) = (forms.terms.relations + event, Who::Member(from), Who::Member(to));
+        let edge = speaker.edge(label, from, to, Time::Now, Manner::Plain, None);
+        outline(edge, 1, &mut lines);
+    }
+    let head = match lines.is_empty() {
+        true => "When this was stored, nothing was remembered of the past.",
+        false => "When this was stored, this was remembered:",
+    };
+    lines.insert(0, (0, head.to_string()));
+    let shown = |(depth, line): (usize, String)| (depth, named(&letters(&line), names));
+    Some(Sentence { lines: lines.into_iter().map(shown).collect() })
+}

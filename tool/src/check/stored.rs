@@ -1,0 +1,122 @@
+//! S, T and V lines: what only the stored form has.
+
+use super::fault::Fault;
+use super::line::{number, Field, FORM};
+use super::others::{out_of_range, range};
+use super::reader::Reader;
+use crate::aloud::listed;
+
+/// The refusal of a partly filled word.
+const PARTLY_FILLED: u16 = 11;
+/// The one form that an S line may name.
+const FORM_NUMBER: usize = 2;
+
+/// A T line: table, member and other, and where it stands.
+pub struct Bit {
+    table: usize,
+    member: usize,
+    other: usize,
+    line: usize,
+}
+
+impl Bit {
+    /// Table, member and other.
+    fn place(&self) -> (usize, usize, usize) {
+        (self.table, self.member, self.other)
+    }
+}
+
+impl Reader<'_> {
+    /// Why a line may not stand here, where that has to do with S, T or V
+    /// lines.
+    pub fn stored_out_of_order(&self, kind: &str, order: &str) -> Option<(String, String)> {
+        let told = |what: &str, right: &str| Some((what.to_string(), right.to_string()));
+        let an = if "SMLFE".contains(kind) { "an" } else { "a" };
+        match kind {
+            "S" if self.lines > 1 => told(
+                "an S line that is not the first",
+                "S opens the stored form, and no other line",
+            ),
+            "T" | "V" if !self.stored => {
+                let right = "only the stored form has T and V lines; its first line is S 2";
+                told(&format!("a {kind} line in a file that does not open with S"), right)
+            }
+            _ if self.event => {
+                let what = format!("{an} {kind} line after the V line");
+                told(&what, "V is the last line, and there is one at most")
+            }
+            "T" | "V" => None,
+            _ if !self.bits.is_empty() => told(&format!("{an} {kind} line after a T line"), order),
+            _ => None,
+        }
+    }
+
+    pub fn form(&mut self, field: Field) -> Result<(), Fault> {
+        let form = number(field)?;
+        if form != FORM_NUMBER {
+            let right = format!("the stored form is {FORM_NUMBER}; the old form has no S line");
+            return Err(out_of_range(field, format!("no form {form}"), right));
+        }
+        self.stored = true;
+        Ok(())
+    }
+
+    pub fn bit(&mut self, t: Field, a: Field, b: Field) -> Result<(), Fault> {
+        let (table, member, other) = (number(t)?, number(a)?, number(b)?);
+        let bit = Bit { table, member, other, line: self.lines };
+        if let Some(last) = self.bits.last().filter(|last| last.place() >= bit.place()) {
+            let place = t.place().start..b.place().end;
+            let shown = |bit: &Bit| format!("T {} {} {}", bit.table, bit.member, bit.other);
+            let what = match last.place() == bit.place() {
+                true => format!("{} a second time", shown(&bit)),
+                false => format!("{} after {}", shown(&bit), shown(last)),
+            };
+            let right = "T lines rise by table, then member, then other; none comes twice";
+            return Err(Fault::new(FORM, place, what).right(right));
+        }
+        let tables = self.terms.past().len();
+        if table >= tables {
+            let right = format!("{}: one for each prev or since entry", range("tables", tables));
+            return Err(out_of_range(t, format!("no table {table}"), right));
+        }
+        self.both_members([(a, member), (b, other)])?;
+        self.bits.push(bit);
+        Ok(())
+    }
+
+    pub fn event_edge(&mut self, e: Field, a: Field, b: Field) -> Result<(), Fault> {
+        let (event, from, to) = (number(e)?, number(a)?, number(b)?);
+        let events = self.terms.events;
+        if event >= events {
+            return Err(out_of_range(e, format!("no event {event}"), range("events", events)));
+        }
+        self.both_members([(a, from), (b, to)])?;
+        self.event = true;
+        Ok(())
+    }
+
+    /// The first word of a table without a free variable that is not full.
+    pub fn partly_filled(&self) -> Option<Fault> {
+        let (past, members) = (self.terms.past(), self.terms.members);
+        let mut words =
+            self.bits.chunk_by(|one, next| (one.table, one.member) == (next.table, next.member));
+        let word =
+            words.find(|word| self.free[past[word[0].table]] == 0 && word.len() < members)?;
+        let Bit { table, member, line, .. } = word[0];
+        let there = |other: &usize| word.iter().any(|bit| bit.other == *other);
+        let missing = (0..members).filter(|other| !there(other));
+        let missing: Vec<String> =
+            missing.map(|other| format!("T {table} {member} {other}")).collect();
+        let what = format!(
+            "table {table} has {} of {members} T lines for member {member}, but its entry, {}, has no free variable: there are all of them or none",
+            word.len(),
+            past[table]
+        );
+        let right = match &missing[..] {
+            [one] => format!("{one} is missing"),
+            few if few.len() <= 4 => format!("{} are missing", listed(few)),
+            many => format!("{} are missing, {} the first", many.len(), many[0]),
+        };
+        Some(Fault { line, ..Fault::new(PARTLY_FILLED, 0..usize::MAX, what).right(right) })
+    }
+}
