@@ -8,16 +8,18 @@
 //! * `measure`: batches, timed in turn
 //! * `pieces`: where the time of a call goes
 //! * `texts`: reading and writing
+//! * `counts`: at least so many, counted and spelled out
 //! * `stack`: the stack that one call takes
 //! * `archives`, `compare`: archives beside each other
 //!
-//! `benchmark pieces`, `benchmark texts` and `benchmark stack` measure that
-//! only, `benchmark compare ARCHIVE...` times the calls of those archives and
-//! of the one that is built in turn, `benchmark loop` makes many requests for
-//! a profiler.
+//! `benchmark pieces`, `texts`, `counts` and `stack` measure that only,
+//! `benchmark compare ARCHIVE...` times the calls of those archives and of the
+//! one that is built in turn, `benchmark loop` makes many requests for a
+//! profiler.
 
 mod archives;
 mod compare;
+mod counts;
 mod floor;
 #[cfg_attr(not(sqlite), path = "no_log.rs")]
 mod log;
@@ -42,16 +44,18 @@ fn main() {
             table();
             pieces::print();
             texts::print();
+            counts::print();
             println!();
             stack::print(&Archive::open(&archives::built())[0]);
         }
         Some("pieces") => pieces::print(),
         Some("texts") => texts::print(),
+        Some("counts") => counts::print(),
         Some("stack") => stack::print(&Archive::open(&archives::built())[0]),
         Some("compare") => compare::print(&words[1..]),
         Some("loop") => repeat(),
         Some(other) => {
-            eprintln!("{other}: not known; pieces, texts, stack, compare, loop or nothing")
+            eprintln!("{other}: not known; pieces, texts, counts, stack, compare, loop or nothing")
         }
     }
 }
