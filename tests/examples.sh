@@ -66,4 +66,9 @@ for dir in "$here"/../examples/*/ "$here"/../examples/*/later/; do
         fi
     done <"$work/rows"
 done
+
+# The same policy, spelled out with binders and counted.
+for file in requests.tsv expected.tsv; do
+    cmp "$here/../examples/policy-20/$file" "$here/../examples/policy-20-many/$file" || failed=$((failed + 1))
+done
 finish

@@ -67,10 +67,11 @@ fn check_entries(entries: &[u16], labels: usize, free: &mut [u16; 256]) -> Optio
                 let lower = b < index && c < index;
                 ((1..16).contains(&a) && lower && free[b & 255] & !x == 0 && to & x == 0, to)
             }
+            11 => (a < labels && b < index && (1..=64).contains(&c), free[b & 255]),
             _ => (false, 0),
         };
         past += usize::from(entry[0] == 6 || entry[0] == 7);
-        if !right || entry[0] != 10 && c != 0 {
+        if !right || entry[0] < 10 && c != 0 {
             return None;
         }
         free[index] = own;

@@ -9,16 +9,18 @@
 //! * `pieces`: where the time of a call goes
 //! * `lists`: set lists beside single requests
 //! * `texts`: reading and writing
+//! * `counts`: at least so many, counted and spelled out
 //! * `stack`: the stack that one call takes
 //! * `archives`, `compare`: archives beside each other
 //!
-//! `benchmark pieces`, `lists`, `texts` and `stack` measure that only,
+//! `benchmark pieces`, `lists`, `texts`, `counts` and `stack` measure that only,
 //! `benchmark compare ARCHIVE...` times the calls of those archives and of the
 //! one that is built in turn, `benchmark loop` makes many requests for a
 //! profiler.
 
 mod archives;
 mod compare;
+mod counts;
 mod floor;
 mod lists;
 #[cfg_attr(not(sqlite), path = "no_log.rs")]
@@ -45,17 +47,21 @@ fn main() {
             pieces::print();
             lists::print();
             texts::print();
+            counts::print();
             println!();
             stack::print(&Archive::open(&archives::built())[0]);
         }
         Some("pieces") => pieces::print(),
         Some("lists") => lists::print(),
         Some("texts") => texts::print(),
+        Some("counts") => counts::print(),
         Some("stack") => stack::print(&Archive::open(&archives::built())[0]),
         Some("compare") => compare::print(&words[1..]),
         Some("loop") => repeat(),
         Some(other) => {
-            eprintln!("{other}: not known; pieces, lists, texts, stack, compare, loop or nothing")
+            eprintln!(
+                "{other}: not known; pieces, lists, texts, counts, stack, compare, loop or nothing"
+            )
         }
     }
 }

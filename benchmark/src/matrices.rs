@@ -139,6 +139,7 @@ impl Matrices {
             }
             Entry::Out(l, f) => gather(out, &lower[f], &self.ahead[l], n),
             Entry::In(l, f) => gather(out, &lower[f], &self.behind[l], n),
+            Entry::Many(l, f, k) => count(out, &lower[f], &self.ahead[l], k, n),
             Entry::Prev(f) => out.copy_from_slice(&lower[f]),
             Entry::Since(f, g) => {
                 let both = lower[f].iter().zip(&lower[g]);
@@ -198,6 +199,7 @@ impl Matrices {
         }
         let operands = match formula {
             Entry::Not(f) | Entry::Out(_, f) | Entry::In(_, f) | Entry::At(_, f) => [Some(f), None],
+            Entry::Many(_, f, _) => [Some(f), None],
             Entry::Or(f, g) => [Some(f), Some(g)],
             // Its first operand has a matrix.
             Entry::Reach(_, _, g) => [Some(g), None],
@@ -214,6 +216,7 @@ impl Matrices {
             }
             Entry::Out(l, f) => gather(out, &lower[f], &self.ahead[l], 1),
             Entry::In(l, f) => gather(out, &lower[f], &self.behind[l], 1),
+            Entry::Many(l, f, k) => count(out, &lower[f], &self.ahead[l], k, 1),
             Entry::At(x, f) => out.fill(lower[f][assigned[x]]),
             Entry::Reach(_, f, g) => step(out, &self.matrices[f], &lower[g], 1),
             _ => unreachable!("no other entry has two free variables"),
@@ -243,6 +246,17 @@ fn gather(out: &mut [u8], f: &[u8], ahead: &[Vec<usize>], width: usize) {
     }
 }
 
+/// Leaves in each row what is in at least k of the rows of f that it leads to.
+fn count(out: &mut [u8], f: &[u8], ahead: &[Vec<usize>], k: usize, width: usize) {
+    for (row, others) in out.chunks_exact_mut(width).zip(ahead) {
+        row.fill(0);
+        for &other in others {
+            row.iter_mut().zip(&f[other * width..]).for_each(|(o, f)| *o += f);
+        }
+        row.iter_mut().for_each(|o| *o = u8::from(usize::from(*o) >= k));
+    }
+}
+
 #[cfg(test)]
 mod tests {
     use super::*;
@@ -250,10 +264,10 @@ mod tests {
     use keeper::record::Record;
     use keeper::terms;
 
-    /// Reach and all else, from both forms: the answers are the keeper's.
+    /// Reach, many and all else, from both forms: the answers are the keeper's.
     #[test]
     fn answers_are_the_keepers() {
-        let mut reaching = 0;
+        let (mut reaching, mut counting) = (0, 0);
         for seed in 0..400 {
             let case = generate::case(seed, 99_999);
             let file = terms::read(&case.text).expect("an accepted text");
@@ -262,6 +276,7 @@ mod tests {
                 continue;
             }
             reaching += usize::from(terms.entries.iter().any(|e| matches!(e, Entry::Reach(..))));
+            counting += usize::from(terms.entries.iter().any(|e| matches!(e, Entry::Many(..))));
             let mut record = Record::of(file);
             let mut matrices = Matrices::resume(&terms, &record.state_words());
             for call in &case.calls {
@@ -278,6 +293,6 @@ mod tests {
                 }
             }
         }
-        assert!(reaching > 20, "{reaching}");
+        assert!(reaching > 20 && counting > 20, "{reaching} {counting}");
     }
 }

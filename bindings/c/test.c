@@ -122,6 +122,30 @@ static void reaching(void)
     EXPECT(line == 8);
 }
 
+/* Event 0 is for whoever has two friends; none and 65 cannot be asked for. */
+static const char many[] =
+    "M\t3\nL\t1\t1\nF\t0\ttop\t0\t0\nF\t1\tmany\t0\t0\t02\nP\t0\t1\n"
+    "G\t0\t0\t1\nG\t0\t0\t2\nG\t0\t1\t2\n";
+
+static void counting(void)
+{
+    size_t line = 77;
+    char faulty[sizeof many];
+    EXPECT(cuckooormolu_done(
+        cuckooormolu_monitor_read(&m, many, sizeof many - 1, NULL).code));
+    EXPECT(cuckooormolu_granted(cuckooormolu_monitor_look(&m, 0, 0, 1).code));
+    EXPECT(cuckooormolu_denied(cuckooormolu_monitor_look(&m, 0, 1, 0).code));
+    memcpy(faulty, many, sizeof many);
+    memcpy(strstr(faulty, "02"), "65", 2);
+    EXPECT(cuckooormolu_monitor_read(&m, faulty, sizeof many - 1, &line)
+               .code == CUCKOOORMOLU_REFUSED_RANGE);
+    EXPECT(line == 4);
+    memcpy(strstr(faulty, "65"), "00", 2);
+    EXPECT(cuckooormolu_monitor_read(&m, faulty, sizeof many - 1, &line)
+               .code == CUCKOOORMOLU_REFUSED_RANGE);
+    EXPECT(line == 4);
+}
+
 static struct cuckooormolu_record record(uint32_t event, uint32_t from,
                                          uint32_t to)
 {
@@ -329,6 +353,7 @@ int main(void)
     zeroed();
     calls();
     reaching();
+    counting();
     set_list();
     refused_list();
     storing();

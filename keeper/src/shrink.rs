@@ -118,6 +118,11 @@ fn candidates(file: &File) -> Vec<File> {
     for index in (0..terms.entries.len()).rev() {
         let past = past.map(|past| without_table(terms, past, index));
         all.push(File { terms: without_entry(terms, index), past: past.clone() });
+        if let Entry::Many(l, f, k @ 2..) = terms.entries[index] {
+            let mut other = terms.clone();
+            other.entries[index] = Entry::Many(l, f, k - 1);
+            all.push(File { terms: other, past: file.past.clone() });
+        }
         if terms.entries[index] != Entry::Top {
             let mut other = terms.clone();
             other.entries[index] = Entry::Top;
@@ -193,6 +198,7 @@ fn without_last_relation(terms: &Terms) -> Terms {
         *entry = match *entry {
             Entry::Out(l, f) if l > last => Entry::Out(l - 1, f),
             Entry::In(l, f) if l > last => Entry::In(l - 1, f),
+            Entry::Many(l, f, k) if l > last => Entry::Many(l - 1, f, k),
             same => same,
         };
     }

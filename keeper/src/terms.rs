@@ -20,6 +20,8 @@ pub const MOST_ENTRIES: usize = 256;
 pub const MOST_PAST: usize = 32;
 pub const MOST_EFFECTS: usize = 4;
 pub const VARIABLES: usize = 16;
+/// The most members that a `many` may ask for.
+pub const MOST_COUNTED: usize = 64;
 
 /// An edge under a relation: relation, from, to.
 pub type Edge = (usize, usize, usize);
@@ -61,6 +63,8 @@ pub enum Entry {
     Bind(usize, usize),
     At(usize, usize),
     Reach(usize, usize, usize),
+    /// Label, entry, and how many at least.
+    Many(usize, usize, usize),
 }
 
 /// What a field of an F line stands for.
@@ -71,6 +75,7 @@ pub enum Field {
     BoundVariable,
     Label,
     Entry,
+    Count,
 }
 
 /// An operator: its word and what its fields stand for.
@@ -92,7 +97,7 @@ const fn operator(word: &'static str, first: Field, second: Field, third: Field)
 }
 
 /// The operators by number.
-pub const OPERATORS: [Operator; 11] = [
+pub const OPERATORS: [Operator; 12] = [
     operator("top", Field::Unused, Field::Unused, Field::Unused),
     operator("var", Field::Variable, Field::Unused, Field::Unused),
     operator("not", Field::Entry, Field::Unused, Field::Unused),
@@ -104,6 +109,7 @@ pub const OPERATORS: [Operator; 11] = [
     operator("bind", Field::BoundVariable, Field::Entry, Field::Unused),
     operator("at", Field::Variable, Field::Entry, Field::Unused),
     operator("reach", Field::Variable, Field::Entry, Field::Entry),
+    operator("many", Field::Label, Field::Entry, Field::Count),
 ];
 
 impl Entry {
@@ -121,6 +127,7 @@ impl Entry {
             Entry::Bind(x, f) => (8, [x, f, 0]),
             Entry::At(x, f) => (9, [x, f, 0]),
             Entry::Reach(x, f, g) => (10, [x, f, g]),
+            Entry::Many(l, f, k) => (11, [l, f, k]),
         }
     }
 
@@ -138,6 +145,7 @@ impl Entry {
             8 => Entry::Bind(a, b),
             9 => Entry::At(a, b),
             10 => Entry::Reach(a, b, c),
+            11 => Entry::Many(a, b, c),
             _ => return None,
         })
     }
@@ -167,6 +175,7 @@ impl Entry {
             Entry::Bind(x, f) => Entry::Bind(x, rename(f)),
             Entry::At(x, f) => Entry::At(x, rename(f)),
             Entry::Reach(x, f, g) => Entry::Reach(x, rename(f), rename(g)),
+            Entry::Many(l, f, k) => Entry::Many(l, rename(f), k),
         }
     }
 
@@ -176,7 +185,7 @@ impl Entry {
             Entry::Top => 0,
             Entry::Var(x) => 1 << x,
             Entry::Not(f) | Entry::Prev(f) => lower[f],
-            Entry::Out(_, f) | Entry::In(_, f) => lower[f],
+            Entry::Out(_, f) | Entry::In(_, f) | Entry::Many(_, f, _) => lower[f],
             Entry::Or(f, g) | Entry::Since(f, g) => lower[f] | lower[g],
             Entry::Bind(x, f) => lower[f] & !(1 << x),
             Entry::At(x, f) => lower[f] | (1 << x),

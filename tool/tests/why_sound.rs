@@ -152,6 +152,25 @@ fn conclusion(reasons: &Reasons, place: Place, reason: &Reason, values: &[bool])
             assert!(all(false));
             false
         }
+        (Entry::Many(label, f, count), Reason::Enough(claims)) => {
+            assert_eq!(claims.len(), count);
+            for (index, claim) in claims.iter().enumerate() {
+                let other = claim.place.member;
+                assert_eq!(claim.place, at(f, moment, other));
+                assert!(has_edge(terms, &graphs[moment], label, member, other));
+                assert!(claims[..index].iter().all(|before| before.place.member != other));
+            }
+            assert!(all(true));
+            true
+        }
+        (Entry::Many(label, f, count), Reason::TooFew(claims)) => {
+            for other in 0..terms.members {
+                let told = claims.iter().any(|claim| claim.place == at(f, moment, other));
+                assert_eq!(told, has_edge(terms, &graphs[moment], label, member, other));
+            }
+            assert!(values.iter().filter(|&&value| value).count() < count);
+            false
+        }
         (Entry::Bind(x, f), Reason::Follow(claim)) => {
             let assigned = place.assigned.with(x, member);
             assert_eq!(claim.place, Place { entry: f, assigned, ..place });
@@ -200,6 +219,9 @@ fn is_so(terms: &Terms, graphs: &[Graph], meaning: &mut Meaning, fact: Fact) -> 
             let (from, to) = if out { (member, other) } else { (other, member) };
             others >> other & 1 == 1 || !has_edge(terms, &graphs[moment], label, from, to)
         }),
+        Fact::Count { label, member, others, moment, .. } => (0..terms.members)
+            .filter(|other| others >> other & 1 == 1)
+            .all(|other| has_edge(terms, &graphs[moment], label, member, other)),
         Fact::Same { member, .. } => member < terms.members,
         Fact::Differ { member, other } => member != other,
         Fact::NoMomentBefore | Fact::Always => true,

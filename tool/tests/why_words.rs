@@ -108,6 +108,30 @@ fn a_step_along_the_past() {
 }
 
 #[test]
+fn neighbours_that_are_counted() {
+    // At least two friends; at least two who have a friend.
+    let two = ["many 0 0 2"];
+    assert_eq!(why(&two, &["1 1 0"]), ["friend ben → cem, only 1 of at least 2"]);
+    assert_eq!(why(&two, &["1 0 1"]), ["friend ann → nobody who counts, only 0 of at least 2"]);
+    let enough = ["friend ben → ann and cem, 2 of at least 2"];
+    assert_eq!(why(&two, &["0 1 0", "1 1 0"]), enough);
+    let with_friends = ["out 0 0", "many 0 2 2"];
+    assert_eq!(
+        why(&with_friends, &["0 1 0", "0 2 3", "1 1 0"]),
+        ["friend ben → cem, only 1 of at least 2", "friend ben → ann, but no friend ann → anybody",]
+    );
+    assert_eq!(
+        why(&with_friends, &["0 1 0", "0 2 3", "0 0 1", "1 1 0"]),
+        ["friend ben → ann and cem, 2 of at least 2, friend ben → ann, friend ann → ben, \
+          friend ben → cem, friend cem → x"]
+    );
+    // Once two friends: a part that is told in a clause.
+    let once = ["many 0 0 2", "since 0 2"];
+    let never = why(&once, &["1 1 0"]);
+    assert_eq!(never, ["at no moment: at least 2 y with friend ben → y"]);
+}
+
+#[test]
 fn neighbours_that_are_named_already() {
     // Two friends: a friend, and a friend that is not that one.
     let two =

@@ -19,6 +19,8 @@ pub enum Entry {
     Bind(Variable, usize),
     At(Variable, usize),
     Reach(Variable, usize, usize),
+    /// The label, the entry, and how many members it asks for at least.
+    Many(Label, usize, u8),
 }
 
 /// The label of an edge that an entry looks along.
@@ -65,6 +67,7 @@ impl Entry {
             Entry::Bind(..) => "bind",
             Entry::At(..) => "at",
             Entry::Reach(..) => "reach",
+            Entry::Many(..) => "many",
         }
     }
 
@@ -168,6 +171,7 @@ impl Terms {
             8 => Entry::Bind(variable, b),
             9 => Entry::At(variable, b),
             10 => Entry::Reach(variable, b, usize::from(words[3])),
+            11 => Entry::Many(self.label(words[1]), b, words[3] as u8),
             operator => unreachable!("checked terms with operator {operator}"),
         }
     }

@@ -441,6 +441,28 @@ fn a_step_goes_along_the_past() {
     assert_eq!(monitor.store(), tabs(&format!("S 2\n{ONCE}{tables}")));
 }
 
+/// Event 0 makes a friend. Event 1 is for whoever has two friends who are not the
+/// target.
+const FRIENDS: &str = "M 4\nL 1 2\nF 0 top 0 0\nF 1 var 0 0\nF 2 not 1 0\nF 3 many 0 2 2\n\
+                       P 0 0\nP 1 3\nE 0 add 0 fwd\nG 0 0 1\nG 0 0 2\n";
+
+#[test]
+fn different_members_are_counted() {
+    let mut monitor = Monitor::read(&tabs(FRIENDS)).unwrap();
+    let entry = monitor.terms().entry(3);
+    assert_eq!(entry, Some(Entry::Many(Label::Relation(Relation(0)), 2, 2)));
+    assert_eq!(entry.map(Entry::word), Some("many"));
+    assert_eq!(monitor.look(asked(Event(1), 0, 3)), Ok(Answer::Grant));
+    assert_eq!(monitor.look(asked(Event(1), 0, 1)), Ok(Answer::Deny));
+    assert_eq!(monitor.look(asked(Event(1), 1, 3)), Ok(Answer::Deny));
+    assert_eq!(monitor.write(), Ok(tabs(FRIENDS)));
+    monitor.request(asked(Event(0), 0, 3)).unwrap();
+    assert_eq!(monitor.look(asked(Event(1), 0, 1)), Ok(Answer::Grant));
+    assert_eq!(refused(&FRIENDS.replace("many 0 2 2", "many 0 2 65")), (2, 6));
+    assert_eq!(refused(&FRIENDS.replace("many 0 2 2", "many 0 2 0")), (2, 6));
+    assert_eq!(refused(&FRIENDS.replace("many 0 2 2", "many 0 2")), (1, 6));
+}
+
 /// The number that the C header defines a name as.
 fn defined(name: &str) -> usize {
     let header = include_str!("../../c/cuckooormolu.h");

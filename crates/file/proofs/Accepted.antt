@@ -45,7 +45,7 @@ entry-passes : {T : Terms} {n : ℕ} → GoodEntry T n → every (entryTests T n
 unfolding every
 entry-passes {T} {n} g =
     rw (
-      lt-ltb (T .entry n .op) 11 (g .known),
+      lt-ltb (T .entry n .op) 12 (g .known),
       g .first,
       g .second,
       g .third,

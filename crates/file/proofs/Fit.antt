@@ -8,10 +8,10 @@ use native.Mathlib.Omega.{arith}
 use native.Mathlib.Numerals.{add-one}
 use lib.Dec.{eqb, ltb}
 use lib.ListN.{length, length-append}
-use borrow.Author.Tests.{eqb-true, ltb-true, eq-eqb}
+use borrow.Author.Tests.{eqb-true, ltb-true, leb-true, eq-eqb}
 use Rattle.sets.proofs.Finite.{true-or-false, and-left, and-right, last-or-below}
 use Rattle.theory.specs.Formula.{Formula, Entry, Operand, firstOperand, secondOperand, thirdOperand, number, spelled, isPast}
-use Rattle.theory.specs.Formula.Operand.{unused, variable, binder, label, entry}
+use Rattle.theory.specs.Formula.Operand.{unused, variable, binder, label, entry, count}
 use Rattle.theory.specs.Terms.{Effect}
 use Rattle.theory.specs.Moment.{Event}
 use Rattle.theory.specs.Fit.{operandFits, lone, onlyFree, reachFits}
@@ -29,7 +29,7 @@ abbrev pub noEntry : Entry
 noEntry = record { op = 0; a = 0; b = 0; c = 0 }
 
 pub record EntryFits (labels : ℕ) (g : ℕ → Entry) (n : ℕ) : Type 0 where
-  pub known : g n .op < 11
+  pub known : g n .op < 12
   pub first : operandFits (firstOperand (g n .op)) labels n (g n .a) ≡ true
   pub second : operandFits (secondOperand (g n .op)) labels n (g n .b) ≡ true
   pub third : operandFits (thirdOperand (g n .op)) labels n (g n .c) ≡ true
@@ -50,6 +50,7 @@ operand-fits variable labels n v p q = p
 operand-fits binder labels n v p q = p
 operand-fits label labels n v p q = p
 operand-fits entry labels n v p q = q
+operand-fits count labels n v p q = p
 
 -- and the other way round; an operand that fits has at most five digits
 pub in-range : (k : Operand) (labels n v : ℕ) → operandFits k labels n v ≡ true → inRange k labels v ≡ true
@@ -59,6 +60,7 @@ in-range variable labels n v h = h
 in-range binder labels n v h = h
 in-range label labels n v h = h
 in-range entry labels n v h = refl
+in-range count labels n v h = h
 
 pub is-lower : (k : Operand) (labels n v : ℕ) → operandFits k labels n v ≡ true → isLower k n v ≡ true
 unfolding operandFits isLower
@@ -67,6 +69,7 @@ is-lower variable labels n v h = refl
 is-lower binder labels n v h = refl
 is-lower label labels n v h = refl
 is-lower entry labels n v h = h
+is-lower count labels n v h = refl
 
 pub operand-small : (k : Operand) (labels n v : ℕ) → labels < 100000 → n < 100000 → operandFits k labels n v ≡ true → v < 100000
 unfolding operandFits
@@ -75,8 +78,9 @@ operand-small variable labels n v p q h = let e = ltb-true v 16 h in omega arith
 operand-small binder labels n v p q h = let e = ltb-true v 16 (and-right (ltb 0 v) _ h) in omega arith
 operand-small label labels n v p q h = let e = ltb-true v labels h in omega arith
 operand-small entry labels n v p q h = let e = ltb-true v n h in omega arith
+operand-small count labels n v p q h = let e = leb-true v 64 (and-right (ltb 0 v) _ h) in omega arith
 
--- an operand that is not used is 0, and reach alone uses its third
+-- an operand that is not used is 0, and only reach and many use their third
 pub unused-fits : (labels n v : ℕ) (k : Operand) → operandFits k labels n v ≡ true → k ≡ unused → v ≡ 0
 unfolding operandFits
 unused-fits labels n v k h e = eqb-true v 0 (rw e at h)
@@ -93,7 +97,8 @@ third-unused (suc (suc (suc (suc (suc (suc (suc zero))))))) h = refl
 third-unused (suc (suc (suc (suc (suc (suc (suc (suc zero)))))))) h = refl
 third-unused (suc (suc (suc (suc (suc (suc (suc (suc (suc zero))))))))) h = refl
 third-unused (suc (suc (suc (suc (suc (suc (suc (suc (suc (suc zero)))))))))) h = absurd (true≢false h)
-third-unused (suc (suc (suc (suc (suc (suc (suc (suc (suc (suc (suc o))))))))))) h = refl
+third-unused (suc (suc (suc (suc (suc (suc (suc (suc (suc (suc (suc zero))))))))))) h = absurd (true≢false h)
+third-unused (suc (suc (suc (suc (suc (suc (suc (suc (suc (suc (suc (suc o)))))))))))) h = refl
 
 -- the formulas of a reach are those of entries below it
 pub reach-kept : (labels n : ℕ) (g h : ℕ → Entry) (v : Entry) → ((k : ℕ) → k < n → g k ≡ h k) → v .op ≡ 10
@@ -109,7 +114,7 @@ entry-kept : (labels : ℕ) (g h : ℕ → Entry) (n : ℕ) → ((k : ℕ) → k
 entry-kept labels g h n e t =
     let r = e n (omega arith) in
     record {
-      known = subst (λ (x : Entry). x .op < 11) r (t .known);
+      known = subst (λ (x : Entry). x .op < 12) r (t .known);
       first = subst (λ (x : Entry). operandFits (firstOperand (x .op)) labels n (x .a) ≡ true) r (t .first);
       second = subst (λ (x : Entry). operandFits (secondOperand (x .op)) labels n (x .b) ≡ true) r (t .second);
       third = subst (λ (x : Entry). operandFits (thirdOperand (x .op)) labels n (x .c) ≡ true) r (t .third);
@@ -125,13 +130,13 @@ module _ (labels n : ℕ) (g : ℕ → Entry) (v : Entry) where
   abbrev now : ℕ → Entry
   now = update g n v
 
-  pub entry-put : v .op < 11 → operandFits (firstOperand (v .op)) labels n (v .a) ≡ true → operandFits (secondOperand (v .op)) labels n (v .b) ≡ true
+  pub entry-put : v .op < 12 → operandFits (firstOperand (v .op)) labels n (v .a) ≡ true → operandFits (secondOperand (v .op)) labels n (v .b) ≡ true
       → operandFits (thirdOperand (v .op)) labels n (v .c) ≡ true → (isPast (v .op) ≡ true → lone (spelled now n) ≡ true)
       → (v .op ≡ 10 → reachFits (v .a) (spelled g (v .b)) (spelled g (v .c)) ≡ true) → EntryFits labels now n
   entry-put p q r u s m =
       let e = sym (update-same g n v) in
       record {
-        known = subst (λ (x : Entry). x .op < 11) e p;
+        known = subst (λ (x : Entry). x .op < 12) e p;
         first = subst (λ (x : Entry). operandFits (firstOperand (x .op)) labels n (x .a) ≡ true) e q;
         second = subst (λ (x : Entry). operandFits (secondOperand (x .op)) labels n (x .b) ≡ true) e r;
         third = subst (λ (x : Entry). operandFits (thirdOperand (x .op)) labels n (x .c) ≡ true) e u;

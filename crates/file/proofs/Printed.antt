@@ -9,7 +9,7 @@ use lib.Dec.{eqb, ltb, lit<}
 use lib.ListN.{length, getD}
 use lib.Seq.{ext-getD}
 use borrow.Author.Tests.{not-true, eqb-true, ltb-true, lt-ltb}
-use Rattle.sets.proofs.Finite.{true-or-false, not-both}
+use Rattle.sets.proofs.Finite.{true-or-false, not-both, or-cases}
 use Rattle.theory.specs.Fit.{every}
 use Rattle.theory.proofs.Good.{every-at}
 use Rattle.fields.specs.Split.{split}
@@ -28,7 +28,7 @@ use Rattle.file.proofs.Plain.{word-all, split-printed}
 pub data Ranged : Line → Type 0 where
   members : {n : ℕ} → n < 100000 → Ranged (Members n)
   labels : {r e : ℕ} → r < 100000 → e < 100000 → Ranged (Labels r e)
-  entry : {n o a b c : ℕ} → n < 100000 → o < 11 → a < 100000 → b < 100000 → c < 100000 → (hasThird o ≡ false → c ≡ 0) → Ranged (Entry n o a b c)
+  entry : {n o a b c : ℕ} → n < 100000 → o < 12 → a < 100000 → b < 100000 → c < 100000 → (hasThird o ≡ false → c ≡ 0) → Ranged (Entry n o a b c)
   policy : {j n : ℕ} → j < 100000 → n < 100000 → Ranged (Policy j n)
   effect : {j c k d : ℕ} → j < 100000 → 0 < c → c < 3 → k < 100000 → d < 2 → Ranged (Effect j c k d)
   edge : {k a b : ℕ} → k < 100000 → a < 100000 → b < 100000 → Ranged (Edge k a b)
@@ -71,7 +71,7 @@ parsed-printed (entry {n = n} {o = o} {a = a} {b = b} {c = c} h i j k m z) =
       operator-at o (unfold operatorWords in i),
     ) (rw e (rw (
       digits-number n h,
-      lt-ltb o 11 i,
+      lt-ltb o 12 i,
       digits-number a j,
       digits-number b k,
       valueOf-digits n h,
@@ -153,7 +153,7 @@ kind-normal f k e h =
     (subst (λ (m : ℕ). m < 9 → f ≡ getD kindWords m []) e (kind-back f) h)
     (word-all (λ w. not (isNumber w)) kindWords refl refl k)
 
-operator-normal : (f : List ℕ) → operatorOf f < 11 → getD operatorWords (operatorOf f) [] ≡ normalField f
+operator-normal : (f : List ℕ) → operatorOf f < 12 → getD operatorWords (operatorOf f) [] ≡ normalField f
 unfolding isNumber isDigit allDigits operatorWords every
 operator-normal f h =
     word-normal f (getD operatorWords (operatorOf f) []) (operator-back f h) (word-all (λ w. not (isNumber w)) operatorWords refl refl (operatorOf f))
@@ -171,6 +171,9 @@ direction-normal f h =
 action-small : (f : List ℕ) → actionOf f < 3
 unfolding actionOf
 action-small f = ⊎-elim (λ e. let l = ltb-true (indexOf actionWords f) 2 e in rw e (omega arith)) (λ e. rw e (omega arith)) (true-or-false (ltb (indexOf actionWords f) 2))
+
+third-known : (o : ℕ) → hasThird o ≡ true → o < 12
+third-known o h = ⊎-elim (λ e. let q = eqb-true o 10 e in omega arith) (λ e. let q = eqb-true o 11 e in omega arith) (or-cases (eqb o 10) (eqb o 11) h)
 
 -- What fields say that say a line: a line that can be written, with the same fields, the numbers in their normal form.
 pub record Formed (fs : List (List ℕ)) (l : Line) : Type 0 where
@@ -214,11 +217,11 @@ module _ (fs : List (List ℕ)) where
   })
   said (suc (suc zero)) e =
       ⊎-elim
-      (λ h. rw h (tested fs _ _ (λ t. let o : operatorOf (field 2) < 11 = (let q = eqb-true (operatorOf (field 2)) 10 h in omega arith) in record {
+      (λ h. rw h (tested fs _ _ (λ t. let o = third-known (operatorOf (field 2)) h in record {
         ranged = entry (small 1 (t 1)) o (small 3 (t 2)) (small 4 (t 3)) (small 5 (t 4)) (λ z. absurd (not-both _ h z));
         fields = rw (kind-normal (field 0) 2 e (lit< tt), number-normal (field 1) (t 1), operator-normal (field 2) o, h, number-normal (field 3) (t 2), number-normal (field 4) (t 3), number-normal (field 5) (t 4)) (all 6 (t 0));
       })))
-      (λ h. rw h (tested fs _ _ (λ t. let o = ltb-true (operatorOf (field 2)) 11 (t 2) in record {
+      (λ h. rw h (tested fs _ _ (λ t. let o = ltb-true (operatorOf (field 2)) 12 (t 2) in record {
         ranged = entry (small 1 (t 1)) o (small 3 (t 3)) (small 4 (t 4)) (lit< tt) (λ z. refl);
         fields = rw (kind-normal (field 0) 2 e (lit< tt), number-normal (field 1) (t 1), operator-normal (field 2) o, h, number-normal (field 3) (t 3), number-normal (field 4) (t 4)) (all 5 (t 0));
       })))

@@ -1,6 +1,6 @@
 -- A line of a terms file and what it says (docs/SCOPE.md, The terms file): each kind's fields, read and written.
 use Prim.Native.Nat.{ℕ, zero, suc}
-use mathlib.Core.Bool.{Bool, cond}
+use mathlib.Core.Bool.{Bool, cond, _||_}
 use mathlib.Core.List.{List, [], _∷_}
 use lib.Dec.{eqb, ltb}
 use lib.ListN.{length, getD}
@@ -28,7 +28,7 @@ labelsLine fs = cond (every (eqb (length fs) 3 ∷ isNum fs 1 ∷ isNum fs 2 ∷
 -- An F line of five fields, its third operand 0; and one of six.
 unfoldable pub shortEntryLine : List (List ℕ) → Line
 shortEntryLine fs =
-    cond (every (eqb (length fs) 5 ∷ isNum fs 1 ∷ ltb (operatorOf (getD fs 2 [])) 11 ∷ isNum fs 3 ∷ isNum fs 4 ∷ []))
+    cond (every (eqb (length fs) 5 ∷ isNum fs 1 ∷ ltb (operatorOf (getD fs 2 [])) 12 ∷ isNum fs 3 ∷ isNum fs 4 ∷ []))
     (Entry (num fs 1) (operatorOf (getD fs 2 [])) (num fs 3) (num fs 4) 0) Malformed
 
 unfoldable pub longEntryLine : List (List ℕ) → Line
@@ -36,9 +36,9 @@ longEntryLine fs =
     cond (every (eqb (length fs) 6 ∷ isNum fs 1 ∷ isNum fs 3 ∷ isNum fs 4 ∷ isNum fs 5 ∷ []))
     (Entry (num fs 1) (operatorOf (getD fs 2 [])) (num fs 3) (num fs 4) (num fs 5)) Malformed
 
--- Only reach has a third operand, and lines of six fields.
+-- Only reach and many have a third operand, and lines of six fields.
 abbrev pub hasThird : ℕ → Bool
-hasThird o = eqb o 10
+hasThird o = eqb o 10 || eqb o 11
 
 unfoldable pub entryLine : List (List ℕ) → Line
 entryLine fs = cond (hasThird (operatorOf (getD fs 2 []))) (longEntryLine fs) (shortEntryLine fs)

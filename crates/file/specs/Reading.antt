@@ -6,10 +6,10 @@ use lib.Dec.{eqb, ltb, leb}
 use lib.ListN.{length}
 use Rattle.sets.specs.Sets.{allBelow}
 use Rattle.theory.specs.Formula.{Operand, firstOperand, secondOperand, thirdOperand, number, isPast}
-use Rattle.theory.specs.Formula.Operand.{unused, variable, binder, label, entry}
+use Rattle.theory.specs.Formula.Operand.{unused, variable, binder, label, entry, count}
 use Rattle.theory.specs.Terms.{formula, tables, pastEntry}
 use Rattle.theory.specs.Fit.{_⇒_, lone, onlyFree, closed, reachFits}
-use Rattle.theory.specs.Limits.{maxMembers, maxRelations, maxEvents, maxEntries, maxTables, maxEffects, variables}
+use Rattle.theory.specs.Limits.{maxMembers, maxRelations, maxEvents, maxEntries, maxTables, maxEffects, variables, maxCount}
 use Rattle.fields.specs.Split.{Lines, split, lines}
 use Rattle.fields.specs.Split.Lines.{done, cut, line}
 use Rattle.file.specs.Line.{parsed}
@@ -24,6 +24,7 @@ inRange variable labels v = ltb v variables
 inRange binder labels v = ltb 0 v && ltb v variables
 inRange label labels v = ltb v labels
 inRange entry labels v = true
+inRange count labels v = ltb 0 v && leb v maxCount
 
 unfoldable pub isLower : Operand → (n v : ℕ) → Bool
 isLower unused n v = true
@@ -31,6 +32,7 @@ isLower variable n v = true
 isLower binder n v = true
 isLower label n v = true
 isLower entry n v = ltb v n
+isLower count n v = true
 
 -- All policies have been given, so that E, G, T and V lines, or the end, are due.
 abbrev pub complete : File → Bool

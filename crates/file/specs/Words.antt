@@ -19,6 +19,7 @@ operatorWords =
     ∷ (98 ∷ 105 ∷ 110 ∷ 100 ∷ [])  -- bind
     ∷ (97 ∷ 116 ∷ [])  -- at
     ∷ (114 ∷ 101 ∷ 97 ∷ 99 ∷ 104 ∷ [])  -- reach
+    ∷ (109 ∷ 97 ∷ 110 ∷ 121 ∷ [])  -- many
     ∷ []
 
 unfoldable pub actionWords : List (List ℕ)

@@ -7,6 +7,7 @@ use fields::field::piece;
 use fields::field::pieces;
 use fields::number::Number;
 use fields::number::read_number;
+use theory::operators::MANY;
 use theory::operators::OPERATORS;
 use theory::operators::REACH;
 ghost use mathlib.Core.Path.{_≡_};
@@ -119,7 +120,7 @@ fn entry_line(l: &[u8]) -> Line
     ensures { λ r. ⌜ r ≡ entryLine (split 9 (now (l .entry))) ⌝ }
 {
     let o = read_operator(piece(l, 9, 2));
-    if o == REACH {
+    if (o == REACH) | (o == MANY) {
         long_entry_line(l, o)
     } else {
         short_entry_line(l, o)

@@ -3,6 +3,7 @@ use fields::word::pick;
 use theory::operators::AT;
 use theory::operators::BIND;
 use theory::operators::IN;
+use theory::operators::MANY;
 use theory::operators::NOT;
 use theory::operators::OPERATORS;
 use theory::operators::OR;
@@ -19,7 +20,8 @@ ghost use Rattle.file.specs.Words.{operatorOf, actionOf, directionOf, ki
 pub fn read_operator(f: &[u8]) -> usize
     ensures { λ r. ⌜ r ≡ operatorOf (now (f .entry)) ⌝ }
 {
-    let reach = pick(f, b"reach", REACH, OPERATORS);
+    let many = pick(f, b"many", MANY, OPERATORS);
+    let reach = pick(f, b"reach", REACH, many);
     let at = pick(f, b"at", AT, reach);
     let bind = pick(f, b"bind", BIND, at);
     let since = pick(f, b"since", SINCE, bind);

@@ -1,4 +1,4 @@
-// The most members, relations, events, entries, past-time tables, effects of an event, and variables that there may be (docs/SCOPE.md, The terms file).
+// The most members, relations, events, entries, past-time tables, effects of an event, and variables that there may be, and the most that `many` asks for (docs/SCOPE.md, The terms file).
 pub const MEMBERS: usize = 64;
 
 pub const RELATIONS: usize = 16;
@@ -12,3 +12,5 @@ pub const TABLES: usize = 32;
 pub const EFFECTS: usize = 4;
 
 pub const VARIABLES: usize = 16;
+
+pub const COUNT: usize = 64;

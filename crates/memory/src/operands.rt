@@ -1,8 +1,10 @@
 // What the three operands of an operator are (docs/SCOPE.md, Meaning), and which numbers they may be.
+use crate::limits::COUNT;
 use crate::limits::VARIABLES;
 use theory::operators::AT;
 use theory::operators::BIND;
 use theory::operators::IN;
+use theory::operators::MANY;
 use theory::operators::NOT;
 use theory::operators::OR;
 use theory::operators::OUT;
@@ -16,13 +18,14 @@ ghost use Rattle.theory.specs.Formula.{firstOperand, secondOperand, thirdOperan
 ghost use Rattle.theory.specs.Fit.{operandFits};
 ghost use Rattle.memory.specs.Operands.{kindOf};
 
-// Not used, a variable, a variable to bind, a label, an entry.
+// Not used, a variable, a variable to bind, a label, an entry, a number of members.
 pub enum Kind {
     Unused,
     Variable,
     Binder,
     Label,
     Entry,
+    Count,
 }
 
 pub struct Operands {
@@ -83,6 +86,11 @@ pub fn operands_of(op: usize) -> Operands
             second: Kind::Entry,
             third: Kind::Entry,
         },
+        MANY => Operands {
+            first: Kind::Label,
+            second: Kind::Entry,
+            third: Kind::Count,
+        },
         _ => Operands {
             first: Kind::Unused,
             second: Kind::Unused,
@@ -101,5 +109,6 @@ pub fn operand_fits(kind: Kind, labels: usize, n: usize, v: usize) -> bool
         Kind::Binder => (0 < v) & (v < VARIABLES),
         Kind::Label => v < labels,
         Kind::Entry => v < n,
+        Kind::Count => (0 < v) & (v <= COUNT),
     }
 }

@@ -4,14 +4,14 @@ use native.Mathlib.Omega.{arith}
 use mathlib.Core.Path.{_≡_, refl, sym, ap, ap₂, _∙_}
 use mathlib.Core.Bool.{Bool, true, false, cond, not, _&&_, _||_}
 use mathlib.Core.List.{List, _++_}
-use lib.Dec.{eqb, ltb}
+use lib.Dec.{eqb, ltb, leb}
 use lib.ListN.{getD}
 use borrow.Author.Tests.{eq-eqb, eqb-true, lt-ltb, not-true}
 use Rattle.sets.specs.Sets.{anyBelow, allBelow, bit}
-use Rattle.sets.proofs.Finite.{any-cong, any-elim, any-intro, all-true, all-out, not-both, is-false, or-left, or-right}
+use Rattle.sets.proofs.Finite.{any-cong, any-elim, any-intro, all-true, all-out, not-both, is-false, or-left, or-right, count-cong}
 use Rattle.sets.proofs.Bits.{bit-zero, bit-mask}
 use Rattle.theory.specs.Formula.{Formula, number, below, isPast, free, column}
-use Rattle.theory.specs.Formula.Formula.{top, var, neg, or, out, into, prev, since, bind, at, reach}
+use Rattle.theory.specs.Formula.Formula.{top, var, neg, or, out, into, prev, since, bind, at, reach, many}
 use Rattle.theory.specs.Meaning.{Graph, Assignment, assign, alone, standing}
 use Rattle.theory.specs.Terms.{Terms, formula, tables}
 use Rattle.theory.specs.Fit.{_⇒_, closed}
@@ -78,6 +78,7 @@ module _ (N : ℕ) (G : Graph) (X : Tables) where
       ∙ now-free f s g h (g x) wg wh (wg x) (λ y e. v y (or-right (eqb y x) (free f y) e))
   now-free (reach x f k) s g h m wg wh ml v =
       any-cong N (λ n nl. ap (λ b. holdsNow N G X f (alone x n) m && b) (now-free k (s .1) g h n wg wh nl v))
+  now-free (many l f n) s g h m wg wh ml v = ap (leb n) (count-cong N (λ k kl. ap (λ b. G l m k && b) (now-free f s g h k wg wh kl v)))
 
 -- ---- the tables of all past-time entries
 

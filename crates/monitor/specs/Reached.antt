@@ -15,32 +15,33 @@ use Rattle.monitor.specs.Monitor.{openedState}
 use Rattle.monitor.specs.Agreement.{LentCall, serveAll}
 
 -- Words of terms with three members, one relation and two events. Event 0 is always granted. Event 1 goes by the last entry and has
--- four effects: add and del, to the target and back. The second operand of entry 14 is e: with e = 1 nothing that is worked out is used twice, with e = 13 entry 13 is.
+-- four effects: add and del, to the target and back. The second operand of entry 15 is e: with e = 1 nothing that is worked out is used twice, with e = 14 entry 14 is.
 unfoldable pub manyTerms : (e : ℕ) → List ℕ
 manyTerms e =
-    3 ∷ 1 ∷ 2 ∷ 16
+    3 ∷ 1 ∷ 2 ∷ 17
     -- top; var 0; var 1
     ∷ 0 ∷ 0 ∷ 0 ∷ 0
     ∷ 1 ∷ 0 ∷ 0 ∷ 0
     ∷ 1 ∷ 1 ∷ 0 ∷ 0
-    -- 3: event 0 goes from here to the target; 4: once so; 5: prev of top; 6: a since over the since
+    -- 3: event 0 goes from here to the target; 4: to at least one that is the target; 5: 3 since 4; 6: prev of top; 7: a since over the since
     ∷ 4 ∷ 1 ∷ 1 ∷ 0
-    ∷ 7 ∷ 0 ∷ 3 ∷ 0
+    ∷ 11 ∷ 1 ∷ 1 ∷ 1
+    ∷ 7 ∷ 3 ∷ 4 ∷ 0
     ∷ 6 ∷ 0 ∷ 0 ∷ 0
-    ∷ 7 ∷ 5 ∷ 4 ∷ 0
-    -- 10: here is variable 1, and 6 holds
+    ∷ 7 ∷ 6 ∷ 5 ∷ 0
+    -- 11: here is variable 1, and 7 holds
     ∷ 2 ∷ 2 ∷ 0 ∷ 0
-    ∷ 2 ∷ 6 ∷ 0 ∷ 0
-    ∷ 3 ∷ 7 ∷ 8 ∷ 0
-    ∷ 2 ∷ 9 ∷ 0 ∷ 0
-    -- 13: event 0 came to the target from here, where 10 holds
-    ∷ 5 ∷ 1 ∷ 10 ∷ 0
-    ∷ 9 ∷ 0 ∷ 11 ∷ 0
-    ∷ 8 ∷ 1 ∷ 12 ∷ 0
-    ∷ 3 ∷ 13 ∷ e ∷ 0
-    -- 15: reaches nobody but oneself, where 14 holds
-    ∷ 10 ∷ 1 ∷ 2 ∷ 14
-    ∷ (replicate 960 0 ++ (0 ∷ 15 ∷ (replicate 26 0 ++ (1 ∷ 0 ∷ 0 ∷ 2 ∷ 0 ∷ 1 ∷ 1 ∷ 0 ∷ 1 ∷ 2 ∷ 0 ∷ 0 ∷ replicate 168 0))))
+    ∷ 2 ∷ 7 ∷ 0 ∷ 0
+    ∷ 3 ∷ 8 ∷ 9 ∷ 0
+    ∷ 2 ∷ 10 ∷ 0 ∷ 0
+    -- 14: event 0 came to the target from here, where 11 holds
+    ∷ 5 ∷ 1 ∷ 11 ∷ 0
+    ∷ 9 ∷ 0 ∷ 12 ∷ 0
+    ∷ 8 ∷ 1 ∷ 13 ∷ 0
+    ∷ 3 ∷ 14 ∷ e ∷ 0
+    -- 16: reaches nobody but oneself, where 15 holds
+    ∷ 10 ∷ 1 ∷ 2 ∷ 15
+    ∷ (replicate 956 0 ++ (0 ∷ 16 ∷ (replicate 26 0 ++ (1 ∷ 0 ∷ 0 ∷ 2 ∷ 0 ∷ 1 ∷ 1 ∷ 0 ∷ 1 ∷ 2 ∷ 0 ∷ 0 ∷ replicate 168 0))))
 
 -- A look or a request of event j from member 0 to member 1.
 abbrev pub lookAt : (j : ℕ) → List ℕ → LentCall

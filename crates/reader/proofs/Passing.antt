@@ -10,7 +10,7 @@ use borrow.Author.Tests.{eqb-true, ltb-true, leb-true}
 use Rattle.sets.proofs.Finite.{and-right}
 use Rattle.theory.specs.Formula.{Operand, firstOperand, secondOperand, thirdOperand}
 use Rattle.theory.specs.Formula as formulas
-use Rattle.theory.specs.Formula.Operand.{unused, variable, binder, label, entry}
+use Rattle.theory.specs.Formula.Operand.{unused, variable, binder, label, entry, count}
 use Rattle.theory.specs.Terms.{tables}
 use Rattle.theory.specs.Moment.Event.{happened}
 use Rattle.memory.specs.Layout.{eventWord}
@@ -40,6 +40,7 @@ operand-low variable r n v h l p q = omega (arith, ltb-true v 16 p)
 operand-low binder r n v h l p q = omega (arith, ltb-true v 16 (and-right (ltb 0 v) _ p))
 operand-low label r n v h l p q = omega (arith, ltb-true v r p)
 operand-low entry r n v h l p q = omega (arith, ltb-true v n q)
+operand-low count r n v h l p q = omega (arith, leb-true v 64 (and-right (ltb 0 v) _ p))
 
 -- what it says is in its range
 pub in-ranges : {f : File} {l : Line} → Ranged l → Going f → Passed (tests f l) → Ranges (contextOf f) l

@@ -121,7 +121,7 @@ module _ (T : Terms) (fine : Good T) (tidy : Tidy T) (rest : List ℕ) where
   entry-good n l =
       let g : GoodEntry U n = fine-held .entry n l in
       λ d. every (
-      lt-ltb (U .entry n .op) 11 (g .known) d
+      lt-ltb (U .entry n .op) 12 (g .known) d
       ∷ g .first d
       ∷ g .second d
       ∷ g .third d

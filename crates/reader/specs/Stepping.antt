@@ -40,7 +40,7 @@ slot c j = cond (eqb j (c .event)) (c .effects) 0
 abbrev pub Ranges : Context → Line → Type 0
 Ranges c (Members n) = n < 65
 Ranges c (Labels r e) = (r < 17) × (e < 17)
-Ranges c (Entry n o a b d) = (n < 256) × (o < 11) × (a < 256) × (b < 256) × (d < 256)
+Ranges c (Entry n o a b d) = (n < 256) × (o < 12) × (a < 256) × (b < 256) × (d < 256)
 Ranges c (Policy j n) = (j < 16) × (n < 256)
 Ranges c (Effect j a k d) = (j < 16) × (slot c j < 4) × (a < 3) × (k < 16) × (d < 2)
 Ranges c (Edge k a b) = (k < 16) × (a < 64) × (b < 64)

@@ -3,6 +3,7 @@ use crate::step::Context;
 use crate::step::is_complete;
 use crate::step::slot_of;
 use file::line::Line;
+use memory::limits::COUNT;
 use memory::limits::EFFECTS;
 use memory::limits::ENTRIES;
 use memory::limits::EVENTS;
@@ -59,6 +60,7 @@ fn in_range(kind: Kind, r: usize, e: usize, v: usize) -> bool
         Kind::Binder => (0 < v) & (v < VARIABLES),
         Kind::Label => is_label(r, e, v),
         Kind::Entry => true,
+        Kind::Count => (0 < v) & (v <= COUNT),
     }
 }
 
@@ -72,6 +74,7 @@ fn is_lower(kind: Kind, n: usize, v: usize) -> bool
         Kind::Variable => true,
         Kind::Binder => true,
         Kind::Label => true,
+        Kind::Count => true,
     }
 }
 

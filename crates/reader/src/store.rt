@@ -64,7 +64,7 @@ fn store_labels(terms: &mut [u16], r: usize, e: usize)
 
 // Entry n, and the number of entries.
 fn store_entry(terms: &mut [u16], n: usize, o: usize, a: usize, b: usize, c: usize)
-    requires { ⌜ (n < 256) × (o < 11) × (a < 256) × (b < 256) × (c < 256) ⌝ }
+    requires { ⌜ (n < 256) × (o < 12) × (a < 256) × (b < 256) × (c < 256) ⌝ }
     requires { ⌜ length (now terms) ≡ termsWords ⌝ }
     ensures { λ _. ⌜ now (terms .exit) ≡ four (set (now (terms .entry)) 3 (n + 1)) (entryAt n) o a b c ⌝ }
 {

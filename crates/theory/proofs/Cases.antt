@@ -5,7 +5,7 @@ use mathlib.Core.List.{List, [], _∷_}
 use mathlib.Core.Bool.{cond, not, _&&_}
 use lib.ListN.{getD}
 use borrow.Author.Tests.{ltb-true, lt-ltb, eqb-true, eq-eqb}
-use Rattle.sets.specs.Sets.{anyBelow, allBelow}
+use Rattle.sets.specs.Sets.{anyBelow, allBelow, countBelow}
 use Rattle.sets.proofs.Finite.{and-left, and-both}
 use Rattle.theory.specs.Formula.{node, number, below, spelled, free, highest}
 use Rattle.theory.specs.Formula.Formula.{top, neg}
@@ -41,7 +41,7 @@ anywhere N γ i g m = record {
 -- The keeper answers every call of the table as it says; and what is marked as holding always, or with where it holds, does so for every
 -- number of members, record, moment, assignment and member.
 pub marked-cases : (keptAnswers cases ≡ expected cases) × ((N : ℕ) (γ : Record) (i : ℕ) (g : Assignment) (m : ℕ) → Anywhere N γ i g m)
-unfolding cases keptAnswers expected preset circle own keep keepAll holds anyBelow allBelow node number below spelled affectAll
+unfolding cases keptAnswers expected preset circle own keep keepAll holds anyBelow allBelow countBelow node number below spelled affectAll
 marked-cases = (refl, anywhere)
 
 -- ---- nested past-time terms, by the keeper and by the tables

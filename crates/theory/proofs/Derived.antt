@@ -1,4 +1,4 @@
--- The derived forms: and, once, all along, every neighbour. None is an operator; each is a formula over the ten.
+-- The derived forms: and, once, all along, every neighbour. None is an operator; each is a formula over the first ten.
 use Prim.Native.Nat.{ℕ, zero, suc}
 use mathlib.Core.Path.{_≡_, refl, ap, _∙_}
 use mathlib.Core.Bool.{Bool, true, false, not, _&&_, _||_}

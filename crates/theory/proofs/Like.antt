@@ -127,7 +127,7 @@ module _ (T U : Terms) (a : Alike T U) where
       entry n l h =
           let same : T .entry n ≡ W .entry n = a .entry n l in
           record {
-            known = subst (λ (e : Entry). e .op < 11) same (h .known);
+            known = subst (λ (e : Entry). e .op < 12) same (h .known);
             first = subst (λ (e : Entry). operandFits (firstOperand (e .op)) (T .relations + T .events) n (e .a) ≡ true) same (h .first);
             second = subst (λ (e : Entry). operandFits (secondOperand (e .op)) (T .relations + T .events) n (e .b) ≡ true) same (h .second);
             third = subst (λ (e : Entry). operandFits (thirdOperand (e .op)) (T .relations + T .events) n (e .c) ≡ true) same (h .third);

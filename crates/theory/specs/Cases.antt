@@ -22,6 +22,9 @@ line o a b = record { op = o; a = a; b = b; c = 0 }
 abbrev pub reaching : (x f g : ℕ) → Entry
 reaching x f g = record { op = 10; a = x; b = f; c = g }
 
+abbrev pub counting : (l f k : ℕ) → Entry
+counting l f k = record { op = 11; a = l; b = f; c = k }
+
 abbrev pub requests : ℕ → ℕ → ℕ → Call
 requests j u v = record { look = false; event = j; from = u; to = v; scratch = scratchWords }
 
@@ -136,6 +139,17 @@ cases =
     ∷ case circle (looks 1 0 1 ∷ requests 0 0 1 ∷ looks 1 0 1 ∷ looks 1 1 0 ∷ looks 1 0 2 ∷ []) (no ∷ yes ∷ yes ∷ no ∷ no ∷ [])
     -- after share 0 1, share 1 2 it still is; 2 is two such steps from 0, and 1 is not
     ∷ case circle (requests 0 0 1 ∷ requests 0 1 2 ∷ looks 1 0 1 ∷ looks 1 0 2 ∷ looks 2 0 2 ∷ looks 2 0 1 ∷ []) (yes ∷ yes ∷ yes ∷ no ∷ yes ∷ no ∷ [])
+    -- at least one that 0 owns: at first it is 2; member 1 owns nobody
+    ∷ case (small 2 (counting 0 0 1 ∷ []) []) (looks 1 0 1 ∷ looks 1 1 0 ∷ []) (yes ∷ no ∷ [])
+    -- at least two: not before a second is added
+    ∷ case (small 2 (counting 0 0 2 ∷ []) (adds ∷ [])) (looks 1 0 1 ∷ requests 0 0 1 ∷ looks 1 0 1 ∷ []) (no ∷ yes ∷ yes ∷ [])
+    -- at least three: one that is added again counts once; the member itself is a third
+    ∷ case (small 2 (counting 0 0 3 ∷ []) (adds ∷ [])) (requests 0 0 1 ∷ requests 0 0 1 ∷ looks 1 0 1 ∷ requests 0 0 0 ∷ looks 1 0 1 ∷ []) (yes ∷ yes ∷ no ∷ yes ∷ yes ∷ [])
+    -- at least four of three members: never
+    ∷ case (small 2 (counting 0 0 4 ∷ []) (adds ∷ [])) (requests 0 0 1 ∷ requests 0 0 0 ∷ looks 1 0 1 ∷ []) (yes ∷ yes ∷ no ∷ [])
+    -- at least one, and at least two, that are the target
+    ∷ case (small 3 (line 1 0 0 ∷ counting 0 1 1 ∷ []) (adds ∷ [])) (looks 1 0 1 ∷ requests 0 0 1 ∷ looks 1 0 1 ∷ []) (no ∷ yes ∷ yes ∷ [])
+    ∷ case (small 3 (line 1 0 0 ∷ counting 0 1 2 ∷ []) (adds ∷ [])) (requests 0 0 1 ∷ looks 1 0 1 ∷ []) (yes ∷ no ∷ [])
     ∷ []
 
 -- The keeper's answers to the calls of each case, and those that the table has.

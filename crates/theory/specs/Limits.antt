@@ -25,5 +25,9 @@ maxEffects = 4
 abbrev pub variables : ℕ
 variables = 16
 
+-- the most that `many` asks for
+abbrev pub maxCount : ℕ
+maxCount = 64
+
 abbrev pub scratchWords : ℕ
 scratchWords = 2048

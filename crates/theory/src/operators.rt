@@ -21,5 +21,7 @@ pub const AT: usize = 9;
 
 pub const REACH: usize = 10;
 
+pub const MANY: usize = 11;
+
 // How many there are.
-pub const OPERATORS: usize = 11;
+pub const OPERATORS: usize = 12;

@@ -24,7 +24,8 @@ operator-short (suc (suc (suc (suc (suc (suc (suc zero))))))) = omega arith
 operator-short (suc (suc (suc (suc (suc (suc (suc (suc zero)))))))) = omega arith
 operator-short (suc (suc (suc (suc (suc (suc (suc (suc (suc zero))))))))) = omega arith
 operator-short (suc (suc (suc (suc (suc (suc (suc (suc (suc (suc zero)))))))))) = omega arith
-operator-short (suc (suc (suc (suc (suc (suc (suc (suc (suc (suc (suc k))))))))))) = omega arith
+operator-short (suc (suc (suc (suc (suc (suc (suc (suc (suc (suc (suc zero))))))))))) = omega arith
+operator-short (suc (suc (suc (suc (suc (suc (suc (suc (suc (suc (suc (suc k)))))))))))) = omega arith
 
 pub action-short : (k : ℕ) → length (getD ([] ∷ actionWords) k []) ≤ 5
 unfolding actionWords

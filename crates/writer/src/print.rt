@@ -6,6 +6,7 @@ use crate::vocabulary::put_kind;
 use crate::vocabulary::put_operator;
 use fields::emit::put_byte;
 use fields::emit::put_decimal;
+use theory::operators::MANY;
 use theory::operators::REACH;
 ghost use mathlib.Core.List.{[], _∷_, _++_};
 ghost use Prim.Native.Nat.{_+_, _^_, _<_, _≤_};
@@ -125,7 +126,7 @@ pub(crate) fn put_entry(
     let second = put_operator_field(out, first, op);
     let third = put_field(out, second, a);
     let fourth = put_field(out, third, b);
-    if op == REACH {
+    if (op == REACH) | (op == MANY) {
         let fifth = put_field(out, fourth, c);
         return put_byte(out, fifth, 10);
     }

@@ -16,7 +16,7 @@ pub(crate) fn put_operator(out: &mut [u8], at: usize, op: usize) -> usize
         out,
         at,
         piece(
-            b"top\tvar\tnot\tor\tout\tin\tprev\tsince\tbind\tat\treach",
+            b"top\tvar\tnot\tor\tout\tin\tprev\tsince\tbind\tat\treach\tmany",
             9,
             op,
         ),

@@ -46,6 +46,7 @@ fn plain(entry: Entry, relations: usize) -> terms::Entry {
         Entry::Bind(x, f) => terms::Entry::Bind(x.into(), f),
         Entry::At(x, f) => terms::Entry::At(x.into(), f),
         Entry::Reach(x, f, g) => terms::Entry::Reach(x.into(), f, g),
+        Entry::Many(l, f, k) => terms::Entry::Many(number(l), f, k.into()),
     }
 }
 

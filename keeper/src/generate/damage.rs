@@ -25,6 +25,7 @@ pub fn text(rng: &mut Rng) -> Vec<u8> {
         match rng.below(4) {
             _ if stored && rng.percent(60) => stored::damage(rng, &file.terms, &mut text),
             0 | 1 => lines::damage_field(rng, &file.terms, &mut text),
+            2 if rng.percent(15) => lines::damage_long(rng, &mut text),
             2 => lines::damage_line(rng, &mut text),
             _ => lines::damage_byte(rng, &mut text),
         }
@@ -47,7 +48,8 @@ pub(super) fn put_in(terms: &mut Terms, place: usize, new: &[Entry]) {
 /// Breaks a rule of the terms themselves.
 fn damage_terms(rng: &mut Rng, terms: &mut Terms) {
     let place = rng.below(terms.entries.len() + 1);
-    match rng.below(15) {
+    match rng.below(17) {
+        15 | 16 => bad_count(rng, terms, place),
         0 | 1 => operand_not_lower(rng, terms, place),
         2 | 3 => two_free_variables(rng, terms, place),
         4 | 5 => free_policy(rng, terms, place),
@@ -65,7 +67,8 @@ fn operand_not_lower(rng: &mut Rng, terms: &mut Terms, place: usize) {
     let high = rng.pick(&[place, place, place + 1, place + 7, 255, 256, 65_535, 65_536, 99_999]);
     let high = high.max(place);
     let low = rng.below(place.max(1));
-    let entry = match rng.below(11) {
+    let entry = match rng.below(12) {
+        11 => Entry::Many(0, high, rng.below(66)),
         0 => Entry::Not(high),
         1 => Entry::Or(low, high),
         2 => Entry::Or(high, low),
@@ -132,6 +135,14 @@ fn bad_reach(rng: &mut Rng, terms: &mut Terms, place: usize) {
         }
     };
     put_in(terms, place, &new);
+}
+
+/// A many that asks for too few or too many, or for just as many as may be.
+fn bad_count(rng: &mut Rng, terms: &mut Terms, place: usize) {
+    let labels = terms.relations + terms.events;
+    let label = if rng.percent(80) { rng.below(labels) } else { labels };
+    let count = rng.pick(&[0, 0, 1, 63, 64, 65, 65, 66, 256, 65_536, 99_999]);
+    put_in(terms, place, &[Entry::Top, Entry::Many(label, place, count)]);
 }
 
 fn too_many_past(rng: &mut Rng, terms: &mut Terms) {

@@ -1,7 +1,7 @@
 //! Sound terms, built so that the rules on free variables hold.
 
 use super::{Rng, Size};
-use crate::terms::{Effect, Entry, Terms, Variables, MOST_EFFECTS};
+use crate::terms::{Effect, Entry, Terms, Variables, MOST_COUNTED, MOST_EFFECTS};
 
 /// Random terms within the given size.
 pub fn terms(rng: &mut Rng, size: &Size) -> Terms {
@@ -31,7 +31,24 @@ pub fn terms(rng: &mut Rng, size: &Size) -> Terms {
         let to = if rng.percent(15) { from } else { rng.below(size.members) };
         terms.edges.insert((rng.below(size.relations), from, to));
     }
+    crowd(rng, &mut terms);
     terms
+}
+
+/// Gives members about as many edges as an entry asks for: just enough, one less
+/// or one more.
+fn crowd(rng: &mut Rng, terms: &mut Terms) {
+    const MOST: usize = 8;
+    for entry in terms.entries.clone() {
+        let Entry::Many(l, _, k @ ..=MOST) = entry else { continue };
+        if l >= terms.relations || rng.percent(10) {
+            continue;
+        }
+        let (from, first) = (rng.below(terms.members), rng.below(terms.members));
+        let wanted = (k + rng.below(3)).saturating_sub(1).min(terms.members);
+        let others = (0..wanted).map(|other| (l, from, (first + other) % terms.members));
+        terms.edges.extend(others);
+    }
 }
 
 fn effects(rng: &mut Rng, size: &Size) -> Vec<Effect> {
@@ -72,10 +89,12 @@ impl<'a> Builder<'a> {
         let inner: usize = entry.operands().iter().map(|&f| self.steps[f]).sum();
         let scan = 1 + self.size.members / 8;
         let (steps, table) = match entry {
-            Entry::Out(l, _) | Entry::In(l, _) if l < self.size.relations => {
+            Entry::Out(l, _) | Entry::In(l, _) | Entry::Many(l, _, _)
+                if l < self.size.relations =>
+            {
                 (scan + self.size.degree() * inner, 0)
             }
-            Entry::Out(_, _) | Entry::In(_, _) => (scan + inner, 0),
+            Entry::Out(_, _) | Entry::In(_, _) | Entry::Many(_, _, _) => (scan + inner, 0),
             Entry::Prev(_) | Entry::Since(_, _) => (1, self.size.members.pow(2) * (1 + inner)),
             Entry::Reach(_, _, _) => (self.size.members * (1 + inner), 0),
             _ => (1 + inner, 0),
@@ -190,7 +209,7 @@ impl<'a> Builder<'a> {
             return if self.rng.percent(30) { Entry::Top } else { Entry::Var(variable) };
         }
         let (f, label) = (self.operand(), self.label());
-        match self.rng.below(14) {
+        match self.rng.below(15) {
             0 | 1 => Entry::Not(f),
             2 | 3 => Entry::Or(f, self.operand()),
             4 | 5 => Entry::Out(label, f),
@@ -202,8 +221,27 @@ impl<'a> Builder<'a> {
             }
             11 => Entry::Bind(self.bound(f), f),
             12 => self.reach(),
+            13 => Entry::Many(self.lasting(), f, self.count()),
             _ => Entry::At(variable, f),
         }
+    }
+
+    /// A label for counting: mostly a relation, since an event has one edge.
+    pub fn lasting(&mut self) -> usize {
+        if self.size.relations > 0 && self.rng.percent(85) {
+            self.rng.below(self.size.relations)
+        } else {
+            self.label()
+        }
+    }
+
+    /// How many a `many` asks for.
+    pub fn count(&mut self) -> usize {
+        let members = self.size.members;
+        let few = [1, 2, 2, 3, 3, 4, members / 2, members - 1, members];
+        let far = [members + 1, 63, 64];
+        let chosen = if self.rng.percent(92) { self.rng.pick(&few) } else { self.rng.pick(&far) };
+        chosen.clamp(1, MOST_COUNTED)
     }
 
     /// A reach whose first formula has one free variable, where one is found.

@@ -97,8 +97,8 @@ fn ill_formed(rng: &mut Rng, old: &str) -> String {
 
 fn other_word(rng: &mut Rng, old: &str) -> String {
     let words = [
-        "top", "var", "not", "or", "out", "in", "prev", "since", "bind", "at", "reach", "add",
-        "del", "fwd", "back", "and", "once", "0", "",
+        "top", "var", "not", "or", "out", "in", "prev", "since", "bind", "at", "reach", "many",
+        "add", "del", "fwd", "back", "and", "once", "0", "",
     ];
     match rng.below(6) {
         0 => format!("{old}x"),
@@ -159,6 +159,22 @@ pub fn damage_line(rng: &mut Rng, text: &mut Vec<u8>) {
         }
     }
     *text = join(&lines);
+}
+
+/// Takes a field from a line of six or puts a seventh to it.
+pub fn damage_long(rng: &mut Rng, text: &mut Vec<u8>) {
+    let mut lines = split(text);
+    let long = (0..lines.len()).filter(|&index| lines[index].len() == 6);
+    let long: Vec<usize> = long.collect();
+    if !long.is_empty() {
+        let line = &mut lines[rng.pick(&long)];
+        match rng.below(3) {
+            0 => line.push(b"1".to_vec()),
+            1 => line.extend([b"0".to_vec(), b"0".to_vec()]),
+            _ => line.truncate(5),
+        }
+        *text = join(&lines);
+    }
 }
 
 /// Changes, puts in or takes out one byte, or cuts the text.

@@ -6,12 +6,13 @@ use crate::terms::Entry;
 impl Builder<'_> {
     /// One pattern, as far as the bounds allow.
     pub fn pattern(&mut self) {
-        match self.rng.below(12) {
+        match self.rng.below(16) {
             0 | 1 => self.once_and_not_since(),
             2 | 3 => self.bind_again(),
             4 | 5 => self.before_the_past(),
             6 => self.both(),
-            7..=9 => self.reached(),
+            7..=10 => self.reached(),
+            11..=13 => self.counted(),
             _ => self.shown(),
         };
     }
@@ -52,6 +53,28 @@ impl Builder<'_> {
             return Some(step);
         }
         self.push(Entry::Reach(x, near, step))
+    }
+
+    /// "At least so many near me, and another so many near the target".
+    fn counted(&mut self) -> Option<usize> {
+        let (label, other, count) = (self.lasting(), self.label(), self.count());
+        let target = self.push(Entry::Var(0))?;
+        let far = match self.rng.below(4) {
+            0 => self.push(Entry::Top)?,
+            1 => self.push(Entry::Not(target))?,
+            2 => self.push(Entry::In(other, target))?,
+            _ => self.operand(),
+        };
+        let near = self.push(Entry::Many(label, far, count))?;
+        match self.rng.below(4) {
+            0 => self.push(Entry::At(0, near)),
+            1 => self.push(Entry::Not(near)),
+            2 => {
+                let (other, again) = (self.lasting(), self.count());
+                self.push(Entry::Many(other, near, again))
+            }
+            _ => Some(near),
+        }
     }
 
     /// A variable bound, bound again further in, and used in both places.

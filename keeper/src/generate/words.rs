@@ -21,7 +21,7 @@ pub fn damage_terms(rng: &mut Rng, words: &mut [u16]) {
         };
         let old = words[place];
         let close = [old.wrapping_add(1), old.wrapping_sub(1), old ^ 1, old << 8, 0];
-        let fixed = [0, 1, 2, 3, 9, 10, 11, 15, 16, 17, 64, 65, 255, 256, 257, 65_535];
+        let fixed = [0, 1, 2, 3, 9, 10, 11, 12, 15, 16, 17, 64, 65, 255, 256, 257, 65_535];
         words[place] = match rng.below(3) {
             0 => rng.pick(&close),
             1 => rng.pick(&fixed),

@@ -86,6 +86,12 @@ impl<'a> Meaning<'a> {
             Entry::In(l, f) => members
                 .into_iter()
                 .any(|other| self.edge(i, l, other, m) && self.holds(f, i, other, assigned)),
+            Entry::Many(l, f, k) => {
+                let near = members.filter(|&other| {
+                    self.edge(i, l, m, other) && self.holds(f, i, other, assigned)
+                });
+                near.count() >= k
+            }
             Entry::Prev(f) if i > 0 => self.holds(f, i - 1, m, assigned),
             Entry::Prev(_) => self.said(entry, m, assigned).unwrap_or(false),
             Entry::Since(_, _) => self.since(entry, i, m, assigned),

@@ -35,7 +35,7 @@ fn equal_seeds_give_equal_cases() {
 
 #[test]
 fn every_feature_is_reached() {
-    let mut operators = [0; 11];
+    let mut operators = [0; 12];
     let (mut no_relation, mut self_edge, mut nested, mut again) = (0, 0, 0, 0);
     let (mut most_members, mut most_entries, mut most_tables, mut full_effects) = (0, 0, 0, 0);
     let (mut two_free, mut small) = (0, 0);

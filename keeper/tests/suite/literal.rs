@@ -39,6 +39,10 @@ impl Literal<'_> {
                 self.holds(f, i, m, bound)
             }
             Entry::At(x, f) => self.holds(f, i, s[x], s),
+            Entry::Many(l, f, k) => {
+                let near = |&o: &usize| self.edge(i, l, m, o) && self.holds(f, i, o, s);
+                (0..n).filter(near).count() >= k
+            }
             Entry::Reach(x, f, g) => (0..n).any(|o| {
                 let mut alone = [0; 16];
                 alone[x] = o;

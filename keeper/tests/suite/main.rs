@@ -2,6 +2,7 @@
 
 mod cases;
 mod compared;
+mod counted;
 mod damaged;
 mod generated;
 mod help;

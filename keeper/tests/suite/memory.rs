@@ -96,7 +96,7 @@ fn terms_words_that_no_file_yields() {
     };
     assert!(broken(0, 0) && broken(0, 65) && broken(1, 17) && broken(2, 0) && broken(2, 17));
     assert!(broken(3, 0) && broken(3, 8) && broken(3, 257) && broken(3, 65_535));
-    assert!(broken(4, 11), "an operator that does not exist");
+    assert!(broken(4, 12), "an operator that does not exist");
     assert!(broken(6, 1) && broken(7, 1), "an unused field");
     assert!(broken(4 + 4 * 9, 1), "an unused entry");
     assert!(broken(1_031, 1), "an unused policy");

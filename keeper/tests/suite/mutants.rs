@@ -27,6 +27,11 @@ enum Fault {
     OrdersSwapped,
     ReachStays,
     ReachBackwards,
+    ManyIsMore,
+    ManyIsOut,
+    ManyIsIn,
+    ManyCountsAll,
+    ManyCountsTwice,
 }
 
 type Members = [usize; 16];
@@ -102,6 +107,7 @@ impl Faulty<'_> {
                 let there = if fault == Fault::AtStays { m } else { s[x] };
                 self.holds(f, i, there, s)
             }
+            Entry::Many(l, f, k) => self.count(l, f, i, m, s) >= k.min(self.most(k)),
             Entry::Reach(x, f, g) => (0..self.terms.members).any(|other| {
                 let (near, named) = match fault {
                     Fault::ReachBackwards => (other, m),
@@ -113,6 +119,30 @@ impl Faulty<'_> {
                 self.holds(f, i, near, &mut alone) && self.holds(g, i, far, s)
             }),
         }
+    }
+
+    /// How many a faulty many asks for at most.
+    fn most(&self, k: usize) -> usize {
+        if self.fault == Fault::ManyIsOut {
+            1
+        } else {
+            k
+        }
+    }
+
+    /// How many neighbours satisfy f, as a faulty many counts them.
+    fn count(&mut self, l: usize, f: usize, i: usize, m: usize, s: &mut Members) -> usize {
+        let (mut count, inward) = (0, self.fault == Fault::ManyIsIn);
+        for other in 0..self.terms.members {
+            let (from, to) = if inward { (other, m) } else { (m, other) };
+            let near = self.edge(i, l, from, to);
+            let fits = self.fault == Fault::ManyCountsAll || near && self.holds(f, i, other, s);
+            count += usize::from(near && fits);
+            // Once more where an edge comes back.
+            let twice = self.fault == Fault::ManyCountsTwice && self.edge(i, l, other, m);
+            count += usize::from(near && fits && twice);
+        }
+        count.saturating_sub(usize::from(self.fault == Fault::ManyIsMore))
     }
 
     fn some(&mut self, l: usize, f: usize, out: bool, i: usize, m: usize, s: &mut Members) -> bool {
@@ -191,9 +221,14 @@ fn faults_show() {
         OrdersSwapped,
         ReachStays,
         ReachBackwards,
+        ManyIsMore,
+        ManyIsOut,
+        ManyIsIn,
+        ManyCountsAll,
+        ManyCountsTwice,
     ];
-    let count = |fault| (0..1_200).filter(|&seed| shows(fault, seed) == Some(true)).count();
-    let tried = (0..1_200).filter(|&seed| shows(None, seed).is_some()).count();
+    let count = |fault| (0..1_600).filter(|&seed| shows(fault, seed) == Some(true)).count();
+    let tried = (0..1_600).filter(|&seed| shows(None, seed).is_some()).count();
     assert_eq!(count(None), 0);
     for fault in faults {
         let shown = count(fault);

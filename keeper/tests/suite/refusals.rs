@@ -212,3 +212,25 @@ fn reach() {
     assert_eq!(after("F 5 reach 1 2 4/P 0 5"), (5, 9));
     assert_eq!(after("F 5 reach 1 2 4/F 6 since 5 3"), (4, 9));
 }
+
+#[test]
+fn many() {
+    // Labels are 0 to 3.
+    let after = |line: &str| after_head(&format!("F 0 top 0 0/{line}"));
+    for line in ["many 0 0 1", "many 3 0 64", "many 0 0 00002", "many 03 00 01"] {
+        accepted(&slashes(&format!("{HEAD}/F 0 top 0 0/F 1 {line}/P 0 1/P 1 0")));
+    }
+    assert_eq!(after("F 1 many 0 0"), (1, 4));
+    assert_eq!(after("F 1 many 0 0 1 0"), (1, 4));
+    assert_eq!(after("F 1 many 0 0 x"), (1, 4));
+    assert_eq!(after("F 1 many 0 0 000001"), (1, 4));
+    assert_eq!(after("F 1 out 0 0 1"), (1, 4));
+    assert_eq!(after("F 1 many 0 0 0"), (2, 4));
+    assert_eq!(after("F 1 many 0 0 65"), (2, 4));
+    assert_eq!(after("F 1 many 0 0 99999"), (2, 4));
+    assert_eq!(after("F 1 many 4 0 1"), (2, 4));
+    assert_eq!(after("F 1 many 0 1 0"), (2, 4));
+    assert_eq!(after("F 1 many 0 1 1"), (3, 4));
+    assert_eq!(after("F 1 var 1 0/F 2 many 0 1 2/P 0 2"), (5, 6));
+    assert_eq!(after("F 1 var 1 0/F 2 var 0 0/F 3 or 1 2/F 4 many 0 3 2/F 5 prev 4 0"), (4, 8));
+}

@@ -39,6 +39,7 @@ pub enum Clause {
     },
     Linked(Link),
     Reached(Reached),
+    Counted(Counted),
     All(Vec<Clause>),
     Any(Vec<Clause>),
     /// There is a moment before, and at it.
@@ -86,6 +87,18 @@ pub struct Reached {
     pub quantity: Quantity,
     pub guest: usize,
     pub step: Box<Clause>,
+    pub that: Box<Clause>,
+}
+
+/// At least so many different guests to whom an edge leads from a member, such
+/// that; or fewer.
+#[derive(Clone, Debug, PartialEq, Eq, Hash, PartialOrd, Ord)]
+pub struct Counted {
+    pub least: usize,
+    pub holds: bool,
+    pub label: usize,
+    pub near: Who,
+    pub guest: usize,
     pub that: Box<Clause>,
 }
 

@@ -30,17 +30,53 @@ pub enum Quantity {
 #[derive(Clone, Debug, PartialEq, Eq)]
 pub enum Form {
     Constant(bool),
-    Is { variable: usize, holds: bool },
+    Is {
+        variable: usize,
+        holds: bool,
+    },
     All(Vec<Node>),
     Any(Vec<Node>),
-    Edge { quantity: Quantity, label: usize, out: bool, there: Node },
-    Before { holds: bool, then: Node },
-    Once { holds: bool, then: Node },
+    Edge {
+        quantity: Quantity,
+        label: usize,
+        out: bool,
+        there: Node,
+    },
+    Before {
+        holds: bool,
+        then: Node,
+    },
+    Once {
+        holds: bool,
+        then: Node,
+    },
     Throughout(Node),
-    Since { holds: bool, start: Node, hold: Node },
-    Bind { variable: usize, here: Node },
-    At { variable: usize, there: Node },
-    Reach { quantity: Quantity, variable: usize, step: Node, there: Node },
+    Since {
+        holds: bool,
+        start: Node,
+        hold: Node,
+    },
+    Bind {
+        variable: usize,
+        here: Node,
+    },
+    At {
+        variable: usize,
+        there: Node,
+    },
+    Reach {
+        quantity: Quantity,
+        variable: usize,
+        step: Node,
+        there: Node,
+    },
+    /// At least so many ends of edges, or fewer.
+    Count {
+        least: usize,
+        holds: bool,
+        label: usize,
+        there: Node,
+    },
 }
 
 /// Shared parts larger than this are said once and numbered.
@@ -109,6 +145,9 @@ impl<'a> Forms<'a> {
             Entry::Since(f, g) => self.since(self.node(f, true), self.node(g, true), holds),
             Entry::Bind(variable, f) => Form::Bind { variable, here: self.node(f, holds) },
             Entry::At(variable, f) => Form::At { variable, there: self.node(f, holds) },
+            Entry::Many(label, f, least) => {
+                Form::Count { least, holds, label, there: self.node(f, true) }
+            }
             Entry::Reach(variable, f, g) => {
                 let (quantity, there) = self.quantified(g, holds);
                 Form::Reach { quantity, variable, step: self.node(f, true), there }

@@ -1,5 +1,6 @@
 //! Clauses put into words.
 
+mod counted;
 mod linked;
 mod past;
 mod reached;
@@ -38,6 +39,7 @@ impl Speaker<'_> {
             }
             Clause::Linked(link) => self.linked(link, time, focus),
             Clause::Reached(reached) => self.reached(reached, time),
+            Clause::Counted(counted) => self.counted(counted, time),
             Clause::All(parts) => {
                 let parts = parts.iter().map(|part| self.say(part, time, focus)).collect();
                 join(parts, false, held)

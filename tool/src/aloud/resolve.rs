@@ -1,6 +1,6 @@
 //! Clauses made of entries: of whom each part is said is worked out.
 
-use super::clause::{Clause, Link, Reached, Who};
+use super::clause::{Clause, Counted, Link, Reached, Who};
 use super::form::{Form, Forms, Node, Quantity};
 use keeper::terms::VARIABLES;
 
@@ -80,6 +80,12 @@ impl Resolver<'_> {
             }
             Form::Bind { variable, here: f } => self.node(f, here, named.with(variable, here)),
             Form::At { variable, there } => self.node(there, named.0[variable], named),
+            Form::Count { least, holds, label, there } => {
+                let guest = self.guests;
+                self.guests += 1;
+                let that = self.boxed(there, Who::Guest(guest), named);
+                Clause::Counted(Counted { least, holds, label, near: here, guest, that })
+            }
             Form::Reach { quantity, variable, step, there } => {
                 self.reach(quantity, (variable, step), there, here, named)
             }

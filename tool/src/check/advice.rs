@@ -25,6 +25,10 @@ const DERIVED: &[(&[&str], &str)] = &[
         &["some", "exists", "any", "diamond", "edge"],
         "out l f says it; in l f for edges that lead here",
     ),
+    (
+        &["count", "least", "atleast", "number", "enough"],
+        "many l f k says that at least k neighbours satisfy f",
+    ),
     (&["none", "nobody"], "not (out l f) says it; `in` for edges that lead here"),
     (&["implies", "if", "then", "imp", "->"], "or (not f) g says it"),
     (&["true", "1", "yes", "t"], "top says it"),

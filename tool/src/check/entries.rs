@@ -7,7 +7,9 @@ use super::others::{out_of_range, range};
 use super::reader::Reader;
 use crate::aloud::listed;
 use crate::names::{Kind, Names};
-use keeper::terms::{Entry, Field, Variables, MOST_ENTRIES, MOST_PAST, OPERATORS, VARIABLES};
+use keeper::terms::{
+    Entry, Field, Variables, MOST_COUNTED, MOST_ENTRIES, MOST_PAST, OPERATORS, VARIABLES,
+};
 
 /// The refusal of an operand that isn't below its entry.
 const OPERAND: u16 = 3;
@@ -103,6 +105,14 @@ impl Reader<'_> {
             Field::Label if value >= relations + events => {
                 (format!("no label {value}"), labels(relations, events, self.names))
             }
+            Field::Count if value == 0 => (
+                "at least 0 are asked for, which is always so".to_string(),
+                format!("1 to {MOST_COUNTED} can be asked for; `top` is always so"),
+            ),
+            Field::Count if value > MOST_COUNTED => (
+                format!("at least {value} are asked for"),
+                format!("1 to {MOST_COUNTED} can be; there are no more members than that"),
+            ),
             _ => return Ok(()),
         };
         Err(out_of_range(field, what, right))

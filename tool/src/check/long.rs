@@ -47,7 +47,9 @@ fn deepest(terms: &Terms) -> (usize, usize) {
             deepest = (entry, depth);
         }
         match terms.entries[entry] {
-            Entry::Out(_, f) | Entry::In(_, f) => waiting.push((f, wandering, true)),
+            Entry::Out(_, f) | Entry::In(_, f) | Entry::Many(_, f, _) => {
+                waiting.push((f, wandering, true));
+            }
             Entry::Bind(x, f) => {
                 let others = wandering & !(1 << x);
                 waiting.push((f, others | Variables::from(away) << x, away));

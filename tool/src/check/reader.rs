@@ -101,9 +101,10 @@ impl<'a> Reader<'a> {
         let counted = counted(&fields, if long { &LONG_ENTRY } else { due }, line.len());
         counted.map_err(|fault| {
             match *word == "F" && !long && fields.len() == LONG_ENTRY.len() {
-                true => {
-                    Fault { right: format!("{}; only reach has one more", fault.right), ..fault }
-                }
+                true => Fault {
+                    right: format!("{}; only reach and many have one more", fault.right),
+                    ..fault
+                },
                 false => fault,
             }
         })?;

@@ -41,6 +41,7 @@ pub fn warnings(both: &Both, names: &Names, requests: &[Request]) -> Result<Vec<
     let mut warnings = unused(terms, &reached);
     warnings.extend(edgeless(terms, names, &reached));
     warnings.extend(swapped(terms, names, &reached));
+    warnings.extend(uncountable(terms, names, &reached));
     warnings.extend(strangers(terms, names));
     match long::long(terms) {
         Some(warning) => warnings.push(warning),
@@ -92,7 +93,10 @@ fn edgeless(terms: &Terms, names: &Names, reached: &[bool]) -> Vec<Warning> {
     };
     let follows = |index: usize, relation: usize| {
         let entry = terms.entries[index];
-        matches!(entry, Entry::Out(label, _) | Entry::In(label, _) if label == relation)
+        let (Entry::Out(label, _) | Entry::In(label, _) | Entry::Many(label, _, _)) = entry else {
+            return false;
+        };
+        label == relation
     };
     let mut warnings = Vec::new();
     for relation in (0..terms.relations).filter(|&relation| empty(relation)) {
@@ -139,6 +143,31 @@ fn swapped(terms: &Terms, names: &Names, reached: &[bool]) -> Vec<Warning> {
             "`since f g` says that g held and that f has held ever since; `since {g} {f}` would be: once {f}, and {g} ever since"
         );
         warnings.push(Warning { kind: "swapped", line: entry_line(index), what, right });
+    }
+    warnings
+}
+
+/// A many that asks for more than there can be.
+fn uncountable(terms: &Terms, names: &Names, reached: &[bool]) -> Vec<Warning> {
+    let mut warnings = Vec::new();
+    for (index, entry) in terms.entries.iter().enumerate().filter(|&(index, _)| reached[index]) {
+        let Entry::Many(label, _, count) = *entry else { continue };
+        let event = label.checked_sub(terms.relations).filter(|_| count > 1);
+        let (why, right) = match event {
+            Some(event) => {
+                let shown = named("event", event, names.given(Kind::Event, event));
+                let why = format!("edges of {shown}, and a moment has one event edge at most");
+                (why, "count along a relation that the event's effects add to")
+            }
+            None if count > terms.members => {
+                let why = format!("members, and there are {}", terms.members);
+                (why, "it never holds; ask for fewer")
+            }
+            None => continue,
+        };
+        let what = format!("entry {index} asks for at least {count} {why}");
+        let line = entry_line(index);
+        warnings.push(Warning { kind: "count", line, what, right: right.to_string() });
     }
     warnings
 }

@@ -53,6 +53,9 @@ impl Entries {
             }
             Node::Out(label, g) => Entry::Out(*label, self.entry(g, &inside(g), wish)?),
             Node::In(label, g) => Entry::In(*label, self.entry(g, &inside(g), wish)?),
+            Node::Many(label, g, count) => {
+                Entry::Many(*label, self.entry(g, &inside(g), wish)?, *count)
+            }
             Node::Prev(g) => Entry::Prev(self.entry(g, &inside(g), wish)?),
             Node::Since(g, h) => {
                 Entry::Since(self.entry(g, &inside(g), wish)?, self.entry(h, &inside(h), wish)?)

@@ -40,6 +40,14 @@ pub enum Form {
         name: Id,
         body: Said,
     },
+    /// At least so many neighbours, outwards, of each of whom the body holds.
+    Many {
+        from: Who,
+        label: usize,
+        count: usize,
+        name: Id,
+        body: Said,
+    },
     /// Somebody that the first formula leads to, of whom the body holds.
     Step {
         name: Id,
@@ -83,7 +91,7 @@ pub fn said(form: Form) -> Said {
         Form::Or(f, g) | Form::Since(f, g, _) => f.height.max(g.height),
         Form::Step { leads, body, .. } => leads.height.max(body.height),
         Form::Not(f) | Form::Previously(f, _) | Form::At(_, f) => f.height,
-        Form::Some { body, .. } | Form::As { body, .. } => body.height,
+        Form::Some { body, .. } | Form::Many { body, .. } | Form::As { body, .. } => body.height,
     };
     let mut meet = |who: Who, others: &mut Vec<Id>| match who {
         Who::Here => here = true,
@@ -108,7 +116,7 @@ pub fn said(form: Form) -> Said {
             others.clone_from(&f.others);
             add(&mut others, &g.others);
         }
-        Form::Some { from, name, body, .. } => {
+        Form::Some { from, name, body, .. } | Form::Many { from, name, body, .. } => {
             meet(*from, &mut others);
             add(&mut others, &without(&body.others, *name));
             placed = body.placed;

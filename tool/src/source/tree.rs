@@ -29,6 +29,7 @@ pub enum Node {
     Bind(Id, Tree),
     At(Id, Tree),
     Reach(Id, Tree, Tree),
+    Many(usize, Tree, usize),
 }
 
 /// A part about the past, or one that leads to somebody, that speaks of more
@@ -93,10 +94,11 @@ impl Placer {
             Form::Some { from, label, outwards, name, body } => {
                 let body = bound_if_free(*name, self.place(body, &[*name])?);
                 let walk = if *outwards { Node::Out(*label, body) } else { Node::In(*label, body) };
-                match from {
-                    Who::Other(id) if !names.contains(id) => tree(Node::At(*id, tree(walk))),
-                    _ => tree(walk),
-                }
+                walked(from, names, walk)
+            }
+            Form::Many { from, label, count, name, body } => {
+                let body = bound_if_free(*name, self.place(body, &[*name])?);
+                walked(from, names, Node::Many(*label, body, *count))
             }
             Form::Step { name, leads, body, span } => {
                 self.step(*name, leads, body, names, *span)?
@@ -239,6 +241,14 @@ fn is_here(who: &Who, names: &[Id]) -> bool {
     }
 }
 
+/// A walk from somebody, said of the member that has the given names.
+fn walked(from: &Who, names: &[Id], walk: Node) -> Tree {
+    match from {
+        Who::Other(id) if !names.contains(id) => tree(Node::At(*id, tree(walk))),
+        _ => tree(walk),
+    }
+}
+
 fn bound_if_free(name: Id, body: Tree) -> Tree {
     if body.free.contains(&name) {
         tree(Node::Bind(name, body))
@@ -251,7 +261,8 @@ fn tree(node: Node) -> Tree {
     let mut free = match &node {
         Node::Top => Vec::new(),
         Node::Var(id) => vec![*id],
-        Node::Not(f) | Node::Prev(f) | Node::Out(_, f) | Node::In(_, f) => f.free.clone(),
+        Node::Not(f) | Node::Prev(f) => f.free.clone(),
+        Node::Out(_, f) | Node::In(_, f) | Node::Many(_, f, _) => f.free.clone(),
         Node::Or(f, g) | Node::Since(f, g) => [&f.free[..], &g.free[..]].concat(),
         Node::Bind(id, f) => f.free.iter().copied().filter(|other| other != id).collect(),
         Node::At(id, f) => [&f.free[..], &[*id]].concat(),

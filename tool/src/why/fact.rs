@@ -2,6 +2,7 @@
 
 use super::phrase::{Phrase, Speaker};
 use super::reason::{Claim, Place};
+use crate::aloud::listed;
 use crate::words::Words;
 use keeper::record::Graph;
 use keeper::terms::Entry;
@@ -16,6 +17,9 @@ pub enum Fact {
     /// Edges under a label lead from a member, or to it, only to or from these others: a
     /// bit for each.
     Only { label: usize, member: usize, out: bool, others: u64, moment: usize },
+    /// Of the edges under a label from a member, those to these others count: a bit
+    /// for each. They are fewer than are asked for, or just so many.
+    Count { label: usize, member: usize, others: u64, least: usize, moment: usize },
     /// The variable stands for the member.
     Same { member: usize, variable: usize },
     /// The two are different members.
@@ -70,6 +74,20 @@ impl Fact {
                 let (from, to) = if out { (here, others) } else { (others, here) };
                 words.arrow(label, &from, &to) + &at(moment)
             }
+            Fact::Count { label, member, others, least, moment } => {
+                let members = (0..words.terms.members).filter(|other| others >> other & 1 == 1);
+                let names: Vec<String> = members.map(|other| words.member(other)).collect();
+                let (here, found) = (words.member(member), names.len());
+                let edge = match &names[..] {
+                    [] => words.arrow(label, &here, "nobody who counts"),
+                    names => words.arrow(label, &here, &listed(names)),
+                };
+                let asked = match found >= least {
+                    true => format!("{found} of at least {least}"),
+                    false => format!("only {found} of at least {least}"),
+                };
+                format!("{edge}{}, {asked}", at(moment))
+            }
             Fact::Same { member, variable: 0 } => format!("{} is the target", words.member(member)),
             Fact::Same { member, .. } => format!("both are {}", words.member(member)),
             Fact::Differ { member, other } => {
@@ -112,7 +130,7 @@ impl Fact {
     /// How much of a possibility it shows to be there: the more, the nearer
     /// the possibility came.
     pub fn weight(self) -> usize {
-        matches!(self, Fact::Edge { .. }).into()
+        matches!(self, Fact::Edge { .. } | Fact::Count { .. }).into()
     }
 }
 
@@ -143,7 +161,6 @@ fn only(words: &Words, others: u64) -> String {
     let names: Vec<String> = members.map(|member| words.member(member)).collect();
     match &names[..] {
         [] => "nobody".to_string(),
-        [one] => format!("only {one}"),
-        [first @ .., last] => format!("only {} and {last}", first.join(", ")),
+        names => format!("only {}", listed(names)),
     }
 }

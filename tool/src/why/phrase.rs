@@ -96,6 +96,7 @@ impl<'a> Speaker<'a> {
             }
             Entry::Out(label, f) => self.near(label, f, true, holds),
             Entry::In(label, f) => self.near(label, f, false, holds),
+            Entry::Many(label, f, count) => self.many(label, f, count, holds),
             Entry::Prev(f) => {
                 let before = self.say(f, true).inside(Shape::Simple);
                 let not = if holds { "" } else { "not " };
@@ -163,6 +164,18 @@ impl<'a> Speaker<'a> {
             None => Phrase::new(format!("{no}{edge}"), Shape::Edge),
             Some(with) => Phrase::new(format!("{no}{edge} with {with}"), Shape::Open),
         }
+    }
+
+    /// `at least 3 x with friend dora → x and x is not pete`.
+    fn many(&mut self, label: usize, f: usize, count: usize, holds: bool) -> Phrase {
+        let letter = self.letter();
+        let edge = self.words.arrow(label, &self.here, &letter);
+        let that = match self.words.terms.entries[f] {
+            Entry::Top => String::new(),
+            _ => format!(" and {}", self.at(letter.clone(), f, true).inside(Shape::And)),
+        };
+        let many = if holds { "at least" } else { "fewer than" };
+        Phrase::new(format!("{many} {count} {letter} with {edge}{that}"), Shape::Open)
     }
 
     fn since(&mut self, f: usize, g: usize, holds: bool) -> Phrase {

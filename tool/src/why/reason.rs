@@ -80,6 +80,10 @@ pub enum Reason {
     Reached { step: Claim, there: Claim },
     /// `reach` fails: for every member one of the operands does.
     NobodyReached(Vec<Claim>),
+    /// `many` holds: by so many neighbours.
+    Enough(Vec<Claim>),
+    /// `many` fails: by what each neighbour does; too few hold.
+    TooFew(Vec<Claim>),
     /// `bind` and `at` are decided where they lead.
     Follow(Claim),
 }
@@ -98,6 +102,7 @@ impl Reason {
             Reason::NoNeighbour(claims) | Reason::Never(claims) => claims.clone(),
             Reason::Reached { step, there } => vec![*step, *there],
             Reason::NobodyReached(claims) => claims.clone(),
+            Reason::Enough(claims) | Reason::TooFew(claims) => claims.clone(),
             Reason::Began { began, after } => [&[*began], &after[..]].concat(),
             Reason::Broken { began, broke, after } => [&[*began, *broke], &after[..]].concat(),
         }
@@ -163,6 +168,7 @@ impl<'a> Reasons<'a> {
                 }
             }
             Entry::Out(_, f) | Entry::In(_, f) => self.near(place, f),
+            Entry::Many(_, f, count) => self.many(place, f, count),
             Entry::Prev(_) | Entry::Since(_, _) if self.is_stored(place) => Reason::Stored,
             Entry::Prev(_) if place.moment == 0 => Reason::NoMomentBefore,
             Entry::Prev(f) => Reason::Before(self.claim(place.entry(f).moment(place.moment - 1))),
@@ -188,6 +194,19 @@ impl<'a> Reasons<'a> {
             failing.push(claim);
         }
         Reason::NoNeighbour(failing)
+    }
+
+    /// The first neighbours that are enough; else all, with why each fits or not.
+    fn many(&mut self, place: Place, f: usize, count: usize) -> Reason {
+        let near = neighbours(self.terms, self.graphs, place);
+        let claims: Vec<Claim> =
+            near.into_iter().map(|other| self.claim(place.entry(f).member(other))).collect();
+        let enough: Vec<Claim> =
+            claims.iter().copied().filter(|claim| claim.holds).take(count).collect();
+        match enough.len() == count {
+            true => Reason::Enough(enough),
+            false => Reason::TooFew(claims),
+        }
     }
 
     /// The first member that is reached and fits; else for each why not.
@@ -241,10 +260,10 @@ impl<'a> Reasons<'a> {
     }
 }
 
-/// The members that an `out` or `in` entry leads to from its place.
+/// The members that an `out`, `in` or `many` entry leads to from its place.
 pub fn neighbours(terms: &Terms, graphs: &[Graph], place: Place) -> Vec<usize> {
     let (label, out) = match terms.entries[place.entry] {
-        Entry::Out(label, _) => (label, true),
+        Entry::Out(label, _) | Entry::Many(label, _, _) => (label, true),
         Entry::In(label, _) => (label, false),
         _ => return Vec::new(),
     };

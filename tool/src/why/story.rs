@@ -136,6 +136,8 @@ impl Teller<'_, '_> {
                 vec![edge.then(stories)]
             }
             Reason::NoNeighbour(failing) => self.no_neighbour(place, failing),
+            Reason::Enough(claims) => vec![self.enough(place, claims)],
+            Reason::TooFew(claims) => self.too_few(place, claims),
             Reason::Reached { step, there } => {
                 let story = Story::default().then(telling(self.tell(step)));
                 let mut stories = distinct(self.tell(there));
@@ -227,6 +229,45 @@ impl Teller<'_, '_> {
             stories.push(Story::of(Fact::NoStep(place)));
         }
         stories
+    }
+
+    /// Those who are enough, each with a story of their own if there is one to tell.
+    fn enough(&mut self, place: Place, claims: Vec<Claim>) -> Story {
+        let mut story = Story::of(self.count(place, &claims));
+        for claim in claims {
+            let mut stories = distinct(self.tell(claim));
+            stories.retain(|story| !story.is_plain());
+            if !stories.is_empty() {
+                let edge = Story::of(self.edge(place, claim.place.member));
+                story = story.then(vec![edge.then(stories)]);
+            }
+        }
+        story
+    }
+
+    /// How many fit, and of those who don't each one's story.
+    fn too_few(&mut self, place: Place, claims: Vec<Claim>) -> Vec<Story> {
+        let mut stories = vec![Story::of(self.count(place, &claims))];
+        for claim in claims.into_iter().filter(|claim| !claim.holds) {
+            let edge = Story::of(self.edge(place, claim.place.member));
+            for story in distinct(self.tell(claim)) {
+                let edge = edge.clone();
+                stories.push(match self.granted {
+                    true => edge.then(vec![story]),
+                    false => edge.but(vec![story]),
+                });
+            }
+        }
+        stories
+    }
+
+    /// How many of these neighbours of a `many` fit.
+    fn count(&self, place: Place, claims: &[Claim]) -> Fact {
+        let Place { entry, member, moment, .. } = place;
+        let (_, [label, _, least]) = self.reasons.terms().entries[entry].parts();
+        let fitting = claims.iter().filter(|claim| claim.holds);
+        let others = fitting.fold(0, |others, claim| others | 1 << claim.place.member);
+        Fact::Count { label, member, others, least, moment }
     }
 
     /// Every neighbour with its own story. Told together are those who are only

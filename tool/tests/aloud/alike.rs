@@ -101,6 +101,7 @@ fn gather_apart(clause: &Clause, apart: &mut Vec<usize>) {
             parts.iter().for_each(|part| gather_apart(part, apart));
         }
         Clause::Linked(link) => gather_apart(&link.that, apart),
+        Clause::Counted(counted) => gather_apart(&counted.that, apart),
         Clause::Reached(reached) => {
             gather_apart(&reached.step, apart);
             gather_apart(&reached.that, apart);
@@ -130,7 +131,8 @@ fn changed(terms: &Terms, rng: &mut Rng) -> Option<Terms> {
     let place = rng.below(terms.entries.len());
     let entry = terms.entries[place];
     let (operator, [a, b, c]) = entry.parts();
-    let changed = match rng.below(5) {
+    let changed = match rng.below(6) {
+        5 => Entry::of_parts(operator, [a, b, c ^ 1]),
         0 => Entry::of_parts(operator, [b, a, c]),
         1 => Entry::of_parts(operator ^ 1, [a, b, c]),
         2 => Entry::of_parts(operator, [a ^ 1, b, c]),

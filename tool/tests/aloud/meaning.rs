@@ -1,7 +1,7 @@
 //! What is read aloud means what the entries mean: clauses are evaluated over
 //! random records and held against the keeper.
 
-use cuckooormolu_tool::aloud::clause::{Clause, Link, Reached, Who};
+use cuckooormolu_tool::aloud::clause::{Clause, Counted, Link, Reached, Who};
 use cuckooormolu_tool::aloud::form::{Forms, Quantity};
 use cuckooormolu_tool::aloud::resolve;
 use keeper::generate::size::Size;
@@ -51,6 +51,7 @@ impl Evaluation<'_> {
             }
             Clause::Linked(link) => self.linked(link, moment),
             Clause::Reached(reached) => self.reached(reached, moment),
+            Clause::Counted(counted) => self.counted(counted, moment),
             Clause::All(parts) => parts.iter().all(|part| self.holds(part, moment)),
             Clause::Any(parts) => parts.iter().any(|part| self.holds(part, moment)),
             Clause::Before { holds, then } => {
@@ -85,6 +86,19 @@ impl Evaluation<'_> {
             }
         }
         agree(link.quantity, &found)
+    }
+
+    fn counted(&mut self, counted: &Counted, moment: usize) -> bool {
+        let mut found = 0;
+        for far in 0..self.record.terms().members {
+            let near = self.member(counted.near);
+            if self.has_edge(moment, counted.label, near, far) {
+                self.guests.resize(self.guests.len().max(counted.guest + 1), 0);
+                self.guests[counted.guest] = far;
+                found += usize::from(self.holds(&counted.that, moment));
+            }
+        }
+        (found >= counted.least) == counted.holds
     }
 
     fn reached(&mut self, reached: &Reached, moment: usize) -> bool {
@@ -125,7 +139,7 @@ fn random_record(seed: u64) -> Record {
 #[test]
 fn clauses_mean_what_entries_mean() {
     let (mut compared, mut apart) = (0, 0);
-    for seed in 0..2_000 {
+    for seed in 0..5_000 {
         let record = random_record(seed);
         let terms = record.terms();
         let forms = Forms::new(terms);

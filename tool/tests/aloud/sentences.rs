@@ -70,6 +70,23 @@ fn steps() {
 }
 
 #[test]
+fn counted() {
+    assert_eq!(said("top 0 0, many 0 0 3"), "for at least 3 different members A, you own A.");
+    assert_eq!(said("top 0 0, many 0 0 3, not 1 0"), "for fewer than 3 members A, you own A.");
+    assert_eq!(said("top 0 0, many 0 0 1"), "for at least 1 member A, you own A.");
+    assert_eq!(said("top 0 0, many 0 0 1, not 1 0"), "for no member A, you own A.");
+    assert_eq!(
+        said_with(["friend", "own"], "var 0 0, not 0 0, many 0 1 5, at 0 2"),
+        "for at least 5 different members A, A is a friend of the target and is not the target."
+    );
+    assert_eq!(
+        said("top 0 0, out 1 0, many 0 1 2, since 0 2"),
+        "at some moment so far for at least 2 different members A, you owned A and A had a \
+         blacklist edge to some member."
+    );
+}
+
+#[test]
 fn oneself() {
     assert_eq!(said("var 1 0, out 0 0, bind 1 1"), "you own yourself.");
     assert_eq!(

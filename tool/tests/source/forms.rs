@@ -30,7 +30,6 @@ fn the_same_terms() {
         ("every friend of target: here owns me", "target friend every f: f owns me"),
         ("some owns target: here friend me", "some x owns target: x friend me"),
         ("some friend of target", "target friend someone"),
-        ("at least 1 friend of target", "some friend of target"),
         ("me is owns", "me owns me"),
         ("here owns target", "me owns target"),
         ("(((me owns target)))", "me owns target"),
@@ -54,10 +53,23 @@ fn the_same_terms() {
 
 #[test]
 fn counted() {
+    // Along edges that come from whom is sought, each has a name.
     let spelled =
-        "target friend some f: f owns me and (target friend some g: g is not f and g owns me)";
-    let counted = "at least 2 friend of target as f: f owns me";
+        "some f owns target: f owns me and (some g owns target: g is not f and g owns me)";
+    let counted = "at least 2 f owns target: f owns me";
     assert_eq!(terms(counted), terms(spelled));
+    // Along edges that lead to them, they are counted.
+    let has = |formula: &str, entry: &str| {
+        let text = String::from_utf8(terms(formula)).unwrap();
+        assert!(text.contains(&entry.replace(' ', "\t")), "{formula}\n{text}");
+    };
+    has("at least 2 friend of target as f: f owns me", " many 1 2 2\n");
+    has("me friend at least 64: here is target", " many 1 1 64\n");
+    has("at least 1 friend of me", " many 1 0 1\n");
+    assert_eq!(
+        terms("at least 3 friend of target as f: f is not me"),
+        terms("target friend at least 3: not here is me"),
+    );
 }
 
 #[test]

@@ -57,7 +57,8 @@ fn named_precisely() {
         ("me is friendly", "nobody, no attribute and no definition is called `friendly` here"),
         ("me likes target", "no relation or event `likes`"),
         ("at least 0 owns of me", "expected a number from 1 on after `at least`, found `0`"),
-        ("at least 16 owns of me", "at least 16 take 16 names at once"),
+        ("at least 65 owns of me", "at least 65 are more than there can be"),
+        ("at least 16 owns me", "at least 16 from whom edges come take 16 names"),
         (
             "some x such that once (me share x and target share x): true",
             "4:34: `once (me share x and target share x)` speaks of 3 people: me, x and target; what leads to `x` may speak of `x` and one other",

@@ -33,7 +33,7 @@ fn random_terms_come_back() {
 #[test]
 fn every_pair_of_operators_comes_back() {
     let leaves = [Entry::Top, Entry::Var(0), Entry::Var(1), Entry::In(1, 1), Entry::Out(0, 2)];
-    let shapes: [fn(usize) -> Entry; 13] = [
+    let shapes: [fn(usize) -> Entry; 15] = [
         Entry::Not,
         |f| Entry::Or(f, 0),
         |f| Entry::Or(f, f),
@@ -47,6 +47,8 @@ fn every_pair_of_operators_comes_back() {
         |f| Entry::Reach(1, f, 0),
         |f| Entry::Reach(2, 0, f),
         |f| Entry::Reach(1, 4, f),
+        |f| Entry::Many(0, f, 1),
+        |f| Entry::Many(1, f, 64),
     ];
     for leaf in 0..leaves.len() {
         for code in 0..shapes.len().pow(3) {
@@ -73,12 +75,13 @@ fn every_pair_of_operators_comes_back() {
 /// Formulas that are huge or deep when they are spelled out.
 #[test]
 fn heavily_shared_and_deep_terms_come_back() {
-    let shapes: [&dyn Fn(usize) -> Entry; 9] = [
+    let shapes: [&dyn Fn(usize) -> Entry; 10] = [
         &|f| Entry::Or(f, f),
         &|f| Entry::Or(f, f - 1),
         &Entry::Not,
         &|f| Entry::Out(0, f),
         &|f| Entry::Reach(1 + f % 3, 0, f),
+        &|f| Entry::Many(f % 2, f, 1 + f % 64),
         &|f| if f % 2 == 0 { Entry::Not(f) } else { Entry::Or(f, f) },
         &|f| if f % 2 == 0 { Entry::Bind(1 + f % 7, f) } else { Entry::Or(f, f - 1) },
         &|f| if f % 3 == 0 { Entry::At(f % 3, f) } else { Entry::In(1, f) },

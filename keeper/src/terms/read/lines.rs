@@ -178,6 +178,7 @@ impl Reader {
             Field::BoundVariable => (1..VARIABLES).contains(&value),
             Field::Label => value < self.terms.relations + self.terms.events,
             Field::Entry => true,
+            Field::Count => (1..=MOST_COUNTED).contains(&value),
         }
     }
 

@@ -98,6 +98,9 @@ impl<'a> Teller<'a> {
             Entry::Or(f, g) => Kind::Or(self.part(f, &inner), self.part(g, &inner)),
             Entry::Out(label, f) => self.neighbour(Quantifier::Some, label, true, f, place),
             Entry::In(label, f) => self.neighbour(Quantifier::Some, label, false, f, place),
+            Entry::Many(label, f, count) => {
+                self.neighbour(Quantifier::AtLeast(count), label, true, f, place)
+            }
             Entry::Prev(f) => Kind::Previously(self.part(f, &inner)),
             Entry::Since(f, g) if self.terms.entries[f] == Entry::Top => {
                 Kind::Once(self.part(g, &inner))
@@ -262,7 +265,7 @@ impl<'a> Teller<'a> {
     fn moving(&mut self, x: usize, f: usize, place: &Place) -> Formula {
         let person = self.person(x, place);
         let sentence = match self.terms.entries[f] {
-            Entry::Out(..) | Entry::In(..) | Entry::Var(_) => true,
+            Entry::Out(..) | Entry::In(..) | Entry::Many(..) | Entry::Var(_) => true,
             Entry::Prev(_) | Entry::Since(..) => place.style == Style::Free,
             _ => false,
         };

@@ -4,7 +4,7 @@ use super::super::ast::{Quantifier, Step, Walk};
 use super::super::mistake::Mistake;
 use super::super::said::{conjunction, negated, said, Form, Id, Said, Who};
 use super::{Resolver, Scope};
-use keeper::terms::VARIABLES;
+use keeper::terms::{MOST_COUNTED, VARIABLES};
 
 impl Resolver<'_> {
     pub(super) fn walk(&mut self, walk: &Walk, scope: &mut Scope) -> Result<Said, Mistake> {
@@ -24,6 +24,15 @@ impl Resolver<'_> {
                 let (outwards, body) = (walk.outwards, negated(body));
                 Ok(negated(said(Form::Some { from, label, outwards, name, body })))
             }
+            Quantifier::AtLeast(count) if walk.outwards => {
+                if count > MOST_COUNTED {
+                    let message = format!("at least {count} are more than there can be");
+                    let advice = format!("at most {MOST_COUNTED} can be asked for");
+                    return Err(Mistake::new(walk.label.span, message).advise(advice));
+                }
+                let (name, body) = self.neighbour(walk, scope)?;
+                Ok(said(Form::Many { from, label, count, name, body }))
+            }
             Quantifier::AtLeast(count) if count < VARIABLES => {
                 if from != Who::Here {
                     return self.some(walk, label, from, &[], count, scope);
@@ -34,8 +43,11 @@ impl Resolver<'_> {
                 Ok(said(Form::As { name, wanted: false, body }))
             }
             Quantifier::AtLeast(count) => {
-                let message = format!("at least {count} take {count} names at once");
-                let advice = format!("there are at most {} names at once", VARIABLES - 1);
+                let message = format!("at least {count} from whom edges come take {count} names");
+                let most = VARIABLES - 1;
+                let advice = format!(
+                    "there are at most {most} names at once; edges that lead away can be counted up to {MOST_COUNTED}"
+                );
                 Err(Mistake::new(walk.label.span, message).advise(advice))
             }
         }
@@ -80,7 +92,8 @@ impl Resolver<'_> {
 
     /// The body of a walk, and the number of whom it is said.
     fn neighbour(&mut self, walk: &Walk, scope: &mut Scope) -> Result<(Id, Said), Mistake> {
-        let counted = matches!(walk.quantifier, Quantifier::AtLeast(_));
+        // Those that are told apart by name have a name each.
+        let counted = matches!(walk.quantifier, Quantifier::AtLeast(_)) && !walk.outwards;
         let id = match &walk.name {
             Some(name) if !counted => self.bound(&name.text, scope),
             Some(name) => self.fresh(&name.text),

@@ -2,7 +2,6 @@
 use mathlib.Core.Path.{_≡_, ap, _∙_}
 use mathlib.Core.List.{[]}
 use lib.ListN.{getD}
-use borrow.Author.Tests.{eq-eqb, ne-eqb}
 use Rattle.fields.specs.Split.{split}
 use Rattle.file.specs.Words.{operatorOf}
 use Rattle.file.specs.Line.{entryLine}
@@ -27,11 +26,11 @@ short-entry-line-requires c κs = operator (c .before)
 
 returns : tie.Need-returns
 unfolding entryLine
-returns c = let e = operator (c .before .before) in rw (← e, eq-eqb _ _ (c .before .if1 .taken)) (c .long-entry-line .ensures)
+returns c = let e = operator (c .before .before) in rw (← e, c .before .if1 .taken) (c .long-entry-line .ensures)
 
 returns-2 : tie.Need-returns-2
 unfolding entryLine
-returns-2 c = let e = operator (c .before .before) in rw (← e, ne-eqb _ _ (c .before .if1 .left)) (c .short-entry-line .ensures)
+returns-2 c = let e = operator (c .before .before) in rw (← e, c .before .if1 .left) (c .short-entry-line .ensures)
 
 pub entry-line-spec : {M : Type 1} → statement M
 entry-line-spec =

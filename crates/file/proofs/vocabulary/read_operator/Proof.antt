@@ -71,10 +71,17 @@ slice-aggregate-pick-11 c = search needs
 pick-requires-11 : tie.Need-pick-requires-11
 pick-requires-11 c κs = search needs
 
+slice-aggregate-pick-12 : tie.Need-slice-aggregate-pick-12
+slice-aggregate-pick-12 c = search needs
+
+pick-requires-12 : tie.Need-pick-requires-12
+pick-requires-12 c κs = search needs
+
 returns : tie.Need-returns
 unfolding operatorOf operatorWords
 returns c =
-    let c10 = c .before .before in
+    let c11 = c .before .before in
+    let c10 = c11 .before .before in
     let c9 = c10 .before .before in
     let c8 = c9 .before .before in
     let c7 = c8 .before .before in
@@ -84,7 +91,8 @@ returns c =
     let c3 = c4 .before .before in
     let c2 = c3 .before .before in
     let c1 = c2 .before .before in
-    picked _ _ _ _ (c .pick11 .ensures)
+    picked _ _ _ _ (c .pick12 .ensures)
+    (picked _ _ _ _ (c11 .pick11 .ensures)
     (picked _ _ _ _ (c10 .pick10 .ensures)
     (picked _ _ _ _ (c9 .pick9 .ensures)
     (picked _ _ _ _ (c8 .pick8 .ensures)
@@ -94,7 +102,7 @@ returns c =
     (picked _ _ _ _ (c4 .pick4 .ensures)
     (picked _ _ _ _ (c3 .pick3 .ensures)
     (picked _ _ _ _ (c2 .pick2 .ensures)
-    (picked _ _ _ _ (c1 .pick .ensures) (picked-none _ _)))))))))))
+    (picked _ _ _ _ (c1 .pick .ensures) (picked-none _ _))))))))))))
 
 pub read-operator-spec : {M : Type 1} → statement M
 read-operator-spec =
@@ -122,4 +130,6 @@ read-operator-spec =
     pick-requires-10
     slice-aggregate-pick-11
     pick-requires-11
+    slice-aggregate-pick-12
+    pick-requires-12
     returns)

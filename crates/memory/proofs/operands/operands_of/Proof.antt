@@ -8,27 +8,28 @@ use Rattle.memory.proofs.FreeSets.{each-operator}
 use Rattle.memory.proofs.operands.operands_of.Statement.{statement}
 use Rattle.memory.proofs.operands.operands_of.Tie as tie
 
--- a number that is none of the eleven operators
+-- a number that is none of the twelve operators
 abbrev None : ℕ → Type 0
 None op =
     (op ≡ 0 → ⊥) → (op ≡ 1 → ⊥) → ((op ≡ 2) ⊎ (op ≡ 6) → ⊥) → ((op ≡ 3) ⊎ (op ≡ 7) → ⊥) → (op ≡ 4 → ⊥) → (op ≡ 5 → ⊥) → (op ≡ 8 → ⊥) → (op ≡ 9 → ⊥) →
-    (op ≡ 10 → ⊥) → (unused ≡ firstOperand op) × ((unused ≡ secondOperand op) × (unused ≡ thirdOperand op))
+    (op ≡ 10 → ⊥) → (op ≡ 11 → ⊥) → (unused ≡ firstOperand op) × ((unused ≡ secondOperand op) × (unused ≡ thirdOperand op))
 
 none : (op : ℕ) → None op
 none =
     each-operator None
-    (λ a b c d e f g h i. absurd (a refl))
-    (λ a b c d e f g h i. absurd (b refl))
-    (λ a b c d e f g h i. absurd (c (inl refl)))
-    (λ a b c d e f g h i. absurd (d (inl refl)))
-    (λ a b c d e f g h i. absurd (e refl))
-    (λ a b c d e f g h i. absurd (f refl))
-    (λ a b c d e f g h i. absurd (c (inr refl)))
-    (λ a b c d e f g h i. absurd (d (inr refl)))
-    (λ a b c d e f g h i. absurd (g refl))
-    (λ a b c d e f g h i. absurd (h refl))
-    (λ a b c d e f g h i. absurd (i refl))
-    (λ k a b c d e f g h i. (refl, (refl, refl)))
+    (λ a b c d e f g h i j. absurd (a refl))
+    (λ a b c d e f g h i j. absurd (b refl))
+    (λ a b c d e f g h i j. absurd (c (inl refl)))
+    (λ a b c d e f g h i j. absurd (d (inl refl)))
+    (λ a b c d e f g h i j. absurd (e refl))
+    (λ a b c d e f g h i j. absurd (f refl))
+    (λ a b c d e f g h i j. absurd (c (inr refl)))
+    (λ a b c d e f g h i j. absurd (d (inr refl)))
+    (λ a b c d e f g h i j. absurd (g refl))
+    (λ a b c d e f g h i j. absurd (h refl))
+    (λ a b c d e f g h i j. absurd (i refl))
+    (λ a b c d e f g h i j. absurd (j refl))
+    (λ k a b c d e f g h i j. (refl, (refl, refl)))
 
 returns : tie.Need-returns
 returns c = search needs
@@ -58,10 +59,13 @@ returns-9 : tie.Need-returns-9
 returns-9 c = search needs
 
 returns-10 : tie.Need-returns-10
-returns-10 c =
+returns-10 c = search needs
+
+returns-11 : tie.Need-returns-11
+returns-11 c =
     let r = c .match .rest in
-    none (c .before .args .op) (r .0 .0 .0 .0 .0 .0 .0 .0 .1) (r .0 .0 .0 .0 .0 .0 .0 .1) (r .0 .0 .0 .0 .0 .0 .1) (r .0 .0 .0 .0 .0 .1) (r .0 .0 .0 .0 .1) (r .0 .0 .0 .1) (r .0 .0 .1) (r .0 .1) (r .1)
+    none (c .before .args .op) (r .0 .0 .0 .0 .0 .0 .0 .0 .0 .1) (r .0 .0 .0 .0 .0 .0 .0 .0 .1) (r .0 .0 .0 .0 .0 .0 .0 .1) (r .0 .0 .0 .0 .0 .0 .1) (r .0 .0 .0 .0 .0 .1) (r .0 .0 .0 .0 .1) (r .0 .0 .0 .1) (r .0 .0 .1) (r .0 .1) (r .1)
 
 pub operands-of-spec : {M : Type 1} → statement M
 operands-of-spec =
-    tie.close (tie.spec returns returns-2 returns-3 returns-4 returns-5 returns-6 returns-7 returns-8 returns-9 returns-10)
+    tie.close (tie.spec returns returns-2 returns-3 returns-4 returns-5 returns-6 returns-7 returns-8 returns-9 returns-10 returns-11)

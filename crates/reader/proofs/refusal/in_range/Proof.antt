@@ -22,6 +22,9 @@ is-label-requires c κs = search needs
 enum-told-5 : tie.Need-enum-told-5
 enum-told-5 c = search needs
 
+enum-told-6 : tie.Need-enum-told-6
+enum-told-6 c = search needs
+
 returns : tie.Need-returns
 unfolding inRange
 returns c = rw (c .enum-told .given .1)
@@ -42,6 +45,10 @@ returns-5 : tie.Need-returns-5
 unfolding inRange
 returns-5 c = rw (c .enum-told5 .given .1)
 
+returns-6 : tie.Need-returns-6
+unfolding inRange
+returns-6 c = rw (c .enum-told6 .given .1)
+
 pub in-range-spec : {M : Type 1} → statement M
 in-range-spec =
-    tie.close (tie.spec enum-told enum-told-2 enum-told-3 enum-told-4 is-label-requires enum-told-5 returns returns-2 returns-3 returns-4 returns-5)
+    tie.close (tie.spec enum-told enum-told-2 enum-told-3 enum-told-4 is-label-requires enum-told-5 enum-told-6 returns returns-2 returns-3 returns-4 returns-5 returns-6)

@@ -1,6 +1,5 @@
 -- `writer::print::put_entry` meets its contract: the fields of an F line one after the other, and the line feed.
 use native.Mathlib.Omega.{arith}
-use borrow.Author.Tests.{eq-eqb, ne-eqb}
 use borrow.Author.Needs.{needs}
 use Rattle.file.specs.Line.{fieldsOf}
 use Rattle.fields.proofs.Output.{put-then}
@@ -45,7 +44,7 @@ returns c =
     let f3 = put-next _ _ _ (f2) (c3 .put-field .ensures .0) in
     let f4 = put-next _ _ _ (f3) (c4 .put-field2 .ensures .0) in
     let f5 = put-next _ _ _ (f4) (c5 .put-field3 .ensures .0) in
-    (rw (eq-eqb _ _ (c5 .before .before .if1 .taken)) (put-then f5 (c6 .put-byte .ensures .0 .all (omega arith))), search needs)
+    (rw (c5 .before .before .if1 .taken) (put-then f5 (c6 .put-byte .ensures .0 .all (omega arith))), search needs)
 
 same-length-2 : tie.Need-same-length-2
 same-length-2 c = search needs
@@ -61,7 +60,7 @@ returns-2 c =
     let f2 = put-next _ _ _ (c1 .put-head .ensures .0) (c2 .put-operator-field .ensures .0) in
     let f3 = put-next _ _ _ (f2) (c3 .put-field .ensures .0) in
     let f4 = put-next _ _ _ (f3) (c4 .put-field2 .ensures .0) in
-    (rw (ne-eqb _ _ (c5 .before .before .if1 .left)) (put-then f4 (c5 .put-byte2 .ensures .0 .all (omega arith))), search needs)
+    (rw (c5 .before .before .if1 .left) (put-then f4 (c5 .put-byte2 .ensures .0 .all (omega arith))), search needs)
 
 pub put-entry-spec : {M : Type 1} → statement M
 put-entry-spec =

@@ -9,7 +9,7 @@ use Rattle.writer.proofs.Placed.{operator-short, put-word}
 use Rattle.writer.proofs.vocabulary.put_operator.Statement.{statement}
 use Rattle.writer.proofs.vocabulary.put_operator.Tie as tie
 
-words : split 9 (116 ∷ 111 ∷ 112 ∷ 9 ∷ 118 ∷ 97 ∷ 114 ∷ 9 ∷ 110 ∷ 111 ∷ 116 ∷ 9 ∷ 111 ∷ 114 ∷ 9 ∷ 111 ∷ 117 ∷ 116 ∷ 9 ∷ 105 ∷ 110 ∷ 9 ∷ 112 ∷ 114 ∷ 101 ∷ 118 ∷ 9 ∷ 115 ∷ 105 ∷ 110 ∷ 99 ∷ 101 ∷ 9 ∷ 98 ∷ 105 ∷ 110 ∷ 100 ∷ 9 ∷ 97 ∷ 116 ∷ 9 ∷ 114 ∷ 101 ∷ 97 ∷ 99 ∷ 104 ∷ []) ≡ operatorWords
+words : split 9 (116 ∷ 111 ∷ 112 ∷ 9 ∷ 118 ∷ 97 ∷ 114 ∷ 9 ∷ 110 ∷ 111 ∷ 116 ∷ 9 ∷ 111 ∷ 114 ∷ 9 ∷ 111 ∷ 117 ∷ 116 ∷ 9 ∷ 105 ∷ 110 ∷ 9 ∷ 112 ∷ 114 ∷ 101 ∷ 118 ∷ 9 ∷ 115 ∷ 105 ∷ 110 ∷ 99 ∷ 101 ∷ 9 ∷ 98 ∷ 105 ∷ 110 ∷ 100 ∷ 9 ∷ 97 ∷ 116 ∷ 9 ∷ 114 ∷ 101 ∷ 97 ∷ 99 ∷ 104 ∷ 9 ∷ 109 ∷ 97 ∷ 110 ∷ 121 ∷ []) ≡ operatorWords
 unfolding split operatorWords
 words = refl
 
