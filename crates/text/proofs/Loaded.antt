@@ -1,24 +1,26 @@
--- Lent memory that holds what a book says: through a list of steps, and through storing and loading again into other memory.
-use Prim.Native.Nat.{ℕ, _≤_}
+-- Lent memory that holds what a book says: through a list of steps, and through storing and loading again into other memory. What is loaded again is as good as what was stored,
+-- also where there is no record.
+use Prim.Native.Nat.{ℕ, _≤_, _<_}
 use native.Mathlib.Omega.{arith}
 use mathlib.Core.Path.{_≡_, refl, sym, ap, subst, subst₂, _∙_}
 use mathlib.Core.Bool.{Bool, true, false, cond}
 use mathlib.Core.List.{List, [], _∷_, _++_}
 use lib.Dec.{ltb}
-use lib.ListN.{length, take, drop, length-append}
-use lib.Seq.{take-at}
+use lib.ListN.{length, getD, take, drop, length-append, length-drop, List·getD-append}
+use lib.Seq.{take-at, getD-take, length-take-le}
 use Rattle.theory.specs.Terms.{Terms}
 use Rattle.theory.specs.Moment.{Moment, first}
 use Rattle.theory.specs.Keeper.{Call, Answer, keepAll}
 use Rattle.theory.specs.Tables.{State, opening}
 use Rattle.theory.proofs.Good.{Good}
-use Rattle.theory.proofs.Like.{Alike, alike-sym, alike-trans, good-alike, keepAll-alike, kept-alike}
+use Rattle.theory.proofs.Like.{Alike, alike-sym, alike-trans, keepAll-alike, kept-alike}
 use Rattle.memory.specs.Layout.{termsWords, stateWords, termsOf, stateOf, wordsOf}
 use Rattle.memory.specs.Checks.{goodMemory, goodState}
 use Rattle.memory.specs.Outcome.{Outcome, checks}
 use Rattle.memory.specs.Outcome.Outcome.{passed, failed}
 use Rattle.memory.proofs.Accepted.{good}
 use Rattle.memory.proofs.Inside.{Inside, state-inside}
+use Rattle.memory.proofs.Front.{good-cong}
 use Rattle.memory.proofs.Outcomes.{Checked, passed-checked}
 use Rattle.monitor.specs.Agreement.{LentStep, fedSteps, serveSteps, Agrees}
 use Rattle.monitor.proofs.Held.{Held, held-words, agrees}
@@ -27,6 +29,7 @@ use Rattle.file.specs.File.{File}
 use Rattle.file.proofs.Accepted.{Accepted, accepted-good}
 use Rattle.reader.specs.Memory.{memoryOf}
 use Rattle.reader.specs.Read.{readTerms}
+use Rattle.reader.proofs.StateMemory.{state-alike as good-alike}
 use Rattle.reader.proofs.TermsMemory.{length-memory, memory-alike, memory-good}
 use Rattle.writer.specs.Write.{Writing, storedText, storeGives, storeLeaves, fitted, filledOut}
 use Rattle.writer.specs.Write.Writing.{bytes, unwritten}
@@ -35,6 +38,7 @@ use Rattle.text.specs.Recorded.{Book, laterBook}
 use Rattle.text.proofs.AlikeWords.{agrees-alike, state-alike, inside-alike}
 use Rattle.text.proofs.Tidied.{tidied, tidied-alike}
 use Rattle.text.proofs.Yields.{read-terms}
+use Rattle.text.proofs.Twins.{Twins}
 use Rattle.text.proofs.Reloaded.{Reloaded, reloaded, reread-stored-memory, named-words}
 
 -- Lent memory that holds what the book says: the terms m, and the state s, which was m₀ when it was lent.
@@ -91,7 +95,8 @@ module _ (m s out : List ℕ) (n : ℕ) (e : storeGives m s out ≡ bytes n) whe
       ap (λ w. take n (filledOut (storedText m s) out w)) e
       ∙ take-at (storedText m s) (drop (length (storedText m s)) out) n (passed-so .1)
 
-  module _ (B : Book) (m₀ : List ℕ) (sl : stateWords ≤ length m₀) (l : Loaded B m₀ m s) (terms state : List ℕ) (tl' : termsWords ≤ length terms) (sl' : stateWords ≤ length state) where
+  -- into any memory
+  module _ (terms state : List ℕ) (tl' : termsWords ≤ length terms) (sl' : stateWords ≤ length state) where
     checked : Checked m s
     checked = passed-checked m s (passed-so .0)
 
@@ -102,14 +107,14 @@ module _ (m s out : List ℕ) (n : ℕ) (e : storeGives m s out ≡ bytes n) whe
     m' = take termsWords m ++ drop termsWords terms
 
     f : File
-    f = reloaded m s (l .long) (checked .long-state) (checked .good-terms) (checked .good-state) .0
+    f = reloaded m s (checked .long-terms) (checked .long-state) (checked .good-terms) (checked .good-state) .0
 
     r : Reloaded m s f
     unfolding f
-    r = reloaded m s (l .long) (checked .long-state) (checked .good-terms) (checked .good-state) .1
+    r = reloaded m s (checked .long-terms) (checked .long-state) (checked .good-terms) (checked .good-state) .1
 
     again : (readTerms (storedText m s) terms state ≡ m') × (readState (storedText m s) terms state ≡ take stateWords s ++ drop stateWords state)
-    again = reread-stored-memory m s (l .long) (checked .long-state) (checked .good-terms) (checked .good-state) terms state tl' sl'
+    again = reread-stored-memory m s (checked .long-terms) (checked .long-state) (checked .good-terms) (checked .good-state) terms state tl' sl'
 
     filled-is : memoryOf (f .terms) ++ drop termsWords terms ≡ m'
     filled-is = sym (read-terms (storedText m s) f (r .accepts) terms state tl' sl') ∙ again .0
@@ -125,15 +130,42 @@ module _ (m s out : List ℕ) (n : ℕ) (e : storeGives m s out ≡ bytes n) whe
         alike-trans (tidied-alike U) (subst₂ (λ (T : Terms) (w : List ℕ). Alike T (termsOf w)) (r .terms-are) filled-is
         (memory-alike (f .terms) (accepts .good) (accepts .tidy) (drop termsWords terms)))
 
-    pub loaded-again : Loaded B state (readTerms (storedText m s) terms state) (readState (storedText m s) terms state)
-    loaded-again = subst₂ (Loaded B state) (sym (again .0)) (sym (again .1)) (record {
-      good-terms = l .good-terms;
-      like = alike-trans (l .like) like';
-      long = omega (arith, ap length filled-is, length-append (memoryOf (f .terms)) (drop termsWords terms), length-memory (f .terms));
-      good-memory = good';
-      held = subst (λ (w : List ℕ). Held (termsOf m') (good m' good') state (w ++ drop stateWords state) (B .moments))
-          (sym (state-alike U (termsOf m') like' (stateOf s)) ∙ named-words U s (checked .long-state) (checked .good-state))
-          (held-words (termsOf m') (good m' good') state state sl' refl refl (stateOf s) (B .moments)
-          (kept-alike U (termsOf m') like' (stateOf s) (B .moments) (l .held .kept))
-          (inside-alike U (termsOf m') like' (stateOf s .now) (state-inside U s (checked .good-state))));
+    abbrev s' : List ℕ
+    s' = take stateWords s ++ drop stateWords state
+
+    long' : termsWords ≤ length m'
+    long' = omega (arith, ap length filled-is, length-append (memoryOf (f .terms)) (drop termsWords terms), length-memory (f .terms))
+
+    words' : (i : ℕ) → i < stateWords → getD s i 0 ≡ getD s' i 0
+    words' i h =
+        sym (getD-take stateWords s i 0 h)
+        ∙ sym (List·getD-append (take stateWords s) (drop stateWords state) 0 i (omega (arith, length-take-le stateWords s (checked .long-state))))
+
+    -- The memory has the same named words, and passes the checks.
+    pub loaded-twins : Twins m s (readTerms (storedText m s) terms state) (readState (storedText m s) terms state)
+    loaded-twins = subst₂ (Twins m s) (sym (again .0)) (sym (again .1)) (record {
+      checked = checked;
+      other = record {
+        long-terms = long';
+        long-state = omega (arith, length-append (take stateWords s) (drop stateWords state), length-take-le stateWords s (checked .long-state), length-drop stateWords state);
+        good-terms = good';
+        good-state = sym (good-alike U (termsOf m') like' s') ∙ sym (good-cong s s' words' U (good m (checked .good-terms))) ∙ checked .good-state;
+      };
+      like = like';
+      words = words';
     })
+
+    -- So it holds what the first one's record says.
+    module _ (B : Book) (m₀ : List ℕ) (l : Loaded B m₀ m s) where
+      pub loaded-again : Loaded B state (readTerms (storedText m s) terms state) (readState (storedText m s) terms state)
+      loaded-again = subst₂ (Loaded B state) (sym (again .0)) (sym (again .1)) (record {
+        good-terms = l .good-terms;
+        like = alike-trans (l .like) like';
+        long = long';
+        good-memory = good';
+        held = subst (λ (w : List ℕ). Held (termsOf m') (good m' good') state (w ++ drop stateWords state) (B .moments))
+            (sym (state-alike U (termsOf m') like' (stateOf s)) ∙ named-words U s (checked .long-state) (checked .good-state))
+            (held-words (termsOf m') (good m' good') state state sl' refl refl (stateOf s) (B .moments)
+            (kept-alike U (termsOf m') like' (stateOf s) (B .moments) (l .held .kept))
+            (inside-alike U (termsOf m') like' (stateOf s .now) (state-inside U s (checked .good-state))));
+      })

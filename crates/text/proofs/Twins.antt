@@ -1,0 +1,185 @@
+-- Two memories that pass the checks, with alike terms and the same named words of state, answer alike whatever is asked of them, also where no record is.
+use Prim.Native.Nat.{ℕ, _+_, _<_}
+use native.Mathlib.Omega.{arith}
+use mathlib.Core.Path.{_≡_, refl, sym, ap, ap₂, subst, _∙_}
+use mathlib.Core.Bool.{Bool, true, false, cond, not, _&&_}
+use mathlib.Core.List.{List, [], _∷_, _++_}
+use lib.Dec.{ltb}
+use lib.ListN.{length, getD, drop, replicate, List·getD-append}
+use borrow.Author.Tests.{le-ltb, ltb-true}
+use Rattle.sets.proofs.Finite.{and-left}
+use Rattle.theory.specs.Terms.{Terms}
+use Rattle.theory.specs.Keeper.{Answer}
+use Rattle.theory.specs.Keeper.Verdict.{grant, deny}
+use Rattle.theory.specs.Keeper.Answer.{decided, refused}
+use Rattle.theory.specs.Limits.{scratchWords}
+use Rattle.theory.specs.Tables.{State, decideNow, advance}
+use Rattle.theory.proofs.Like.{Alike}
+use Rattle.memory.specs.Layout.{termsWords, stateWords, termsOf, stateOf, wordsOf}
+use Rattle.memory.specs.Outcome.{Outcome, hasPassed, checks}
+use Rattle.memory.specs.Outcome.Outcome.{passed, failed}
+use Rattle.memory.proofs.Accepted.{good}
+use Rattle.memory.proofs.Front.{state-cong}
+use Rattle.memory.proofs.Words.{length-words}
+use Rattle.memory.proofs.Outcomes.{Checked, check-passed}
+use Rattle.monitor.specs.Monitor.{named, answer, granted, stateAfter, scratchAfter}
+use Rattle.monitor.specs.SetList.{Run, filled, singly, listChecks, listing, listed, left}
+use Rattle.monitor.specs.SetList.Listing.{counted}
+use Rattle.monitor.specs.Agreement.{LentCall, LentStep, leaves, answersIn, serveSteps}
+use Rattle.monitor.specs.Agreement.LentStep.{once, setList}
+use Rattle.monitor.specs.declared.set_list.Record.{Record}
+use Rattle.monitor.proofs.Answers.{granted-says}
+use Rattle.monitor.proofs.Singly.{after-checked}
+use Rattle.text.proofs.AlikeWords.{state-alike}
+use Rattle.text.proofs.AlikeMoments.{decide-alike, advance-alike}
+
+pub record Twins (m s m' s' : List ℕ) : Type 0 where
+  pub checked : Checked m s
+  pub other : Checked m' s'
+  pub like : Alike (termsOf m) (termsOf m')
+  pub words : (i : ℕ) → i < stateWords → getD s i 0 ≡ getD s' i 0
+
+-- ---- one call
+
+module _ (sc : List ℕ) (j u v : ℕ) where
+  -- what memory that passes the checks answers
+  abbrev given : Terms → State → Answer
+  given T S = cond (ltb (length sc) scratchWords) (refused 6 0) (cond (not (named T j u v)) (refused 9 0) (decided (cond (decideNow T S j u v) grant deny)))
+
+  answer-is : (m s : List ℕ) → Checked m s → answer m s sc j u v ≡ given (termsOf m) (stateOf s)
+  unfolding answer
+  answer-is m s c = rw (le-ltb (length m) termsWords (c .long-terms), le-ltb (length s) stateWords (c .long-state), c .good-terms, c .good-state)
+
+  module _ (m s m' s' : List ℕ) (t : Twins m s m' s') where
+    abbrev T : Terms
+    T = termsOf m
+
+    abbrev U : Terms
+    U = termsOf m'
+
+    same-state : stateOf s ≡ stateOf s'
+    same-state = state-cong s s' (t .words)
+
+    same-named : named T j u v ≡ named U j u v
+    same-named = λ d. ltb j (t .like .events d) && (ltb u (t .like .members d) && ltb v (t .like .members d))
+
+    event-known : named T j u v ≡ true → j < T .events
+    event-known n = ltb-true j (T .events) (and-left (ltb j (T .events)) _ n)
+
+    same-decision : named T j u v ≡ true → decideNow T (stateOf s) j u v ≡ decideNow U (stateOf s') j u v
+    same-decision n =
+        decide-alike T U (t .like) (good m (t .checked .good-terms)) (stateOf s) j u v (event-known n) ∙ ap (λ S. decideNow U S j u v) same-state
+
+    same-given : (b : Bool) → named T j u v ≡ b → given T (stateOf s) ≡ given U (stateOf s')
+    same-given true n =
+        λ d. cond (ltb (length sc) scratchWords) (refused 6 0) (cond (not (same-named d)) (refused 9 0) (decided (cond (same-decision n d) grant deny)))
+    same-given false n = let k : named U j u v ≡ false = sym same-named ∙ n in rw (n, k)
+
+    pub same-answer : answer m s sc j u v ≡ answer m' s' sc j u v
+    same-answer = answer-is m s (t .checked) ∙ same-given (named T j u v) refl ∙ sym (answer-is m' s' (t .other))
+
+    pub same-scratch : scratchAfter m s sc j u v ≡ scratchAfter m' s' sc j u v
+    unfolding scratchAfter
+    same-scratch = ap (λ (x : Answer). cond (granted x) (replicate scratchWords 0 ++ drop scratchWords sc) sc) same-answer
+
+    moved : named T j u v ≡ true → wordsOf T (advance T (stateOf s) j u v) ≡ wordsOf U (advance U (stateOf s') j u v)
+    moved n =
+        state-alike T U (t .like) (advance T (stateOf s) j u v)
+        ∙ ap (wordsOf U) (advance-alike T U (t .like) (good m (t .checked .good-terms)) (stateOf s) j u v (event-known n) ∙ ap (λ S. advance U S j u v) same-state)
+
+    same-words : (i : ℕ) → i < stateWords → getD (stateAfter m s sc j u v) i 0 ≡ getD (stateAfter m' s' sc j u v) i 0
+    unfolding stateAfter
+    same-words i l = rw (sym same-answer) (go (granted (answer m s sc j u v)) refl)
+      where
+        go : (b : Bool) → granted (answer m s sc j u v) ≡ b →
+            getD (cond b (wordsOf T (advance T (stateOf s) j u v) ++ drop stateWords s) s) i 0
+            ≡ getD (cond b (wordsOf U (advance U (stateOf s') j u v) ++ drop stateWords s') s') i 0
+        go true e =
+            let S : State = advance T (stateOf s) j u v in
+            let S' : State = advance U (stateOf s') j u v in
+            List·getD-append (wordsOf T S) (drop stateWords s) 0 i (omega (arith, length-words T S))
+            ∙ ap (λ w. getD w i 0) (moved (granted-says m s sc j u v e .names))
+            ∙ sym (List·getD-append (wordsOf U S') (drop stateWords s') 0 i (omega (arith, length-words U S')))
+        go false e = t .words i l
+
+    pub after-twins : Twins m (stateAfter m s sc j u v) m' (stateAfter m' s' sc j u v)
+    after-twins = record {
+      checked = after-checked m s sc j u v (t .checked);
+      other = after-checked m' s' sc j u v (t .other);
+      like = t .like;
+      words = same-words;
+    }
+
+-- ---- set lists
+
+module _ (m m' : List ℕ) where
+  -- records, count and scratch are the same, and the states are twins
+  pub record SameRun (x y : Run) : Type 0 where
+    pub records : x .records ≡ y .records
+    pub grants : x .grants ≡ y .grants
+    pub states : Twins m (x .state) m' (y .state)
+    pub scratch : x .scratch ≡ y .scratch
+
+  same-run : (rs : List Record) (s s' sc : List ℕ) → Twins m s m' s' → SameRun (singly m s sc rs) (singly m' s' sc rs)
+  unfolding singly
+  same-run [] s s' sc t = record { records = refl; grants = refl; states = t; scratch = refl }
+  same-run (r ∷ rs) s s' sc t =
+      let j : ℕ = r .event in
+      let u : ℕ = r .from in
+      let v : ℕ = r .to in
+      let a : answer m s sc j u v ≡ answer m' s' sc j u v = same-answer sc j u v m s m' s' t in
+      let x : List ℕ = stateAfter m s sc j u v in
+      let y : List ℕ = stateAfter m' s' sc j u v in
+      let later : SameRun (singly m x (scratchAfter m s sc j u v) rs) (singly m' y (scratchAfter m' s' sc j u v) rs) =
+      subst (λ z. SameRun (singly m x (scratchAfter m s sc j u v) rs) (singly m' y z rs)) (same-scratch sc j u v m s m' s' t)
+      (same-run rs x y (scratchAfter m s sc j u v) (after-twins sc j u v m s m' s' t)) in
+      record {
+        records = ap₂ {C = List Record} (λ b qs. filled r b ∷ qs) a (later .records);
+        grants = ap₂ {C = ℕ} (λ b n. cond (granted b) 1 0 + n) a (later .grants);
+        states = later .states;
+        scratch = later .scratch;
+      }
+
+  -- what a set list answers, and the states that it leaves
+  pub same-list : (sc : List ℕ) (rs : List Record) (s s' : List ℕ) → Twins m s m' s' →
+      (answersIn (listed m s sc rs) (left m s sc rs .records) ≡ answersIn (listed m' s' sc rs) (left m' s' sc rs .records))
+      × Twins m (left m s sc rs .state) m' (left m' s' sc rs .state)
+  unfolding listed left listChecks
+  same-list sc rs s s' t =
+      rw (sym (check-passed m s (t .checked)), sym (check-passed m' s' (t .other))) (go (ltb (length sc) scratchWords))
+    where
+      r : SameRun (singly m s sc rs) (singly m' s' sc rs)
+      r = same-run rs s s' sc t
+
+      -- what the checks give where the scratch is short, and where it is not
+      check : Bool → Outcome
+      check b = cond b (failed 6 0) passed
+
+      after : (m s : List ℕ) → Bool → Run
+      after m s b = cond (hasPassed (check b)) (singly m s sc rs) (record { records = rs; grants = 0; state = s; scratch = sc })
+
+      go : (b : Bool) →
+          (answersIn (listing (check b) (singly m s sc rs .grants)) (after m s b .records)
+          ≡ answersIn (listing (check b) (singly m' s' sc rs .grants)) (after m' s' b .records))
+          × Twins m (after m s b .state) m' (after m' s' b .state)
+      go true = (refl, t)
+      go false = (ap₂ {C = List Answer} (λ n qs. answersIn (counted n) qs) (r .grants) (r .records), r .states)
+
+-- ---- any list of steps
+
+module _ (m m' : List ℕ) where
+  leaves-twins : (c : LentCall) (s s' : List ℕ) → Twins m s m' s' → Twins m (leaves m s c) m' (leaves m' s' c)
+  leaves-twins c s s' t = go (c .look)
+    where
+      go : (l : Bool) → Twins m (cond l s (stateAfter m s (c .scratch) (c .event) (c .from) (c .to))) m' (cond l s' (stateAfter m' s' (c .scratch) (c .event) (c .from) (c .to)))
+      go true = t
+      go false = after-twins (c .scratch) (c .event) (c .from) (c .to) m s m' s' t
+
+  pub same-steps : (ss : List LentStep) (s s' : List ℕ) → Twins m s m' s' → serveSteps m s ss .0 ≡ serveSteps m' s' ss .0
+  unfolding serveSteps
+  same-steps [] s s' t = refl
+  same-steps (once c ∷ ss) s s' t =
+      ap₂ _∷_ (same-answer (c .scratch) (c .event) (c .from) (c .to) m s m' s' t) (same-steps ss (leaves m s c) (leaves m' s' c) (leaves-twins c s s' t))
+  same-steps (setList sc rs ∷ ss) s s' t =
+      let r = same-list m m' sc rs s s' t in
+      ap₂ _++_ (r .0) (same-steps ss (left m s sc rs .state) (left m' s' sc rs .state) (r .1))
