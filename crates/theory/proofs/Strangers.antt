@@ -1,4 +1,4 @@
--- Strangers have no say: two runs over the same terms without reach, that differ only outside S, answer every call inside S alike (document 02, Q-8).
+-- Strangers have no say: two runs over the same terms without reach, that differ only outside S, answer every call inside S alike (docs/SCOPE.md, Strangers).
 use Prim.Native.Nat.{ℕ, zero, suc}
 use mathlib.Core.Path.{_≡_, refl, sym, ap, _∙_}
 use mathlib.Core.Logic.{_⊎_, inl, inr}
@@ -51,7 +51,7 @@ module _ (T : Terms) (good : Good T) (without : WithoutReach T) (S : Circle) (c�
     strangers-first p q cs ds pair =
         strangers-from cs ds (first R ∷ []) (first Q ∷ []) (more (agree-first T S R Q agree) done) (separate-start T S R p) (separate-start T S Q q) pair
 
-    -- Document 02, Q-8: in both runs no edge at any moment joins S to the rest, and the first relations inside S agree. Then call number n, a request or a
+    -- As docs/SCOPE.md, Strangers, has it: in both runs no edge at any moment joins S to the rest, and the first relations inside S agree. Then call number n, a request or a
     -- look inside S, gets the same answer in both. (Past the ends of the lists getD gives c₀ and a₀, whatever they are.)
     pub strangers : (cs ds : List Call) → Separate T S (keeper T R cs .1) → Separate T S (keeper T Q ds .1) → Paired T S (first R ∷ []) (first Q ∷ []) cs ds →
         (n : ℕ) → Inside S (getD cs n c₀) → getD (keeper T R cs .0) n a₀ ≡ getD (keeper T Q ds .0) n a₀
