@@ -11,7 +11,7 @@ use Rattle.theory.specs.Terms.{Terms}
 use Rattle.theory.specs.Moment.{Relations, Moment}
 use Rattle.theory.specs.Keeper.{Call, recordOf, judge, keep}
 
--- A set of members. Numbers that are no members are outside, unless it says otherwise.
+-- A set of members. What it says of numbers from N on makes no difference: a call that names one is refused.
 abbrev pub Circle : Type 0
 Circle = (member : ℕ) → Bool
 
