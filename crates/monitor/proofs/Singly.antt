@@ -164,14 +164,14 @@ module _ (t : List ℕ) where
       step-kept n q d z y w =
           let e = judged t st sc j u v (p .long-scratch) checked n q d in
           let g = sym (ap (moves (termsOf t .kept j)) e) ∙ sym y ∙ z in
-          (ap numberOf e, state-moved t st sc j u v g (ap granted e) (w .0), scratch-cleared t st sc j u v g (w .1))
+          (ap numberOf e, state-moved t st sc j u v g e refl (w .0), scratch-cleared t st sc j u v g (w .1))
 
       pub step-granted : named (termsOf t) j u v ≡ true → {r : Bool} → r ≡ true → r ≡ decideNow (termsOf t) (stateOf st) j u v → {st′ sc′ : List ℕ} →
           Moved true st′ sc′ → AsRequest 1 st′ sc′
       step-granted n q d w =
           let e = judged t st sc j u v (p .long-scratch) checked n q d in
           let g = sym (ap (moves (termsOf t .kept j)) e) in
-          (ap numberOf e, state-moved t st sc j u v g (ap granted e) (w .0), scratch-cleared t st sc j u v g (w .1))
+          (ap numberOf e, state-moved t st sc j u v g e refl (w .0), scratch-cleared t st sc j u v g (w .1))
 
     -- so a request leaves memory that has passed the checks as memory that passes them
     pub after-checked : Checked t st → Checked t (stateAfter t st sc j u v)
