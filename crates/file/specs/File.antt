@@ -12,7 +12,7 @@ use Rattle.file.specs.declared.line.Line.{Line}
 use Rattle.file.specs.declared.line.Line.the-variants.{Members, Labels, Entry, Policy, Effect, Edge, Form, TableBit, EventEdge, Mark, Malformed}
 
 -- What the lines so far have said. It is the stored form if it began with an S line. The phase is the number of the last kind: 0 none or S, 1 M, 2 L, 3 F,
--- 4 P or K, 5 E, 6 G, 7 T, 8 V. The last event marked as kept is below marks. The last edge or bit of a table is relation (or table), from, to.
+-- 4 P or K, 5 E, 6 G, 7 T, 8 V. Marks is one past the last event marked as kept. The last edge or bit of a table is relation (or table), from, to.
 pub record File : Type 0 where
   pub stored : Bool
   pub phase : ℕ
@@ -114,7 +114,7 @@ withMark T j = record {
 abbrev pub withBit : ((k a b : ℕ) → Bool) → (k a b : ℕ) → (l c d : ℕ) → Bool
 withBit R k a b l c d = cond (eqb l k && (eqb c a && eqb d b)) true (R l c d)
 
--- A V line names an event that was granted by its number, and one that was denied by its number plus 16: the event, and the event edge.
+-- A V line names a granted event by its number, a denied one by its number plus 16 (docs/SCOPE.md, The stored form): which event it is, and the event edge.
 abbrev pub eventNamed : ℕ → ℕ
 eventNamed j = cond (ltb j maxEvents) j (j - maxEvents)
 

@@ -34,7 +34,7 @@ directionWords =
     ∷ (98 ∷ 97 ∷ 99 ∷ 107 ∷ [])  -- back
     ∷ []
 
--- The kinds of lines: M to G in the order in which they come, then those that only the stored form has, then that of kept events.
+-- The kinds of lines: M to G in the order in which they come, then those that only the stored form has, then K.
 unfoldable pub kindWords : List (List ℕ)
 kindWords =
     (77 ∷ [])  -- M

@@ -1,7 +1,6 @@
 -- `file::line::single_line` meets its contract: the first test that fails makes the line malformed.
 use Prim.Native.Nat.{ℕ}
 use mathlib.Core.Path.{_≡_, sym, _∙_}
-use mathlib.Core.List.{List}
 use native.Mathlib.Omega.{arith}
 use borrow.Author.Tests.{ne-eqb, eq-eqb}
 use Rattle.fields.specs.Split.{split}
