@@ -11,12 +11,12 @@ use Rattle.theory.specs.Keeper.{Call, Answer, judge, keep, keepAll, keep
 use Rattle.theory.specs.Strangers.{Circle, WithoutReach, Separate, SeparateFirst, AgreeWithin, Inside, SameWithin, BothOutside, Paired}
 use Rattle.theory.proofs.Good.{Good}
 use Rattle.theory.proofs.Separate.{separate-keep, separate-start, separate-began}
-use Rattle.theory.proofs.Alongside.{Alongside, agree-first, alongside-append, alongside-outside, alongside-inside}
-use Rattle.theory.proofs.Alongside.Alongside.{done, more}
+use Rattle.theory.proofs.Parallel.{Parallel, agree-first, parallel-append, parallel-outside, parallel-inside}
+use Rattle.theory.proofs.Parallel.Parallel.{done, more}
 
 module _ (T : Terms) (good : Good T) (without : WithoutReach T) (S : Circle) (c₀ : Call) (a₀ : Answer) where
   -- from any two records that agree inside S and join it to nothing else
-  strangers-from : (cs ds : List Call) (Ms Ns : List Moment) → Alongside T S Ms Ns → Separate T S Ms → Separate T S Ns → Paired T S Ms Ns cs ds →
+  strangers-from : (cs ds : List Call) (Ms Ns : List Moment) → Parallel T S Ms Ns → Separate T S Ms → Separate T S Ns → Paired T S Ms Ns cs ds →
       (n : ℕ) → Inside S (getD cs n c₀) → getD (keepAll T Ms cs .0) n a₀ ≡ getD (keepAll T Ns ds .0) n a₀
   unfolding keepAll keep
   strangers-from [] [] Ms Ns al p q pair n i = refl
@@ -24,7 +24,7 @@ module _ (T : Terms) (good : Good T) (without : WithoutReach T) (S : Circle) (c�
   strangers-from (c ∷ cs) [] Ms Ns al p q pair n i = absurd pair
   strangers-from (c ∷ cs) (d ∷ ds) Ms Ns al p q pair n i =
       by (pair .2) (λ new s t. strangers-from cs ds (keep T Ms c .1) (keep T Ns d .1)
-      (alongside-append T S al new) (separate-keep T S Ms c s p) (separate-keep T S Ns d t q) (pair .3)) n i
+      (parallel-append T S al new) (separate-keep T S Ms c s p) (separate-keep T S Ns d t q) (pair .3)) n i
     where
       As : List Answer
       As = keepAll T (keep T Ms c .1) cs .0
@@ -33,16 +33,16 @@ module _ (T : Terms) (good : Good T) (without : WithoutReach T) (S : Circle) (c�
       Bs = keepAll T (keep T Ns d .1) ds .0
 
       by : SameWithin S c d ⊎ BothOutside T S Ms Ns c d →
-          (Alongside T S (judge T Ms c .1) (judge T Ns d .1) → S (c .from) ≡ S (c .to) → S (d .from) ≡ S (d .to) →
+          (Parallel T S (judge T Ms c .1) (judge T Ns d .1) → S (c .from) ≡ S (c .to) → S (d .from) ≡ S (d .to) →
           (n : ℕ) → Inside S (getD cs n c₀) → getD As n a₀ ≡ getD Bs n a₀) →
           (n : ℕ) → Inside S (getD (c ∷ cs) n c₀) → getD (judge T Ms c .0 ∷ As) n a₀ ≡ getD (judge T Ns d .0 ∷ Bs) n a₀
-      by (inl same) rest zero i = alongside-inside T S Ms Ns al good without p q c d (pair .0) (pair .1) same .0
+      by (inl same) rest zero i = parallel-inside T S Ms Ns al good without p q c d (pair .0) (pair .1) same .0
       by (inl same) rest (suc n) i =
-          rest (alongside-inside T S Ms Ns al good without p q c d (pair .0) (pair .1) same .1) (same .inside .0 ∙ sym (same .inside .1))
+          rest (parallel-inside T S Ms Ns al good without p q c d (pair .0) (pair .1) same .1) (same .inside .0 ∙ sym (same .inside .1))
           (ap S (sym (same .from)) ∙ same .inside .0 ∙ sym (same .inside .1) ∙ ap S (same .to)) n i
       by (inr out) rest zero i = absurd (not-both (S (c .from)) (i .0) (out .left .0))
       by (inr out) rest (suc n) i =
-          rest (alongside-outside T S Ms Ns al c d out) (out .left .0 ∙ sym (out .left .1)) (out .right .0 ∙ sym (out .right .1)) n i
+          rest (parallel-outside T S Ms Ns al c d out) (out .left .0 ∙ sym (out .left .1)) (out .right .0 ∙ sym (out .right .1)) n i
 
   module _ (R Q : Relations) (agree : AgreeWithin T S R Q) where
     -- What a designer can check. No first edge joins S to the rest; that none ever does follows, since the calls of the two lists have their ends on one side.

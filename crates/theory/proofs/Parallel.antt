@@ -67,25 +67,25 @@ module _ (T : Terms) (S : Circle) where
 
 -- ---- records that do
 
-pub data Alongside (T : Terms) (S : Circle) : List Moment → List Moment → Type 0 where
-  done : Alongside T S [] []
-  more : {M N : Moment} {Ms Ns : List Moment} → Agree T S M N → Alongside T S Ms Ns → Alongside T S (M ∷ Ms) (N ∷ Ns)
+pub data Parallel (T : Terms) (S : Circle) : List Moment → List Moment → Type 0 where
+  done : Parallel T S [] []
+  more : {M N : Moment} {Ms Ns : List Moment} → Agree T S M N → Parallel T S Ms Ns → Parallel T S (M ∷ Ms) (N ∷ Ns)
 
 module _ (T : Terms) (S : Circle) where
-  same-length : {Ms Ns : List Moment} → Alongside T S Ms Ns → length Ms ≡ length Ns
+  same-length : {Ms Ns : List Moment} → Parallel T S Ms Ns → length Ms ≡ length Ns
   same-length done = refl
   same-length (more a rest) = ap suc (same-length rest)
 
-  agree-at : (D : Moment) {Ms Ns : List Moment} → Alongside T S Ms Ns → (i : ℕ) → Agree T S (getD Ms i D) (getD Ns i D)
+  agree-at : (D : Moment) {Ms Ns : List Moment} → Parallel T S Ms Ns → (i : ℕ) → Agree T S (getD Ms i D) (getD Ns i D)
   agree-at D done i = λ l a b _ _. refl
   agree-at D (more a rest) zero = a
   agree-at D (more a rest) (suc i) = agree-at D rest i
 
-  pub alongside-append : {Ms Ns As Bs : List Moment} → Alongside T S Ms Ns → Alongside T S As Bs → Alongside T S (Ms ++ As) (Ns ++ Bs)
-  alongside-append done new = new
-  alongside-append (more a rest) new = more a (alongside-append rest new)
+  pub parallel-append : {Ms Ns As Bs : List Moment} → Parallel T S Ms Ns → Parallel T S As Bs → Parallel T S (Ms ++ As) (Ns ++ Bs)
+  parallel-append done new = new
+  parallel-append (more a rest) new = more a (parallel-append rest new)
 
-  module _ (Ms Ns : List Moment) (al : Alongside T S Ms Ns) where
+  module _ (Ms Ns : List Moment) (al : Parallel T S Ms Ns) where
     same-last : last Ms ≡ last Ns
     same-last = ap (λ i. i - 1) (same-length al)
 
@@ -95,13 +95,13 @@ module _ (T : Terms) (S : Circle) where
 
     -- ---- two calls outside S that make a moment in both runs or in neither
 
-    pub alongside-outside : (c d : Call) → BothOutside T S Ms Ns c d → Alongside T S (judge T Ms c .1) (judge T Ns d .1)
-    alongside-outside c d o =
-        subst₂ (λ (r s : Answer × List Moment). Alongside T S (r .1) (s .1)) (sym (judged T Ms c)) (sym (judged T Ns d))
+    pub parallel-outside : (c d : Call) → BothOutside T S Ms Ns c d → Parallel T S (judge T Ms c .1) (judge T Ns d .1)
+    parallel-outside c d o =
+        subst₂ (λ (r s : Answer × List Moment). Parallel T S (r .1) (s .1)) (sym (judged T Ms c)) (sym (judged T Ns d))
         (go (counted T c (granted T Ms c)) (counted T d (granted T Ns d)) (sym (makes-counted T Ms c) ∙ o .both ∙ makes-counted T Ns d))
       where
         go : (x y : Bool) → x ≡ y →
-            Alongside T S (cond x (madeBy T (lastMoment Ms) c (granted T Ms c) ∷ []) []) (cond y (madeBy T (lastMoment Ns) d (granted T Ns d) ∷ []) [])
+            Parallel T S (cond x (madeBy T (lastMoment Ms) c (granted T Ms c) ∷ []) []) (cond y (madeBy T (lastMoment Ns) d (granted T Ns d) ∷ []) [])
         go true true e = more (agree-outside T S (lastMoment Ms) (lastMoment Ns) agree-last c d (o .left) (o .right) (granted T Ms c) (granted T Ns d)) done
         go false false e = done
         go true false e = absurd (true≢false e)
@@ -127,17 +127,17 @@ module _ (T : Terms) (S : Circle) where
       same-granted c u v =
           and-under (not (unnamed T c)) _ _ (λ e. let n = named T c e in policy-within c (n .0) (n .1, u) (n .2, v))
 
-      pub alongside-inside : (c d : Call) → Enough c → Enough d → SameWithin S c d →
-          (judge T Ms c .0 ≡ judge T Ns d .0) × Alongside T S (judge T Ms c .1) (judge T Ns d .1)
-      alongside-inside c d ce de sm =
-          subst₂ (λ (r s : Answer × List Moment). (r .0 ≡ s .0) × Alongside T S (r .1) (s .1)) (sym (judged T Ms c))
+      pub parallel-inside : (c d : Call) → Enough c → Enough d → SameWithin S c d →
+          (judge T Ms c .0 ≡ judge T Ns d .0) × Parallel T S (judge T Ms c .1) (judge T Ns d .1)
+      parallel-inside c d ce de sm =
+          subst₂ (λ (r s : Answer × List Moment). (r .0 ≡ s .0) × Parallel T S (r .1) (s .1)) (sym (judged T Ms c))
           (sym (judged T Ns c) ∙ judge-lent T Ns (sm .look) (sm .event) (sm .from) (sm .to) ce de)
           (go (granted T Ms c) (granted T Ns c) (same-granted c (sm .inside .0) (sm .inside .1)))
         where
-          one : (g x : Bool) → Alongside T S (cond x (madeBy T (lastMoment Ms) c g ∷ []) []) (cond x (madeBy T (lastMoment Ns) c g ∷ []) [])
+          one : (g x : Bool) → Parallel T S (cond x (madeBy T (lastMoment Ms) c g ∷ []) []) (cond x (madeBy T (lastMoment Ns) c g ∷ []) [])
           one g true = more (agree-same T S (lastMoment Ms) (lastMoment Ns) agree-last c g) done
           one g false = done
 
           go : (g h : Bool) → g ≡ h → (answered T c g ≡ answered T c h)
-              × Alongside T S (cond (counted T c g) (madeBy T (lastMoment Ms) c g ∷ []) []) (cond (counted T c h) (madeBy T (lastMoment Ns) c h ∷ []) [])
+              × Parallel T S (cond (counted T c g) (madeBy T (lastMoment Ms) c g ∷ []) []) (cond (counted T c h) (madeBy T (lastMoment Ns) c h ∷ []) [])
           go g h e = rw (sym e) (refl, one g (counted T c g))
