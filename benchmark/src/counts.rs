@@ -81,7 +81,8 @@ fn monitor(members: usize, friends: usize, counted: bool) -> Monitor {
         .collect();
     let policies = vec![entries.len() - 1];
     let effects = vec![Vec::new()];
-    let terms = Terms { members, relations: 1, events: 1, entries, policies, effects, edges };
+    let kept = BTreeSet::new();
+    let terms = Terms { members, relations: 1, events: 1, entries, policies, kept, effects, edges };
     Monitor::read(&terms::write(&terms, &terms.edges)).expect("the terms are accepted")
 }
 

@@ -29,15 +29,18 @@ fn check_terms(terms: &[u16], free: &mut [u16; 256]) -> Option<usize> {
         return None;
     }
     let (entries, rest) = terms[FIRST_ENTRY..].split_at(ENTRY * 256);
-    let (policies, effects) = rest.split_at(16);
-    let past = check_entries(&entries[..ENTRY * count], relations + events, free)?;
+    let (policies, rest) = rest.split_at(16);
+    let (effects, marks) = rest.split_at(12 * 16);
+    let past = check_entries(&entries[..ENTRY * count], relations + 2 * events, free)?;
     let policy = |&entry: &u16| usize::from(entry) < count && free[usize::from(entry)] & !1 == 0;
     let effect = |words: &[u16]| check_effects(words, relations);
     let right = zero(&entries[ENTRY * count..])
         && policies[..events].iter().all(policy)
         && zero(&policies[events..])
         && effects[..12 * events].chunks_exact(12).all(effect)
-        && zero(&effects[12 * events..]);
+        && zero(&effects[12 * events..])
+        && marks[..events].iter().all(|mark| *mark < 2)
+        && zero(&marks[events..]);
     right.then_some(past)
 }
 
@@ -132,6 +135,8 @@ fn names(word: u64, events: usize, members: usize) -> bool {
     let Some(code) = word.checked_sub(1) else {
         return true;
     };
-    let members = members as u64;
-    code / 4_096 < events as u64 && code / 64 % 64 < members && code % 64 < members
+    let (members, number) = (members as u64, code / 4_096);
+    // From 16 on the event was denied.
+    let event = if number < 16 { number } else { number - 16 };
+    event < events as u64 && code / 64 % 64 < members && code % 64 < members
 }

@@ -65,14 +65,15 @@ impl Matrices {
         self.matrices[self.terms.policies[event]][from * self.terms.members + to] == 1
     }
 
-    /// Whether a request is granted; if so, everything is brought up to date.
+    /// Whether a request is granted; if it makes a moment, everything is brought
+    /// up to date.
     pub fn request(&mut self, event: usize, from: usize, to: usize) -> bool {
         let granted = self.look(event, from, to);
-        if granted {
-            if !self.terms.effects[event].is_empty() {
-                self.edges = after_effects(&self.terms, &self.edges, event, from, to);
-            }
-            self.event = Some((event, from, to));
+        if granted && !self.terms.effects[event].is_empty() {
+            self.edges = after_effects(&self.terms, &self.edges, event, from, to);
+        }
+        if granted || self.terms.kept.contains(&event) {
+            self.event = Some(EventEdge { event, from, to, denied: !granted });
             self.link();
             self.update();
         }
@@ -81,13 +82,13 @@ impl Matrices {
 
     /// Lists the edges of each label.
     fn link(&mut self) {
-        let labels = self.terms.relations + self.terms.events;
+        let labels = self.terms.labels();
         self.ahead.resize(labels, vec![Vec::new(); self.terms.members]);
         self.behind.resize(labels, vec![Vec::new(); self.terms.members]);
         for lists in self.ahead.iter_mut().chain(&mut self.behind) {
             lists.iter_mut().for_each(Vec::clear);
         }
-        let fired = self.event.map(|(event, from, to)| (self.terms.relations + event, from, to));
+        let fired = self.event.map(|edge| (edge.label(&self.terms), edge.from, edge.to));
         for &(label, from, to) in self.edges.iter().chain(&fired) {
             self.ahead[label][from].push(to);
             self.behind[label][to].push(from);

@@ -4,6 +4,7 @@ use cuckooormolu::{Event, Member, Monitor};
 use keeper::generate::size::Size;
 use keeper::generate::{formulas, Rng};
 use keeper::terms::{self, Effect, Entry, Terms};
+use std::collections::BTreeSet;
 
 /// Event, initiator, target.
 pub type Request = [usize; 3];
@@ -64,6 +65,7 @@ impl Workload {
             policies: vec![8, 8, 7],
             effects: vec![Vec::new(); 3],
             edges,
+            ..Terms::default()
         };
         Workload::new("preset", terms, ALL_LENGTHS)
     }
@@ -117,16 +119,22 @@ impl Workload {
         policies.extend((0..7).map(|n| 8 * n + 7));
         policies.push(top + 7);
         let edges = (0..8).flat_map(owned).collect();
-        let terms = Terms { members, relations: 8, events: 16, entries, policies, effects, edges };
+        let kept = BTreeSet::new();
+        let terms =
+            Terms { members, relations: 8, events: 16, entries, policies, kept, effects, edges };
         Workload::new("large", terms, ALL_LENGTHS)
     }
 
     /// Generated terms of the largest size, the same formulas for every
     /// number of members: the first that grant a third of random requests and
     /// whose binders don't nest, since 001's algorithm costs a factor of N for
-    /// each level. Entries are shared and nested without measure.
+    /// each level. Entries are shared and nested without measure. No denials are
+    /// kept, so that a record has as many moments as grants.
     pub fn random(members: usize) -> Workload {
-        let made = |seed| formulas::terms(&mut Rng::new(seed), &LARGEST);
+        let made = |seed| Terms {
+            kept: BTreeSet::new(),
+            ..formulas::terms(&mut Rng::new(seed), &LARGEST)
+        };
         let fit = |seed: &u64| {
             let terms = made(*seed);
             terms.entries.len() == 256

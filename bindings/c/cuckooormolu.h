@@ -2,7 +2,7 @@
  * The sharing-terms reference monitor, over memory that the host lends.
  *
  * Machine   x86-64 Linux only: the archive is machine code for it.
- * RAM       terms 2,472 bytes, state 24,584 bytes, scratch 16,384 bytes. The
+ * RAM       terms 2,504 bytes, state 24,584 bytes, scratch 16,384 bytes. The
  *           library allocates nothing and has no state of its own.
  * Stack     measured, not proved: reading takes 198 KiB, writing a terms text
  *           or asking for its size 193 KiB, an opening, look, request or set
@@ -56,19 +56,19 @@ extern "C" {
 #endif
 
 #define CUCKOOORMOLU_VERSION_MAJOR 0
-#define CUCKOOORMOLU_VERSION_MINOR 7
+#define CUCKOOORMOLU_VERSION_MINOR 8
 #define CUCKOOORMOLU_VERSION_PATCH 0
-#define CUCKOOORMOLU_VERSION "0.7.0"
+#define CUCKOOORMOLU_VERSION "0.8.0"
 
 /* The named words of each memory. */
-#define CUCKOOORMOLU_TERMS_WORDS 1236
+#define CUCKOOORMOLU_TERMS_WORDS 1252
 #define CUCKOOORMOLU_STATE_WORDS 3073
 #define CUCKOOORMOLU_SCRATCH_WORDS 2048
 
 /* No text of the old form that is written is longer than this many bytes, and
  * none of the stored form. */
-#define CUCKOOORMOLU_TEXT_BYTES 728029
-#define CUCKOOORMOLU_STORED_BYTES 2169836
+#define CUCKOOORMOLU_TEXT_BYTES 728109
+#define CUCKOOORMOLU_STORED_BYTES 2169916
 
 /* More stack than any call was measured to take. */
 #define CUCKOOORMOLU_STACK_BYTES (512 * 1024)
@@ -165,7 +165,7 @@ CUCKOOORMOLU_ASSERT(offsetof(struct cuckooormolu_record, to) == 8,
 CUCKOOORMOLU_ASSERT(offsetof(struct cuckooormolu_record, answer) == 12,
                     "and last its answer");
 CUCKOOORMOLU_ASSERT(sizeof(size_t) == 8, "lengths and codes have 64 bits");
-CUCKOOORMOLU_ASSERT(sizeof(struct cuckooormolu) == 2472 + 24584 + 16384,
+CUCKOOORMOLU_ASSERT(sizeof(struct cuckooormolu) == 2504 + 24584 + 16384,
                     "no padding between the memories");
 CUCKOOORMOLU_ASSERT(CUCKOOORMOLU_REFUSED_FORM > 0, "no code is 0");
 CUCKOOORMOLU_ASSERT(CUCKOOORMOLU_REFUSED_FRESH < 100,
@@ -437,8 +437,9 @@ cuckooormolu_look(const uint16_t *terms, size_t terms_length,
 
 /*
  * Answers a request. Granted: the state is that of the next moment and the
- * named words of scratch are 0. Denied, or refused with 6, 7, 8 or 9: all
- * memory is as lent.
+ * named words of scratch are 0. Denied: the same, without effects, if the terms
+ * have a K line for the event, else all memory is as lent. Refused with 6, 7, 8
+ * or 9: all memory is as lent.
  */
 CUCKOOORMOLU_USED static inline struct cuckooormolu_result
 cuckooormolu_request(const uint16_t *terms, size_t terms_length,

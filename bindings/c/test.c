@@ -146,6 +146,50 @@ static void counting(void)
     EXPECT(line == 4);
 }
 
+/* Event 0 is never granted, and kept; event 1 is for whoever once asked for
+ * it. */
+static const char tries[] =
+    "M\t3\nL\t1\t2\nF\t0\ttop\t0\t0\nF\t1\tnot\t0\t0\nF\t2\tout\t3\t0\n"
+    "F\t3\tsince\t0\t2\nP\t0\t1\nP\t1\t3\nK\t0\nE\t0\tadd\t0\tfwd\n";
+
+/* A denied request of a kept event makes a moment, and nothing else that is
+ * denied or refused does. */
+static void kept_denials(void)
+{
+    const size_t event_word = CUCKOOORMOLU_STATE_WORDS - 1;
+    size_t line = 77;
+    char faulty[sizeof tries];
+    EXPECT(cuckooormolu_done(
+        cuckooormolu_monitor_read(&m, tries, sizeof tries - 1, NULL).code));
+    memset(m.scratch, 5, sizeof m.scratch);
+    struct cuckooormolu before = m;
+    EXPECT(cuckooormolu_denied(cuckooormolu_monitor_look(&m, 0, 0, 1).code));
+    EXPECT(
+        cuckooormolu_denied(cuckooormolu_monitor_request(&m, 1, 0, 1).code));
+    EXPECT(cuckooormolu_monitor_request(&m, 0, 0, 3).code ==
+           CUCKOOORMOLU_REFUSED_NAME);
+    EXPECT(memcmp(&before, &m, sizeof m) == 0);
+    EXPECT(
+        cuckooormolu_denied(cuckooormolu_monitor_request(&m, 0, 0, 1).code));
+    EXPECT(m.state[event_word] == 1 + 16 * 4096 + 1);
+    EXPECT(m.state[0] == 0);
+    EXPECT(m.scratch[0] == 0);
+    EXPECT(m.scratch[CUCKOOORMOLU_SCRATCH_WORDS - 1] == 0);
+    EXPECT(cuckooormolu_granted(cuckooormolu_monitor_look(&m, 1, 0, 2).code));
+    EXPECT(cuckooormolu_denied(cuckooormolu_monitor_look(&m, 1, 2, 0).code));
+    EXPECT(cuckooormolu_monitor_size(&m, NULL).code ==
+           CUCKOOORMOLU_REFUSED_FRESH);
+    m.state[event_word] = 1 + 18 * 4096;
+    EXPECT(cuckooormolu_monitor_check(&m).code == CUCKOOORMOLU_REFUSED_STATE);
+    m.terms[CUCKOOORMOLU_TERMS_WORDS - 16] = 2;
+    EXPECT(cuckooormolu_monitor_check(&m).code == CUCKOOORMOLU_REFUSED_TERMS);
+    memcpy(faulty, tries, sizeof tries);
+    memcpy(strstr(faulty, "K\t0"), "K\t2", 3);
+    EXPECT(cuckooormolu_monitor_read(&m, faulty, sizeof tries - 1, &line)
+               .code == CUCKOOORMOLU_REFUSED_RANGE);
+    EXPECT(line == 9);
+}
+
 static struct cuckooormolu_record record(uint32_t event, uint32_t from,
                                          uint32_t to)
 {
@@ -354,6 +398,7 @@ int main(void)
     calls();
     reaching();
     counting();
+    kept_denials();
     set_list();
     refused_list();
     storing();

@@ -113,6 +113,20 @@ R 0 0 1' '1 grant
 7 refuse 1
 8 refuse 1
 '
+    expect "a denied try that counts" 'M 2
+L 0 1
+F 0 top 0 0
+F 1 out 1 0
+F 2 since 0 1
+P 0 2
+K 0
+' 'R 0 0 1
+R 0 0 1
+R 0 1 0
+' '1 deny
+2 grant
+3 deny
+'
     expect "no requests" "$preset" '' ''
     expect "refused terms" 'M 3
 L 0 1

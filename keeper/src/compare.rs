@@ -176,16 +176,17 @@ fn record_call(
     let (mut terms, mut state, mut scratch_after) =
         (lent.terms.clone(), lent.state.clone(), scratch.clone());
     let got = other.call(call, &mut terms, &mut state, &mut scratch_after);
+    let before = record.graphs().len();
     let wanted = record.answer(call);
     equal("answer", got, wanted)?;
     same("terms after a call", &terms, &lent.terms)?;
-    if wanted == Answer::Grant && !call.look {
-        same("state after a grant", &state, &over(&lent.state, &record.state_words()))?;
+    if record.graphs().len() > before {
+        same("state after a moment", &state, &over(&lent.state, &record.state_words()))?;
         let zeros = [0; SCRATCH_WORDS];
-        same("scratch after a grant", &scratch_after, &over(&scratch, &zeros))?;
+        same("scratch after a moment", &scratch_after, &over(&scratch, &zeros))?;
     } else {
-        same("state without a grant", &state, &lent.state)?;
-        same("scratch without a grant", &scratch_after, &scratch)?;
+        same("state without a moment", &state, &lent.state)?;
+        same("scratch without a moment", &scratch_after, &scratch)?;
     }
     lent.state = state;
     Ok(())

@@ -2,6 +2,7 @@
 
 pub mod damage;
 pub mod formulas;
+pub mod kept;
 pub mod lines;
 mod patterns;
 pub mod size;

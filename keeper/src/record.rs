@@ -105,11 +105,17 @@ impl Record {
             return Answer::Refused(Refusal::plain(9));
         }
         if !self.permits(event, from, to) {
+            if !look && self.terms.kept.contains(&event) {
+                let edges = self.last().edges.clone();
+                let event = Some(EventEdge::denied(event, from, to));
+                self.graphs.push(Graph { edges, event });
+            }
             return Answer::Deny;
         }
         if !look {
             let edges = after_effects(&self.terms, &self.last().edges, event, from, to);
-            self.graphs.push(Graph { edges, event: Some((event, from, to)) });
+            let event = Some(EventEdge::granted(event, from, to));
+            self.graphs.push(Graph { edges, event });
         }
         Answer::Grant
     }

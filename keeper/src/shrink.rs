@@ -2,7 +2,7 @@
 
 use crate::record::Call;
 use crate::terms::memory::SCRATCH_WORDS;
-use crate::terms::{self, Entry, File, Pair, Past, Terms};
+use crate::terms::{self, Entry, EventEdge, File, Pair, Past, Terms};
 use std::collections::BTreeSet;
 
 /// Drops calls, lines and leading zeros, makes readable terms smaller and calls
@@ -115,6 +115,10 @@ fn candidates(file: &File) -> Vec<File> {
     if past.is_some() {
         all.push(File { terms: terms.clone(), past: None });
     }
+    if let Some(past @ Past { event: Some(edge @ EventEdge { denied: true, .. }), .. }) = past {
+        let event = Some(EventEdge { denied: false, ..*edge });
+        all.push(File { terms: terms.clone(), past: Some(Past { event, ..past.clone() }) });
+    }
     for index in (0..terms.entries.len()).rev() {
         let past = past.map(|past| without_table(terms, past, index));
         all.push(File { terms: without_entry(terms, index), past: past.clone() });
@@ -129,11 +133,10 @@ fn candidates(file: &File) -> Vec<File> {
             all.push(File { terms: other, past });
         }
     }
-    let mut fewer_events = terms.clone();
-    fewer_events.events -= 1;
-    fewer_events.policies.pop();
-    fewer_events.effects.pop();
-    all.push(File { terms: fewer_events, past: past.map(|past| last_event_less(terms, past)) });
+    all.push(File {
+        terms: without_last_event(terms),
+        past: past.map(|past| last_event_less(terms, past)),
+    });
     let mut fewer_members = terms.clone();
     fewer_members.members -= 1;
     fewer_members.edges.retain(|&(_, from, to)| from.max(to) < fewer_members.members);
@@ -156,14 +159,16 @@ fn without_table(terms: &Terms, past: &Past, entry: usize) -> Past {
 /// What had passed, the last event's number being that of the one before.
 fn last_event_less(terms: &Terms, past: &Past) -> Past {
     let last = terms.events.saturating_sub(2);
-    let event = past.event.map(|(event, from, to)| (event.min(last), from, to));
+    let event = past.event.map(|edge| EventEdge { event: edge.event.min(last), ..edge });
     Past { event, ..past.clone() }
 }
 
 /// What had passed, the last member's number being that of the one before.
 fn last_member_less(terms: &Terms, past: &Past) -> Past {
     let last = terms.members.saturating_sub(2);
-    let event = past.event.map(|(event, from, to)| (event, from.min(last), to.min(last)));
+    let less =
+        |edge: EventEdge| EventEdge { from: edge.from.min(last), to: edge.to.min(last), ..edge };
+    let event = past.event.map(less);
     let pairs =
         |table: &BTreeSet<Pair>| table.iter().map(|&(a, b)| (a.min(last), b.min(last))).collect();
     Past { tables: past.tables.iter().map(pairs).collect(), event }
@@ -189,19 +194,36 @@ fn without_entry(terms: &Terms, gone: usize) -> Terms {
     other
 }
 
+/// The labels above one move down by one.
+fn without_label(entries: &mut [Entry], gone: usize) {
+    for entry in entries {
+        *entry = match *entry {
+            Entry::Out(l, f) if l > gone => Entry::Out(l - 1, f),
+            Entry::In(l, f) if l > gone => Entry::In(l - 1, f),
+            Entry::Many(l, f, k) if l > gone => Entry::Many(l - 1, f, k),
+            same => same,
+        };
+    }
+}
+
+/// The terms without the last event. Who spoke of it speaks of the first denied
+/// one, if there is any.
+fn without_last_event(terms: &Terms) -> Terms {
+    let mut other = terms.clone();
+    other.events -= 1;
+    other.policies.pop();
+    other.effects.pop();
+    other.kept.remove(&other.events);
+    without_label(&mut other.entries, other.relations + other.events);
+    other
+}
+
 /// The terms without the last relation; event labels move down by one.
 fn without_last_relation(terms: &Terms) -> Terms {
     let mut other = terms.clone();
     other.relations -= 1;
     let last = other.relations;
-    for entry in &mut other.entries {
-        *entry = match *entry {
-            Entry::Out(l, f) if l > last => Entry::Out(l - 1, f),
-            Entry::In(l, f) if l > last => Entry::In(l - 1, f),
-            Entry::Many(l, f, k) if l > last => Entry::Many(l - 1, f, k),
-            same => same,
-        };
-    }
+    without_label(&mut other.entries, last);
     for effects in &mut other.effects {
         effects.retain(|effect| effect.relation < last);
     }

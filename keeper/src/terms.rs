@@ -1,5 +1,6 @@
 //! Terms as plain values.
 
+pub mod event;
 pub mod file;
 pub mod memory;
 pub mod normal;
@@ -8,6 +9,7 @@ pub mod write;
 
 use std::collections::BTreeSet;
 
+pub use event::EventEdge;
 pub use file::{File, Past, Tables};
 pub use normal::normal;
 pub use read::read;
@@ -25,9 +27,6 @@ pub const MOST_COUNTED: usize = 64;
 
 /// An edge under a relation: relation, from, to.
 pub type Edge = (usize, usize, usize);
-
-/// An event edge: event, from, to.
-pub type EventEdge = (usize, usize, usize);
 
 /// A set bit of a table: at which member, and for whom the variable stands.
 pub type Pair = (usize, usize);
@@ -211,6 +210,8 @@ pub struct Terms {
     pub events: usize,
     pub entries: Vec<Entry>,
     pub policies: Vec<usize>,
+    /// The events whose denied requests make a moment.
+    pub kept: BTreeSet<usize>,
     /// One list for each event.
     pub effects: Vec<Vec<Effect>>,
     pub edges: BTreeSet<Edge>,
@@ -220,6 +221,12 @@ impl Terms {
     /// Whether there are such an event and two such members.
     pub fn has(&self, event: usize, from: usize, to: usize) -> bool {
         event < self.events && from.max(to) < self.members
+    }
+
+    /// How many labels there are: the relations, the events, and the events
+    /// once more for their denied requests.
+    pub fn labels(&self) -> usize {
+        self.relations + 2 * self.events
     }
 
     /// The past-time entries in entry order: table t belongs to the t-th.

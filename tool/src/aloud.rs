@@ -33,6 +33,9 @@ use words::{full, letters, Words};
 /// Lines of text are broken before this column.
 const WIDTH: usize = 110;
 
+/// What is said of an event that is kept.
+const KEPT: &str = "If you are denied, the try makes a moment all the same.";
+
 /// A sentence; what is under its first line, if anything, is an outline.
 #[derive(Clone, Debug, PartialEq, Eq)]
 pub struct Sentence {
@@ -112,6 +115,8 @@ pub struct Spoken {
     pub event: usize,
     pub policy: Sentence,
     pub effects: Option<Sentence>,
+    /// That a denied try makes a moment, where it does.
+    pub kept: Option<Sentence>,
 }
 
 /// All that is read aloud of some terms.
@@ -151,7 +156,8 @@ impl Aloud {
                 }
             };
             let effects = effects(&speaker, &terms.effects[event]);
-            events.push(Spoken { event, policy, effects });
+            let kept = terms.kept.contains(&event).then(|| Sentence::plain(KEPT.to_string()));
+            events.push(Spoken { event, policy, effects, kept });
         }
         let stored = record.and_then(|record| stored::stored(record, &forms, &mut speaker, names));
         let mut clauses = Vec::new();
@@ -177,8 +183,8 @@ impl Aloud {
         let mut paragraphs = Vec::new();
         for spoken in &self.events {
             let mut text = spoken.policy.wrapped();
-            if let Some(effects) = &spoken.effects {
-                text.push_str(&effects.wrapped());
+            for more in spoken.effects.iter().chain(&spoken.kept) {
+                text.push_str(&more.wrapped());
             }
             paragraphs.push(text);
         }

@@ -5,7 +5,7 @@ use crate::stop::Stop;
 use keeper::expect;
 use keeper::record::{Graph, Record};
 use keeper::terms::memory::terms_words;
-use keeper::terms::{self, Refusal, Terms};
+use keeper::terms::{self, EventEdge, Refusal, Terms};
 use std::fmt;
 
 /// What a request or a look is answered.
@@ -69,7 +69,8 @@ impl Both {
         })
     }
 
-    /// Answers a request; a grant makes the next moment.
+    /// Answers a request; a grant makes the next moment, and so does a denial of
+    /// a kept event.
     pub fn request(&mut self, event: usize, from: usize, to: usize) -> Result<Verdict, Stop> {
         let request = named(event, from, to);
         let proved = verdict(request.and_then(|request| self.monitor.request(request)));
@@ -142,7 +143,11 @@ impl Both {
 
     fn relations_agree(&self) -> bool {
         let (state, graph) = (self.monitor.state(), self.record.last());
-        let event = state.event().map(|edge| (edge.event.into(), edge.from.into(), edge.to.into()));
+        let event = state.event().map(|edge| {
+            let proved::Request { event, from, to } = edge.request;
+            let denied = edge.answer == proved::Answer::Deny;
+            EventEdge { event: event.into(), from: from.into(), to: to.into(), denied }
+        });
         let edges =
             state.edges().map(|edge| (edge.relation.into(), edge.from.into(), edge.to.into()));
         event == graph.event && edges.eq(graph.edges.iter().copied())

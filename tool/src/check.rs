@@ -6,7 +6,7 @@
 //!
 //! * `fault`: a cause with its place, and how both are shown
 //! * `reader`: the lines in turn; `line`: what a line is made of
-//! * `entries`, `others`, `stored`: F lines; M, L, P, E and G lines; S, T and V lines
+//! * `entries`, `others`, `stored`: F lines; M, L, P, K, E and G lines; S, T and V lines
 //! * `advice`: what would be right
 //! * `warnings`, `tried`, `long`: what is accepted and yet seldom meant
 

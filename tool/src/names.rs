@@ -31,6 +31,43 @@ impl fmt::Display for Kind {
     }
 }
 
+/// What a label stands for: a relation, an event, or an event denied.
+#[derive(Clone, Copy, Debug, PartialEq, Eq)]
+pub enum Labelled {
+    Relation(usize),
+    Event(usize),
+    Denied(usize),
+}
+
+impl Labelled {
+    /// Relations come first, then the events, then the events denied.
+    pub fn of(terms: &Terms, label: usize) -> Labelled {
+        let Some(event) = label.checked_sub(terms.relations) else {
+            return Labelled::Relation(label);
+        };
+        match event.checked_sub(terms.events) {
+            None => Labelled::Event(event),
+            Some(event) => Labelled::Denied(event),
+        }
+    }
+
+    /// Whose name it has.
+    pub fn named(self) -> (Kind, usize) {
+        match self {
+            Labelled::Relation(relation) => (Kind::Relation, relation),
+            Labelled::Event(event) | Labelled::Denied(event) => (Kind::Event, event),
+        }
+    }
+
+    /// The word before the name.
+    pub fn before(self) -> &'static str {
+        match self {
+            Labelled::Denied(_) => "denied ",
+            _ => "",
+        }
+    }
+}
+
 /// The names of a folder. What has no name is called by its kind and number:
 /// `member 3`.
 #[derive(Clone, Debug, Default, PartialEq, Eq)]
@@ -107,12 +144,15 @@ impl Names {
         self.name(Kind::Event, number)
     }
 
-    /// The name of a label: a relation's, or that of an event after them.
+    /// The name of a label: `owns`, `share`, `denied share`.
     pub fn label(&self, terms: &Terms, label: usize) -> String {
-        match label.checked_sub(terms.relations) {
-            None => self.relation(label),
-            Some(event) => self.event(event),
-        }
+        self.labelled(Labelled::of(terms, label))
+    }
+
+    /// The name of what a label stands for.
+    pub fn labelled(&self, labelled: Labelled) -> String {
+        let (kind, number) = labelled.named();
+        format!("{}{}", labelled.before(), self.name(kind, number))
     }
 
     /// The number of a name.

@@ -14,8 +14,10 @@ pub struct Step {
     pub line: usize,
     pub request: Request,
     pub verdict: Verdict,
-    /// The moment at which it was asked. A grant makes the next.
+    /// The moment at which it was asked.
     pub moment: usize,
+    /// Whether it made the next: a grant does, and a denial of a kept event.
+    pub made: bool,
 }
 
 /// All requests answered, and the record they made.
@@ -49,7 +51,8 @@ impl Replay {
             Request::Ask { event, from, to } => self.both.request(event, from, to)?,
             Request::Malformed => Verdict::Refused(1),
         };
-        let step = Step { line: self.steps.len() + 1, request, verdict, moment };
+        let made = self.moment() > moment;
+        let step = Step { line: self.steps.len() + 1, request, verdict, moment, made };
         self.steps.push(step);
         Ok(step)
     }

@@ -89,7 +89,7 @@ impl Trial {
         self.last = Some(step);
         let answer = answered(step.verdict);
         Ok(Reply::Said(match step.verdict {
-            Verdict::Grant => format!("{answer}; moment {}", step.moment + 1),
+            _ if step.made => format!("{answer}; moment {}", step.moment + 1),
             _ => answer.to_string(),
         }))
     }
@@ -97,7 +97,8 @@ impl Trial {
     fn look(&mut self, (event, from, to): Call) -> Result<Step, Stop> {
         let verdict = self.replay.both.look(event, from, to)?;
         let (request, moment) = (Request::Ask { event, from, to }, self.replay.moment());
-        let step = Step { line: self.replay.steps.len() + 1, request, verdict, moment };
+        let line = self.replay.steps.len() + 1;
+        let step = Step { line, request, verdict, moment, made: false };
         self.last = Some(step);
         Ok(step)
     }

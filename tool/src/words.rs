@@ -2,8 +2,8 @@
 
 use crate::both::Verdict;
 use crate::folder::Request;
-use crate::names::{Kind, Names};
-use keeper::terms::Terms;
+use crate::names::{Kind, Labelled, Names};
+use keeper::terms::{EventEdge, Terms};
 
 /// The names of a folder together with its terms.
 #[derive(Clone, Copy)]
@@ -22,14 +22,16 @@ impl<'a> Words<'a> {
         self.names.given(Kind::Member, number).map_or_else(|| number.to_string(), str::to_string)
     }
 
-    /// `share dora → pete`; `event 0: 0 → 1` where nothing has a name.
+    /// `share dora → pete`, `denied load pete → saw`; `event 0: 0 → 1` where
+    /// nothing has a name.
     pub fn arrow(&self, label: usize, from: &str, to: &str) -> String {
-        let (kind, number) = match label.checked_sub(self.terms.relations) {
-            None => (Kind::Relation, label),
-            Some(event) => (Kind::Event, event),
-        };
+        self.drawn(Labelled::of(self.terms, label), from, to)
+    }
+
+    fn drawn(&self, labelled: Labelled, from: &str, to: &str) -> String {
+        let (kind, number) = labelled.named();
         let colon = if self.names.given(kind, number).is_some() { "" } else { ":" };
-        format!("{}{colon} {from} → {to}", self.names.name(kind, number))
+        format!("{}{colon} {from} → {to}", self.names.labelled(labelled))
     }
 
     /// An edge under a label.
@@ -37,9 +39,15 @@ impl<'a> Words<'a> {
         self.arrow(label, &self.member(from), &self.member(to))
     }
 
-    /// An event from its initiator to its target.
+    /// An event from its initiator to its target, whether or not there is such an
+    /// event.
     pub fn event(&self, event: usize, from: usize, to: usize) -> String {
-        self.edge(self.terms.relations + event, from, to)
+        self.drawn(Labelled::Event(event), &self.member(from), &self.member(to))
+    }
+
+    /// The event edge of a moment.
+    pub fn happened(&self, edge: EventEdge) -> String {
+        self.edge(edge.label(self.terms), edge.from, edge.to)
     }
 
     /// What a line of requests.tsv asks for.

@@ -7,7 +7,7 @@ use std::fs;
 use std::path::PathBuf;
 
 /// Mistakes that are accepted: only a warning can help.
-const ACCEPTED: [&str; 4] = ["17", "19", "20", "38"];
+const ACCEPTED: [&str; 5] = ["17", "19", "20", "38", "39"];
 
 fn folders() -> Vec<PathBuf> {
     let mistakes = concat!(env!("CARGO_MANIFEST_DIR"), "/tests/mistakes");
@@ -33,7 +33,7 @@ fn said(folder: &str, json: bool) -> (String, i32) {
 #[test]
 fn each_mistake_is_named() {
     let folders = folders();
-    assert_eq!(folders.len(), 38);
+    assert_eq!(folders.len(), 43);
     for folder in folders {
         let name = folder.file_name().unwrap().to_string_lossy().into_owned();
         let (text, status) = said(folder.to_str().unwrap(), false);
@@ -52,7 +52,8 @@ fn for_programs() {
     assert_eq!(
         mistake("10-label-range"),
         "{\"accepted\":false,\"number\":2,\"line\":4,\"from\":8,\"to\":9,\"what\":\"no label 7\",\
-         \"right\":\"labels are 0 to 3: 0 for the relation, 1 to 3 for the events\"}\n"
+         \"right\":\"labels are 0 to 6: 0 for the relation, 1 to 3 for the events, 4 to 6 for the \
+         events denied\"}\n"
     );
     let lines = mistake("20-since-swapped");
     assert!(lines.starts_with("{\"accepted\":true,\"members\":3,"), "{lines}");

@@ -57,6 +57,17 @@ fn requests_that_are_all_denied() {
 }
 
 #[test]
+fn denials_that_nobody_keeps() {
+    let lines = "M 2\nL 0 2\nF 0 top 0 0\nF 1 out 2 0\nF 2 since 0 1\nF 3 not 2 0\nF 4 var 0 0\n\
+        P 0 4\nP 1 3\n";
+    assert_eq!(told(lines), [("unkept", 4), ("always", 9)]);
+    assert_eq!(told(&format!("{lines}K 1\n")), [("unkept", 4), ("always", 9)]);
+    assert_eq!(told(&format!("{lines}K 0\n")), []);
+    let named = warnings(lines, "event 0 load\n", "");
+    assert!(named[0].what.contains("a denied request of event 0 (load)"), "{}", named[0].what);
+}
+
+#[test]
 fn names_of_what_there_is_not() {
     let lines = "M 2\nL 0 1\nF 0 top 0 0\nP 0 0\n";
     let warnings = warnings(lines, "member 1 pete\nmember 2 dora\n", "");

@@ -4,7 +4,7 @@ use crate::Refusal;
 use alloc::boxed::Box;
 
 /// Words of 16 bits that terms fill.
-pub const TERMS_WORDS: usize = 1_236;
+pub const TERMS_WORDS: usize = 1_252;
 /// Words of 64 bits that a state fills.
 pub const STATE_WORDS: usize = 3_073;
 /// Words of 64 bits that a call is lent besides.
@@ -19,6 +19,8 @@ pub(crate) const FIRST_POLICY: usize = 1_028;
 pub(crate) const FIRST_EFFECT: usize = 1_044;
 pub(crate) const EFFECTS: usize = 4;
 pub(crate) const EFFECT_WORDS: usize = 3;
+/// A word for each event: 1 where its denied requests are kept.
+pub(crate) const FIRST_MARK: usize = 1_236;
 
 /// Members, and so words, of one relation or table.
 pub(crate) const ROWS: usize = 64;
@@ -26,6 +28,8 @@ pub(crate) const RELATIONS: usize = 16;
 pub(crate) const TABLES: usize = 32;
 pub(crate) const FIRST_TABLE: usize = ROWS * RELATIONS;
 pub(crate) const EVENT_WORD: usize = STATE_WORDS - 1;
+/// What is added to an event's number in that word where it was denied.
+pub(crate) const DENIED: u64 = 16;
 
 /// The named words of a memory, boxed.
 pub(crate) fn front<T: Copy, const WORDS: usize>(words: &[T]) -> Result<Box<[T; WORDS]>, Refusal> {

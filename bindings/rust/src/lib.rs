@@ -1,7 +1,7 @@
 //! The sharing-terms reference monitor.
 //!
 //! * **x86-64 Linux only.** The static library is machine code for it.
-//! * **Memory**: terms have 2,472 bytes, a state 24,584, scratch 16,384. This
+//! * **Memory**: terms have 2,504 bytes, a state 24,584, scratch 16,384. This
 //!   crate puts them on the heap; the library allocates nothing.
 //! * **Stack**: measured, not proved. Reading takes 198 KiB, writing 193 KiB, an
 //!   opening, look, request or set list 169 KiB, and each 1.16 KiB more for
@@ -13,8 +13,9 @@
 //!
 //! A terms text says who may ask for what. A [`Monitor`] reads it, keeps the
 //! present relations and what the policies need of the past, and answers
-//! requests. A grant makes the next moment; a denied or refused request
-//! changes nothing.
+//! requests. A grant makes the next moment. A denied request changes nothing,
+//! unless its event is kept ([`Terms::keeps`]): then it makes a moment without
+//! effects. A refused request changes nothing.
 //!
 //! ```
 //! use cuckooormolu::{Answer, Edge, Event, Member, Monitor, Relation, Request};
@@ -56,7 +57,7 @@ mod terms;
 pub use answer::Answer;
 pub use layout::{SCRATCH_WORDS, STATE_WORDS, TERMS_WORDS};
 pub use monitor::Monitor;
-pub use names::{Edge, Event, Member, Relation, Request, Variable};
+pub use names::{Edge, Event, EventEdge, Member, Relation, Request, Variable};
 pub use record::Record;
 pub use refusal::{Refusal, TextError};
 pub use state::State;

@@ -39,7 +39,7 @@ impl Monitor {
     /// monitor.request(request)?;
     /// let (terms, state) = monitor.into_parts();
     /// let later = Monitor::resume(terms.clone(), state)?;
-    /// assert_eq!(later.state().event(), Some(request));
+    /// assert_eq!(later.state().event().map(|edge| edge.request), Some(request));
     ///
     /// let broken = State::from_words(&[9; 3_073])?;
     /// assert_eq!(Monitor::resume(terms, broken).unwrap_err(), Refusal::BadState);
@@ -57,7 +57,8 @@ impl Monitor {
         Ok(Monitor::with(terms, relations))
     }
 
-    /// Answers a request; a grant makes the next moment. Refused with
+    /// Answers a request; a grant makes the next moment, and so does a denial
+    /// of an event whose denials are kept. Refused with
     /// [`Refusal::NoSuchName`] where an event or member doesn't exist.
     pub fn request(&mut self, request: Request) -> Result<Answer, Refusal> {
         let (state, scratch) = (&mut self.state.0[..], &mut self.scratch[..]);

@@ -1,7 +1,7 @@
 //! What a terms file names by a number. Each kind of number is a type of its
 //! own, so that no event stands for a member and no initiator for a target.
 
-use crate::Refusal;
+use crate::{Answer, Refusal};
 use core::fmt;
 
 macro_rules! number {
@@ -44,13 +44,20 @@ number!(Relation, "A relation's number, from 0.");
 number!(Event, "An event's number, from 0.");
 number!(Variable, "A variable's number; 0 stands for the target.");
 
-/// A request: an event, from its initiator to its target. Once granted it is
-/// the event edge of the moment that it made.
+/// A request: an event, from its initiator to its target.
 #[derive(Clone, Copy, Debug, PartialEq, Eq, Hash)]
 pub struct Request {
     pub event: Event,
     pub from: Member,
     pub to: Member,
+}
+
+/// The event edge of a moment: the request that made it, and its answer. A
+/// denied one is of an event whose denials are kept.
+#[derive(Clone, Copy, Debug, PartialEq, Eq, Hash)]
+pub struct EventEdge {
+    pub request: Request,
+    pub answer: Answer,
 }
 
 /// An edge of a relation. Edges are ordered as in a terms file.

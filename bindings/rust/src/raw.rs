@@ -211,8 +211,9 @@ pub fn look(
     })
 }
 
-/// Answers a request. A grant makes the next moment and leaves the named
-/// words of scratch 0; anything else leaves state and scratch as lent.
+/// Answers a request. A grant, or a denial of an event whose denials are kept,
+/// makes the next moment and leaves the named words of scratch 0; anything else
+/// leaves state and scratch as lent.
 pub fn request(
     terms: &[u16],
     state: &mut [u64],

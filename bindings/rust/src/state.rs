@@ -1,7 +1,7 @@
 //! A state: the present moment, and what the policies need of the past.
 
 use crate::layout::*;
-use crate::{Edge, Event, Member, Refusal, Relation, Request};
+use crate::{Answer, Edge, Event, EventEdge, Member, Refusal, Relation, Request};
 use alloc::boxed::Box;
 
 /// The present moment: relations, past-time tables and the event edge.
@@ -48,14 +48,33 @@ impl State {
         t < TABLES && self.bit(FIRST_TABLE + ROWS * t, at, other)
     }
 
-    /// The request whose grant made this moment; none at moment 0.
-    pub fn event(&self) -> Option<Request> {
+    /// The request that made this moment, and its answer; none at moment 0.
+    ///
+    /// ```
+    /// use cuckooormolu::{Answer, Event, Member, Monitor, Request};
+    ///
+    /// // Event 0 is never granted, and its denied requests are kept.
+    /// let text = "M 2\nL 0 1\nF 0 top 0 0\nF 1 not 0 0\nP 0 1\nK 0\n";
+    /// let mut monitor = Monitor::read(text.replace(' ', "\t").as_bytes())?;
+    /// let request = Request { event: Event(0), from: Member(0), to: Member(1) };
+    /// assert_eq!(monitor.request(request)?, Answer::Deny);
+    /// let edge = monitor.state().event().unwrap();
+    /// assert_eq!((edge.request, edge.answer), (request, Answer::Deny));
+    /// # Ok::<(), Box<dyn std::error::Error>>(())
+    /// ```
+    pub fn event(&self) -> Option<EventEdge> {
         let code = self.0[EVENT_WORD].checked_sub(1)?;
-        Some(Request {
-            event: Event((code / 4_096) as u8),
+        let number = code / 4_096;
+        let (answer, event) = match number.checked_sub(DENIED) {
+            None => (Answer::Grant, number),
+            Some(event) => (Answer::Deny, event),
+        };
+        let request = Request {
+            event: Event(event as u8),
             from: Member((code / 64 % 64) as u8),
             to: Member((code % 64) as u8),
-        })
+        };
+        Some(EventEdge { request, answer })
     }
 
     fn bit(&self, first: usize, row: Member, bit: Member) -> bool {

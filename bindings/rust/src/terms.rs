@@ -27,7 +27,10 @@ pub enum Entry {
 #[derive(Clone, Copy, Debug, PartialEq, Eq, Hash)]
 pub enum Label {
     Relation(Relation),
+    /// A granted request of the event.
     Event(Event),
+    /// A denied request of the event, where its denials are kept.
+    Denied(Event),
 }
 
 /// What a granted event does to a relation.
@@ -77,7 +80,8 @@ impl Entry {
     }
 }
 
-/// Accepted terms: members, labels, formulas, policies and effects.
+/// Accepted terms: members, labels, formulas, policies, effects and which
+/// denials are kept.
 ///
 /// ```
 /// use cuckooormolu::*;
@@ -151,6 +155,27 @@ impl Terms {
         })
     }
 
+    /// Whether a denied request of an event makes a moment.
+    ///
+    /// ```
+    /// use cuckooormolu::*;
+    ///
+    /// let text = "M 2\nL 0 2\nF 0 top 0 0\nF 1 out 3 0\nP 0 0\nP 1 1\nK 1\n";
+    /// let monitor = Monitor::read(text.replace(' ', "\t").as_bytes())?;
+    /// let terms = monitor.terms();
+    /// assert!(terms.keeps(Event(1)) && !terms.keeps(Event(0)));
+    /// assert_eq!(terms.entry(1), Some(Entry::Out(Label::Denied(Event(1)), 0)));
+    /// # Ok::<(), TextError>(())
+    /// ```
+    pub fn keeps(&self, event: Event) -> bool {
+        self.has(event) && self.0[FIRST_MARK + usize::from(event)] == 1
+    }
+
+    /// The events whose denied requests make a moment, rising.
+    pub fn kept(&self) -> impl Iterator<Item = Event> + '_ {
+        self.events().filter(|event| self.keeps(*event))
+    }
+
     fn has(&self, event: Event) -> bool {
         u16::from(event.0) < self.0[2]
     }
@@ -176,11 +201,14 @@ impl Terms {
         }
     }
 
-    /// Labels are the relations and then the events.
+    /// Labels are the relations, then the events, then the events denied.
     fn label(&self, number: u16) -> Label {
-        match number.checked_sub(self.0[1]) {
-            None => Label::Relation(Relation(number as u8)),
-            Some(event) => Label::Event(Event(event as u8)),
+        let Some(event) = number.checked_sub(self.0[1]) else {
+            return Label::Relation(Relation(number as u8));
+        };
+        match event.checked_sub(self.0[2]) {
+            None => Label::Event(Event(event as u8)),
+            Some(event) => Label::Denied(Event(event as u8)),
         }
     }
 

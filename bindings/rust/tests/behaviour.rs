@@ -2,7 +2,7 @@
 
 use cuckooormolu::{raw, Answer, Monitor, Refusal, State, Terms};
 use cuckooormolu::{Action, Direction, Effect, Entry, Label};
-use cuckooormolu::{Edge, Event, Member, Relation, Request, Variable};
+use cuckooormolu::{Edge, Event, EventEdge, Member, Relation, Request, Variable};
 use cuckooormolu::{SCRATCH_WORDS, STATE_WORDS, TERMS_WORDS};
 
 /// Relation 0 is own; events are 0 share, 1 withdraw, 2 load. Spaces for tabs.
@@ -143,7 +143,8 @@ fn a_state_is_shown() {
     assert!(state.table_holds(0, Member(0), Member(1)));
     assert!(!state.table_holds(0, Member(1), Member(0)));
     assert!(!state.table_holds(32, Member(0), Member(0)) && state.table(32).next().is_none());
-    assert_eq!(state.event(), Some(asked(SHARE, 0, 1)));
+    let request = asked(SHARE, 0, 1);
+    assert_eq!(state.event(), Some(EventEdge { request, answer: Answer::Grant }));
 }
 
 #[test]
@@ -173,6 +174,7 @@ fn the_longest_text_is_written() {
     let mut text = "M 64\nL 16 16\nF 0 top 0 0\n".to_string();
     text.extend((1..256).map(|n| format!("F {n} reach 15 {0} {0}\n", n - 1)));
     text.extend((0..16).map(|event| format!("P {event} 255\n")));
+    text.extend((0..16).map(|event| format!("K {event}\n")));
     for event in 0..16 {
         text.push_str(&format!("E {event} add 15 back\n").repeat(4));
     }
@@ -195,6 +197,7 @@ fn the_longest_stored_text_is_stored() {
         text.push_str(&format!("F {n} {word} {}\n", n - 1));
     }
     text.extend((0..16).map(|event| format!("P {event} 255\n")));
+    text.extend((0..16).map(|event| format!("K {event}\n")));
     for event in 0..16 {
         text.push_str(&format!("E {event} add 15 back\n").repeat(4));
     }
@@ -204,7 +207,7 @@ fn the_longest_stored_text_is_stored() {
             text.push_str(&format!("{kind} {k} {a} {b}\n"));
         }
     }
-    text.push_str("V 15 63 63\n");
+    text.push_str("V 31 63 63\n");
     let monitor = Monitor::read(&tabs(&text)).unwrap();
     assert_eq!((0..32).map(|t| monitor.state().table(t).count()).sum::<usize>(), 131_072);
     assert!(text.len() <= defined("CUCKOOORMOLU_STORED_BYTES"));
@@ -220,9 +223,10 @@ fn the_longest_texts_are_worked_out() {
         + lines(1, "L 16 16")
         + lines(256, "F 255 reach 15 255 255")
         + lines(16, "P 15 255")
+        + lines(16, "K 15")
         + lines(64, "E 15 add 15 back")
         + lines(16 * 64 * 64, "G 15 63 63");
-    let more = lines(1, "S 2") + lines(32 * 64 * 64, "T 31 63 63") + lines(1, "V 15 63 63");
+    let more = lines(1, "S 2") + lines(32 * 64 * 64, "T 31 63 63") + lines(1, "V 31 63 63");
     assert_eq!(defined("CUCKOOORMOLU_TEXT_BYTES"), old);
     assert_eq!(defined("CUCKOOORMOLU_STORED_BYTES"), old + more);
 }

@@ -28,6 +28,7 @@ pub record Tidy (T : Terms) : Type 0 where
   pub policy : (j : ℕ) → T .events ≤ j → T .policy j ≡ 0
   pub effects : (j : ℕ) → T .events ≤ j → T .effects j ≡ []
   pub few-effects : (j : ℕ) → length (T .effects j) ≤ 4
+  pub kept : (j : ℕ) → T .events ≤ j → T .kept j ≡ false
 
 -- What holds where all lines pass. A file of the old form says nothing of tables and of an event edge.
 pub record Accepted (f : File) : Type 0 where
@@ -85,6 +86,7 @@ going-good f c g =
         policy = q .blank;
         effects = g .effects .beyond;
         few-effects = g .effects .few;
+        kept = λ j i. g .marks .later j (omega (arith, g .marks .few));
       },
     )
 

@@ -19,6 +19,7 @@ use Rattle.file.proofs.Fit.{Inside}
 use Rattle.file.proofs.Going.{Going, going}
 use Rattle.file.proofs.Accepted.{Tidy}
 use Rattle.file.proofs.Entered.{told}
+use Rattle.file.proofs.Marked.{marked}
 use Rattle.file.proofs.Effected.{Settled, settled-complete, settled}
 use Rattle.file.proofs.Rising.{Adds, Kind, Below, bits-read, all-read}
 
@@ -102,8 +103,9 @@ module _ (T : Terms) (good : Good T) (tidy : Tidy T) (R : Relations) (inside : I
   unfolding allLines
   lines-read start blank begun =
       let form = start .stored in
-      told T good tidy start blank begun (λ g t. reached-then (settled T good tidy form g t)
+      told T good tidy start blank begun (λ g t. reached-then (marked T good tidy form g t)
+      (λ i m. reached-then (settled T good tidy form i m)
       (λ h u. let l = u .high in
       reached-so
       (bits-read 6 Edge (λ f. f .edges) R (Settled T form 6) (of-edges form) 65536 h (before-edges form h u) (u .going-so) (omega arith))
-      (edges-done form)))
+      (edges-done form))))

@@ -24,7 +24,8 @@ use Rattle.file.specs.Refused.Passed.{none, pass}
 use Rattle.file.proofs.Update.{update-same, update-other}
 use Rattle.file.proofs.Going.{Going, going, complete-is}
 use Rattle.file.proofs.Accepted.{Tidy}
-use Rattle.file.proofs.Entered.{Headed, Decided}
+use Rattle.file.proofs.Entered.{Headed}
+use Rattle.file.proofs.Marked.{Marked}
 
 -- The line of an effect, and the effect that the line says.
 abbrev effectAt : ℕ → Effect → Line
@@ -66,6 +67,7 @@ record Effected (T : Terms) (stored : Bool) (j : ℕ) (so-far : List Effect) (g 
   entry : (k : ℕ) → g .terms .entry k ≡ T .entry k
   policies : g .policies ≡ T .events
   policy : (i : ℕ) → g .terms .policy i ≡ T .policy i
+  kept : (i : ℕ) → g .terms .kept i ≡ T .kept i
   event : g .event ≤ j
   before : (i : ℕ) → i < j → g .terms .effects i ≡ T .effects i
   here : g .terms .effects j ≡ so-far
@@ -84,18 +86,19 @@ pub settled-complete : {T : Terms} {stored : Bool} {phase : ℕ} (g : File) → 
 settled-complete g t = complete-is g (t .low) (t .policies ∙ sym (ap (λ (x : Terms). x .events) (t .terms)))
 
 module _ (T : Terms) (good : Good T) (tidy : Tidy T) (stored : Bool) where
-  policies-done : (g : File) → Decided T stored (T .events) g → Effected T stored 0 [] g
-  policies-done g t =
-      let h = t .high in let p = t .policies in record {
+  marks-done : (g : File) → Marked T stored (T .events) g → Effected T stored 0 [] g
+  marks-done g t =
+      let h = t .high in let m = t .marks in record {
         low = t .low;
         high = omega arith;
         head = t .head;
         entries = t .entries;
         entry = t .entry;
         policies = t .policies;
-        policy = λ i. ⊎-elim
-            (λ l. t .policy i (ltb-true i (T .events) l))
-            (λ l. let m = ltb-false i (T .events) l in t .going-so .policies .blank i (omega arith) ∙ sym (tidy .policy i m))
+        policy = t .policy;
+        kept = λ i. ⊎-elim
+            (λ l. t .kept i (ltb-true i (T .events) l))
+            (λ l. let n = ltb-false i (T .events) l in t .going-so .marks .later i (omega arith) ∙ sym (tidy .kept i n))
             (true-or-false (ltb i (T .events)));
         event = let e = t .going-so .no-event (omega arith) in omega arith;
         before = λ i l. absurd (omega arith);
@@ -130,6 +133,7 @@ module _ (T : Terms) (good : Good T) (tidy : Tidy T) (stored : Bool) where
       entry = t .entry;
       policies = t .policies;
       policy = t .policy;
+      kept = t .kept;
       event = omega arith;
       before = λ i m. update-other (g .terms .effects) j _ i (λ z. omega arith) ∙ t .before i m;
       here = update-same (g .terms .effects) j _ ∙ ap₂ (λ (es : List Effect) (y : Effect). es ++ (y ∷ [])) (t .here) (effect-said x);
@@ -159,6 +163,7 @@ module _ (T : Terms) (good : Good T) (tidy : Tidy T) (stored : Bool) where
         entry = t .entry;
         policies = t .policies;
         policy = t .policy;
+        kept = t .kept;
         event = omega arith;
         before = λ i l. ⊎-elim (λ n. t .before i n) (λ n. subst (λ (k : ℕ). g .terms .effects k ≡ T .effects k) (sym n) (t .here)) (last-or-below i j l);
         here = t .going-so .effects .later (suc j) (omega arith);
@@ -176,6 +181,7 @@ module _ (T : Terms) (good : Good T) (tidy : Tidy T) (stored : Bool) where
   effects-done g t =
       let entry : g .terms .entry ≡ T .entry = fun-ext (t .entry) in
       let policy : g .terms .policy ≡ T .policy = fun-ext (t .policy) in
+      let kept : g .terms .kept ≡ T .kept = fun-ext (t .kept) in
       let effects : g .terms .effects ≡ T .effects = fun-ext (λ i. ⊎-elim
       (λ l. t .before i (ltb-true i (T .events) l))
       (λ l. let m = ltb-false i (T .events) l in let e = t .head .events in
@@ -194,9 +200,10 @@ module _ (T : Terms) (good : Good T) (tidy : Tidy T) (stored : Bool) where
           entry = entry i;
           policy = policy i;
           effects = effects i;
+          kept = kept i;
         };
         going-so = t .going-so;
       }
 
-  pub settled : (g : File) → Decided T stored (T .events) g → Reached g (listed (T .events) (λ j. effectLines j (T .effects j))) (Settled T stored 5)
-  settled g t = reached-so (events-read (T .events) (omega arith) g (policies-done g t)) effects-done
+  pub settled : (g : File) → Marked T stored (T .events) g → Reached g (listed (T .events) (λ j. effectLines j (T .effects j))) (Settled T stored 5)
+  settled g t = reached-so (events-read (T .events) (omega arith) g (marks-done g t)) effects-done

@@ -1,7 +1,7 @@
 -- Reading what is written, up to the policies: the file read so far has the terms' heads, their first n entries, their first n policies.
-use Prim.Native.Nat.{ℕ, zero, suc, _+_, _≤_, _<_}
+use Prim.Native.Nat.{ℕ, zero, suc, _+_, _*_, _≤_, _<_}
 use mathlib.Core.Path.{_≡_, refl, sym, ap, subst, _∙_}
-use mathlib.Core.Logic.{⊎-elim}
+use mathlib.Core.Logic.{inl, ⊎-elim}
 use mathlib.Core.List.{List, [], _∷_, _++_}
 use mathlib.Core.Bool.{Bool, true, _||_}
 use native.Mathlib.Omega.{arith}
@@ -55,7 +55,7 @@ record Entered (T : Terms) (stored : Bool) (n : ℕ) (g : File) : Type 0 where
   entry : (k : ℕ) → k < n → g .terms .entry k ≡ T .entry k
   going-so : Going g
 
--- The entries and the first n policies have been read.
+-- The entries and the first n policies have been read, and no mark.
 pub record Decided (T : Terms) (stored : Bool) (n : ℕ) (g : File) : Type 0 where
   pub low : 2 ≤ g .phase
   pub high : g .phase ≤ 4
@@ -63,6 +63,7 @@ pub record Decided (T : Terms) (stored : Bool) (n : ℕ) (g : File) : Type 0 whe
   pub entries : g .terms .entries ≡ T .entries
   pub entry : (k : ℕ) → g .terms .entry k ≡ T .entry k
   pub policies : g .policies ≡ n
+  pub marks : g .marks ≡ 0
   pub policy : (j : ℕ) → j < n → g .terms .policy j ≡ T .policy j
   pub going-so : Going g
 
@@ -123,7 +124,7 @@ module _ (T : Terms) (good : Good T) (tidy : Tidy T) (start : File) (blank : sta
     agrees k h =
         update-cases (g .terms .entry) n v (λ x. x ≡ T .entry k) k (λ e. ap (T .entry) (sym e)) (λ e. t .entry k (omega arith))
 
-    labels-are : g .terms .relations + g .terms .events ≡ T .relations + T .events
+    labels-are : g .terms .relations + 2 * g .terms .events ≡ T .relations + 2 * T .events
     labels-are = let r = t .head .relations in let e = t .head .events in omega arith
 
     tables-few : isPast (T .entry n .op) ≡ true → number (g .terms .entry) n < 32
@@ -137,7 +138,7 @@ module _ (T : Terms) (good : Good T) (tidy : Tidy T) (start : File) (blank : sta
     unfolding tests
     entry-passed =
         let q = good .entry n l in
-        let labels = T .relations + T .events in
+        let labels = T .relations + 2 * T .events in
         let m = good .few-entries in
         pass (two-or-three (g .phase) (t .low) (t .high))
         (pass (eq-eqb n (g .terms .entries) (sym (t .entries)))
@@ -161,7 +162,7 @@ module _ (T : Terms) (good : Good T) (tidy : Tidy T) (start : File) (blank : sta
     entry-ranged : Ranged (lineOfEntry T n)
     entry-ranged =
         let q = good .entry n l in
-        let labels = T .relations + T .events in
+        let labels = T .relations + 2 * T .events in
         let m = good .few-entries in let r = good .few-relations in let e = good .few-events in
         Ranged.entry {n = n} (omega arith) (q .known)
         (operand-small (firstOperand (T .entry n .op)) labels n (T .entry n .a) (omega arith) (omega arith) (q .first))
@@ -201,6 +202,7 @@ module _ (T : Terms) (good : Good T) (tidy : Tidy T) (start : File) (blank : sta
             (λ l. let i = ltb-false k (T .entries) l in t .going-so .entries .blank k (omega arith) ∙ sym (tidy .entry k i))
             (true-or-false (ltb k (T .entries)));
         policies = t .going-so .no-policies (omega arith);
+        marks = t .going-so .no-marks (inl (omega arith));
         policy = λ j l. absurd (omega arith);
         going-so = t .going-so;
       }
@@ -232,6 +234,7 @@ module _ (T : Terms) (good : Good T) (tidy : Tidy T) (start : File) (blank : sta
       entries = t .entries;
       entry = t .entry;
       policies = add-one n;
+      marks = t .marks;
       policy = λ k h. update-cases (g .terms .policy) n (T .policy n) (λ x. x ≡ T .policy k) k
           (λ e. ap (T .policy) (sym e)) (λ e. t .policy k (omega arith));
       going-so = going policy-ranged policy-passed (t .going-so);

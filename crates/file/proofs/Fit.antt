@@ -1,4 +1,4 @@
--- What the tests have made sure of so far, part by part: the entries, the policies, the effects, the edges, the tables, the event edge; and that one line more keeps it so.
+-- What the tests have made sure of so far, part by part: the entries, the policies, the marks, the effects, the edges, the tables, the event edge; and that one line more keeps it so.
 use Prim.Native.Nat.{ℕ, zero, suc, _+_, _*_, _≤_, _<_}
 use mathlib.Core.Path.{_≡_, refl, sym, ap, subst, subst₂, _∙_}
 use mathlib.Core.Logic.{_⊎_, inl, inr, ⊎-elim}
@@ -18,7 +18,7 @@ use Rattle.theory.specs.Fit.{operandFits, lone, onlyFree, reachFits}
 use Rattle.theory.proofs.Good.{Within, fits-entry}
 use Rattle.theory.proofs.Good.Within.{more}
 use Rattle.file.specs.Line.{hasThird}
-use Rattle.file.specs.File.{update, withBit}
+use Rattle.file.specs.File.{update, withBit, eventNamed, eventSaid}
 use Rattle.file.specs.Reading.{inRange, isLower}
 use Rattle.theory.proofs.Like.{number-agree, spelled-agree}
 use Rattle.file.proofs.Update.{update-same, update-other, update-cases}
@@ -191,6 +191,22 @@ policy-more {m = m} {g = g} {policy = policy} j n h i q t = record {
   blank = λ k l. update-other policy j n k (λ z. omega arith) ∙ t .blank k (omega arith);
 }
 
+-- ---- kept events
+
+pub record MarksFit (marks events : ℕ) (kept : ℕ → Bool) : Type 0 where
+  pub few : marks ≤ events
+  pub later : (j : ℕ) → marks ≤ j → kept j ≡ false
+
+-- before the first mark, events may change
+pub marks-none : {m e e′ : ℕ} {kept : ℕ → Bool} → m ≡ 0 → MarksFit m e kept → MarksFit m e′ kept
+marks-none z t = record { few = omega arith; later = t .later }
+
+pub mark-more : {m e : ℕ} {kept : ℕ → Bool} (j : ℕ) → m ≤ j → j < e → MarksFit m e kept → MarksFit (j + 1) e (update kept j true)
+mark-more {kept = kept} j h l t = record {
+  few = omega arith;
+  later = λ k p. update-other kept j true k (λ z. omega arith) ∙ t .later k (omega arith);
+}
+
 -- ---- effects
 
 pub record EffectsFit (event events relations : ℕ) (effects : ℕ → List Effect) : Type 0 where
@@ -285,6 +301,15 @@ module _ (R : (k a b : ℕ) → Bool) (k a b : ℕ) where
 pub data EventFits (events members : ℕ) : Event → Type 0 where
   none : EventFits events members Event.none
   happened : {j u v : ℕ} → j < events → u < members → v < members → EventFits events members (Event.happened j u v)
+  tried : {j u v : ℕ} → j < events → u < members → v < members → EventFits events members (Event.tried j u v)
 
 pub event-none : {events members : ℕ} {x : Event} → x ≡ Event.none → EventFits events members x
 event-none {events} {members} e = subst (EventFits events members) (sym e) none
+
+-- what a V line says, granted or denied
+pub event-named : {events members : ℕ} (j u v : ℕ) → eventNamed j < events → u < members → v < members → EventFits events members (eventSaid j u v)
+event-named j u v p q r =
+    ⊎-elim
+    (λ e. let l = rw e at p in rw e (happened l q r))
+    (λ e. let l = rw e at p in rw e (tried l q r))
+    (true-or-false (ltb j 16))

@@ -1,5 +1,5 @@
 -- Each line taken keeps what holds of a file read so far.
-use Prim.Native.Nat.{ℕ, _+_}
+use Prim.Native.Nat.{ℕ, _+_, _*_}
 use mathlib.Core.Path.{sym, subst}
 use mathlib.Core.Logic.{inl, inr, ⊎-elim}
 use mathlib.Core.List.{List}
@@ -15,12 +15,12 @@ use Rattle.file.specs.File.{File, after}
 use Rattle.file.specs.Reading.{tests}
 use Rattle.file.specs.declared.line.Line.{Line}
 use Rattle.file.proofs.Printed.{Ranged}
-use Rattle.file.proofs.Printed.Ranged.{members, labels, entry, policy, effect, edge, form, bit, event}
+use Rattle.file.proofs.Printed.Ranged.{members, labels, entry, policy, effect, edge, form, bit, event, mark}
 use Rattle.file.specs.Refused.{Passed}
 use Rattle.file.proofs.Taken.{passed-at, Taken}
 use Rattle.file.proofs.Taken.Taken.{none, one}
 pub use Rattle.file.proofs.Phases.{Going, going-first, entry-phase, policy-phase, complete-phase, complete-policies, complete-is, rises-code}
-use Rattle.file.proofs.Fit.{EntriesFit, PoliciesFit, EventFits, operand-fits, entry-put, entry-more, policies-none, policy-more, effects-none, effect-more, inside-none, inside-more, up-to-none, up-to-more, event-none}
+use Rattle.file.proofs.Fit.{EntriesFit, PoliciesFit, operand-fits, entry-put, entry-more, policies-none, policy-more, marks-none, mark-more, effects-none, effect-more, inside-none, inside-more, up-to-none, up-to-more, event-none, event-named}
 
 pub going : {f : File} {l : Line} → Ranged l → Passed (tests f l) → Going f → Going (after f l)
 unfolding tests after
@@ -30,6 +30,7 @@ going {f} (members {n = n} h) p g =
     record {
       entries = g .entries;
       policies = g .policies;
+      marks = g .marks;
       effects = g .effects;
       edges = inside-none (g .no-edges (omega arith));
       bits = inside-none (g .no-bits (omega arith));
@@ -41,6 +42,7 @@ going {f} (members {n = n} h) p g =
       labels = λ l. absurd (omega arith);
       no-entries = λ l. g .no-entries (omega arith);
       no-policies = λ l. g .no-policies (omega arith);
+      no-marks = λ l. g .no-marks (inl (omega arith));
       no-effects = λ l. g .no-effects (omega arith);
       no-event = λ l. g .no-event (omega arith);
       no-edges = λ l. g .no-edges (omega arith);
@@ -60,6 +62,7 @@ going {f} (labels {r = r} {e = e} h i) p g =
         blank = g .entries .blank;
       };
       policies = policies-none (g .no-policies (omega arith)) (g .policies);
+      marks = marks-none (g .no-marks (inl (omega arith))) (g .marks);
       effects = effects-none (f .event) e r (f .terms .effects) (g .no-effects (omega arith));
       edges = inside-none (g .no-edges (omega arith));
       bits = inside-none (g .no-bits (omega arith));
@@ -71,6 +74,7 @@ going {f} (labels {r = r} {e = e} h i) p g =
       labels = λ l. (ltb-true r 17 (test 1), ltb-true 0 e (test 2), ltb-true e 17 (test 3));
       no-entries = λ l. g .no-entries (omega arith);
       no-policies = λ l. g .no-policies (omega arith);
+      no-marks = λ l. g .no-marks (inl (omega arith));
       no-effects = λ l. g .no-effects (omega arith);
       no-event = λ l. g .no-event (omega arith);
       no-edges = λ l. g .no-edges (omega arith);
@@ -82,7 +86,7 @@ going {f} (entry {n = n} {o = o} {a = a} {b = b} {c = c} h i j k m y) p g =
     let test = passed-at p in
     let z = entry-phase f (test 0) in
     let z0 = z .0 in let z1 = z .1 in
-    let labels : ℕ = f .terms .relations + f .terms .events in
+    let labels : ℕ = f .terms .relations + 2 * f .terms .events in
     record {
       entries = entry-more labels n (f .terms .entry) (record { op = o; a = a; b = b; c = c })
           (subst (λ (m : ℕ). EntriesFit labels m (f .terms .entry)) (sym (eqb-true n (f .terms .entries) (test 1))) (g .entries))
@@ -95,6 +99,7 @@ going {f} (entry {n = n} {o = o} {a = a} {b = b} {c = c} h i j k m y) p g =
           (λ q. implied (isPast o) _ (test 10) q)
           (λ q. implied (eqb o 10) _ (test 11) (eq-eqb o 10 q)));
       policies = policies-none (g .no-policies z1) (g .policies);
+      marks = g .marks;
       effects = g .effects;
       edges = g .edges;
       bits = inside-none (g .no-bits (omega arith));
@@ -106,6 +111,7 @@ going {f} (entry {n = n} {o = o} {a = a} {b = b} {c = c} h i j k m y) p g =
       labels = λ l. g .labels z0;
       no-entries = λ l. absurd (omega arith);
       no-policies = λ l. g .no-policies z1;
+      no-marks = λ l. g .no-marks (inl z1);
       no-effects = λ l. g .no-effects (omega arith);
       no-event = λ l. g .no-event (omega arith);
       no-edges = λ l. g .no-edges (omega arith);
@@ -122,6 +128,7 @@ going {f} (policy {j = j} {n = n} h i) p g =
       policies = policy-more j n (ltb-true j (f .terms .events) (test 2)) (ltb-true n (f .terms .entries) (test 3)) (test 4)
           (subst (λ (m : ℕ). PoliciesFit m (f .terms .events) (f .terms .entries) (f .terms .entry) (f .terms .policy))
           (sym (eqb-true j (f .policies) (test 1))) (g .policies));
+      marks = g .marks;
       effects = g .effects;
       edges = g .edges;
       bits = inside-none (g .no-bits (omega arith));
@@ -133,6 +140,7 @@ going {f} (policy {j = j} {n = n} h i) p g =
       labels = λ l. g .labels z0;
       no-entries = λ l. absurd (omega arith);
       no-policies = λ l. absurd (omega arith);
+      no-marks = λ l. g .no-marks (inr (omega (arith, eqb-true j (f .policies) (test 1), ltb-true j (f .terms .events) (test 2))));
       no-effects = λ l. g .no-effects (omega arith);
       no-event = λ l. g .no-event (omega arith);
       no-edges = λ l. g .no-edges (omega arith);
@@ -147,6 +155,7 @@ going {f} (effect {j = j} {c = c} {k = k} {d = d} h i q m n) p g =
     record {
       entries = g .entries;
       policies = g .policies;
+      marks = g .marks;
       effects = effect-more j (record { adds = eqb c 1; relation = k; back = eqb d 1 }) (leb-true (f .event) j (test 2)) (ltb-true j (f .terms .events) (test 3))
           (ltb-true (length (f .terms .effects j)) 4 (test 4)) (ltb-true k (f .terms .relations) (test 5)) (g .effects);
       edges = g .edges;
@@ -159,6 +168,7 @@ going {f} (effect {j = j} {c = c} {k = k} {d = d} h i q m n) p g =
       labels = λ l. g .labels z0;
       no-entries = λ l. absurd (omega arith);
       no-policies = λ l. absurd (omega arith);
+      no-marks = λ l. g .no-marks (⊎-elim (λ i. absurd (omega arith)) (λ i. inr i) l);
       no-effects = λ l. absurd (omega arith);
       no-event = λ l. absurd (omega arith);
       no-edges = λ l. g .no-edges (omega arith);
@@ -176,6 +186,7 @@ going {f} (edge {k = k} {a = a} {b = b} h i j) p g =
     record {
       entries = g .entries;
       policies = g .policies;
+      marks = g .marks;
       effects = g .effects;
       edges = inside-more (f .edges) k a b (ltb-true k (f .terms .relations) (test 3)) la lb (g .edges);
       bits = g .bits;
@@ -188,6 +199,7 @@ going {f} (edge {k = k} {a = a} {b = b} h i j) p g =
       labels = λ l. g .labels z0;
       no-entries = λ l. absurd (omega arith);
       no-policies = λ l. absurd (omega arith);
+      no-marks = λ l. g .no-marks (⊎-elim (λ i. absurd (omega arith)) (λ i. inr i) l);
       no-effects = λ l. absurd (omega arith);
       no-event = λ l. absurd (omega arith);
       no-edges = λ l. absurd (omega arith);
@@ -201,6 +213,7 @@ going {f} (form {n = n} h) p g =
     record {
       entries = g .entries;
       policies = g .policies;
+      marks = g .marks;
       effects = g .effects;
       edges = g .edges;
       bits = g .bits;
@@ -212,6 +225,7 @@ going {f} (form {n = n} h) p g =
       labels = g .labels;
       no-entries = g .no-entries;
       no-policies = g .no-policies;
+      no-marks = g .no-marks;
       no-effects = g .no-effects;
       no-event = g .no-event;
       no-edges = g .no-edges;
@@ -229,6 +243,7 @@ going {f} (bit {t = t} {a = a} {b = b} h i j) p g =
     record {
       entries = g .entries;
       policies = g .policies;
+      marks = g .marks;
       effects = g .effects;
       edges = g .edges;
       bits = inside-more (f .table) t a b (ltb-true t (tables (f .terms)) (test 4)) la lb (g .bits);
@@ -241,6 +256,7 @@ going {f} (bit {t = t} {a = a} {b = b} h i j) p g =
       labels = λ l. g .labels z0;
       no-entries = λ l. absurd (omega arith);
       no-policies = λ l. absurd (omega arith);
+      no-marks = λ l. g .no-marks (⊎-elim (λ i. absurd (omega arith)) (λ i. inr i) l);
       no-effects = λ l. absurd (omega arith);
       no-event = λ l. absurd (omega arith);
       no-edges = λ l. absurd (omega arith);
@@ -254,10 +270,11 @@ going {f} (event {j = j} {u = u} {v = v} h i k) p g =
     record {
       entries = g .entries;
       policies = g .policies;
+      marks = g .marks;
       effects = g .effects;
       edges = g .edges;
       bits = g .bits;
-      last = EventFits.happened (ltb-true j (f .terms .events) (test 3)) (ltb-true u (f .terms .members) (test 4)) (ltb-true v (f .terms .members) (test 5));
+      last = event-named j u v (ltb-true _ (f .terms .events) (test 3)) (ltb-true u (f .terms .members) (test 4)) (ltb-true v (f .terms .members) (test 5));
       edges-rise = λ l. absurd (omega arith);
       bits-rise = g .bits-rise;
       short = g .short;
@@ -265,12 +282,41 @@ going {f} (event {j = j} {u = u} {v = v} h i k) p g =
       labels = λ l. g .labels z0;
       no-entries = λ l. absurd (omega arith);
       no-policies = λ l. absurd (omega arith);
+      no-marks = λ l. g .no-marks (⊎-elim (λ i. absurd (omega arith)) (λ i. inr i) l);
       no-effects = λ l. absurd (omega arith);
       no-event = λ l. absurd (omega arith);
       no-edges = λ l. absurd (omega arith);
       no-bits = λ l. absurd (omega arith);
       no-last = λ l. absurd (omega arith);
       old = λ s. absurd (not-both (f .stored) (test 0) s);
+    }
+going {f} (mark {j = j} h) p g =
+    let test = passed-at p in
+    let z0 = complete-phase f (test 0) in
+    let z1 = leb-true (f .phase) 4 (test 1) in
+    let c = complete-policies f (test 0) in
+    record {
+      entries = g .entries;
+      policies = g .policies;
+      marks = mark-more j (leb-true (f .marks) j (test 2)) (ltb-true j (f .terms .events) (test 3)) (g .marks);
+      effects = g .effects;
+      edges = g .edges;
+      bits = g .bits;
+      last = g .last;
+      edges-rise = λ l. g .edges-rise (omega arith);
+      bits-rise = g .bits-rise;
+      short = g .short;
+      members = λ l. g .members (omega arith);
+      labels = λ l. g .labels z0;
+      no-entries = λ l. absurd (omega arith);
+      no-policies = λ l. absurd (omega arith);
+      no-marks = λ l. ⊎-elim (λ i. absurd (omega arith)) (λ i. absurd (omega arith)) l;
+      no-effects = λ l. g .no-effects (omega arith);
+      no-event = λ l. g .no-event (omega arith);
+      no-edges = λ l. g .no-edges (omega arith);
+      no-bits = λ l. g .no-bits (omega arith);
+      no-last = λ l. g .no-last (omega arith);
+      old = λ s. omega arith;
     }
 
 pub going-on : {f g : File} {ls : List Line} → Taken f ls g → Going f → Going g

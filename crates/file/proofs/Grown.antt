@@ -1,7 +1,7 @@
 -- The lines that a file read so far has said: a line that is taken is added at their end.
 use Prim.Native.Nat.{ℕ, _≤_, _<_}
 use mathlib.Core.Path.{_≡_, refl, sym, ap, ap₂, _∙_}
-use mathlib.Core.Logic.{⊎-elim}
+use mathlib.Core.Logic.{inl, inr, ⊎-elim}
 use mathlib.Core.List.{List, [], _∷_, _++_, append-nil, append-assoc}
 use mathlib.Core.Bool.{Bool, true, false, cond}
 use native.Mathlib.Omega.{arith}
@@ -13,16 +13,16 @@ use Rattle.file.specs.File.{File, stateSaid, nothing, after}
 use Rattle.file.specs.Reading.{tests, complete, rises}
 use Rattle.file.specs.Writing.{eventEdgeLine, allLines, storedLines}
 use Rattle.file.specs.declared.line.Line.{Line}
-use Rattle.file.specs.declared.line.Line.the-variants.{Members, Labels, Entry, Policy, Effect, Edge, Form, TableBit, EventEdge}
+use Rattle.file.specs.declared.line.Line.the-variants.{Members, Labels, Entry, Policy, Effect, Edge, Form, TableBit, EventEdge, Mark}
 use Rattle.file.specs.Refused.{Passed}
 use Rattle.file.proofs.Printed.{Ranged}
-use Rattle.file.proofs.Printed.Ranged.{members, labels, entry, policy, effect, edge, form, bit, event}
+use Rattle.file.proofs.Printed.Ranged.{members, labels, entry, policy, effect, edge, form, bit, event, mark}
 use Rattle.file.proofs.Taken.{passed-at, Taken}
 use Rattle.file.proofs.Taken.Taken.{none, one}
 use Rattle.file.proofs.Fit.{code, UpTo}
 use Rattle.file.proofs.Going.{Going, going-first, going, entry-phase, policy-phase, complete-phase, complete-policies, rises-code}
 use Rattle.file.proofs.Listed.{empty, here, later}
-use Rattle.file.proofs.SoFar.{formLines, headLines, entryLines, policyLines, eventLines, bitLines, formsOf, headsOf, entriesOf, policiesOf, eventsOf, edgesOf, bitsOf, afterEdges, afterEffects, afterPolicies, afterEntries, afterHeads, afterForm, soFar, form-more, head-none, head-first, head-second, head-late, entries-none, entries-more, policies-none, policies-more, events-none, events-more, bits-none, bits-more}
+use Rattle.file.proofs.SoFar.{formLines, headLines, entryLines, policyLines, markLines, eventLines, bitLines, formsOf, headsOf, entriesOf, policiesOf, marksOf, eventsOf, edgesOf, bitsOf, afterEdges, afterEffects, afterMarks, afterPolicies, afterEntries, afterHeads, afterForm, soFar, form-more, head-none, head-first, head-second, head-late, entries-none, entries-more, policies-none, policies-more, marks-none, marks-more, events-none, events-more, bits-none, bits-more, event-line}
 
 -- ---- what comes after the present phase is empty
 
@@ -36,11 +36,14 @@ module _ (f : File) (g : Going f) where
   no-edges : f .phase < 6 → afterEffects f ≡ []
   no-edges l = empty (bits-none 65536 Edge (f .edges) (g .no-edges l)) (no-bits (omega arith))
 
-  no-effects : f .phase < 5 → afterPolicies f ≡ []
+  no-effects : f .phase < 5 → afterMarks f ≡ []
   no-effects l = empty (events-none (f .terms .events) (f .terms .effects) (g .no-effects l)) (no-edges (omega arith))
 
+  no-marks : f .phase < 5 → f .marks ≡ 0 → afterPolicies f ≡ []
+  no-marks l e = empty (marks-none (f .terms .events) (f .terms .kept) (λ j. g .marks .later j (omega arith))) (no-effects l)
+
   no-policies : f .phase < 4 → afterEntries f ≡ []
-  no-policies l = empty (policies-none (f .policies) (f .terms .policy) (g .no-policies l)) (no-effects (omega arith))
+  no-policies l = empty (policies-none (f .policies) (f .terms .policy) (g .no-policies l)) (no-marks (omega arith) (g .no-marks (inl l)))
 
   no-entries : f .phase < 3 → afterHeads f ≡ []
   no-entries l = empty (entries-none (f .terms .entries) (f .terms .entry) (g .no-entries l)) (no-policies (omega arith))
@@ -84,7 +87,10 @@ module _ (f f′ : File) (x : List Line) where
   past-policies : policiesOf f′ ≡ policiesOf f → afterPolicies f′ ≡ afterPolicies f ++ x → afterEntries f′ ≡ afterEntries f ++ x
   past-policies e h = later (policiesOf f) (policiesOf f′) (afterPolicies f) (afterPolicies f′) x e h
 
-  past-effects : eventsOf f′ ≡ eventsOf f → afterEffects f′ ≡ afterEffects f ++ x → afterPolicies f′ ≡ afterPolicies f ++ x
+  past-marks : marksOf f′ ≡ marksOf f → afterMarks f′ ≡ afterMarks f ++ x → afterPolicies f′ ≡ afterPolicies f ++ x
+  past-marks e h = later (marksOf f) (marksOf f′) (afterMarks f) (afterMarks f′) x e h
+
+  past-effects : eventsOf f′ ≡ eventsOf f → afterEffects f′ ≡ afterEffects f ++ x → afterMarks f′ ≡ afterMarks f ++ x
   past-effects e h = later (eventsOf f) (eventsOf f′) (afterEffects f) (afterEffects f′) x e h
 
   past-edges : edgesOf f′ ≡ edgesOf f → afterEdges f′ ≡ afterEdges f ++ x → afterEffects f′ ≡ afterEffects f ++ x
@@ -122,21 +128,23 @@ line-more {f} (policy {j = j} {n = n} h i) p g =
     let f′ = after f (Policy j n) in
     let z = policy-phase f (passed-at p 0) in
     let e = eqb-true j (f .policies) (passed-at p 1) in
+    let l = ltb-true j (f .terms .events) (passed-at p 2) in
+    let none-yet = g .no-marks (inr (omega arith)) in
     past-heads f f′ x refl (heads-same f 4 (z .0) (omega arith)) (past-entries f f′ x refl
     (here (policiesOf f) (policiesOf f′) (afterPolicies f) (afterPolicies f′) x
     (policies-more j n (f .terms .policy) ∙ ap (λ (m : ℕ). policyLines m (f .terms .policy) ++ x) e)
-    (no-effects f g (z .1)) (no-effects f′ (going (policy h i) p g) (omega arith))))
+    (no-marks f g (z .1) none-yet) (no-marks f′ (going (policy h i) p g) (omega arith) none-yet)))
 line-more {f} (effect {j = j} {c = c} {k = k} {d = d} h i q m n) p g =
     let x = Effect j c k d ∷ [] in
     let f′ = after f (Effect j c k d) in
     let z = complete-phase f (passed-at p 0) in
     let y = leb-true (f .phase) 5 (passed-at p 1) in
     let w = leb-true (f .event) j (passed-at p 2) in
-    past-heads f f′ x refl (heads-same f 5 z (omega arith)) (past-entries f f′ x refl (past-policies f f′ x refl
+    past-heads f f′ x refl (heads-same f 5 z (omega arith)) (past-entries f f′ x refl (past-policies f f′ x refl (past-marks f f′ x refl
     (here (eventsOf f) (eventsOf f′) (afterEffects f) (afterEffects f′) x
     (events-more (f .terms .events) (f .terms .effects) j c k d i q n (ltb-true j (f .terms .events) (passed-at p 3))
     (λ v l. g .effects .later v (omega arith)))
-    (no-edges f g (omega arith)) (no-edges f′ (going (effect h i q m n) p g) (omega arith)))))
+    (no-edges f g (omega arith)) (no-edges f′ (going (effect h i q m n) p g) (omega arith))))))
 line-more {f} (edge {k = k} {a = a} {b = b} h i j) p g =
     let x = Edge k a b ∷ [] in
     let f′ = after f (Edge k a b) in
@@ -147,11 +155,11 @@ line-more {f} (edge {k = k} {a = a} {b = b} h i j) p g =
     let lk = ltb-true k (f .terms .relations) (passed-at p 3) in
     let la = ltb-true a (f .terms .members) (passed-at p 4) in
     let lb = ltb-true b (f .terms .members) (passed-at p 5) in
-    past-heads f f′ x refl (heads-same f 6 z (omega arith)) (past-entries f f′ x refl (past-policies f f′ x refl (past-effects f f′ x refl
+    past-heads f f′ x refl (heads-same f 6 z (omega arith)) (past-entries f f′ x refl (past-policies f f′ x refl (past-marks f f′ x refl (past-effects f f′ x refl
     (here (edgesOf f) (edgesOf f′) (afterEdges f) (afterEdges f′) x
     (bits-more 65536 Edge (f .edges) k a b (omega arith) (omega arith) (omega arith)
     (none-beyond 6 f (f .edges) k a b (omega arith) (omega arith) (g .short) (g .no-edges) (g .edges-rise (omega arith)) (passed-at p 2)))
-    (no-bits f g (omega arith)) (no-bits f′ (going (edge h i j) p g) (omega arith))))))
+    (no-bits f g (omega arith)) (no-bits f′ (going (edge h i j) p g) (omega arith)))))))
 line-more {f} (form {n = n} h) p g =
     let x = Form n ∷ [] in
     let f′ = after f (Form n) in
@@ -168,20 +176,31 @@ line-more {f} (bit {t = t} {a = a} {b = b} h i j) p g =
     let lt = ltb-true t (tables (f .terms)) (passed-at p 4) in
     let la = ltb-true a (f .terms .members) (passed-at p 5) in
     let lb = ltb-true b (f .terms .members) (passed-at p 6) in
-    past-heads f f′ x refl (heads-same f 7 z (omega arith)) (past-entries f f′ x refl (past-policies f f′ x refl (past-effects f f′ x refl
+    past-heads f f′ x refl (heads-same f 7 z (omega arith)) (past-entries f f′ x refl (past-policies f f′ x refl (past-marks f f′ x refl (past-effects f f′ x refl
     (past-edges f f′ x refl
     (here (bitsOf f) (bitsOf f′) (eventEdgeLine (f .last)) (eventEdgeLine (f′ .last)) x
     (bits-more 131072 TableBit (f .table) t a b (omega arith) (omega arith) (omega arith)
     (none-beyond 7 f (f .table) t a b (omega arith) (omega arith) (g .short) (g .no-bits) (g .bits-rise) (passed-at p 3)))
-    (no-last f g (omega arith)) (no-last f′ (going (bit h i j) p g) (omega arith)))))))
+    (no-last f g (omega arith)) (no-last f′ (going (bit h i j) p g) (omega arith))))))))
 line-more {f} (event {j = j} {u = u} {v = v} h i m) p g =
     let x = EventEdge j u v ∷ [] in
     let f′ = after f (EventEdge j u v) in
     let z = complete-phase f (passed-at p 1) in
     let y = leb-true (f .phase) 7 (passed-at p 2) in
-    past-heads f f′ x refl (heads-same f 8 z (omega arith)) (past-entries f f′ x refl (past-policies f f′ x refl (past-effects f f′ x refl
+    past-heads f f′ x refl (heads-same f 8 z (omega arith)) (past-entries f f′ x refl (past-policies f f′ x refl (past-marks f f′ x refl (past-effects f f′ x refl
     (past-edges f f′ x refl
-    (later (bitsOf f) (bitsOf f′) (eventEdgeLine (f .last)) x x refl (rw (no-last f g (omega arith)) refl))))))
+    (later (bitsOf f) (bitsOf f′) (eventEdgeLine (f .last)) (eventEdgeLine (f′ .last)) x refl
+    (event-line j u v ∙ ap (λ (ls : List Line). ls ++ x) (sym (no-last f g (omega arith))))))))))
+line-more {f} (mark {j = j} h) p g =
+    let x = Mark j ∷ [] in
+    let f′ = after f (Mark j) in
+    let z = complete-phase f (passed-at p 0) in
+    let y = leb-true (f .phase) 4 (passed-at p 1) in
+    let w = leb-true (f .marks) j (passed-at p 2) in
+    past-heads f f′ x refl (heads-same f 4 z (omega arith)) (past-entries f f′ x refl (past-policies f f′ x refl
+    (here (marksOf f) (marksOf f′) (afterMarks f) (afterMarks f′) x
+    (marks-more (f .terms .events) j (f .terms .kept) (ltb-true j (f .terms .events) (passed-at p 3)) (λ i l. g .marks .later i (omega arith)))
+    (no-effects f g (omega arith)) (no-effects f′ (going (mark h) p g) (omega arith)))))
 
 pub lines-more : {f g : File} {ls : List Line} → Taken f ls g → Going f → soFar g ≡ soFar f ++ ls
 lines-more none h = sym (append-nil _)
@@ -198,8 +217,9 @@ first-none = no-heads nothing going-first refl
 abbrev pub linesSaid : File → List Line
 linesSaid f = cond (f .stored) (storedLines (f .terms) (stateSaid f)) (allLines (f .terms) (f .edges))
 
-joined : (a b c d x : List Line) → a ++ (b ++ (c ++ (d ++ x))) ≡ (a ++ (b ++ (c ++ d))) ++ x
-joined a b c d x = rw (append-assoc a (b ++ (c ++ d)) x, append-assoc b (c ++ d) x, append-assoc c d x) refl
+joined : (a b c d e x : List Line) → a ++ (b ++ (c ++ (d ++ (e ++ x)))) ≡ (a ++ (b ++ (c ++ (d ++ e)))) ++ x
+joined a b c d e x =
+    rw (append-assoc a (b ++ (c ++ (d ++ e))) x, append-assoc b (c ++ (d ++ e)) x, append-assoc c (d ++ e) x, append-assoc d e x) refl
 
 module _ (T : Terms) (S : State) where
   abbrev E : List Line
@@ -207,6 +227,9 @@ module _ (T : Terms) (S : State) where
 
   abbrev P : List Line
   P = policyLines (T .events) (T .policy)
+
+  abbrev K : List Line
+  K = markLines (T .events) (T .kept)
 
   abbrev F : List Line
   F = eventLines (T .events) (T .effects)
@@ -218,13 +241,13 @@ module _ (T : Terms) (S : State) where
   X = bitLines 131072 TableBit (S .table) ++ eventEdgeLine (S .now .event)
 
   in-form : (b : Bool) → (b ≡ false → X ≡ [])
-      → formLines b ++ (Members (T .members) ∷ Labels (T .relations) (T .events) ∷ (E ++ (P ++ (F ++ (G ++ X)))))
+      → formLines b ++ (Members (T .members) ∷ Labels (T .relations) (T .events) ∷ (E ++ (P ++ (K ++ (F ++ (G ++ X))))))
       ≡ cond b (storedLines T S) (allLines T (S .now .edge))
-  unfolding formLines allLines storedLines entryLines policyLines eventLines bitLines
-  in-form true h = ap {B = List Line} (λ ls. Form 2 ∷ Members (T .members) ∷ Labels (T .relations) (T .events) ∷ ls) (joined E P F G X)
+  unfolding formLines allLines storedLines entryLines policyLines markLines eventLines bitLines
+  in-form true h = ap {B = List Line} (λ ls. Form 2 ∷ Members (T .members) ∷ Labels (T .relations) (T .events) ∷ ls) (joined E P K F G X)
   in-form false h =
       ap {B = List Line} (λ ls. Members (T .members) ∷ Labels (T .relations) (T .events) ∷ ls)
-      (joined E P F G X ∙ ap (λ (ls : List Line). (E ++ (P ++ (F ++ G))) ++ ls) (h refl) ∙ append-nil (E ++ (P ++ (F ++ G))))
+      (joined E P K F G X ∙ ap (λ (ls : List Line). (E ++ (P ++ (K ++ (F ++ G)))) ++ ls) (h refl) ∙ append-nil (E ++ (P ++ (K ++ (F ++ G)))))
 
 pub all-said : (f : File) → complete f ≡ true → Going f → soFar f ≡ linesSaid f
 unfolding soFar

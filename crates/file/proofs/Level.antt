@@ -22,7 +22,7 @@ use Rattle.file.specs.Reading.Reading.{accepted}
 use Rattle.file.specs.Said.{records}
 use Rattle.file.specs.Writing.{printedAll}
 use Rattle.file.specs.declared.line.Line.{Line}
-use Rattle.file.specs.declared.line.Line.the-variants.{Members, Labels, Entry, Policy, Effect, Edge, Form, TableBit, EventEdge, Malformed}
+use Rattle.file.specs.declared.line.Line.the-variants.{Members, Labels, Entry, Policy, Effect, Edge, Form, TableBit, EventEdge, Mark, Malformed}
 use Rattle.file.proofs.Plain.{linesOf, lines-printed}
 use Rattle.file.proofs.Printed.{split-ranged, parsed-printed}
 use Rattle.file.proofs.Fit.{bit-cases, bit-there, bit-stays}
@@ -87,6 +87,7 @@ line-bits x f (Edge k c d) p t a b e = inl e
 line-bits x f (Form n) p t a b e = inl e
 line-bits x f (TableBit s c d) p t a b e = ⊎-elim (λ q. inr (rw (q .0, q .1) p)) (λ q. inl q) (bit-cases (f .table) s c d t a b e)
 line-bits x f (EventEdge j u v) p t a b e = inl e
+line-bits x f (Mark j) p t a b e = inl e
 line-bits x f Malformed p t a b e = inl e
 
 -- a bit stays
@@ -101,6 +102,7 @@ line-stays f (Edge k c d) t a b e = e
 line-stays f (Form n) t a b e = e
 line-stays f (TableBit s c d) t a b e = bit-stays (f .table) s c d t a b e
 line-stays f (EventEdge j u v) t a b e = e
+line-stays f (Mark j) t a b e = e
 line-stays f Malformed t a b e = e
 
 -- a T line of a level table
@@ -116,6 +118,7 @@ line-level g f (Edge k c d) v h = refl
 line-level g f (Form n) v h = refl
 line-level g f (TableBit t a b) v h = not-partly g t a (λ q c l. v .level t a b c q (h t a b (bit-there (f .table) t a b)) l)
 line-level g f (EventEdge j u v) w h = refl
+line-level g f (Mark j) v h = refl
 line-level g f Malformed v h = refl
 
 -- ---- all lines

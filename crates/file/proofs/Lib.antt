@@ -10,6 +10,7 @@ pub mod Phases
 pub mod Going
 pub mod Accepted
 pub mod Entered
+pub mod Marked
 pub mod Effected
 pub mod Rising
 pub mod Edged

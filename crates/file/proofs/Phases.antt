@@ -1,5 +1,5 @@
 -- What holds of a file read so far, by its phase; and what the order tests say of the phase.
-use Prim.Native.Nat.{ℕ, _+_, _≤_, _<_}
+use Prim.Native.Nat.{ℕ, _+_, _*_, _≤_, _<_}
 use mathlib.Core.Path.{_≡_, refl}
 use mathlib.Core.Logic.{_⊎_, inl, inr, ⊎-elim}
 use mathlib.Core.List.{[]}
@@ -13,11 +13,12 @@ use Rattle.theory.specs.Terms.{tables}
 use Rattle.theory.specs.Moment.{Event}
 use Rattle.file.specs.File.{File, nothing}
 use Rattle.file.specs.Reading.{complete, rises}
-use Rattle.file.proofs.Fit.{EntriesFit, PoliciesFit, EffectsFit, Inside, UpTo, EventFits, code, effects-none, inside-none, up-to-none, event-none}
+use Rattle.file.proofs.Fit.{EntriesFit, PoliciesFit, MarksFit, EffectsFit, Inside, UpTo, EventFits, code, effects-none, inside-none, up-to-none, event-none}
 
 pub record Going (f : File) : Type 0 where
-  pub entries : EntriesFit (f .terms .relations + f .terms .events) (f .terms .entries) (f .terms .entry)
+  pub entries : EntriesFit (f .terms .relations + 2 * f .terms .events) (f .terms .entries) (f .terms .entry)
   pub policies : PoliciesFit (f .policies) (f .terms .events) (f .terms .entries) (f .terms .entry) (f .terms .policy)
+  pub marks : MarksFit (f .marks) (f .terms .events) (f .terms .kept)
   pub effects : EffectsFit (f .event) (f .terms .events) (f .terms .relations) (f .terms .effects)
   pub edges : Inside (f .terms .relations) (f .terms .members) (f .edges)
   pub bits : Inside (tables (f .terms)) (f .terms .members) (f .table)
@@ -29,6 +30,7 @@ pub record Going (f : File) : Type 0 where
   pub labels : 2 ≤ f .phase → (f .terms .relations < 17) × (0 < f .terms .events) × (f .terms .events < 17)
   pub no-entries : f .phase < 3 → f .terms .entries ≡ 0
   pub no-policies : f .phase < 4 → f .policies ≡ 0
+  pub no-marks : (f .phase < 4) ⊎ (f .policies < f .terms .events) → f .marks ≡ 0
   pub no-effects : f .phase < 5 → (j : ℕ) → f .terms .effects j ≡ []
   pub no-event : f .phase < 5 → f .event ≡ 0
   pub no-edges : f .phase < 6 → (k a b : ℕ) → f .edges k a b ≡ false
@@ -52,6 +54,7 @@ going-first = record {
     free = λ j l. absurd (omega arith);
     blank = λ j l. refl;
   };
+  marks = record { few = omega arith; later = λ j l. refl };
   effects = effects-none 0 0 0 _ (λ j. refl);
   edges = inside-none (λ k a b. refl);
   bits = inside-none (λ t a b. refl);
@@ -63,6 +66,7 @@ going-first = record {
   labels = λ l. absurd (omega arith);
   no-entries = λ l. refl;
   no-policies = λ l. refl;
+  no-marks = λ l. refl;
   no-effects = λ l j. refl;
   no-event = λ l. refl;
   no-edges = λ l k a b. refl;

@@ -15,10 +15,10 @@ use Rattle.theory.proofs.Good.{every-at}
 use Rattle.fields.specs.Split.{split}
 use Rattle.fields.specs.Number.{isNumber, isDigit, allDigits, valueOf, digits}
 use Rattle.file.specs.Words.{operatorWords, actionWords, directionWords, kindWords, indexOf, operatorOf, actionOf, directionOf, kindOf}
-use Rattle.file.specs.Line.{num, isNum, membersLine, labelsLine, shortEntryLine, longEntryLine, hasThird, entryLine, policyLine, effectLine, tripleLine, formLine, lineOf, parsed, fieldsOf, printed}
+use Rattle.file.specs.Line.{num, isNum, singleLine, labelsLine, shortEntryLine, longEntryLine, hasThird, entryLine, policyLine, effectLine, tripleLine, lineOf, parsed, fieldsOf, printed}
 use Rattle.file.specs.Normal.{normalField}
 use Rattle.file.specs.declared.line.Line.{Line}
-use Rattle.file.specs.declared.line.Line.the-variants.{Members, Labels, Entry, Policy, Effect, Edge, Form, TableBit, EventEdge, Malformed}
+use Rattle.file.specs.declared.line.Line.the-variants.{Members, Labels, Entry, Policy, Effect, Edge, Form, TableBit, EventEdge, Mark, Malformed}
 use Rattle.fields.proofs.Numeral.{value-small}
 use Rattle.fields.proofs.Digits.{valueOf-digits, digits-number}
 use Rattle.file.proofs.Words.{operator-at, operator-back, action-at, action-back, direction-at, direction-back, kind-at, kind-back}
@@ -35,10 +35,11 @@ pub data Ranged : Line → Type 0 where
   form : {n : ℕ} → n < 100000 → Ranged (Form n)
   bit : {t a b : ℕ} → t < 100000 → a < 100000 → b < 100000 → Ranged (TableBit t a b)
   event : {j u v : ℕ} → j < 100000 → u < 100000 → v < 100000 → Ranged (EventEdge j u v)
+  mark : {j : ℕ} → j < 100000 → Ranged (Mark j)
 
 -- ---- printed and read
 
-kind-word : (k : ℕ) → k < 9 → kindOf (getD kindWords k []) ≡ k
+kind-word : (k : ℕ) → k < 10 → kindOf (getD kindWords k []) ≡ k
 kind-word k h = kind-at k (unfold kindWords in h)
 
 action-word : (c : ℕ) → 0 < c → c < 3 → actionOf (getD ([] ∷ actionWords) c []) ≡ c
@@ -47,7 +48,7 @@ action-word (suc c) p h = action-at c (unfold actionWords in omega arith) ∙ (o
 
 -- a line's fields say the line
 pub parsed-printed : {l : Line} → Ranged l → parsed (fieldsOf l) ≡ l
-unfolding parsed fieldsOf lineOf membersLine labelsLine shortEntryLine longEntryLine entryLine policyLine effectLine tripleLine formLine every
+unfolding parsed fieldsOf lineOf singleLine labelsLine shortEntryLine longEntryLine entryLine policyLine effectLine tripleLine every
 parsed-printed (members {n = n} h) = rw (kind-word 0 (lit< tt), digits-number n h, valueOf-digits n h) refl
 parsed-printed (labels {r = r} {e = e} h i) =
     rw (kind-word 1 (lit< tt), digits-number r h, digits-number e i, valueOf-digits r h, valueOf-digits e i) refl
@@ -101,6 +102,7 @@ parsed-printed (bit {t = t} {a = a} {b = b} h i j) =
     rw (kind-word 7 (lit< tt), digits-number t h, digits-number a i, digits-number b j, valueOf-digits t h, valueOf-digits a i, valueOf-digits b j) refl
 parsed-printed (event {j = j} {u = u} {v = v} h i m) =
     rw (kind-word 8 (lit< tt), digits-number j h, digits-number u i, digits-number v m, valueOf-digits j h, valueOf-digits u i, valueOf-digits v m) refl
+parsed-printed (mark {j = j} h) = rw (kind-word 9 (lit< tt), digits-number j h, valueOf-digits j h) refl
 
 -- and the printed line parts into them
 pub split-ranged : {l : Line} → Ranged l → split 9 (printed l) ≡ fieldsOf l
@@ -114,6 +116,7 @@ split-ranged (edge {k = k} {a = a} {b = b} h i j) = split-printed (Edge k a b) (
 split-ranged (form {n = n} h) = split-printed (Form n) (omega arith)
 split-ranged (bit {t = t} {a = a} {b = b} h i j) = split-printed (TableBit t a b) (omega arith)
 split-ranged (event {j = j} {u = u} {v = v} h i m) = split-printed (EventEdge j u v) (omega arith)
+split-ranged (mark {j = j} h) = split-printed (Mark j) (omega arith)
 
 -- ---- read and printed
 
@@ -146,11 +149,11 @@ word-normal : (f w : List ℕ) → f ≡ w → not (isNumber w) ≡ true → w �
 word-normal f w e h = rw (e, not-true (isNumber w) h) refl
 
 -- no word is a number
-kind-normal : (f : List ℕ) (k : ℕ) → kindOf f ≡ k → k < 9 → getD kindWords k [] ≡ normalField f
+kind-normal : (f : List ℕ) (k : ℕ) → kindOf f ≡ k → k < 10 → getD kindWords k [] ≡ normalField f
 unfolding isNumber isDigit allDigits kindWords every
 kind-normal f k e h =
     word-normal f (getD kindWords k [])
-    (subst (λ (m : ℕ). m < 9 → f ≡ getD kindWords m []) e (kind-back f) h)
+    (subst (λ (m : ℕ). m < 10 → f ≡ getD kindWords m []) e (kind-back f) h)
     (word-all (λ w. not (isNumber w)) kindWords refl refl k)
 
 operator-normal : (f : List ℕ) → operatorOf f < 12 → getD operatorWords (operatorOf f) [] ≡ normalField f
@@ -196,7 +199,15 @@ module _ (fs : List (List ℕ)) where
   small : (k : ℕ) → isNum fs k ≡ true → num fs k < 100000
   small k h = value-small (field k) h
 
-  triple : (k : ℕ) (says : ℕ → ℕ → ℕ → Line) → kindOf (field 0) ≡ k → k < 9
+  single : (k : ℕ) (says : ℕ → Line) → kindOf (field 0) ≡ k → k < 10 → ((x : ℕ) → x < 100000 → Ranged (says x))
+      → ((x : ℕ) → fieldsOf (says x) ≡ getD kindWords k [] ∷ digits x ∷ []) → Says fs (singleLine says fs)
+  unfolding singleLine
+  single k says e l r h = tested fs _ _ (λ t. record {
+    ranged = r _ (small 1 (t 1));
+    fields = h _ ∙ rw (kind-normal (field 0) k e l, number-normal (field 1) (t 1)) (all 2 (t 0));
+  })
+
+  triple : (k : ℕ) (says : ℕ → ℕ → ℕ → Line) → kindOf (field 0) ≡ k → k < 10
       → ((x y z : ℕ) → x < 100000 → y < 100000 → z < 100000 → Ranged (says x y z))
       → ((x y z : ℕ) → fieldsOf (says x y z) ≡ getD kindWords k [] ∷ digits x ∷ digits y ∷ digits z ∷ []) → Says fs (tripleLine says fs)
   unfolding tripleLine
@@ -206,11 +217,8 @@ module _ (fs : List (List ℕ)) where
   })
 
   said : (k : ℕ) → kindOf (field 0) ≡ k → Says fs (lineOf k fs)
-  unfolding lineOf membersLine labelsLine shortEntryLine longEntryLine entryLine policyLine effectLine formLine fieldsOf
-  said zero e = tested fs _ _ (λ t. record {
-    ranged = members (small 1 (t 1));
-    fields = rw (kind-normal (field 0) 0 e (lit< tt), number-normal (field 1) (t 1)) (all 2 (t 0));
-  })
+  unfolding lineOf labelsLine shortEntryLine longEntryLine entryLine policyLine effectLine fieldsOf
+  said zero e = single 0 Members e (lit< tt) (λ x h. members h) (λ x. refl)
   said (suc zero) e = tested fs _ _ (λ t. record {
     ranged = labels (small 1 (t 1)) (small 2 (t 2));
     fields = rw (kind-normal (field 0) 1 e (lit< tt), number-normal (field 1) (t 1), number-normal (field 2) (t 2)) (all 3 (t 0));
@@ -236,13 +244,11 @@ module _ (fs : List (List ℕ)) where
         fields = rw (kind-normal (field 0) 4 e (lit< tt), number-normal (field 1) (t 1), action-normal (field 2) a, number-normal (field 3) (t 3), direction-normal (field 4) d) (all 5 (t 0));
       })
   said (suc (suc (suc (suc (suc zero))))) e = triple 5 Edge e (lit< tt) (λ x y z h i j. edge h i j) (λ x y z. refl)
-  said (suc (suc (suc (suc (suc (suc zero)))))) e = tested fs _ _ (λ t. record {
-    ranged = form (small 1 (t 1));
-    fields = rw (kind-normal (field 0) 6 e (lit< tt), number-normal (field 1) (t 1)) (all 2 (t 0));
-  })
+  said (suc (suc (suc (suc (suc (suc zero)))))) e = single 6 Form e (lit< tt) (λ x h. form h) (λ x. refl)
   said (suc (suc (suc (suc (suc (suc (suc zero))))))) e = triple 7 TableBit e (lit< tt) (λ x y z h i j. bit h i j) (λ x y z. refl)
   said (suc (suc (suc (suc (suc (suc (suc (suc zero)))))))) e = triple 8 EventEdge e (lit< tt) (λ x y z h i j. event h i j) (λ x y z. refl)
-  said (suc (suc (suc (suc (suc (suc (suc (suc (suc k))))))))) e = inl refl
+  said (suc (suc (suc (suc (suc (suc (suc (suc (suc zero))))))))) e = single 9 Mark e (lit< tt) (λ x h. mark h) (λ x. refl)
+  said (suc (suc (suc (suc (suc (suc (suc (suc (suc (suc k)))))))))) e = inl refl
 
   pub formed : (parsed fs ≡ Malformed) ⊎ Formed fs (parsed fs)
   unfolding parsed

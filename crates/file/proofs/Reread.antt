@@ -1,16 +1,16 @@
 -- Reading what is written of terms and relations, or stored of terms and a state, gives the same again.
-use Prim.Native.Nat.{ℕ, _<_}
+use Prim.Native.Nat.{ℕ, _+_, _-_, _<_}
 use mathlib.Core.Path.{_≡_, refl, sym, ap, fun-ext, subst, subst₂, _∙_}
-use mathlib.Core.List.{List}
+use mathlib.Core.List.{List, [], _∷_}
 use mathlib.Core.Bool.{Bool, true, false}
 use native.Mathlib.Omega.{arith}
-use borrow.Author.Tests.{lt-ltb, le-leb}
+use borrow.Author.Tests.{lt-ltb, le-ltb, le-leb}
 use Rattle.theory.specs.Terms.{Terms, tables}
 use Rattle.theory.specs.Moment.{Relations, Event, first}
-use Rattle.theory.specs.Moment.Event.{happened}
+use Rattle.theory.specs.Moment.Event.{happened, tried}
 use Rattle.theory.specs.Tables.{Tables, State}
 use Rattle.theory.proofs.Good.{Good}
-use Rattle.file.specs.File.{File, nothing, after}
+use Rattle.file.specs.File.{File, nothing, eventNamed, eventSaid, after}
 use Rattle.file.specs.Reading.{tests, complete, rises, reading}
 use Rattle.file.specs.Reading.Reading.{accepted}
 use Rattle.file.specs.Writing.{listed, bitAt, allLines, eventEdgeLine, storedLines, written, stored}
@@ -146,11 +146,10 @@ module _ (T : Terms) (good : Good T) (R : Relations) (X : Tables) (inside : Insi
     table : g .table ≡ X
     last : g .last ≡ E
 
-  module _ (j u v : ℕ) (p : j < T .events) (q : u < T .members) (r : v < T .members) (g : File) (t : Bitted g) where
+  -- the event and members that its line names
+  module _ (j u v : ℕ) (few : j < 32) (p : eventNamed j < T .events) (q : u < T .members) (r : v < T .members) (g : File) (t : Bitted g) where
     event-ranged : Ranged (EventEdge j u v)
-    event-ranged =
-        let m = good .few-events in let n = good .few-members in
-        Ranged.event {j = j} {u = u} {v = v} (omega arith) (omega arith) (omega arith)
+    event-ranged = let n = good .few-members in Ranged.event {j = j} {u = u} {v = v} (omega arith) (omega arith) (omega arith)
 
     event-passed : Passed (tests g (EventEdge j u v))
     unfolding tests
@@ -161,12 +160,12 @@ module _ (T : Terms) (good : Good T) (R : Relations) (X : Tables) (inside : Insi
         pass (s .form)
         (pass (settled-complete g s)
         (pass (le-leb (g .phase) 7 (s .high))
-        (pass (lt-ltb j (g .terms .events) (omega arith))
+        (pass (lt-ltb (eventNamed j) (g .terms .events) (subst (λ (n : ℕ). eventNamed j < n) (sym e) p))
         (pass (lt-ltb u (g .terms .members) (omega arith))
         (pass (lt-ltb v (g .terms .members) (omega arith))
         none)))))
 
-    event-whole : Whole (happened j u v) (after g (EventEdge j u v))
+    event-whole : Whole (eventSaid j u v) (after g (EventEdge j u v))
     unfolding after
     event-whole =
         let s = t .edged-so .settled-so in
@@ -178,6 +177,9 @@ module _ (T : Terms) (good : Good T) (R : Relations) (X : Tables) (inside : Insi
           table = t .table;
           last = refl;
         }
+
+    named-read : (E : Event) → eventSaid j u v ≡ E → Reached g (EventEdge j u v ∷ []) (Whole E)
+    named-read E e = subst (λ (x : Event). Reached g (EventEdge j u v ∷ []) (Whole x)) e (reached-one event-ranged event-passed event-whole)
 
   event-read : (E : Event) → EventFits (T .events) (T .members) E → (g : File) → Bitted g → Reached g (eventEdgeLine E) (Whole E)
   event-read E EventFits.none g t =
@@ -192,7 +194,14 @@ module _ (T : Terms) (good : Good T) (R : Relations) (X : Tables) (inside : Insi
         last = s .going-so .no-last (omega arith);
       })
   event-read E (EventFits.happened {j = j} {u = u} {v = v} p q r) g t =
-      reached-one (event-ranged j u v p q r g t) (event-passed j u v p q r g t) (event-whole j u v p q r g t)
+      let m = good .few-events in
+      let e = lt-ltb j 16 (omega arith) in
+      named-read j u v (omega arith) (rw e p) q r g t (happened j u v) (rw e refl)
+  event-read E (EventFits.tried {j = j} {u = u} {v = v} p q r) g t =
+      let m = good .few-events in
+      let e = le-ltb (16 + j) 16 (omega arith) in
+      let d : 16 + j - 16 ≡ j = omega arith in
+      named-read (16 + j) u v (omega arith) (rw (e, d) p) q r g t (tried j u v) (rw (e, d) refl)
 
 -- ---- the two forms
 

@@ -3,7 +3,7 @@ use Prim.Native.Nat.{ℕ, suc, _+_, _-_, _≤_}
 use mathlib.Core.Path.{_≡_, refl, sym, ap, fun-ext, _∙_}
 use mathlib.Core.Logic.{⊎-elim}
 use mathlib.Core.List.{List, [], _∷_, _++_, append-nil, append-assoc}
-use mathlib.Core.Bool.{cond}
+use mathlib.Core.Bool.{Bool, true, cond, _||_, or-true, or-false}
 use native.Mathlib.Omega.{arith}
 use lib.Dec.{eqb, ltb}
 use lib.ListN.{length, getD}
@@ -16,10 +16,10 @@ use Rattle.fields.specs.Split.{lines}
 use Rattle.file.specs.File.{File, nothing, update, after}
 use Rattle.file.specs.Reading.{tests, reading}
 use Rattle.file.specs.Reading.Reading.{accepted}
-use Rattle.file.specs.Said.{records, membersSaid, relationsSaid, eventsSaid, entriesSaid, policiesSaid, effectsSaid, edgesSaid, tablesSaid, lastSaid, storedSaid, termsSaid}
+use Rattle.file.specs.Said.{records, membersSaid, relationsSaid, eventsSaid, entriesSaid, policiesSaid, effectsSaid, keptSaid, edgesSaid, tablesSaid, lastSaid, storedSaid, termsSaid}
 use Rattle.file.specs.declared.line.Line.{Line}
 use Rattle.file.proofs.Printed.{Ranged}
-use Rattle.file.proofs.Printed.Ranged.{members, labels, entry, policy, effect, edge, form, bit, event}
+use Rattle.file.proofs.Printed.Ranged.{members, labels, entry, policy, effect, edge, form, bit, event, mark}
 use Rattle.file.specs.Refused.{Passed}
 use Rattle.file.proofs.Taken.{passed-at, Taken, reading-accepting}
 use Rattle.file.proofs.Taken.Taken.{none, one}
@@ -65,10 +65,11 @@ plus f ls = record {
   entry = extend (f .terms .entries) (f .terms .entry) (entriesSaid ls) noEntry;
   policy = extend (f .policies) (f .terms .policy) (policiesSaid ls) 0;
   effects = λ j. f .terms .effects j ++ effectsSaid j ls;
+  kept = λ j. f .terms .kept j || keptSaid ls j;
 }
 
 plus-line : (f : File) {l : Line} → Ranged l → Passed (tests f l) → (ls : List Line) → plus (after f l) ls ≡ plus f (l ∷ ls)
-unfolding plus tests after membersSaid relationsSaid eventsSaid entriesSaid policiesSaid effectsSaid
+unfolding plus tests after membersSaid relationsSaid eventsSaid entriesSaid policiesSaid effectsSaid keptSaid
 plus-line f (members {n = n} h) p ls = rw (eqb-true (f .phase) 0 (passed-at p 0)) refl
 plus-line f (labels {r = r} {e = e} h i) p ls = rw (eqb-true (f .phase) 1 (passed-at p 0)) refl
 plus-line f (entry {n = n} {o = o} {a = a} {b = b} {c = c} h i j k m y) p ls =
@@ -87,6 +88,7 @@ plus-line f (entry {n = n} {o = o} {a = a} {b = b} {c = c} h i j k m y) p ls =
       entry = all t;
       policy = extend (f .policies) (f .terms .policy) (policiesSaid ls) 0;
       effects = λ j. f .terms .effects j ++ effectsSaid j ls;
+      kept = λ j. f .terms .kept j || keptSaid ls j;
     })
 plus-line f (policy {j = j} {n = n} h i) p ls =
     let z = policy-phase f (passed-at p 0) .0 in
@@ -102,6 +104,7 @@ plus-line f (policy {j = j} {n = n} h i) p ls =
       entry = extend (f .terms .entries) (f .terms .entry) (entriesSaid ls) noEntry;
       policy = all t;
       effects = λ j. f .terms .effects j ++ effectsSaid j ls;
+      kept = λ j. f .terms .kept j || keptSaid ls j;
     })
 plus-line f (effect {j = j} {c = c} {k = k} {d = d} h i q m n) p ls =
     let z = complete-phase f (passed-at p 0) in
@@ -122,6 +125,7 @@ plus-line f (effect {j = j} {c = c} {k = k} {d = d} h i q m n) p ls =
       entry = extend (f .terms .entries) (f .terms .entry) (entriesSaid ls) noEntry;
       policy = extend (f .policies) (f .terms .policy) (policiesSaid ls) 0;
       effects = all t;
+      kept = λ j. f .terms .kept j || keptSaid ls j;
     })
 plus-line f (edge h i j) p ls =
     let z = complete-phase f (passed-at p 0) in
@@ -133,6 +137,22 @@ plus-line f (bit h i j) p ls =
 plus-line f (event h i j) p ls =
     let z = complete-phase f (passed-at p 1) in
     rw (le-ltb (f .phase) 1 (omega arith), le-ltb (f .phase) 2 z) refl
+plus-line f (mark {j = j} h) p ls =
+    let z = complete-phase f (passed-at p 0) in
+    let k = f .terms .kept in
+    let all : _≡_ {A = ℕ → Bool} (λ i. update k j true i || keptSaid ls i) (λ i. k i || (eqb i j || keptSaid ls i)) =
+    fun-ext (λ i. ⊎-elim (λ t. rw t (sym (or-true (k i)))) (λ t. rw t refl) (true-or-false (eqb i j))) in
+    rw (le-ltb (f .phase) 1 (omega arith), le-ltb (f .phase) 2 z)
+    (λ t. record {
+      members = f .terms .members;
+      relations = f .terms .relations;
+      events = f .terms .events;
+      entries = f .terms .entries + length (entriesSaid ls);
+      entry = extend (f .terms .entries) (f .terms .entry) (entriesSaid ls) noEntry;
+      policy = extend (f .policies) (f .terms .policy) (policiesSaid ls) 0;
+      effects = λ j. f .terms .effects j ++ effectsSaid j ls;
+      kept = all t;
+    })
 
 plus-on : {f g : File} {ls : List Line} → Taken f ls g → plus g [] ≡ plus f ls
 plus-on none = refl
@@ -154,10 +174,11 @@ plus-first ls =
       entry = entry t;
       policy = policy t;
       effects = λ j. effectsSaid j ls;
+      kept = keptSaid ls;
     }
 
 plus-last : (f : File) → 2 ≤ f .phase → Going f → plus f [] ≡ f .terms
-unfolding plus entriesSaid policiesSaid effectsSaid
+unfolding plus entriesSaid policiesSaid effectsSaid keptSaid
 plus-last f z g =
     let count : f .terms .entries + 0 ≡ f .terms .entries = omega arith in
     rw (le-ltb (f .phase) 1 (omega arith), le-ltb (f .phase) 2 z)
@@ -169,6 +190,7 @@ plus-last f z g =
       entry = λ n. extend-all (f .terms .entry) noEntry (f .terms .entries) n (g .entries .blank) t;
       policy = λ j. extend-all (f .terms .policy) 0 (f .policies) j (g .policies .blank) t;
       effects = λ j. append-nil (f .terms .effects j) t;
+      kept = λ j. or-false (f .terms .kept j) t;
     })
 
 -- What the lines say is what the file says.

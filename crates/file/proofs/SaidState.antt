@@ -15,7 +15,7 @@ use Rattle.file.specs.Reading.{tests}
 use Rattle.file.specs.Said.{edgesSaid, tablesSaid, lastSaid, storedSaid}
 use Rattle.file.specs.declared.line.Line.{Line}
 use Rattle.file.proofs.Printed.{Ranged}
-use Rattle.file.proofs.Printed.Ranged.{members, labels, entry, policy, effect, edge, form, bit, event}
+use Rattle.file.proofs.Printed.Ranged.{members, labels, entry, policy, effect, edge, form, bit, event, mark}
 use Rattle.file.specs.Refused.{Passed}
 use Rattle.file.proofs.Taken.{passed-at, Taken}
 use Rattle.file.proofs.Taken.Taken.{none, one}
@@ -76,6 +76,7 @@ beside-line f (bit {t = t} {a = a} {b = b} h i j) p ls =
       stored = f .stored || storedSaid ls;
     })
 beside-line f (event h i j) p ls = let z = leb-true (f .phase) 7 (passed-at p 2) in rw (lt-ltb (f .phase) 8 (omega arith)) refl
+beside-line f (mark h) p ls = let z = leb-true (f .phase) 4 (passed-at p 1) in rw (lt-ltb (f .phase) 8 (omega arith)) refl
 
 beside-on : {f g : File} {ls : List Line} → Taken f ls g → beside g [] ≡ beside f ls
 beside-on none = refl

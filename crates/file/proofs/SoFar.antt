@@ -1,23 +1,24 @@
 -- The lines that a file read so far has said, part by part, and one line more of each part.
-use Prim.Native.Nat.{ℕ, zero, suc, _+_, _/_, _%_, _≤_, _<_}
+use Prim.Native.Nat.{ℕ, zero, suc, _+_, _-_, _/_, _%_, _≤_, _<_}
 use mathlib.Core.Path.{_≡_, refl, sym, ap, ap₂, _∙_}
+use mathlib.Core.Logic.{⊎-elim}
 use mathlib.Core.List.{List, [], _∷_, _++_}
 use mathlib.Core.Bool.{Bool, true, false, cond, _&&_}
 use native.Mathlib.Omega.{arith}
-use lib.Dec.{eqb}
-use borrow.Author.Tests.{eqb-true, eq-eqb}
-use Rattle.sets.proofs.Finite.{is-false, and-left, and-right}
+use lib.Dec.{eqb, ltb}
+use borrow.Author.Tests.{eqb-true, eq-eqb, ltb-false}
+use Rattle.sets.proofs.Finite.{true-or-false, is-false, and-left, and-right}
 use Rattle.theory.specs.Formula as formulas
 use Rattle.theory.specs.Terms as terms
-use Rattle.file.specs.File.{File, update, withBit}
+use Rattle.file.specs.File.{File, update, withBit, eventSaid}
 use Rattle.file.specs.Writing.{listed, effectLines, bitAt, eventEdgeLine}
 use Rattle.file.specs.declared.line.Line.{Line}
-use Rattle.file.specs.declared.line.Line.the-variants.{Members, Labels, Entry, Policy, Effect, Edge, Form, TableBit}
+use Rattle.file.specs.declared.line.Line.the-variants.{Members, Labels, Entry, Policy, Effect, Edge, Form, TableBit, EventEdge, Mark}
 use Rattle.file.proofs.Update.{update-same, update-other}
 use Rattle.file.proofs.Fit.{code}
 use Rattle.file.proofs.Listed.{listed-none, listed-more, listed-changed}
 
--- The members and labels, by phase; the entries, policies and effects.
+-- The members and labels, by phase; the entries, policies, marks and effects.
 unfoldable pub headLines : (phase members relations events : ℕ) → List Line
 headLines zero N r e = []
 headLines (suc zero) N r e = Members N ∷ []
@@ -28,6 +29,9 @@ entryLines n g = listed n (λ k. Entry k (g k .op) (g k .a) (g k .b) (g k .c) �
 
 unfoldable pub policyLines : ℕ → (ℕ → ℕ) → List Line
 policyLines n p = listed n (λ j. Policy j (p j) ∷ [])
+
+unfoldable pub markLines : ℕ → (ℕ → Bool) → List Line
+markLines n k = listed n (λ j. cond (k j) (Mark j ∷ []) [])
 
 unfoldable pub eventLines : ℕ → (ℕ → List terms.Effect) → List Line
 eventLines n s = listed n (λ j. effectLines j (s j))
@@ -54,6 +58,9 @@ module _ (f : File) where
   abbrev pub policiesOf : List Line
   policiesOf = policyLines (f .policies) (f .terms .policy)
 
+  abbrev pub marksOf : List Line
+  marksOf = markLines (f .terms .events) (f .terms .kept)
+
   abbrev pub eventsOf : List Line
   eventsOf = eventLines (f .terms .events) (f .terms .effects)
 
@@ -69,8 +76,11 @@ module _ (f : File) where
   abbrev pub afterEffects : List Line
   afterEffects = edgesOf ++ afterEdges
 
+  abbrev pub afterMarks : List Line
+  afterMarks = eventsOf ++ afterEffects
+
   abbrev pub afterPolicies : List Line
-  afterPolicies = eventsOf ++ afterEffects
+  afterPolicies = marksOf ++ afterMarks
 
   abbrev pub afterEntries : List Line
   afterEntries = policiesOf ++ afterPolicies
@@ -133,6 +143,19 @@ policies-more j n p =
     let line : ℕ → ℕ → List Line = λ k x. Policy k x ∷ [] in
     listed-more j (λ k. line k (p k)) (λ k. line k (update p j n k)) (λ i l. ap (line i) (update-other p j n i (λ z. omega arith)))
     ∙ ap (λ (x : ℕ). policyLines j p ++ line j x) (update-same p j n)
+
+pub marks-none : (n : ℕ) (k : ℕ → Bool) → ((j : ℕ) → k j ≡ false) → markLines n k ≡ []
+unfolding markLines
+marks-none n k h = listed-none n _ (λ i l. rw (h i) refl)
+
+pub marks-more : (n j : ℕ) (k : ℕ → Bool) → j < n → ((i : ℕ) → j ≤ i → k i ≡ false) → markLines n (update k j true) ≡ markLines n k ++ (Mark j ∷ [])
+unfolding markLines
+marks-more n j k l h =
+    let line : ℕ → Bool → List Line = λ i b. cond b (Mark i ∷ []) [] in
+    listed-changed n j (λ i. line i (k i)) (λ i. line i (update k j true i)) (Mark j ∷ []) l
+    (rw (update-same k j true, h j (omega arith)) refl)
+    (λ i z. ap (line i) (update-other k j true i z))
+    (λ i m. ap (line i) (h i (omega arith)))
 
 pub events-none : (n : ℕ) (s : ℕ → List terms.Effect) → ((j : ℕ) → s j ≡ []) → eventLines n s ≡ []
 unfolding eventLines effectLines
@@ -200,3 +223,11 @@ module _ (n : ℕ) (says : ℕ → ℕ → ℕ → Line) (R : (k a b : ℕ) → 
 
       other : (i : ℕ) → eqb (i / 4096) k && (eqb (i / 64 % 64) a && eqb (i % 64) b) ≡ false → bitAt says (withBit R k a b) i ≡ bitAt says R i
       other i e = rw e refl
+
+-- the event edge
+pub event-line : (j u v : ℕ) → eventEdgeLine (eventSaid j u v) ≡ EventEdge j u v ∷ []
+event-line j u v =
+    ⊎-elim
+    (λ e. rw e refl)
+    (λ e. let l = ltb-false j 16 e in let d : 16 + (j - 16) ≡ j = omega arith in rw (e, d) refl)
+    (true-or-false (ltb j 16))

@@ -1,17 +1,18 @@
 -- What the lines of a file have said so far, and what a line more makes of it (docs/SCOPE.md, The terms file and The stored form).
-use Prim.Native.Nat.{ℕ, _+_}
+use Prim.Native.Nat.{ℕ, _+_, _-_}
 use mathlib.Core.Bool.{Bool, true, false, cond, _&&_}
 use mathlib.Core.List.{[], _∷_, _++_}
-use lib.Dec.{eqb}
+use lib.Dec.{eqb, ltb}
 use Rattle.theory.specs.Terms.{Terms}
 use Rattle.theory.specs.Moment.{Relations, Event}
-use Rattle.theory.specs.Moment.Event.{none, happened}
+use Rattle.theory.specs.Moment.Event.{none, happened, tried}
 use Rattle.theory.specs.Tables.{Tables, State}
+use Rattle.theory.specs.Limits.{maxEvents}
 use Rattle.file.specs.declared.line.Line.{Line}
-use Rattle.file.specs.declared.line.Line.the-variants.{Members, Labels, Entry, Policy, Effect, Edge, Form, TableBit, EventEdge, Malformed}
+use Rattle.file.specs.declared.line.Line.the-variants.{Members, Labels, Entry, Policy, Effect, Edge, Form, TableBit, EventEdge, Mark, Malformed}
 
--- What the lines so far have said. It is the stored form if it began with an S line. The phase is the number of the last kind: 0 none or S, 1 M, 2 L, 3 F, 4 P,
--- 5 E, 6 G, 7 T, 8 V. The last edge or bit of a table is relation (or table), from, to.
+-- What the lines so far have said. It is the stored form if it began with an S line. The phase is the number of the last kind: 0 none or S, 1 M, 2 L, 3 F,
+-- 4 P or K, 5 E, 6 G, 7 T, 8 V. Marks is one past the last event marked as kept. The last edge or bit of a table is relation (or table), from, to.
 pub record File : Type 0 where
   pub stored : Bool
   pub phase : ℕ
@@ -20,6 +21,7 @@ pub record File : Type 0 where
   pub table : Tables
   pub last : Event
   pub policies : ℕ
+  pub marks : ℕ
   pub event : ℕ
   pub relation : ℕ
   pub from : ℕ
@@ -42,11 +44,13 @@ nothing = record {
     entry = λ n. record { op = 0; a = 0; b = 0; c = 0 };
     policy = λ j. 0;
     effects = λ j. [];
+    kept = λ j. false;
   };
   edges = λ k a b. false;
   table = λ t a b. false;
   last = none;
   policies = 0;
+  marks = 0;
   event = 0;
   relation = 0;
   from = 0;
@@ -57,7 +61,7 @@ nothing = record {
 abbrev pub update : {A : Type 0} → (ℕ → A) → ℕ → A → ℕ → A
 update g n v k = cond (eqb k n) v (g k)
 
--- The terms with one entry more; with the policy of event j; with one effect more of event j.
+-- The terms with one entry more; with the policy of event j; with one effect more of event j; with event j kept.
 abbrev pub withEntry : Terms → (n o a b c : ℕ) → Terms
 withEntry T n o a b c = record {
   members = T .members;
@@ -67,6 +71,7 @@ withEntry T n o a b c = record {
   entry = update (T .entry) n (record { op = o; a = a; b = b; c = c });
   policy = T .policy;
   effects = T .effects;
+  kept = T .kept;
 }
 
 abbrev pub withPolicy : Terms → (j n : ℕ) → Terms
@@ -78,6 +83,7 @@ withPolicy T j n = record {
   entry = T .entry;
   policy = update (T .policy) j n;
   effects = T .effects;
+  kept = T .kept;
 }
 
 abbrev pub withEffect : Terms → (j c k d : ℕ) → Terms
@@ -89,11 +95,31 @@ withEffect T j c k d = record {
   entry = T .entry;
   policy = T .policy;
   effects = update (T .effects) j (T .effects j ++ (record { adds = eqb c 1; relation = k; back = eqb d 1 } ∷ []));
+  kept = T .kept;
+}
+
+abbrev pub withMark : Terms → (j : ℕ) → Terms
+withMark T j = record {
+  members = T .members;
+  relations = T .relations;
+  events = T .events;
+  entries = T .entries;
+  entry = T .entry;
+  policy = T .policy;
+  effects = T .effects;
+  kept = update (T .kept) j true;
 }
 
 -- The bits with one more, of k, a and b.
 abbrev pub withBit : ((k a b : ℕ) → Bool) → (k a b : ℕ) → (l c d : ℕ) → Bool
 withBit R k a b l c d = cond (eqb l k && (eqb c a && eqb d b)) true (R l c d)
+
+-- A V line names a granted event by its number, a denied one by its number plus 16 (docs/SCOPE.md, The stored form): which event it is, and the event edge.
+abbrev pub eventNamed : ℕ → ℕ
+eventNamed j = cond (ltb j maxEvents) j (j - maxEvents)
+
+abbrev pub eventSaid : (j u v : ℕ) → Event
+eventSaid j u v = cond (ltb j maxEvents) (happened j u v) (tried (j - maxEvents) u v)
 
 -- What has been said once a line is taken in.
 unfoldable pub after : File → Line → File
@@ -108,11 +134,13 @@ after f (Members n) = record {
     entry = f .terms .entry;
     policy = f .terms .policy;
     effects = f .terms .effects;
+    kept = f .terms .kept;
   };
   edges = f .edges;
   table = f .table;
   last = f .last;
   policies = f .policies;
+  marks = f .marks;
   event = f .event;
   relation = f .relation;
   from = f .from;
@@ -129,11 +157,13 @@ after f (Labels r e) = record {
     entry = f .terms .entry;
     policy = f .terms .policy;
     effects = f .terms .effects;
+    kept = f .terms .kept;
   };
   edges = f .edges;
   table = f .table;
   last = f .last;
   policies = f .policies;
+  marks = f .marks;
   event = f .event;
   relation = f .relation;
   from = f .from;
@@ -147,6 +177,7 @@ after f (Entry n o a b c) = record {
   table = f .table;
   last = f .last;
   policies = f .policies;
+  marks = f .marks;
   event = f .event;
   relation = f .relation;
   from = f .from;
@@ -160,6 +191,7 @@ after f (Policy j n) = record {
   table = f .table;
   last = f .last;
   policies = j + 1;
+  marks = f .marks;
   event = f .event;
   relation = f .relation;
   from = f .from;
@@ -173,6 +205,7 @@ after f (Effect j c k d) = record {
   table = f .table;
   last = f .last;
   policies = f .policies;
+  marks = f .marks;
   event = j;
   relation = f .relation;
   from = f .from;
@@ -186,6 +219,7 @@ after f (Edge k a b) = record {
   table = f .table;
   last = f .last;
   policies = f .policies;
+  marks = f .marks;
   event = f .event;
   relation = k;
   from = a;
@@ -199,6 +233,7 @@ after f (Form n) = record {
   table = f .table;
   last = f .last;
   policies = f .policies;
+  marks = f .marks;
   event = f .event;
   relation = f .relation;
   from = f .from;
@@ -212,6 +247,7 @@ after f (TableBit t a b) = record {
   table = withBit (f .table) t a b;
   last = f .last;
   policies = f .policies;
+  marks = f .marks;
   event = f .event;
   relation = t;
   from = a;
@@ -223,8 +259,23 @@ after f (EventEdge j u v) = record {
   terms = f .terms;
   edges = f .edges;
   table = f .table;
-  last = happened j u v;
+  last = eventSaid j u v;
   policies = f .policies;
+  marks = f .marks;
+  event = f .event;
+  relation = f .relation;
+  from = f .from;
+  to = f .to;
+}
+after f (Mark j) = record {
+  stored = f .stored;
+  phase = 4;
+  terms = withMark (f .terms) j;
+  edges = f .edges;
+  table = f .table;
+  last = f .last;
+  policies = f .policies;
+  marks = j + 1;
   event = f .event;
   relation = f .relation;
   from = f .from;

@@ -9,7 +9,7 @@ use Rattle.fields.specs.Split.{join}
 use Rattle.fields.specs.Number.{isNumber, valueOf, digits}
 use Rattle.file.specs.Words.{operatorWords, actionWords, directionWords, kindWords, operatorOf, actionOf, directionOf, kindOf}
 use Rattle.file.specs.declared.line.Line.{Line}
-use Rattle.file.specs.declared.line.Line.the-variants.{Members, Labels, Entry, Policy, Effect, Edge, Form, TableBit, EventEdge, Malformed}
+use Rattle.file.specs.declared.line.Line.the-variants.{Members, Labels, Entry, Policy, Effect, Edge, Form, TableBit, EventEdge, Mark, Malformed}
 
 -- The value of field k; whether the fields numbered in the list are numbers.
 abbrev pub num : List (List ℕ) → ℕ → ℕ
@@ -19,8 +19,10 @@ abbrev pub isNum : List (List ℕ) → ℕ → Bool
 isNum fs k = isNumber (getD fs k [])
 
 -- A line of each kind: its field count, number forms and words, and what it says. (The action is 1 add, 2 del; the direction 0 fwd, 1 back.)
-unfoldable pub membersLine : List (List ℕ) → Line
-membersLine fs = cond (every (eqb (length fs) 2 ∷ isNum fs 1 ∷ [])) (Members (num fs 1)) Malformed
+
+-- A line of one number: the members, a form or a kept event.
+unfoldable pub singleLine : (ℕ → Line) → List (List ℕ) → Line
+singleLine says fs = cond (every (eqb (length fs) 2 ∷ isNum fs 1 ∷ [])) (says (num fs 1)) Malformed
 
 unfoldable pub labelsLine : List (List ℕ) → Line
 labelsLine fs = cond (every (eqb (length fs) 3 ∷ isNum fs 1 ∷ isNum fs 2 ∷ [])) (Labels (num fs 1) (num fs 2)) Malformed
@@ -56,21 +58,19 @@ unfoldable pub tripleLine : (ℕ → ℕ → ℕ → Line) → List (List ℕ) �
 tripleLine says fs =
     cond (every (eqb (length fs) 4 ∷ isNum fs 1 ∷ isNum fs 2 ∷ isNum fs 3 ∷ [])) (says (num fs 1) (num fs 2) (num fs 3)) Malformed
 
-unfoldable pub formLine : List (List ℕ) → Line
-formLine fs = cond (every (eqb (length fs) 2 ∷ isNum fs 1 ∷ [])) (Form (num fs 1)) Malformed
-
 -- What a line of kind k, in the order of the kinds' words, says.
 unfoldable pub lineOf : ℕ → List (List ℕ) → Line
-lineOf zero fs = membersLine fs
+lineOf zero fs = singleLine Members fs
 lineOf (suc zero) fs = labelsLine fs
 lineOf (suc (suc zero)) fs = entryLine fs
 lineOf (suc (suc (suc zero))) fs = policyLine fs
 lineOf (suc (suc (suc (suc zero)))) fs = effectLine fs
 lineOf (suc (suc (suc (suc (suc zero))))) fs = tripleLine Edge fs
-lineOf (suc (suc (suc (suc (suc (suc zero)))))) fs = formLine fs
+lineOf (suc (suc (suc (suc (suc (suc zero)))))) fs = singleLine Form fs
 lineOf (suc (suc (suc (suc (suc (suc (suc zero))))))) fs = tripleLine TableBit fs
 lineOf (suc (suc (suc (suc (suc (suc (suc (suc zero)))))))) fs = tripleLine EventEdge fs
-lineOf (suc (suc (suc (suc (suc (suc (suc (suc (suc k))))))))) fs = Malformed
+lineOf (suc (suc (suc (suc (suc (suc (suc (suc (suc zero))))))))) fs = singleLine Mark fs
+lineOf (suc (suc (suc (suc (suc (suc (suc (suc (suc (suc k)))))))))) fs = Malformed
 
 -- What the fields of a line say.
 unfoldable pub parsed : List (List ℕ) → Line
@@ -87,6 +87,7 @@ fieldsOf (Edge k a b) = getD kindWords 5 [] ∷ digits k ∷ digits a ∷ digits
 fieldsOf (Form n) = getD kindWords 6 [] ∷ digits n ∷ []
 fieldsOf (TableBit t a b) = getD kindWords 7 [] ∷ digits t ∷ digits a ∷ digits b ∷ []
 fieldsOf (EventEdge j u v) = getD kindWords 8 [] ∷ digits j ∷ digits u ∷ digits v ∷ []
+fieldsOf (Mark j) = getD kindWords 9 [] ∷ digits j ∷ []
 fieldsOf Malformed = []
 
 abbrev pub printed : Line → List ℕ

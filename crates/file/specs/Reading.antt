@@ -7,15 +7,15 @@ use lib.ListN.{length}
 use Rattle.sets.specs.Sets.{allBelow}
 use Rattle.theory.specs.Formula.{Operand, firstOperand, secondOperand, thirdOperand, number, isPast}
 use Rattle.theory.specs.Formula.Operand.{unused, variable, binder, label, entry, count}
-use Rattle.theory.specs.Terms.{formula, tables, pastEntry}
+use Rattle.theory.specs.Terms.{labels, formula, tables, pastEntry}
 use Rattle.theory.specs.Fit.{_⇒_, lone, onlyFree, closed, reachFits}
 use Rattle.theory.specs.Limits.{maxMembers, maxRelations, maxEvents, maxEntries, maxTables, maxEffects, variables, maxCount}
 use Rattle.fields.specs.Split.{Lines, split, lines}
 use Rattle.fields.specs.Split.Lines.{done, cut, line}
 use Rattle.file.specs.Line.{parsed}
-use Rattle.file.specs.File.{File, nothing, withEntry, after}
+use Rattle.file.specs.File.{File, nothing, withEntry, eventNamed, after}
 use Rattle.file.specs.declared.line.Line.{Line}
-use Rattle.file.specs.declared.line.Line.the-variants.{Members, Labels, Entry, Policy, Effect, Edge, Form, TableBit, EventEdge, Malformed}
+use Rattle.file.specs.declared.line.Line.the-variants.{Members, Labels, Entry, Policy, Effect, Edge, Form, TableBit, EventEdge, Mark, Malformed}
 
 -- An operand that is no entry is in its range; one that is an entry is lower than its own.
 unfoldable pub inRange : Operand → (labels v : ℕ) → Bool
@@ -34,7 +34,7 @@ isLower label n v = true
 isLower entry n v = ltb v n
 isLower count n v = true
 
--- All policies have been given, so that E, G, T and V lines, or the end, are due.
+-- All policies have been given, so that K, E, G, T and V lines, or the end, are due.
 abbrev pub complete : File → Bool
 complete f = leb 2 (f .phase) && eqb (f .policies) (f .terms .events)
 
@@ -69,9 +69,9 @@ tests f (Entry n o a b c) =
     test 1 (eqb (f .phase) 2 || eqb (f .phase) 3)
     ∷ test 1 (eqb n (f .terms .entries))
     ∷ test 2 (ltb n maxEntries)
-    ∷ test 2 (inRange (firstOperand o) (f .terms .relations + f .terms .events) a)
-    ∷ test 2 (inRange (secondOperand o) (f .terms .relations + f .terms .events) b)
-    ∷ test 2 (inRange (thirdOperand o) (f .terms .relations + f .terms .events) c)
+    ∷ test 2 (inRange (firstOperand o) (labels (f .terms)) a)
+    ∷ test 2 (inRange (secondOperand o) (labels (f .terms)) b)
+    ∷ test 2 (inRange (thirdOperand o) (labels (f .terms)) c)
     ∷ test 2 (isPast o ⇒ ltb (number (f .terms .entry) n) maxTables)
     ∷ test 3 (isLower (firstOperand o) n a)
     ∷ test 3 (isLower (secondOperand o) n b)
@@ -120,9 +120,15 @@ tests f (EventEdge j u v) =
     test 1 (f .stored)
     ∷ test 1 (complete f)
     ∷ test 1 (leb (f .phase) 7)
-    ∷ test 2 (ltb j (f .terms .events))
+    ∷ test 2 (ltb (eventNamed j) (f .terms .events))
     ∷ test 2 (ltb u (f .terms .members))
     ∷ test 2 (ltb v (f .terms .members))
+    ∷ []
+tests f (Mark j) =
+    test 1 (complete f)
+    ∷ test 1 (leb (f .phase) 4)
+    ∷ test 1 (leb (f .marks) j)
+    ∷ test 2 (ltb j (f .terms .events))
     ∷ []
 tests f Malformed = test 1 false ∷ []
 
@@ -157,6 +163,7 @@ partlyFilled f (Edge k a b) = false
 partlyFilled f (Form n) = false
 partlyFilled f (TableBit t a b) = partly f t a
 partlyFilled f (EventEdge j u v) = false
+partlyFilled f (Mark j) = false
 partlyFilled f Malformed = false
 
 -- The number of the first such line, from line n on; 0 if there is none. As T lines rise, it is the first T line of the first such word.

@@ -8,13 +8,14 @@ use Rattle.theory.specs.Formula as formulas
 use Rattle.theory.specs.Terms as terms
 use Rattle.theory.specs.Terms.{Terms}
 use Rattle.theory.specs.Moment.{Relations, Event}
-use Rattle.theory.specs.Moment.Event.{none, happened}
+use Rattle.theory.specs.Moment.Event.{none}
 use Rattle.theory.specs.Tables.{Tables}
 use Rattle.fields.specs.Split.{Lines, split}
 use Rattle.fields.specs.Split.Lines.{done, cut, line}
 use Rattle.file.specs.Line.{parsed}
+use Rattle.file.specs.File.{eventSaid}
 use Rattle.file.specs.declared.line.Line.{Line}
-use Rattle.file.specs.declared.line.Line.the-variants.{Members, Labels, Entry, Policy, Effect, Edge, Form, TableBit, EventEdge, Malformed}
+use Rattle.file.specs.declared.line.Line.the-variants.{Members, Labels, Entry, Policy, Effect, Edge, Form, TableBit, EventEdge, Mark, Malformed}
 
 -- The lines of a text.
 unfoldable pub records : Lines → List Line
@@ -34,6 +35,7 @@ membersIn (Edge k a b) rest = rest
 membersIn (Form n) rest = rest
 membersIn (TableBit t a b) rest = rest
 membersIn (EventEdge j u v) rest = rest
+membersIn (Mark j) rest = rest
 membersIn Malformed rest = rest
 
 abbrev pub relationsIn : Line → ℕ → ℕ
@@ -46,6 +48,7 @@ relationsIn (Edge k a b) rest = rest
 relationsIn (Form n) rest = rest
 relationsIn (TableBit t a b) rest = rest
 relationsIn (EventEdge j u v) rest = rest
+relationsIn (Mark j) rest = rest
 relationsIn Malformed rest = rest
 
 abbrev pub eventsIn : Line → ℕ → ℕ
@@ -58,6 +61,7 @@ eventsIn (Edge k a b) rest = rest
 eventsIn (Form n) rest = rest
 eventsIn (TableBit t a b) rest = rest
 eventsIn (EventEdge j u v) rest = rest
+eventsIn (Mark j) rest = rest
 eventsIn Malformed rest = rest
 
 abbrev pub entryIn : Line → List formulas.Entry → List formulas.Entry
@@ -70,6 +74,7 @@ entryIn (Edge k a b) rest = rest
 entryIn (Form n) rest = rest
 entryIn (TableBit t a b) rest = rest
 entryIn (EventEdge j u v) rest = rest
+entryIn (Mark j) rest = rest
 entryIn Malformed rest = rest
 
 abbrev pub policyIn : Line → List ℕ → List ℕ
@@ -82,6 +87,7 @@ policyIn (Edge k a b) rest = rest
 policyIn (Form n) rest = rest
 policyIn (TableBit t a b) rest = rest
 policyIn (EventEdge j u v) rest = rest
+policyIn (Mark j) rest = rest
 policyIn Malformed rest = rest
 
 -- An effect of event i.
@@ -95,7 +101,22 @@ effectIn i (Edge k a b) rest = rest
 effectIn i (Form n) rest = rest
 effectIn i (TableBit t a b) rest = rest
 effectIn i (EventEdge j u v) rest = rest
+effectIn i (Mark j) rest = rest
 effectIn i Malformed rest = rest
+
+-- Event i is kept.
+abbrev pub markIn : Line → (i : ℕ) → Bool
+markIn (Members n) i = false
+markIn (Labels r e) i = false
+markIn (Entry n o a b c) i = false
+markIn (Policy j n) i = false
+markIn (Effect j c k d) i = false
+markIn (Edge k a b) i = false
+markIn (Form n) i = false
+markIn (TableBit t a b) i = false
+markIn (EventEdge j u v) i = false
+markIn (Mark j) i = eqb i j
+markIn Malformed i = false
 
 abbrev pub edgeIn : Line → Relations
 edgeIn (Members n) l c d = false
@@ -107,6 +128,7 @@ edgeIn (Edge k a b) l c d = eqb l k && (eqb c a && eqb d b)
 edgeIn (Form n) l c d = false
 edgeIn (TableBit t a b) l c d = false
 edgeIn (EventEdge j u v) l c d = false
+edgeIn (Mark j) l c d = false
 edgeIn Malformed l c d = false
 
 abbrev pub tableIn : Line → Tables
@@ -119,6 +141,7 @@ tableIn (Edge k a b) l c d = false
 tableIn (Form n) l c d = false
 tableIn (TableBit t a b) l c d = eqb l t && (eqb c a && eqb d b)
 tableIn (EventEdge j u v) l c d = false
+tableIn (Mark j) l c d = false
 tableIn Malformed l c d = false
 
 abbrev pub lastIn : Line → Event → Event
@@ -130,7 +153,8 @@ lastIn (Effect j c k d) rest = rest
 lastIn (Edge k a b) rest = rest
 lastIn (Form n) rest = rest
 lastIn (TableBit t a b) rest = rest
-lastIn (EventEdge j u v) rest = happened j u v
+lastIn (EventEdge j u v) rest = eventSaid j u v
+lastIn (Mark j) rest = rest
 lastIn Malformed rest = rest
 
 abbrev pub formIn : Line → Bool → Bool
@@ -143,6 +167,7 @@ formIn (Edge k a b) rest = rest
 formIn (Form n) rest = true
 formIn (TableBit t a b) rest = rest
 formIn (EventEdge j u v) rest = rest
+formIn (Mark j) rest = rest
 formIn Malformed rest = rest
 
 -- ---- what all lines say
@@ -171,6 +196,10 @@ unfoldable pub effectsSaid : ℕ → List Line → List terms.Effect
 effectsSaid j [] = []
 effectsSaid j (l ∷ ls) = effectIn j l (effectsSaid j ls)
 
+unfoldable pub keptSaid : List Line → (j : ℕ) → Bool
+keptSaid [] j = false
+keptSaid (l ∷ ls) j = markIn l j || keptSaid ls j
+
 unfoldable pub edgesSaid : List Line → Relations
 edgesSaid [] k a b = false
 edgesSaid (l ∷ ls) k a b = edgeIn l k a b || edgesSaid ls k a b
@@ -198,4 +227,5 @@ termsSaid ls = record {
   entry = λ n. getD (entriesSaid ls) n (record { op = 0; a = 0; b = 0; c = 0 });
   policy = λ j. getD (policiesSaid ls) j 0;
   effects = λ j. effectsSaid j ls;
+  kept = keptSaid ls;
 }

@@ -34,7 +34,7 @@ directionWords =
     ∷ (98 ∷ 97 ∷ 99 ∷ 107 ∷ [])  -- back
     ∷ []
 
--- The kinds of lines: those of the terms file in the order in which they come, then those that only the stored form has.
+-- The kinds of lines: M to G in the order in which they come, then those that only the stored form has, then K.
 unfoldable pub kindWords : List (List ℕ)
 kindWords =
     (77 ∷ [])  -- M
@@ -46,6 +46,7 @@ kindWords =
     ∷ (83 ∷ [])  -- S
     ∷ (84 ∷ [])  -- T
     ∷ (86 ∷ [])  -- V
+    ∷ (75 ∷ [])  -- K
     ∷ []
 
 -- The place, counted from k, of the first word that f is; the place after the last where f is none of them.

@@ -1,15 +1,16 @@
 -- The terms with given relations as a text (docs/SCOPE.md, The terms file), and with a whole state (The stored form).
-use Prim.Native.Nat.{ℕ, zero, suc, _/_, _%_}
+use Prim.Native.Nat.{ℕ, zero, suc, _+_, _/_, _%_}
 use mathlib.Core.Bool.{Bool, cond}
 use mathlib.Core.List.{List, [], _∷_, _++_}
 use Rattle.theory.specs.Terms.{Terms}
 use Rattle.theory.specs.Terms as terms
 use Rattle.theory.specs.Moment.{Relations, Event}
-use Rattle.theory.specs.Moment.Event.{none, happened}
+use Rattle.theory.specs.Moment.Event.{none, happened, tried}
 use Rattle.theory.specs.Tables.{State}
+use Rattle.theory.specs.Limits.{maxEvents}
 use Rattle.file.specs.Line.{printed}
 use Rattle.file.specs.declared.line.Line.{Line}
-use Rattle.file.specs.declared.line.Line.the-variants.{Members, Labels, Entry, Policy, Effect, Edge, Form, TableBit, EventEdge}
+use Rattle.file.specs.declared.line.Line.the-variants.{Members, Labels, Entry, Policy, Effect, Edge, Form, TableBit, EventEdge, Mark}
 
 -- The lists f 0, f 1, .. f (n − 1), one after the other.
 unfoldable pub listed : ℕ → (ℕ → List Line) → List Line
@@ -18,6 +19,10 @@ listed (suc n) f = listed n f ++ f n
 
 abbrev pub lineOfEntry : Terms → ℕ → Line
 lineOfEntry T n = Entry n (T .entry n .op) (T .entry n .a) (T .entry n .b) (T .entry n .c)
+
+-- The line of event j, if it is kept.
+abbrev pub markLine : Terms → ℕ → List Line
+markLine T j = cond (T .kept j) (Mark j ∷ []) []
 
 -- The effects of event j, in listed order.
 unfoldable pub effectLines : ℕ → List terms.Effect → List Line
@@ -35,13 +40,15 @@ allLines T R =
     ∷ Labels (T .relations) (T .events)
     ∷ (listed (T .entries) (λ n. lineOfEntry T n ∷ [])
     ++ (listed (T .events) (λ j. Policy j (T .policy j) ∷ [])
+    ++ (listed (T .events) (markLine T)
     ++ (listed (T .events) (λ j. effectLines j (T .effects j))
-    ++ listed 65536 (bitAt Edge R))))
+    ++ listed 65536 (bitAt Edge R)))))
 
--- The line of the event edge, if there is one.
+-- The line of the event edge, if there is one: a denied event is written as its number plus 16.
 abbrev pub eventEdgeLine : Event → List Line
 eventEdgeLine none = []
 eventEdgeLine (happened j u v) = EventEdge j u v ∷ []
+eventEdgeLine (tried j u v) = EventEdge (maxEvents + j) u v ∷ []
 
 -- The lines of the stored form: S 2, the lines above, each set bit of a table, the event edge.
 unfoldable pub storedLines : Terms → State → List Line

@@ -16,8 +16,8 @@ ghost use lib.ListN.{getD};
 ghost use Rattle.fields.specs.Split.{split};
 ghost use Rattle.fields.specs.Number.{numberOf};
 ghost use Rattle.file.specs.Words.{operatorOf};
-ghost use Rattle.file.specs.Line.{membersLine, labelsLine, shortEntryLine, longEntryLine, entryLine, policyLine, effectLine, tripleLine, formLine, parsed};
-ghost use Rattle.file.specs.declared.line.Line.the-variants.{Edge, TableBit, EventEdge};
+ghost use Rattle.file.specs.Line.{singleLine, labelsLine, shortEntryLine, longEntryLine, entryLine, policyLine, effectLine, tripleLine, parsed};
+ghost use Rattle.file.specs.declared.line.Line.the-variants.{Members, Edge, Form, TableBit, EventEdge, Mark};
 
 // One line of a terms file, as what it says.
 pub enum Line {
@@ -30,6 +30,7 @@ pub enum Line {
     Form(usize),
     TableBit(usize, usize, usize),
     EventEdge(usize, usize, usize),
+    Mark(usize),
     Malformed,
 }
 
@@ -40,9 +41,11 @@ fn number_at(l: &[u8], k: usize) -> Number
     read_number(piece(l, 9, k))
 }
 
-// A line `M` N.
-fn members_line(l: &[u8]) -> Line
-    ensures { λ r. ⌜ r ≡ membersLine (split 9 (now (l .entry))) ⌝ }
+// A line of one number, by its kind: `M` N, `S` form, `K` event.
+fn single_line(l: &[u8], kind: usize) -> Line
+    ensures { λ r. ⌜ (kind ≡ 0 → r ≡ singleLine Members (split 9 (now (l .entry))))
+        × (kind ≡ 6 → r ≡ singleLine Form (split 9 (now (l .entry))))
+        × (kind ≡ 9 → r ≡ singleLine Mark (split 9 (now (l .entry)))) ⌝ }
 {
     if pieces(l, 9) != 2 {
         return Line::Malformed;
@@ -50,7 +53,11 @@ fn members_line(l: &[u8]) -> Line
     let Number::Value(n) = number_at(l, 1) else {
         return Line::Malformed;
     };
-    Line::Members(n)
+    match kind {
+        0 => Line::Members(n),
+        6 => Line::Form(n),
+        _ => Line::Mark(n),
+    }
 }
 
 // A line `L` r e.
@@ -192,33 +199,21 @@ fn triple_line(l: &[u8], kind: usize) -> Line
     }
 }
 
-// A line `S` form.
-fn form_line(l: &[u8]) -> Line
-    ensures { λ r. ⌜ r ≡ formLine (split 9 (now (l .entry))) ⌝ }
-{
-    if pieces(l, 9) != 2 {
-        return Line::Malformed;
-    }
-    let Number::Value(n) = number_at(l, 1) else {
-        return Line::Malformed;
-    };
-    Line::Form(n)
-}
-
 // What a line says, by the kind that its first field names.
 pub fn parse_line(l: &[u8]) -> Line
     ensures { λ r. ⌜ r ≡ parsed (split 9 (now (l .entry))) ⌝ }
 {
     match read_kind(piece(l, 9, 0)) {
-        0 => members_line(l),
+        0 => single_line(l, 0),
         1 => labels_line(l),
         2 => entry_line(l),
         3 => policy_line(l),
         4 => effect_line(l),
         5 => triple_line(l, 5),
-        6 => form_line(l),
+        6 => single_line(l, 6),
         7 => triple_line(l, 7),
         8 => triple_line(l, 8),
+        9 => single_line(l, 9),
         _ => Line::Malformed,
     }
 }

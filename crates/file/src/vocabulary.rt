@@ -51,11 +51,12 @@ pub fn read_direction(f: &[u8]) -> usize
     pick(f, b"fwd", 0, back)
 }
 
-// 0 to 8 for the line kinds M, L, F, P, E, G, S, T, V; 9 for any other field.
+// 0 to 9 for the line kinds M, L, F, P, E, G, S, T, V, K; 10 for any other field.
 pub fn read_kind(f: &[u8]) -> usize
     ensures { λ r. ⌜ r ≡ kindOf (now (f .entry)) ⌝ }
 {
-    let event = pick(f, b"V", 8, 9);
+    let mark = pick(f, b"K", 9, 10);
+    let event = pick(f, b"V", 8, mark);
     let table = pick(f, b"T", 7, event);
     let form = pick(f, b"S", 6, table);
     let edge = pick(f, b"G", 5, form);

@@ -1,27 +1,27 @@
 -- One call over memory that holds what the keeper's list says: the answer is the keeper's, and the memory holds what the list then says.
 use Prim.Native.Nat.{ℕ, _≤_, _<_}
 use native.Mathlib.Omega.{arith}
-use mathlib.Core.Path.{_≡_, refl, ap, ap₂, _∙_}
-use mathlib.Core.List.{List, [], _∷_, _++_}
-use mathlib.Core.Bool.{Bool, true, false, cond, not, _&&_, _||_}
+use mathlib.Core.Path.{_≡_, refl, ap, ap₂, _∙_, subst}
+use mathlib.Core.List.{List, [], _∷_, _++_, append-nil}
+use mathlib.Core.Bool.{Bool, true, false, cond, not, _&&_, _||_, and-false}
 use lib.Dec.{ltb, leb}
 use lib.ListN.{length, drop}
 use borrow.Author.Tests.{le-ltb, ltb-true, ltb-false, le-leb, lt-leb}
 use Rattle.sets.proofs.Finite.{and-left, and-right}
 use Rattle.theory.specs.Terms.{Terms}
-use Rattle.theory.specs.Moment.{Moment, next}
-use Rattle.theory.specs.Keeper.{Answer, target, lastMoment, keeperHolds, keep}
+use Rattle.theory.specs.Moment.{Moment, next, denied}
+use Rattle.theory.specs.Keeper.{Answer, target, lastMoment, keeperHolds, judge, keep}
 use Rattle.theory.specs.Keeper.Verdict.{grant, deny}
 use Rattle.theory.specs.Keeper.Answer.{decided, refused}
 use Rattle.theory.specs.Limits.{scratchWords}
 use Rattle.memory.specs.Layout.{termsWords, stateWords, termsOf, stateOf, wordsOf}
 use Rattle.memory.specs.Checks.{goodMemory}
-use Rattle.theory.specs.Tables.{decideNow, advance}
-use Rattle.monitor.specs.Monitor.{named, answer, granted, stateAfter}
+use Rattle.theory.specs.Tables.{decideNow, made, advance}
+use Rattle.monitor.specs.Monitor.{named, answer, granted, moves, stateAfter}
 use Rattle.monitor.specs.Agreement.{LentCall, fed, leaves}
 use Rattle.theory.proofs.Good.{Good}
-use Rattle.theory.proofs.Kept.{decide-kept, advance-kept}
-use Rattle.memory.proofs.Inside.{next-inside, state-inside}
+use Rattle.theory.proofs.Kept.{Kept, decide-kept, advance-kept}
+use Rattle.memory.proofs.Inside.{made-inside, state-inside}
 use Rattle.monitor.proofs.Held.{Held, held-words}
 
 -- the keeper's test of a call is the monitor's
@@ -68,35 +68,40 @@ module _ (terms : List ℕ) (long-terms : termsWords ≤ length terms) (fine : G
     abbrev holding : Bool
     holding = keeperHolds T Ms (T .policy (c .event)) (target (c .to)) (c .from)
 
-    abbrev longer : List Moment
-    longer = Ms ++ (next T (lastMoment Ms) (c .event) (c .from) (c .to) ∷ [])
+    -- the moment that a verdict may make, by the keeper and by the monitor
+    abbrev kept : Bool → Moment
+    kept g = made T (lastMoment Ms) g (c .event) (c .from) (c .to)
 
-    keep-is : keep T Ms (fed c)
-        ≡ cond short (refused 6 0, Ms) (cond (not known) (refused 9 0, Ms)
-        (cond (not holding) (decided deny, Ms) (cond (c .look) (decided grant, Ms) (decided grant, longer))))
-    unfolding keep
-    keep-is = rw (unnamed T (c .event) (c .from) (c .to))
+    abbrev now : Bool → Moment
+    now g = made T (stateOf m .now) g (c .event) (c .from) (c .to)
 
-    -- what is not granted leaves the memory
-    stays : granted given ≡ false → leaves terms m c ≡ m
+    judge-is : judge T Ms (fed c)
+        ≡ cond short (refused 6 0, []) (cond (not known) (refused 9 0, [])
+        (cond (not holding) (decided deny, cond (not (c .look) && T .kept (c .event)) (kept false ∷ []) [])
+        (cond (c .look) (decided grant, []) (decided grant, kept true ∷ []))))
+    unfolding judge
+    judge-is = rw (unnamed T (c .event) (c .from) (c .to))
+
+    -- what makes no moment leaves the memory, and so does a look
+    stays : (not (c .look) && moves (T .kept (c .event)) given) ≡ false → leaves terms m c ≡ m
     unfolding stateAfter
-    stays e = go (c .look)
+    stays e = go (c .look) e
       where
-        go : (l : Bool) → cond l m (stateAfter terms m (c .scratch) (c .event) (c .from) (c .to)) ≡ m
-        go true = refl
-        go false = rw e
+        go : (l : Bool) → (not l && moves (T .kept (c .event)) given) ≡ false → cond l m (stateAfter terms m (c .scratch) (c .event) (c .from) (c .to)) ≡ m
+        go true e = refl
+        go false e = rw e
 
-    moves : granted given ≡ true → c .look ≡ false →
-        leaves terms m c ≡ wordsOf T (advance T (stateOf m) (c .event) (c .from) (c .to)) ++ drop stateWords m
+    goes : moves (T .kept (c .event)) given ≡ true → c .look ≡ false → leaves terms m c ≡ wordsOf T (advance T (stateOf m) (now (granted given))) ++ drop stateWords m
     unfolding stateAfter
-    moves e l = rw (l, e)
+    goes e l = rw (l, e)
 
     abbrev InStep : Type 0
     InStep = (given ≡ keep T Ms (fed c) .0) × Held T fine m₀ (leaves terms m c) (keep T Ms (fed c) .1)
 
-    in-step : (x : Answer) (m' : List ℕ) (Ms' : List Moment) → given ≡ x → keep T Ms (fed c) ≡ (x, Ms') → leaves terms m c ≡ m' →
-        Held T fine m₀ m' Ms' → InStep
-    in-step x m' Ms' e k l r = rw (k, l) (e, r)
+    -- no moment is made
+    still : (x : Answer) → given ≡ x → judge T Ms (fed c) ≡ (x, []) → (not (c .look) && moves (T .kept (c .event)) given) ≡ false → InStep
+    unfolding keep
+    still x e k s = rw (k, stays s, append-nil Ms) (e, h)
 
     module _ (s : short ≡ false) (n : known ≡ true) where
       event-known : c .event < T .events
@@ -111,34 +116,48 @@ module _ (terms : List ℕ) (long-terms : termsWords ≤ length terms) (fine : G
       decides : allowed ≡ holding
       decides = decide-kept T fine (stateOf m) Ms (h .kept) (c .event) (c .from) (c .to) event-known from-known to-known
 
-      moved : Held T fine m₀ (wordsOf T (advance T (stateOf m) (c .event) (c .from) (c .to)) ++ drop stateWords m) longer
+      moved : (g : Bool) → Held T fine m₀ (wordsOf T (advance T (stateOf m) (now g)) ++ drop stateWords m) (Ms ++ (kept g ∷ []))
       unfolding advance
-      moved =
-          held-words T fine m₀ m long (h .long) (h .further) (advance T (stateOf m) (c .event) (c .from) (c .to)) longer
-          (advance-kept T fine (stateOf m) Ms (h .kept) (c .event) (c .from) (c .to))
-          (next-inside T fine (stateOf m .now) (state-inside T m (h .good)) (c .event) (c .from) (c .to) event-known from-known to-known)
+      moved g =
+          held-words T fine m₀ m long (h .long) (h .further) (advance T (stateOf m) (now g)) (Ms ++ (kept g ∷ []))
+          (subst (λ (M : Moment). Kept T (advance T (stateOf m) (now g)) (Ms ++ (made T M g (c .event) (c .from) (c .to) ∷ []))) (h .kept .now)
+          (advance-kept T fine (stateOf m) Ms (h .kept) (now g)))
+          (made-inside T fine (stateOf m .now) (state-inside T m (h .good)) g (c .event) (c .from) (c .to) event-known from-known to-known)
 
-      by-look : given ≡ decided grant → holding ≡ true → (l : Bool) → c .look ≡ l → InStep
-      by-look e p true l = in-step (decided grant) m Ms e (keep-is ∙ rw (s, n, p, l)) (rw l) h
-      by-look e p false l =
-          in-step (decided grant) _ longer e (keep-is ∙ rw (s, n, p, l)) (moves (ap granted e) l) moved
+      -- the moment of a verdict is made
+      onward : (x : Answer) → given ≡ x → judge T Ms (fed c) ≡ (x, kept (granted x) ∷ []) → moves (T .kept (c .event)) x ≡ true → c .look ≡ false → InStep
+      unfolding keep
+      onward x e k g l = rw (k, goes (ap (moves (T .kept (c .event))) e ∙ g) l, ap granted e) (e, moved (granted x))
+
+      by-grant : given ≡ decided grant → holding ≡ true → (l : Bool) → c .look ≡ l → InStep
+      by-grant e p true l = still (decided grant) e (judge-is ∙ rw (s, n, p, l)) (rw l)
+      by-grant e p false l = onward (decided grant) e (judge-is ∙ rw (s, n, p, l)) refl l
+
+      by-kept : given ≡ decided deny → holding ≡ false → c .look ≡ false → (k : Bool) → T .kept (c .event) ≡ k → InStep
+      by-kept e p l true k = onward (decided deny) e (judge-is ∙ rw (s, n, p, l, k)) k l
+      by-kept e p l false k = still (decided deny) e (judge-is ∙ rw (s, n, p, l, k)) (rw (l, e, k))
+
+      by-denial : given ≡ decided deny → holding ≡ false → (l : Bool) → c .look ≡ l → InStep
+      by-denial e p true l = still (decided deny) e (judge-is ∙ rw (s, n, p, l)) (rw l)
+      by-denial e p false l = by-kept e p l (T .kept (c .event)) refl
 
       by-policy : (p : Bool) → holding ≡ p → InStep
-      by-policy true p = by-look (given-is ∙ rw (s, n, decides, p)) p (c .look) refl
-      by-policy false p =
-          let e : given ≡ decided deny = given-is ∙ rw (s, n, decides, p) in
-          in-step (decided deny) m Ms e (keep-is ∙ rw (s, n, p)) (stays (ap granted e)) h
+      by-policy true p = by-grant (given-is ∙ rw (s, n, decides, p)) p (c .look) refl
+      by-policy false p = by-denial (given-is ∙ rw (s, n, decides, p)) p (c .look) refl
+
+    unmoved : {x : Answer} → given ≡ x → moves (T .kept (c .event)) x ≡ false → (not (c .look) && moves (T .kept (c .event)) given) ≡ false
+    unmoved e q = rw (e, q) (and-false (not (c .look)))
 
     by-name : short ≡ false → (n : Bool) → known ≡ n → InStep
     by-name s true n = by-policy s n holding refl
     by-name s false n =
         let e : given ≡ refused 9 0 = given-is ∙ rw (s, n) in
-        in-step (refused 9 0) m Ms e (keep-is ∙ rw (s, n)) (stays (ap granted e)) h
+        still (refused 9 0) e (judge-is ∙ rw (s, n)) (unmoved e refl)
 
     by-scratch : (s : Bool) → short ≡ s → InStep
     by-scratch true s =
         let e : given ≡ refused 6 0 = given-is ∙ rw s in
-        in-step (refused 6 0) m Ms e (keep-is ∙ rw s) (stays (ap granted e)) h
+        still (refused 6 0) e (judge-is ∙ rw s) (unmoved e refl)
     by-scratch false s = by-name s known refl
 
     -- the keeper's answer, and the invariant again

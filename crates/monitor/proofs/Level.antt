@@ -15,7 +15,7 @@ use Rattle.theory.specs.Formula.Formula.{top, var, neg, or, out, into, prev, si
 use Rattle.theory.specs.Meaning.{Graph, Assignment, assign, alone, standing}
 use Rattle.theory.specs.Terms.{Terms, formula, tables}
 use Rattle.theory.specs.Fit.{_⇒_, closed}
-use Rattle.theory.specs.Moment.{Moment, graph, next}
+use Rattle.theory.specs.Moment.{Moment, graph}
 use Rattle.theory.specs.Tables.{Tables, holdsNow, store, operandNow, sinceBits, sinceStep, prevTables, sinceTables, State, advance}
 use Rattle.memory.specs.Layout.{tableAt, stateOf, wordsOf}
 use Rattle.memory.specs.Checks.{level, goodRelations, stateTests, goodState}
@@ -24,7 +24,7 @@ use Rattle.theory.proofs.Good.{Good, small, column-free, implied, implies, ever
 use Rattle.theory.proofs.Now.{Among, among-assign, among-standing}
 use Rattle.theory.proofs.Sweeps.{prev-keeps, prev-worked}
 use Rattle.memory.proofs.Row.{fits-row, level-row}
-use Rattle.memory.proofs.Inside.{Inside, next-inside, state-inside, good-event}
+use Rattle.memory.proofs.Inside.{Inside, good-event}
 use Rattle.memory.proofs.Words.{length-words, word-relation, word-of-table, word-event}
 use Rattle.memory.proofs.Front.{good-front}
 
@@ -223,28 +223,16 @@ module _ (T : Terms) (fine : Good T) where
       test (suc (suc (suc zero))) = rw (word-event T S) (good-event T fine (S .now .event) (i .event))
       test (suc (suc (suc (suc k)))) = refl
 
-  -- The state whose tables are moved to the moment M.
-  abbrev pub moved : State → Moment → State
-  moved S M = record {
-    now = M;
-    table = sinceTables T (graph (T .relations) M) (T .entries) (prevTables T (graph (T .relations) (S .now)) (T .entries) (S .table));
-  }
-
   -- Any moment inside the terms keeps the layout of every state that keeps it, true of a record or not.
-  pub moved-good : (m : List ℕ) → goodState T m ≡ true → (M : Moment) → Inside T M → (rest : List ℕ) →
-      goodState T (wordsOf T (moved (stateOf m) M) ++ rest) ≡ true
-  moved-good m g M i rest =
-      good-front (wordsOf T (moved S M)) rest (omega (arith, length-words T (moved S M))) T fine
-      ∙ words-level (moved S M)
-      (since-level T fine (graph (T .relations) M) (prevTables T (graph (T .relations) (S .now)) (T .entries) (S .table))
-      (prev-level T fine (graph (T .relations) (S .now)) (S .table) (level-good m g)) (T .entries) (omega arith))
+  pub advance-good : (m : List ℕ) → goodState T m ≡ true → (M : Moment) → Inside T M → (rest : List ℕ) →
+      goodState T (wordsOf T (advance T (stateOf m) M) ++ rest) ≡ true
+  unfolding advance
+  advance-good m g M i rest =
+      good-front (wordsOf T (advance T S M)) rest (omega (arith, length-words T (advance T S M))) T fine
+      ∙ words-level (advance T S M)
+      (since-level T fine (graph T M) (prevTables T (graph T (S .now)) (T .entries) (S .table))
+      (prev-level T fine (graph T (S .now)) (S .table) (level-good m g)) (T .entries) (omega arith))
       i
     where
       S : State
       S = stateOf m
-
-  pub advance-good : (m : List ℕ) → goodState T m ≡ true → (j u v : ℕ) → j < T .events → u < T .members → v < T .members → (rest : List ℕ) →
-      goodState T (wordsOf T (advance T (stateOf m) j u v) ++ rest) ≡ true
-  unfolding advance
-  advance-good m g j u v jl ul vl rest =
-      moved-good m g (next T (stateOf m .now) j u v) (next-inside T fine (stateOf m .now) (state-inside T m g) j u v jl ul vl) rest

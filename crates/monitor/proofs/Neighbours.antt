@@ -36,25 +36,25 @@ module _ {terms plan rel past : List ℕ} {g : Assignment} {x i want o a b r all
   H f m v = nowAt T rel past (opened g x v) f m
 
   abbrev E : ℕ → ℕ → Bool
-  E j k = edge r rel (pastEvent past) a j k
+  E j k = edge r rel (pastEvent T past) a j k
 
   out-is : o ≡ 4 → (m v : ℕ) → H i m v ≡ anyBelow N (λ k. E m k && H b k v)
   out-is e m v =
       now-out T rel past (opened g x v) i m (entry-good s) (op-is s 4 e)
-      ∙ ap₂ (λ (y z : ℕ). anyBelow N (λ k. edge (T .relations) rel (pastEvent past) y m k && H z k v)) (sym (s .a-is)) (sym (s .b-is))
-      ∙ ap (λ (y : ℕ). anyBelow N (λ k. edge y rel (pastEvent past) a m k && H b k v)) (sym (s .r-is))
+      ∙ ap₂ (λ (y z : ℕ). anyBelow N (λ k. edge (T .relations) rel (pastEvent T past) y m k && H z k v)) (sym (s .a-is)) (sym (s .b-is))
+      ∙ ap (λ (y : ℕ). anyBelow N (λ k. edge y rel (pastEvent T past) a m k && H b k v)) (sym (s .r-is))
 
   into-is : o ≡ 5 → (m v : ℕ) → H i m v ≡ anyBelow N (λ k. E k m && H b k v)
   into-is e m v =
       now-into T rel past (opened g x v) i m (entry-good s) (op-is s 5 e)
-      ∙ ap₂ (λ (y z : ℕ). anyBelow N (λ k. edge (T .relations) rel (pastEvent past) y k m && H z k v)) (sym (s .a-is)) (sym (s .b-is))
-      ∙ ap (λ (y : ℕ). anyBelow N (λ k. edge y rel (pastEvent past) a k m && H b k v)) (sym (s .r-is))
+      ∙ ap₂ (λ (y z : ℕ). anyBelow N (λ k. edge (T .relations) rel (pastEvent T past) y k m && H z k v)) (sym (s .a-is)) (sym (s .b-is))
+      ∙ ap (λ (y : ℕ). anyBelow N (λ k. edge y rel (pastEvent T past) a k m && H b k v)) (sym (s .r-is))
 
   many-is : (c : ℕ) → c ≡ T .entry i .c → o ≡ 11 → (m v : ℕ) → H i m v ≡ leb c (countBelow N (λ k. E m k && H b k v))
   many-is c z e m v =
       now-many T rel past (opened g x v) i m (entry-good s) (op-is s 11 e)
-      ∙ ap₂ (λ (y w : ℕ). leb (T .entry i .c) (countBelow N (λ k. edge (T .relations) rel (pastEvent past) y m k && H w k v))) (sym (s .a-is)) (sym (s .b-is))
-      ∙ ap₂ (λ (y w : ℕ). leb w (countBelow N (λ k. edge y rel (pastEvent past) a m k && H b k v))) (sym (s .r-is)) (sym z)
+      ∙ ap₂ (λ (y w : ℕ). leb (T .entry i .c) (countBelow N (λ k. edge (T .relations) rel (pastEvent T past) y m k && H w k v))) (sym (s .a-is)) (sym (s .b-is))
+      ∙ ap₂ (λ (y w : ℕ). leb w (countBelow N (λ k. edge y rel (pastEvent T past) a m k && H b k v))) (sym (s .r-is)) (sym z)
 
   -- out asks for one, many for c
   asks : (k c : ℕ) → c ≡ T .entry i .c → k ≡ cond (eqb o 4) 1 c → (o ≡ 4) ⊎ (o ≡ 11) →
@@ -83,7 +83,7 @@ module _ {terms plan rel past : List ℕ} {g : Assignment} {x i want o a b r all
       (is ∙ none-counted k N some (λ j l. ap (λ (y : Bool). y && H b j v) (none j))) ∙ and-false (ltb v N))
 
   pub decide-absent : (c : Bool) {t : List ℕ} → (((eqb o 4 || eqb o 5) || eqb o 11) && c) ≡ true
-      → (c ≡ true → (l : List ℕ) (j k : ℕ) → edge r l (pastEvent past) a j k ≡ false) → t ≡ replicate 64 0 → Sure t
+      → (c ≡ true → (l : List ℕ) (j k : ℕ) → edge r l (pastEvent T past) a j k ≡ false) → t ≡ replicate 64 0 → Sure t
   decide-absent c q absent z = sure s (record { long = zero-long z; bits = λ m v w. zero-rows z m v }) (λ m v w.
       let none = absent (and-right ((eqb o 4 || eqb o 5) || eqb o 11) c q) rel in
       ⊎-elim
@@ -95,7 +95,7 @@ module _ {terms plan rel past : List ℕ} {g : Assignment} {x i want o a b r all
       (or-cases (eqb o 4 || eqb o 5) (eqb o 11) (and-left ((eqb o 4 || eqb o 5) || eqb o 11) c q)))
 
   pub decide-ahead : (k c from need : ℕ) {f t : List ℕ} → c ≡ T .entry i .c → k ≡ cond (eqb o 4) 1 c → (o ≡ 4) ⊎ (o ≡ 11)
-      → Senders r (pastEvent past) a want from → Has need (ahead E from)
+      → Senders r (pastEvent T past) a want from → Has need (ahead E from)
       → Rows need (cell T rel past g x b) f → length t ≡ 64 → Only from (gathered E f k) t → Sure t
   decide-ahead k c from need {f} {t} z q e send hn d n h = sure s (record { long = n; bits = λ m v w. h m v }) (λ m v w.
       ⊎-elim (sends m v w) (stays m v w) (true-or-false (bit from m)))
@@ -135,7 +135,7 @@ module _ {terms plan rel past : List ℕ} {g : Assignment} {x i want o a b r all
           ∙ and-false (ltb v 64) ∙ sym (ap (λ (y : Bool). y && H i m v) u))
           (true-or-false (ltb v N))
 
-  pub decide-into : (from need : ℕ) {f t : List ℕ} → o ≡ 5 → Senders r (pastEvent past) a all from → Has need (behind E from want)
+  pub decide-into : (from need : ℕ) {f t : List ℕ} → o ≡ 5 → Senders r (pastEvent T past) a all from → Has need (behind E from want)
       → Rows need (cell T rel past g x b) f → Rows want (scattered E need f) t → Sure t
   decide-into from need {f} {t} e send hn d h = sure s h (λ m v w.
       bool-iff _ _

@@ -10,23 +10,25 @@ use lib.ListN.{length, drop, replicate, length-append, length-drop, length-repli
 use borrow.Author.Tests.{ltb-true}
 use Rattle.sets.proofs.Finite.{and-left, and-right}
 use Rattle.theory.specs.Terms.{Terms}
+use Rattle.theory.specs.Moment.{Moment}
 use Rattle.theory.specs.Keeper.{Answer}
 use Rattle.theory.specs.Keeper.Verdict.{grant, deny}
 use Rattle.theory.specs.Keeper.Answer.{decided, refused}
 use Rattle.theory.specs.Limits.{scratchWords}
-use Rattle.theory.specs.Tables.{decideNow, advance}
+use Rattle.theory.specs.Tables.{decideNow, made, advance}
 use Rattle.memory.specs.Layout.{termsWords, stateWords, termsOf, stateOf, wordsOf}
 use Rattle.memory.specs.Checks.{goodMemory, goodState}
 use Rattle.memory.proofs.Outcomes.{Checked}
 use Rattle.memory.proofs.Accepted.{good}
+use Rattle.memory.proofs.Inside.{made-inside, state-inside}
 use Rattle.memory.proofs.Words.{length-words}
-use Rattle.monitor.specs.Monitor.{named, answer, granted, stateAfter, scratchAfter}
+use Rattle.monitor.specs.Monitor.{named, answer, granted, moves, stateAfter, scratchAfter}
 use Rattle.monitor.specs.SetList.{numberOf, filled, Run, singly}
 use Rattle.monitor.specs.Agreement.{answerIn}
 use Rattle.monitor.specs.Listing.{Passed, gainOf}
 use Rattle.monitor.specs.declared.set_list.Record.{Record}
 use Rattle.monitor.proofs.Level.{advance-good}
-use Rattle.monitor.proofs.Answers.{unnamed, judged, granted-says, state-kept, scratch-kept, state-moved, scratch-cleared}
+use Rattle.monitor.proofs.Answers.{unnamed, judged, moves-decided, decided-says, state-kept, scratch-kept, state-moved, scratch-cleared}
 
 module _ (t : List ℕ) where
   -- what one record more makes of a run
@@ -87,35 +89,41 @@ module _ (t : List ℕ) where
     pub answer-back : answerIn (numberOf (answer t st sc j u v)) ≡ answer t st sc j u v
     answer-back = each-answer (λ a. answerIn (numberOf a) ≡ a) refl refl refl refl refl refl
 
+    -- the moment that it makes, if it makes one
+    abbrev moment : Moment
+    moment = made (termsOf t) (stateOf st .now) (granted (answer t st sc j u v)) j u v
+
     -- a request keeps the layout, of every state that keeps it
     pub after-good : goodMemory t ≡ true → goodState (termsOf t) st ≡ true → goodState (termsOf t) (stateAfter t st sc j u v) ≡ true
     unfolding stateAfter
-    after-good gt gs = go (granted (answer t st sc j u v)) refl
+    after-good gt gs = go (moves (termsOf t .kept j) (answer t st sc j u v)) refl
       where
-        go : (b : Bool) → granted (answer t st sc j u v) ≡ b →
-            goodState (termsOf t) (cond b (wordsOf (termsOf t) (advance (termsOf t) (stateOf st) j u v) ++ drop stateWords st) st) ≡ true
+        go : (b : Bool) → moves (termsOf t .kept j) (answer t st sc j u v) ≡ b →
+            goodState (termsOf t) (cond b (wordsOf (termsOf t) (advance (termsOf t) (stateOf st) moment) ++ drop stateWords st) st) ≡ true
         go true e =
-            let n = granted-says t st sc j u v e .names in
+            let n = decided-says t st sc j u v (moves-decided (termsOf t .kept j) (answer t st sc j u v) e) .names in
             let T : Terms = termsOf t in
-            advance-good T (good t gt) st gs j u v (ltb-true j (T .events) (and-left (ltb j (T .events)) _ n))
+            advance-good T (good t gt) st gs moment
+            (made-inside T (good t gt) (stateOf st .now) (state-inside T st gs) (granted (answer t st sc j u v)) j u v
+            (ltb-true j (T .events) (and-left (ltb j (T .events)) _ n))
             (ltb-true u (T .members) (and-left (ltb u (T .members)) _ (and-right (ltb j (T .events)) _ n)))
-            (ltb-true v (T .members) (and-right (ltb u (T .members)) _ (and-right (ltb j (T .events)) _ n))) (drop stateWords st)
+            (ltb-true v (T .members) (and-right (ltb u (T .members)) _ (and-right (ltb j (T .events)) _ n)))) (drop stateWords st)
         go false e = gs
 
     -- and the lengths
     pub after-long : stateWords ≤ length st → length (stateAfter t st sc j u v) ≡ length st
     unfolding stateAfter
-    after-long l = go (granted (answer t st sc j u v))
+    after-long l = go (moves (termsOf t .kept j) (answer t st sc j u v))
       where
-        go : (b : Bool) → length (cond b (wordsOf (termsOf t) (advance (termsOf t) (stateOf st) j u v) ++ drop stateWords st) st) ≡ length st
+        go : (b : Bool) → length (cond b (wordsOf (termsOf t) (advance (termsOf t) (stateOf st) moment) ++ drop stateWords st) st) ≡ length st
         go true =
-            length-append (wordsOf (termsOf t) (advance (termsOf t) (stateOf st) j u v)) (drop stateWords st)
-            ∙ omega (arith, l, length-words (termsOf t) (advance (termsOf t) (stateOf st) j u v), length-drop stateWords st)
+            length-append (wordsOf (termsOf t) (advance (termsOf t) (stateOf st) moment)) (drop stateWords st)
+            ∙ omega (arith, l, length-words (termsOf t) (advance (termsOf t) (stateOf st) moment), length-drop stateWords st)
         go false = refl
 
     pub after-scratch : scratchWords ≤ length sc → length (scratchAfter t st sc j u v) ≡ length sc
     unfolding scratchAfter
-    after-scratch l = go (granted (answer t st sc j u v))
+    after-scratch l = go (moves (termsOf t .kept j) (answer t st sc j u v))
       where
         go : (b : Bool) → length (cond b (replicate scratchWords 0 ++ drop scratchWords sc) sc) ≡ length sc
         go true =
@@ -135,22 +143,35 @@ module _ (t : List ℕ) where
       pub step-unnamed : named (termsOf t) j u v ≡ false → AsRequest 9 st sc
       step-unnamed n =
           let e = unnamed t st sc j u v (p .long-scratch) checked n in
-          let g = sym (ap granted e) in
+          let g = sym (ap (moves (termsOf t .kept j)) e) in
           (ap numberOf e, state-kept t st sc j u v g, scratch-kept t st sc j u v g)
 
-      pub step-denied : named (termsOf t) j u v ≡ true → {r : Bool} → r ≡ false → r ≡ decideNow (termsOf t) (stateOf st) j u v → AsRequest 0 st sc
-      step-denied n q d =
+      pub step-denied : named (termsOf t) j u v ≡ true → {r : Bool} → r ≡ false → r ≡ decideNow (termsOf t) (stateOf st) j u v → {k : Bool} → k ≡ false →
+          k ≡ termsOf t .kept j → AsRequest 0 st sc
+      step-denied n q d z y =
           let e = judged t st sc j u v (p .long-scratch) checked n q d in
-          let g = sym (ap granted e) in
+          let g = sym (ap (moves (termsOf t .kept j)) e) ∙ sym y ∙ z in
           (ap numberOf e, state-kept t st sc j u v g, scratch-kept t st sc j u v g)
+
+      -- the words after the moment of a grant, or of a kept denial
+      abbrev Moved : Bool → List ℕ → List ℕ → Type 0
+      Moved g st′ sc′ =
+          (st′ ≡ wordsOf (termsOf t) (advance (termsOf t) (stateOf st) (made (termsOf t) (stateOf st .now) g j u v)) ++ drop stateWords st)
+          × (sc′ ≡ replicate scratchWords 0 ++ drop scratchWords sc)
+
+      pub step-kept : named (termsOf t) j u v ≡ true → {r : Bool} → r ≡ false → r ≡ decideNow (termsOf t) (stateOf st) j u v → {k : Bool} → k ≡ true →
+          k ≡ termsOf t .kept j → {st′ sc′ : List ℕ} → Moved false st′ sc′ → AsRequest 0 st′ sc′
+      step-kept n q d z y w =
+          let e = judged t st sc j u v (p .long-scratch) checked n q d in
+          let g = sym (ap (moves (termsOf t .kept j)) e) ∙ sym y ∙ z in
+          (ap numberOf e, state-moved t st sc j u v g e refl (w .0), scratch-cleared t st sc j u v g (w .1))
 
       pub step-granted : named (termsOf t) j u v ≡ true → {r : Bool} → r ≡ true → r ≡ decideNow (termsOf t) (stateOf st) j u v → {st′ sc′ : List ℕ} →
-          st′ ≡ wordsOf (termsOf t) (advance (termsOf t) (stateOf st) j u v) ++ drop stateWords st → sc′ ≡ replicate scratchWords 0 ++ drop scratchWords sc →
-          AsRequest 1 st′ sc′
-      step-granted n q d s c =
+          Moved true st′ sc′ → AsRequest 1 st′ sc′
+      step-granted n q d w =
           let e = judged t st sc j u v (p .long-scratch) checked n q d in
-          let g = sym (ap granted e) in
-          (ap numberOf e, state-moved t st sc j u v g s, scratch-cleared t st sc j u v g c)
+          let g = sym (ap (moves (termsOf t .kept j)) e) in
+          (ap numberOf e, state-moved t st sc j u v g e refl (w .0), scratch-cleared t st sc j u v g (w .1))
 
     -- so a request leaves memory that has passed the checks as memory that passes them
     pub after-checked : Checked t st → Checked t (stateAfter t st sc j u v)

@@ -14,7 +14,7 @@ use Rattle.memory.specs.Outcome.Outcome.{passed}
 use Rattle.monitor.specs.Monitor.{openedState}
 use Rattle.monitor.specs.Agreement.{LentCall, serveAll}
 
--- Words of terms with three members, one relation and two events. Event 0 is always granted. Event 1 goes by the last entry and has
+-- Words of terms with three members, one relation and two events. Event 0 is always granted. Event 1 goes by the last entry, is kept and has
 -- four effects: add and del, to the target and back. The second operand of entry 15 is e: with e = 1 nothing that is worked out is used twice, with e = 14 entry 14 is.
 unfoldable pub manyTerms : (e : ℕ) → List ℕ
 manyTerms e =
@@ -41,7 +41,7 @@ manyTerms e =
     ∷ 3 ∷ 14 ∷ e ∷ 0
     -- 16: reaches nobody but oneself, where 15 holds
     ∷ 10 ∷ 1 ∷ 2 ∷ 15
-    ∷ (replicate 956 0 ++ (0 ∷ 16 ∷ (replicate 26 0 ++ (1 ∷ 0 ∷ 0 ∷ 2 ∷ 0 ∷ 1 ∷ 1 ∷ 0 ∷ 1 ∷ 2 ∷ 0 ∷ 0 ∷ replicate 168 0))))
+    ∷ (replicate 956 0 ++ (0 ∷ 16 ∷ (replicate 26 0 ++ (1 ∷ 0 ∷ 0 ∷ 2 ∷ 0 ∷ 1 ∷ 1 ∷ 0 ∷ 1 ∷ 2 ∷ 0 ∷ 0 ∷ (replicate 168 0 ++ (0 ∷ 1 ∷ replicate 14 0))))))
 
 -- A look or a request of event j from member 0 to member 1.
 abbrev pub lookAt : (j : ℕ) → List ℕ → LentCall
@@ -50,12 +50,12 @@ lookAt j scratch = record { look = true; event = j; from = 0; to = 1; scratch = 
 abbrev pub requestOf : (j : ℕ) → List ℕ → LentCall
 requestOf j scratch = record { look = false; event = j; from = 0; to = 1; scratch = scratch }
 
--- Event 1 is denied at moment 0, granted where event 0 has just been, and denied again after that.
+-- Event 1 is denied at moment 0, to a look and to a request that is kept, granted where event 0 has just been, and denied again after that.
 abbrev pub manyCalls : List ℕ → List LentCall
-manyCalls scratch = lookAt 1 scratch ∷ requestOf 0 scratch ∷ requestOf 1 scratch ∷ lookAt 1 scratch ∷ []
+manyCalls scratch = lookAt 1 scratch ∷ requestOf 1 scratch ∷ requestOf 0 scratch ∷ requestOf 1 scratch ∷ lookAt 1 scratch ∷ []
 
 abbrev pub manyAnswers : List Answer
-manyAnswers = no ∷ yes ∷ yes ∷ no ∷ []
+manyAnswers = no ∷ no ∷ yes ∷ yes ∷ no ∷ []
 
 -- The state's words at moment 0, with the preset's first edge.
 abbrev pub manyState : (e : ℕ) → List ℕ

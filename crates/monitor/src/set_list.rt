@@ -81,8 +81,12 @@ fn step(
         return 9;
     }
     if moment::is_granted(terms, &plan, state, event, from, to) {
-        moment::next_moment(terms, &plan, state, scratch, event, from, to);
+        moment::next_moment(terms, &plan, state, scratch, true, event, from, to);
         return 1;
+    }
+    if layout::is_kept(terms, event) {
+        moment::next_moment(terms, &plan, state, scratch, false, event, from, to);
+        return 0;
     }
     0
 }

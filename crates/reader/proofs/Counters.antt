@@ -1,5 +1,5 @@
 -- The counters stand for what the lines have said: the tests against them come to the same.
-use Prim.Native.Nat.{ℕ, suc, _+_, _-_, _^_, _≤_, _<_}
+use Prim.Native.Nat.{ℕ, suc, _+_, _-_, _*_, _^_, _≤_, _<_}
 use native.Mathlib.Omega.{arith}
 use native.Mathlib.Numerals.{add-one}
 use mathlib.Core.Path.{_≡_, refl, sym, ap, subst, _∙_}
@@ -28,7 +28,7 @@ use Rattle.file.specs.Reading.{inRange, isLower, tests}
 use Rattle.reader.specs.Stepping.{slot}
 use Rattle.reader.specs.Testing.{contextTests, FreeIn, reachIn}
 use Rattle.file.specs.declared.line.Line.{Line}
-use Rattle.file.specs.declared.line.Line.the-variants.{Members, Labels, Entry, Policy, Effect, Edge, Form, TableBit, EventEdge, Malformed}
+use Rattle.file.specs.declared.line.Line.the-variants.{Members, Labels, Entry, Policy, Effect, Edge, Form, TableBit, EventEdge, Mark, Malformed}
 use Rattle.reader.specs.declared.step.Context.{Context}
 use Rattle.theory.proofs.Like.{number-agree, below-agree, spelled-agree}
 use Rattle.file.proofs.Update.{update-same, update-other}
@@ -48,6 +48,7 @@ contextOf f = record {
   entries = f .terms .entries;
   tables = tables (f .terms);
   policies = f .policies;
+  marks = f .marks;
   event = f .event;
   effects = length (f .terms .effects (f .event));
   relation = f .relation;
@@ -60,7 +61,7 @@ contextOf f = record {
 module _ (f : File) (g : Going f) where
   first-small : (n : ℕ) → n < f .terms .entries → firstOperand (f .terms .entry n .op) ≡ variable → f .terms .entry n .a < 16
   first-small n l =
-      fits-variable (f .terms .relations + f .terms .events) n (f .terms .entry n .a) (firstOperand (f .terms .entry n .op)) (g .entries .fit n l .first)
+      fits-variable (f .terms .relations + 2 * f .terms .events) n (f .terms .entry n .a) (firstOperand (f .terms .entry n .op)) (g .entries .fit n l .first)
 
   -- the variables that are free in an entry are below 16
   small-entries : (n : ℕ) → n ≤ f .terms .entries → (k x : ℕ) → free (below (f .terms .entry) n k) x ≡ true → x < 16
@@ -99,12 +100,12 @@ module _ (f : File) (o a b c : ℕ) where
   formula-old k l = spelled-agree e' e k (λ j m. old j (omega arith))
 
   module _ (g : Going f) (masks : List ℕ) (masked : Masked (f .terms) masks) (m : ℕ) (is : FreeIn masks (Entry n o a b c) m)
-      (ra : inRange (firstOperand o) (f .terms .relations + f .terms .events) a ≡ true)
+      (ra : inRange (firstOperand o) (f .terms .relations + 2 * f .terms .events) a ≡ true)
       (la : isLower (firstOperand o) n a ≡ true) (lb : isLower (secondOperand o) n b ≡ true)
       (lc : isLower (thirdOperand o) n c ≡ true)
     where
       variable-small : firstOperand o ≡ variable → a < 16
-      variable-small = fits-variable (f .terms .relations + f .terms .events) n a (firstOperand o) (operand-fits (firstOperand o) _ n a ra la)
+      variable-small = fits-variable (f .terms .relations + 2 * f .terms .events) n a (firstOperand o) (operand-fits (firstOperand o) _ n a ra la)
 
       below-entry : (k : Operand) (v : ℕ) → isLower k n v ≡ true → k ≡ entry → v < n
       unfolding isLower
@@ -199,4 +200,5 @@ module _ (f : File) (g : Going f) (masks : List ℕ) (masked : Masked (f .terms)
   tests-same q (Form n) is reach = same-all _
   tests-same q (TableBit t a b) is reach = same-all _
   tests-same q (EventEdge j u v) is reach = same-all _
+  tests-same q (Mark j) is reach = same-all _
   tests-same q Malformed is reach = same-all _

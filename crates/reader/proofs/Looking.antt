@@ -35,7 +35,7 @@ use Rattle.file.specs.File.{File, stateSaid}
 use Rattle.file.specs.Reading.{partly, partlyFilled, partlyAt}
 use Rattle.file.specs.Reading.Reading.{accepted}
 use Rattle.file.specs.declared.line.Line.{Line}
-use Rattle.file.specs.declared.line.Line.the-variants.{Members, Labels, Entry, Policy, Effect, Edge, Form, TableBit, EventEdge, Malformed}
+use Rattle.file.specs.declared.line.Line.the-variants.{Members, Labels, Entry, Policy, Effect, Edge, Form, TableBit, EventEdge, Mark, Malformed}
 use Rattle.file.proofs.Fit.{Inside}
 use Rattle.file.proofs.Accepted.{Accepted, read-good, level-read}
 use Rattle.reader.specs.Memory.{memoryOf}
@@ -147,6 +147,7 @@ module _ (f : File) (acc : Accepted f) (terms state masks : List ℕ) (holds : H
       (ap₂ (λ (w : List ℕ) (v : ℕ). eqb (tableWord w t a) v) (holds .state-is) e
       ∙ full-word T (acc .good) (stateSaid f) (acc .bits) t a (ltb t 32) refl (ltb a 64) refl)
   line-partly full e (EventEdge j u v) = refl
+  line-partly full e (Mark j) = refl
   line-partly full e Malformed = refl
 
   -- a check passes only where the tables without a free variable are level

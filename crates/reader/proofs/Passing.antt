@@ -1,36 +1,36 @@
 -- A line that passes: what it says is in its range, and counters, sets and words after it stand for what has been said.
-use Prim.Native.Nat.{ℕ, zero, suc, _+_, _≤_, _<_}
+use Prim.Native.Nat.{ℕ, zero, suc, _+_, _-_, _*_, _≤_, _<_}
 use native.Mathlib.Omega.{arith}
-use mathlib.Core.Path.{_≡_, refl, sym, subst}
+use mathlib.Core.Path.{_≡_, refl, sym, ap, subst, _∙_}
+use mathlib.Core.Logic.{⊎-elim}
 use mathlib.Core.List.{List, [], _∷_, _++_}
 use mathlib.Core.Bool.{true, cond}
 use lib.Dec.{eqb, ltb}
 use lib.ListN.{length, set, length-append}
-use borrow.Author.Tests.{eqb-true, ltb-true, leb-true}
-use Rattle.sets.proofs.Finite.{and-right}
+use borrow.Author.Tests.{eqb-true, ltb-true, ltb-false, leb-true}
+use Rattle.sets.proofs.Finite.{true-or-false, and-right}
 use Rattle.theory.specs.Formula.{Operand, firstOperand, secondOperand, thirdOperand}
 use Rattle.theory.specs.Formula as formulas
 use Rattle.theory.specs.Formula.Operand.{unused, variable, binder, label, entry, count}
 use Rattle.theory.specs.Terms.{tables}
-use Rattle.theory.specs.Moment.Event.{happened}
 use Rattle.memory.specs.Layout.{eventWord}
 use Rattle.memory.specs.Plan.{Masked}
-use Rattle.file.specs.File.{File, withEntry, after}
+use Rattle.file.specs.File.{File, withEntry, eventNamed, eventSaid, after}
 use Rattle.file.specs.Reading.{inRange, isLower, tests}
 use Rattle.reader.specs.Memory.{memoryOf}
 use Rattle.reader.specs.Stepping.{Ranges, stepped}
 use Rattle.reader.specs.Testing.{FreeIn}
 use Rattle.reader.specs.Storing.{storedTerms, storedState, storedSets}
 use Rattle.file.specs.declared.line.Line.{Line}
-use Rattle.file.specs.declared.line.Line.the-variants.{Entry, Policy, Edge, TableBit}
+use Rattle.file.specs.declared.line.Line.the-variants.{Entry, Policy, Effect, Edge, TableBit, Mark}
 use Rattle.file.specs.Refused.{Passed}
 use Rattle.file.proofs.Taken.{passed-at}
 use Rattle.file.proofs.Update.{update-same}
 use Rattle.file.proofs.Going.{Going, entry-phase, policy-phase, complete-phase}
 use Rattle.file.proofs.Printed.{Ranged}
-use Rattle.file.proofs.Printed.Ranged.{members, labels, entry as entryLine, policy, effect, edge, form, bit as tableBit, event}
-use Rattle.reader.proofs.Stored.{members-stored, labels-stored, entry-stored, policy-stored, effect-stored}
-use Rattle.reader.proofs.Bits.{together, bitsOf, edge-stored, table-stored, event-stored}
+use Rattle.file.proofs.Printed.Ranged.{members, labels, entry as entryLine, policy, effect, edge, form, bit as tableBit, event, mark}
+use Rattle.reader.proofs.Stored.{members-stored, labels-stored, entry-stored, policy-stored, effect-stored, mark-stored}
+use Rattle.reader.proofs.Bits.{together, bitsMemory, bitsOf, edge-stored, table-stored, event-stored}
 use Rattle.reader.proofs.Counters.{contextOf, tables-new, slot-is, masked-new}
 
 operand-low : (k : Operand) (r n v : ℕ) → r < 256 → n < 256 → inRange k r v ≡ true → isLower k n v ≡ true → v < 256
@@ -41,6 +41,18 @@ operand-low binder r n v h l p q = omega (arith, ltb-true v 16 (and-right (ltb 0
 operand-low label r n v h l p q = omega (arith, ltb-true v r p)
 operand-low entry r n v h l p q = omega (arith, ltb-true v n q)
 operand-low count r n v h l p q = omega (arith, leb-true v 64 (and-right (ltb 0 v) _ p))
+
+-- a V line's number, and the event word that holds it
+named-low : (j e : ℕ) → e < 17 → eventNamed j < e → j < 32
+named-low j e h l =
+    ⊎-elim (λ p. omega (arith, ltb-true j 16 p)) (λ p. let m : j - 16 < e = rw p at l in omega arith) (true-or-false (ltb j 16))
+
+event-word : (j u v : ℕ) → 1 + j * 4096 + u * 64 + v ≡ eventWord (eventSaid j u v)
+event-word j u v =
+    ⊎-elim
+    (λ p. rw p refl)
+    (λ p. rw p (omega (arith, ltb-false j 16 p)))
+    (true-or-false (ltb j 16))
 
 -- what it says is in its range
 pub in-ranges : {f : File} {l : Line} → Ranged l → Going f → Passed (tests f l) → Ranges (contextOf f) l
@@ -54,9 +66,9 @@ in-ranges {f} (entryLine {n = n} {o = o} {a = a} {b = b} {c = c} h i j k m y) g 
     let l : n < 256 = ltb-true n 256 (passed-at p 2) in (
       l,
       i,
-      operand-low (firstOperand o) (f .terms .relations + f .terms .events) n a (omega arith) l (passed-at p 3) (passed-at p 7),
-      operand-low (secondOperand o) (f .terms .relations + f .terms .events) n b (omega arith) l (passed-at p 4) (passed-at p 8),
-      operand-low (thirdOperand o) (f .terms .relations + f .terms .events) n c (omega arith) l (passed-at p 5) (passed-at p 9),
+      operand-low (firstOperand o) (f .terms .relations + 2 * f .terms .events) n a (omega arith) l (passed-at p 3) (passed-at p 7),
+      operand-low (secondOperand o) (f .terms .relations + 2 * f .terms .events) n b (omega arith) l (passed-at p 4) (passed-at p 8),
+      operand-low (thirdOperand o) (f .terms .relations + 2 * f .terms .events) n c (omega arith) l (passed-at p 5) (passed-at p 9),
     )
 in-ranges {f} (policy {j = j} {n = n} h i) g p =
     let e : f .terms .events < 17 = g .labels (policy-phase f (passed-at p 0) .0) .2 in (
@@ -93,10 +105,13 @@ in-ranges {f} (event {j = j} {u = u} {v = v} h i k) g p =
     let z : 2 ≤ f .phase = complete-phase f (passed-at p 1) in
     let e : f .terms .events < 17 = g .labels z .2 in
     let s : f .terms .members < 65 = g .members (omega arith) .1 in (
-      omega (arith, ltb-true j (f .terms .events) (passed-at p 3)),
+      named-low j (f .terms .events) e (ltb-true (eventNamed j) (f .terms .events) (passed-at p 3)),
       omega (arith, ltb-true u (f .terms .members) (passed-at p 4)),
       omega (arith, ltb-true v (f .terms .members) (passed-at p 5)),
     )
+in-ranges {f} (mark {j = j} h) g p =
+    let e : f .terms .events < 17 = g .labels (complete-phase f (passed-at p 0)) .2 in
+    omega (arith, ltb-true j (f .terms .events) (passed-at p 3))
 
 -- the counters after it
 pub context-after : {f : File} {l : Line} → Ranged l → Going f → Passed (tests f l) → stepped (contextOf f) l ≡ contextOf (after f l)
@@ -117,6 +132,7 @@ context-after (edge h i j) g p = refl
 context-after (form h) g p = refl
 context-after (tableBit h i j) g p = refl
 context-after (event h i k) g p = refl
+context-after (mark h) g p = refl
 
 -- the sets of free variables after it
 pub masked-after : {f : File} {l : Line} → Ranged l → Going f → Passed (tests f l) → (masks : List ℕ) → Masked (f .terms) masks →
@@ -134,6 +150,7 @@ masked-after (edge h i j) g p masks k m is = k
 masked-after (form h) g p masks k m is = k
 masked-after (tableBit h i j) g p masks k m is = k
 masked-after (event h i j) g p masks k m is = k
+masked-after (mark h) g p masks k m is = record { long = k .long; bits = k .bits }
 
 -- the words after it
 pub terms-after : {f : File} {l : Line} → Ranged l → Going f → Passed (tests f l) →
@@ -145,7 +162,8 @@ terms-after {f} (entryLine {n = n} {o = o} {a = a} {b = b} {c = c} h i j k m y) 
 terms-after {f} (policy {j = j} {n = n} h i) g p = policy-stored (f .terms) j n (in-ranges {l = Policy j n} (policy h i) g p .0)
 terms-after {f} (effect {j = j} {c = c} {k = k} {d = d} h i q m n) g p =
     rw (slot-is f g j (leb-true (f .event) j (passed-at p 2)))
-    (effect-stored (f .terms) j c k d (action c i q) (direction d n) (ltb-true (length (f .terms .effects j)) 4 (passed-at p 4)))
+    (effect-stored (f .terms) j c k d (in-ranges {l = Effect j c k d} (effect h i q m n) g p .0) (action c i q) (direction d n)
+    (ltb-true (length (f .terms .effects j)) 4 (passed-at p 4)))
   where
     action : (c : ℕ) → 0 < c → c < 3 → cond (eqb c 1) 1 2 ≡ c
     action zero p q = absurd (omega arith)
@@ -161,6 +179,7 @@ terms-after (edge h i j) g p = refl
 terms-after (form h) g p = refl
 terms-after (tableBit h i j) g p = refl
 terms-after (event h i k) g p = refl
+terms-after {f} (mark {j = j} h) g p = mark-stored (f .terms) j (in-ranges {l = Mark j} (mark h) g p)
 
 pub state-after : {f : File} {l : Line} → Ranged l → Going f → Passed (tests f l) → storedState l (bitsOf f) ≡ bitsOf (after f l)
 unfolding after storedState
@@ -177,4 +196,6 @@ state-after {f} (tableBit {t = t} {a = a} {b = b} h i j) g p =
     let r = in-ranges {l = TableBit t a b} (tableBit h i j) g p in
     table-stored (f .edges) (f .table) t a b (r .0) (r .1) (r .2) (eventWord (f .last))
 state-after {f} (event {j = j} {u = u} {v = v} h i k) g p =
-    event-stored (together (f .edges) (f .table)) (eventWord (f .last)) (eventWord (happened j u v))
+    event-stored (together (f .edges) (f .table)) (eventWord (f .last)) _
+    ∙ ap (bitsMemory (together (f .edges) (f .table))) (event-word j u v)
+state-after (mark h) g p = refl

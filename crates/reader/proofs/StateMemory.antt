@@ -70,6 +70,7 @@ module _ (T U : Terms) (a : Alike T U) (s : List ℕ) where
 pub event-inside : (T : Terms) {x : Event} → EventFits (T .events) (T .members) x → EventInside T x
 event-inside T EventFits.none = tt
 event-inside T (EventFits.happened j u v) = (j, u, v)
+event-inside T (EventFits.tried j u v) = (j, u, v)
 
 module _ (T : Terms) (fine : Good T) (S : State) where
   pub level-good : EventInside T (S .now .event) → Level T (S .table) → goodState T (wordsOf T S) ≡ true

@@ -11,8 +11,8 @@ use borrow.Author.Tests.{eq-eqb, ne-eqb, lt-ltb, le-ltb, ltb-true, ltb-false, eq
 use Rattle.sets.proofs.Finite.{true-or-false}
 use Rattle.theory.specs.Terms as terms
 use Rattle.theory.specs.Terms.{Terms}
-use Rattle.memory.specs.Layout.{termsWords, entryAt, policyAt, effectAt, tabulate}
-use Rattle.file.specs.File.{update, withEntry, withPolicy, withEffect}
+use Rattle.memory.specs.Layout.{termsWords, entryAt, policyAt, effectAt, markAt, tabulate}
+use Rattle.file.specs.File.{update, withEntry, withPolicy, withEffect, withMark}
 use Rattle.reader.specs.Memory.{effectWord, termsWord, memoryOf}
 use Rattle.reader.specs.Storing.{three, four}
 use Rattle.reader.proofs.Tabulated.{tabulate-cong, set-tabulate}
@@ -28,6 +28,7 @@ withMembers T n = record {
   entry = T .entry;
   policy = T .policy;
   effects = T .effects;
+  kept = T .kept;
 }
 
 abbrev withLabels : Terms → (r e : ℕ) → Terms
@@ -39,6 +40,7 @@ withLabels T r e = record {
   entry = T .entry;
   policy = T .policy;
   effects = T .effects;
+  kept = T .kept;
 }
 
 module _ (T : Terms) where
@@ -165,6 +167,25 @@ module _ (T : Terms) where
     unfolding memoryOf
     policy-stored = set-tabulate termsWords (termsWord T) (policyAt j) n ∙ tabulate-cong termsWords _ _ (λ i l. policy-word i)
 
+  module _ (j : ℕ) (l : j < 16) where
+    mark-word : (i : ℕ) → update (termsWord T) (markAt j) 1 i ≡ termsWord (withMark T j) i
+    unfolding termsWord
+    mark-word i =
+        ⊎-elim
+        (λ p. let q : i < 1236 = ltb-true i 1236 p in rw (ne-eqb i (markAt j) (λ e. omega arith), p))
+        (λ p. let q : 1236 ≤ i = ltb-false i 1236 p in
+        ⊎-elim
+        (λ e. let s : i ≡ markAt j = eqb-true i (markAt j) e in
+        rw (e, le-ltb i 4 (omega arith), le-ltb i 1028 (omega arith), le-ltb i 1044 (omega arith), p, eq-eqb (i - 1236) j (omega arith)))
+        (λ e. let s : i ≡ markAt j → ⊥ = eqb-false i (markAt j) e in
+        rw (e, ne-eqb (i - 1236) j (λ z. s (omega arith))))
+        (true-or-false (eqb i (markAt j))))
+        (true-or-false (ltb i 1236))
+
+    pub mark-stored : set (memoryOf T) (markAt j) 1 ≡ memoryOf (withMark T j)
+    unfolding memoryOf
+    mark-stored = set-tabulate termsWords (termsWord T) (markAt j) 1 ∙ tabulate-cong termsWords _ _ (λ i l. mark-word i)
+
   -- the words of an effect after the others
   abbrev wordOf : terms.Effect → ℕ → ℕ
   wordOf e c = cond (eqb c 0) (cond (e .adds) 1 2) (cond (eqb c 1) (e .relation) (cond (e .back) 1 0))
@@ -177,7 +198,7 @@ module _ (T : Terms) where
   effect-more (d ∷ es) e zero c = rw (ne-eqb 0 (suc (length es)) (λ z. omega arith))
   effect-more (d ∷ es) e (suc i) c = rw (eqb·suc-suc i (length es)) (effect-more es e i c)
 
-  module _ (j a k d : ℕ) (action : cond (eqb a 1) 1 2 ≡ a) (direction : cond (eqb d 1) 1 0 ≡ d) (few : length (T .effects j) < 4) where
+  module _ (j a k d : ℕ) (jl : j < 16) (action : cond (eqb a 1) 1 2 ≡ a) (direction : cond (eqb d 1) 1 0 ≡ d) (few : length (T .effects j) < 4) where
     abbrev at : ℕ
     at = effectAt j (length (T .effects j))
 
@@ -207,6 +228,7 @@ module _ (T : Terms) where
               le-ltb i 4 (omega arith),
               le-ltb i 1028 (omega arith),
               le-ltb i 1044 q,
+              lt-ltb i 1236 (omega (arith, eqb-true ((i - 1044) / 12) j e)),
               e,
               effect-more es new ((i - 1044) % 12 / 3) ((i - 1044) % 3),
               s,
@@ -219,6 +241,7 @@ module _ (T : Terms) where
               le-ltb i 4 (omega arith),
               le-ltb i 1028 (omega arith),
               le-ltb i 1044 q,
+              lt-ltb i 1236 (omega (arith, eqb-true ((i - 1044) / 12) j e)),
               e,
               effect-more es new ((i - 1044) % 12 / 3) ((i - 1044) % 3),
               s,

@@ -1,17 +1,17 @@
 -- The words of terms: what stands in each, which terms the memory then holds, and that it is good memory.
-use Prim.Native.Nat.{ℕ, _+_, _-_, _*_, _/_, _%_, _<_}
+use Prim.Native.Nat.{ℕ, _+_, _-_, _*_, _/_, _%_, _≤_, _<_}
 use native.Mathlib.Omega.{arith}
 use native.Mathlib.Numerals.{add-one}
 use mathlib.Core.Path.{_≡_, refl, sym, ap, subst, _∙_}
-use mathlib.Core.Bool.{Bool, true, false, cond}
+use mathlib.Core.Bool.{Bool, true, false, cond, true≢false}
 use mathlib.Core.List.{List, [], _∷_, _++_}
-use lib.Dec.{eqb}
+use lib.Dec.{eqb, ltb}
 use lib.ListN.{length, getD, List·getD-append}
-use borrow.Author.Tests.{eqb-true, eq-eqb, lt-ltb, le-ltb}
+use borrow.Author.Tests.{eqb-true, eq-eqb, lt-ltb, le-ltb, ltb-false}
 use Rattle.sets.proofs.Finite.{all-true}
 use Rattle.theory.specs.Formula.{Entry, isPast}
 use Rattle.theory.specs.Terms.{Terms}
-use Rattle.memory.specs.Layout.{termsWords, entryAt, policyAt, effectAt, effectsFrom, termsOf}
+use Rattle.memory.specs.Layout.{termsWords, entryAt, policyAt, effectAt, markAt, effectsFrom, termsOf}
 use Rattle.theory.specs.Terms.{tables}
 use Rattle.theory.specs.Fit.{_⇒_, every, entryTests, policyTests}
 use Rattle.memory.specs.Checks.{blank, effectFits, effectsTests, goodMemory}
@@ -53,7 +53,19 @@ module _ (T : Terms) where
       let event : (i - 1044) / 12 ≡ j = omega arith in
       let effect : (i - 1044) % 12 / 3 ≡ k = omega arith in
       let rem : (i - 1044) % 3 ≡ c = omega arith in
-      rw (le-ltb i 4 (omega arith), le-ltb i 1028 (omega arith), le-ltb i 1044 (omega arith), event, effect, rem)
+      rw (le-ltb i 4 (omega arith), le-ltb i 1028 (omega arith), le-ltb i 1044 (omega arith), lt-ltb i 1236 (omega arith), event, effect, rem)
+
+  word-mark : (j : ℕ) → j < 16 → termsWord T (markAt j) ≡ cond (T .kept j) 1 0
+  unfolding termsWord
+  word-mark j l =
+      let at : markAt j - 1236 ≡ j = omega arith in
+      rw (
+        le-ltb (markAt j) 4 (omega arith),
+        le-ltb (markAt j) 1028 (omega arith),
+        le-ltb (markAt j) 1044 (omega arith),
+        le-ltb (markAt j) 1236 (omega arith),
+        at,
+      )
 
 pub entry-blank : (c : ℕ) → entryWord noEntry c ≡ 0
 entry-blank c = go (eqb c 0) (eqb c 1) (eqb c 2)
@@ -85,6 +97,9 @@ module _ (T : Terms) (fine : Good T) (tidy : Tidy T) (rest : List ℕ) where
       effects-read w (effectAt j 0) 4 (T .effects j) (tidy .few-effects j)
       (λ i il. let here : effectAt j i ≡ effectAt j 0 + 3 * i = omega arith in subst (λ k. Triple w k (T .effects j) i) here (triple j l i il))
 
+  mark : (j : ℕ) → j < 16 → getD w (markAt j) 0 ≡ cond (T .kept j) 1 0
+  mark j l = at (markAt j) (omega arith) ∙ word-mark T j l
+
   pub memory-alike : Alike T (termsOf w)
   unfolding termsOf termsWord
   memory-alike = record {
@@ -95,8 +110,13 @@ module _ (T : Terms) (fine : Good T) (tidy : Tidy T) (rest : List ℕ) where
     entry = λ n l. sym (entry n (omega (arith, fine .few-entries)));
     policy = λ j l. sym (at (policyAt j) (omega (arith, fine .few-events)) ∙ word-policy T j (omega (arith, fine .few-events)));
     effects = λ j l. sym (effects-back j (omega (arith, fine .few-events)));
+    kept = λ j l. sym (ap (λ (k : ℕ). eqb k 1) (mark j (omega (arith, fine .few-events))) ∙ marked (T .kept j));
   }
     where
+      marked : (c : Bool) → eqb (cond c 1 0) 1 ≡ c
+      marked true = refl
+      marked false = refl
+
       word : (n c i : ℕ) → n < 256 → c < 4 → i ≡ entryAt n + c → getD w i 0 ≡ entryWord (T .entry n) c
       word n c i l cl e = at i (omega arith) ∙ word-entry T n c i l cl e
 
@@ -184,6 +204,17 @@ module _ (T : Terms) (fine : Good T) (tidy : Tidy T) (rest : List ℕ) where
       (word-effect T n (i % 12 / 3) (i % 3) _ (omega arith) (omega arith) (omega arith) (omega arith)
       ∙ ap (λ es. effectWord es (i % 12 / 3) (i % 3)) (tidy .effects n (omega arith))))
 
+  marks-good : (j : ℕ) → j < 16 → ltb (getD w (markAt j) 0) (cond (ltb j (U .events)) 2 1) ≡ true
+  marks-good j l = ap (λ (k : ℕ). ltb k (cond (ltb j (U .events)) 2 1)) (mark j l) ∙ go (ltb j (U .events)) refl (T .kept j) refl
+    where
+      go : (c : Bool) → ltb j (U .events) ≡ c → (d : Bool) → T .kept j ≡ d → ltb (cond d 1 0) (cond c 2 1) ≡ true
+      go true p true q = refl
+      go true p false q = refl
+      go false p true q =
+          let h : T .events ≤ j = omega (arith, ltb-false j (U .events) p, memory-alike .events) in
+          absurd (true≢false (sym q ∙ tidy .kept j h))
+      go false p false q = refl
+
   pub memory-good : goodMemory w ≡ true
   unfolding goodMemory every
   memory-good =
@@ -202,4 +233,5 @@ module _ (T : Terms) (fine : Good T) (tidy : Tidy T) (rest : List ℕ) where
       ∷ entries-blank d
       ∷ policies-blank d
       ∷ effects-blank d
+      ∷ all-true 16 marks-good d
       ∷ [])

@@ -9,7 +9,7 @@ use mathlib.Core.Bool.{Bool, true, false, cond, false≢true}
 use lib.Dec.{ltb}
 use lib.ListN.{length, getD, take, drop, replicate}
 use Rattle.theory.specs.Formula.{number}
-use Rattle.memory.specs.Layout.{termsWords, entriesAt, policiesAt, effectsAt, entryWords, stateWords}
+use Rattle.memory.specs.Layout.{termsWords, entriesAt, policiesAt, effectsAt, marksAt, entryWords, stateWords}
 use Rattle.reader.specs.Read.Filling.{old, stored, unfilled}
 use Rattle.memory.specs.Plan.{Masked}
 use Rattle.fields.specs.Split.{lines, split, place}
@@ -22,7 +22,7 @@ use Rattle.reader.specs.Stepping.{begun, isComplete, Ranges, stepped}
 use Rattle.reader.specs.Testing.{numberFrom, contextTests, FreeIn, reachIn}
 use Rattle.reader.specs.Storing.{storedTerms, storedState, storedSets, allRead, Holds, Reads}
 use Rattle.file.specs.declared.line.Line.{Line}
-use Rattle.file.specs.declared.line.Line.the-variants.{Members, Labels, Entry, Policy, Effect, Edge, Form, TableBit, EventEdge, Malformed}
+use Rattle.file.specs.declared.line.Line.the-variants.{Members, Labels, Entry, Policy, Effect, Edge, Form, TableBit, EventEdge, Mark, Malformed}
 use Rattle.reader.specs.declared.step.Context.{Context}
 use Rattle.fields.proofs.Split.{place-le, lines-here, lines-cut, part-rest, rest-shorter}
 use Rattle.file.proofs.Printed.{Ranged, formed}
@@ -47,7 +47,7 @@ unfolding termsWord nothing effectWord
 none-word i =
     none-either (ltb i entriesAt) _ _ (counts i)
     (none-either (ltb i policiesAt) _ _ (entry-blank ((i - entriesAt) % entryWords))
-    (none-either (ltb i effectsAt) 0 0 refl refl))
+    (none-either (ltb i effectsAt) 0 _ refl (none-either (ltb i marksAt) 0 0 refl refl)))
   where
     counts : (i : ℕ) → _≡_ {A = ℕ} (getD (0 ∷ 0 ∷ 0 ∷ 0 ∷ []) i 0) 0
     counts zero = refl
@@ -152,6 +152,7 @@ tests-positive c m q (Edge k a b) = refl
 tests-positive c m q (Form n) = refl
 tests-positive c m q (TableBit t a b) = refl
 tests-positive c m q (EventEdge j u v) = refl
+tests-positive c m q (Mark j) = refl
 tests-positive c m q Malformed = refl
 
 line-read : (f : File) (t : List ℕ) (n e : ℕ) (l : Line) → e ≡ place 10 t → e < length t → l ≡ parsed (split 9 (take e t)) →

@@ -5,7 +5,7 @@ use mathlib.Core.Bool.{Bool, true, false, cond, _&&_}
 use lib.Dec.{eqb, leb}
 use Rattle.theory.specs.Formula.{isPast}
 use Rattle.file.specs.declared.line.Line.{Line}
-use Rattle.file.specs.declared.line.Line.the-variants.{Members, Labels, Entry, Policy, Effect, Edge, Form, TableBit, EventEdge, Malformed}
+use Rattle.file.specs.declared.line.Line.the-variants.{Members, Labels, Entry, Policy, Effect, Edge, Form, TableBit, EventEdge, Mark, Malformed}
 use Rattle.reader.specs.declared.step.Context.{Context}
 
 -- No line yet.
@@ -19,6 +19,7 @@ begun = record {
   entries = 0;
   tables = 0;
   policies = 0;
+  marks = 0;
   event = 0;
   effects = 0;
   relation = 0;
@@ -46,7 +47,8 @@ Ranges c (Effect j a k d) = (j < 16) × (slot c j < 4) × (a < 3) × (k < 16) ×
 Ranges c (Edge k a b) = (k < 16) × (a < 64) × (b < 64)
 Ranges c (Form n) = n ≡ 2
 Ranges c (TableBit t a b) = (t < 32) × (a < 64) × (b < 64)
-Ranges c (EventEdge j u v) = (j < 16) × (u < 64) × (v < 64)
+Ranges c (EventEdge j u v) = (j < 32) × (u < 64) × (v < 64)
+Ranges c (Mark j) = j < 16
 Ranges c Malformed = ⊥
 
 -- The counters after it.
@@ -60,6 +62,7 @@ stepped c (Members n) = record {
   entries = c .entries;
   tables = c .tables;
   policies = c .policies;
+  marks = c .marks;
   event = c .event;
   effects = c .effects;
   relation = c .relation;
@@ -75,6 +78,7 @@ stepped c (Labels r e) = record {
   entries = c .entries;
   tables = c .tables;
   policies = c .policies;
+  marks = c .marks;
   event = c .event;
   effects = c .effects;
   relation = c .relation;
@@ -90,6 +94,7 @@ stepped c (Entry n o a b d) = record {
   entries = n + 1;
   tables = cond (isPast o) (suc (c .tables)) (c .tables);
   policies = c .policies;
+  marks = c .marks;
   event = c .event;
   effects = c .effects;
   relation = c .relation;
@@ -105,6 +110,7 @@ stepped c (Policy j n) = record {
   entries = c .entries;
   tables = c .tables;
   policies = j + 1;
+  marks = c .marks;
   event = c .event;
   effects = c .effects;
   relation = c .relation;
@@ -120,6 +126,7 @@ stepped c (Effect j a k d) = record {
   entries = c .entries;
   tables = c .tables;
   policies = c .policies;
+  marks = c .marks;
   event = j;
   effects = slot c j + 1;
   relation = c .relation;
@@ -135,6 +142,7 @@ stepped c (Edge k a b) = record {
   entries = c .entries;
   tables = c .tables;
   policies = c .policies;
+  marks = c .marks;
   event = c .event;
   effects = c .effects;
   relation = k;
@@ -150,6 +158,7 @@ stepped c (Form n) = record {
   entries = c .entries;
   tables = c .tables;
   policies = c .policies;
+  marks = c .marks;
   event = c .event;
   effects = c .effects;
   relation = c .relation;
@@ -165,6 +174,7 @@ stepped c (TableBit t a b) = record {
   entries = c .entries;
   tables = c .tables;
   policies = c .policies;
+  marks = c .marks;
   event = c .event;
   effects = c .effects;
   relation = t;
@@ -180,6 +190,23 @@ stepped c (EventEdge j u v) = record {
   entries = c .entries;
   tables = c .tables;
   policies = c .policies;
+  marks = c .marks;
+  event = c .event;
+  effects = c .effects;
+  relation = c .relation;
+  from = c .from;
+  to = c .to;
+}
+stepped c (Mark j) = record {
+  stored = c .stored;
+  phase = 4;
+  members = c .members;
+  relations = c .relations;
+  events = c .events;
+  entries = c .entries;
+  tables = c .tables;
+  policies = c .policies;
+  marks = j + 1;
   event = c .event;
   effects = c .effects;
   relation = c .relation;

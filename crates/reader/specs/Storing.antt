@@ -1,11 +1,10 @@
 -- What a line that has passed stores, and what the reader's words are at the end of the text.
-use Prim.Native.Nat.{ℕ, _+_, _^_}
+use Prim.Native.Nat.{ℕ, _+_, _*_, _^_}
 use mathlib.Core.Path.{_≡_}
 use mathlib.Core.List.{List}
 use lib.Bits.{bitOr}
 use lib.ListN.{getD, set}
-use Rattle.theory.specs.Moment.Event.{happened}
-use Rattle.memory.specs.Layout.{entryAt, policyAt, effectAt, relationAt, tableAt, eventAt, eventWord, wordsOf}
+use Rattle.memory.specs.Layout.{entryAt, policyAt, effectAt, markAt, relationAt, tableAt, eventAt, eventUnit, fromUnit, wordsOf}
 use Rattle.memory.specs.Plan.{Masked}
 use Rattle.fields.specs.Split.{lines}
 use Rattle.file.specs.File.{File, stateSaid, nothing}
@@ -15,7 +14,7 @@ use Rattle.reader.specs.Memory.{memoryOf}
 use Rattle.reader.specs.Read.{Filling, filling}
 use Rattle.reader.specs.Stepping.{slot}
 use Rattle.file.specs.declared.line.Line.{Line}
-use Rattle.file.specs.declared.line.Line.the-variants.{Members, Labels, Entry, Policy, Effect, Edge, Form, TableBit, EventEdge, Malformed}
+use Rattle.file.specs.declared.line.Line.the-variants.{Members, Labels, Entry, Policy, Effect, Edge, Form, TableBit, EventEdge, Mark, Malformed}
 use Rattle.reader.specs.declared.step.Context.{Context}
 
 -- Three words from a word on, and four; bit b of a word.
@@ -39,6 +38,7 @@ storedTerms c (Edge k a b) w = w
 storedTerms c (Form n) w = w
 storedTerms c (TableBit t a b) w = w
 storedTerms c (EventEdge j u v) w = w
+storedTerms c (Mark j) w = set w (markAt j) 1
 storedTerms c Malformed w = w
 
 unfoldable pub storedState : Line → List ℕ → List ℕ
@@ -50,7 +50,8 @@ storedState (Effect j a k d) w = w
 storedState (Edge k a b) w = withBitAt w (relationAt k a) b
 storedState (Form n) w = w
 storedState (TableBit t a b) w = withBitAt w (tableAt t a) b
-storedState (EventEdge j u v) w = set w eventAt (eventWord (happened j u v))
+storedState (EventEdge j u v) w = set w eventAt (1 + j * eventUnit + u * fromUnit + v)
+storedState (Mark j) w = w
 storedState Malformed w = w
 
 unfoldable pub storedSets : Line → (m : ℕ) → List ℕ → List ℕ
@@ -63,6 +64,7 @@ storedSets (Edge k a b) m w = w
 storedSets (Form n) m w = w
 storedSets (TableBit t a b) m w = w
 storedSets (EventEdge j u v) m w = w
+storedSets (Mark j) m w = w
 storedSets Malformed m w = w
 
 -- What comes of the lines of a text, before refusal 11 is looked for.

@@ -1,5 +1,5 @@
 -- The tests of a line, on numbers: against the counters in place of what the lines have said.
-use Prim.Native.Nat.{ℕ, _+_, _-_, _<_}
+use Prim.Native.Nat.{ℕ, _+_, _-_, _*_, _<_}
 use mathlib.Core.Path.{_≡_}
 use mathlib.Core.Bool.{Bool, true, false, cond, not, _&&_, _||_}
 use mathlib.Core.List.{List, [], _∷_}
@@ -12,9 +12,10 @@ use Rattle.theory.specs.Formula.Operand.{variable, entry}
 use Rattle.theory.specs.Fit.{_⇒_}
 use Rattle.theory.specs.Limits.{maxMembers, maxRelations, maxEvents, maxEntries, maxTables, maxEffects}
 use Rattle.memory.specs.Plan.{reachSets}
+use Rattle.file.specs.File.{eventNamed}
 use Rattle.file.specs.Reading.{Test, test, inRange, isLower}
 use Rattle.file.specs.declared.line.Line.{Line}
-use Rattle.file.specs.declared.line.Line.the-variants.{Members, Labels, Entry, Policy, Effect, Edge, Form, TableBit, EventEdge, Malformed}
+use Rattle.file.specs.declared.line.Line.the-variants.{Members, Labels, Entry, Policy, Effect, Edge, Form, TableBit, EventEdge, Mark, Malformed}
 use Rattle.reader.specs.declared.step.Context.{Context}
 use Rattle.reader.specs.Stepping.{isComplete, slot}
 
@@ -53,9 +54,9 @@ contextTests c m reaches (Entry n o a b d) =
     test 1 (eqb (c .phase) 2 || eqb (c .phase) 3)
     ∷ test 1 (eqb n (c .entries))
     ∷ test 2 (ltb n maxEntries)
-    ∷ test 2 (inRange (firstOperand o) (c .relations + c .events) a)
-    ∷ test 2 (inRange (secondOperand o) (c .relations + c .events) b)
-    ∷ test 2 (inRange (thirdOperand o) (c .relations + c .events) d)
+    ∷ test 2 (inRange (firstOperand o) (c .relations + 2 * c .events) a)
+    ∷ test 2 (inRange (secondOperand o) (c .relations + 2 * c .events) b)
+    ∷ test 2 (inRange (thirdOperand o) (c .relations + 2 * c .events) d)
     ∷ test 2 (isPast o ⇒ ltb (c .tables) maxTables)
     ∷ test 3 (isLower (firstOperand o) n a)
     ∷ test 3 (isLower (secondOperand o) n b)
@@ -104,9 +105,15 @@ contextTests c m reaches (EventEdge j u v) =
     test 1 (c .stored)
     ∷ test 1 (isComplete c)
     ∷ test 1 (leb (c .phase) 7)
-    ∷ test 2 (ltb j (c .events))
+    ∷ test 2 (ltb (eventNamed j) (c .events))
     ∷ test 2 (ltb u (c .members))
     ∷ test 2 (ltb v (c .members))
+    ∷ []
+contextTests c m reaches (Mark j) =
+    test 1 (isComplete c)
+    ∷ test 1 (leb (c .phase) 4)
+    ∷ test 1 (leb (c .marks) j)
+    ∷ test 2 (ltb j (c .events))
     ∷ []
 contextTests c m reaches Malformed = test 1 false ∷ []
 
@@ -126,6 +133,7 @@ FreeIn masks (Edge k a b) m = Unit {0}
 FreeIn masks (Form n) m = Unit {0}
 FreeIn masks (TableBit t a b) m = Unit {0}
 FreeIn masks (EventEdge j u v) m = Unit {0}
+FreeIn masks (Mark j) m = Unit {0}
 FreeIn masks Malformed m = Unit {0}
 
 -- An F line's entry, if it is a reach, may be one by those sets.
@@ -139,4 +147,5 @@ reachIn masks (Edge k a b) = true
 reachIn masks (Form n) = true
 reachIn masks (TableBit t a b) = true
 reachIn masks (EventEdge j u v) = true
+reachIn masks (Mark j) = true
 reachIn masks Malformed = true

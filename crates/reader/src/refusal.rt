@@ -16,14 +16,15 @@ use memory::operands::operands_of;
 use memory::plan::is_past;
 use sets::rest_of;
 ghost use mathlib.Core.Path.{_≡_};
-ghost use Prim.Native.Nat.{_+_};
+ghost use Prim.Native.Nat.{_+_, _*_};
 ghost use lib.Dec.{ltb};
 ghost use Rattle.theory.specs.Formula.{isPast};
 ghost use Rattle.memory.specs.Operands.{kindOf};
 ghost use Rattle.theory.specs.Fit.{_⇒_};
+ghost use Rattle.file.specs.File.{eventNamed};
 ghost use Rattle.file.specs.Reading.{test, inRange, isLower};
 ghost use Rattle.reader.specs.Testing.{refusedBy, numberFrom, rising, contextTests};
-ghost use Rattle.file.specs.declared.line.Line.the-variants.{Members, Labels, Entry, Policy, Effect, Edge, Form, TableBit, EventEdge};
+ghost use Rattle.file.specs.declared.line.Line.the-variants.{Members, Labels, Entry, Policy, Effect, Edge, Form, TableBit, EventEdge, Mark};
 
 // k, the number of the first test that failed; where none has, number if this one fails, else 0.
 fn first(k: usize, number: usize, passes: bool) -> usize
@@ -43,16 +44,16 @@ fn if_past(o: usize, passes: bool) -> bool
     !is_past(o) | passes
 }
 
-// Whether v is a label, of r relations and e events.
+// Whether v is a label, of r relations and e events, granted or denied.
 fn is_label(r: usize, e: usize, v: usize) -> bool
-    ensures { λ s. ⌜ s ≡ ltb v (r + e) ⌝ }
+    ensures { λ s. ⌜ s ≡ ltb v (r + 2 * e) ⌝ }
 {
-    if v < r { true } else { v - r < e }
+    if v < r { true } else { (v - r) / 2 < e }
 }
 
 // Whether an operand is in its range, if it is no entry.
 fn in_range(kind: Kind, r: usize, e: usize, v: usize) -> bool
-    ensures { λ s. ⌜ s ≡ inRange (kindOf kind) (r + e) v ⌝ }
+    ensures { λ s. ⌜ s ≡ inRange (kindOf kind) (r + 2 * e) v ⌝ }
 {
     match kind {
         Kind::Unused => v == 0,
@@ -193,6 +194,13 @@ fn bit_number(c: Context, t: usize, a: usize, b: usize, m: u64, reaches: bool) -
     first(p, 2, b < c.members)
 }
 
+// The event that a V line names: granted, or denied.
+fn named(j: usize) -> usize
+    ensures { λ r. ⌜ r ≡ eventNamed j ⌝ }
+{
+    if j < EVENTS { j } else { j - EVENTS }
+}
+
 // The number that a V line is refused with, or 0.
 fn event_number(c: Context, j: usize, u: usize, v: usize, m: u64, reaches: bool) -> usize
     ensures { λ r. ⌜ r ≡ numberFrom 0 (contextTests c m reaches (EventEdge j u v)) ⌝ }
@@ -200,9 +208,19 @@ fn event_number(c: Context, j: usize, u: usize, v: usize, m: u64, reaches: bool)
     let p = first(0, 1, c.stored);
     let p = first(p, 1, is_complete(c));
     let p = first(p, 1, c.phase <= 7);
-    let p = first(p, 2, j < c.events);
+    let p = first(p, 2, named(j) < c.events);
     let p = first(p, 2, u < c.members);
     first(p, 2, v < c.members)
+}
+
+// The number that a K line is refused with, or 0.
+fn mark_number(c: Context, j: usize, m: u64, reaches: bool) -> usize
+    ensures { λ r. ⌜ r ≡ numberFrom 0 (contextTests c m reaches (Mark j)) ⌝ }
+{
+    let p = first(0, 1, is_complete(c));
+    let p = first(p, 1, c.phase <= 4);
+    let p = first(p, 1, c.marks <= j);
+    first(p, 2, j < c.events)
 }
 
 // The number that a line is refused with, the lowest; 0 where it passes.
@@ -219,6 +237,7 @@ pub(crate) fn number_of(c: Context, line: Line, m: u64, reaches: bool) -> usize
         Line::Form(n) => form_number(c, n, m, reaches),
         Line::TableBit(t, a, b) => bit_number(c, t, a, b, m, reaches),
         Line::EventEdge(j, u, v) => event_number(c, j, u, v, m, reaches),
+        Line::Mark(j) => mark_number(c, j, m, reaches),
         Line::Malformed => 1,
     }
 }

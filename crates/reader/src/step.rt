@@ -5,8 +5,8 @@ ghost use mathlib.Core.Path.{_≡_};
 ghost use Prim.Native.Nat.{_<_};
 ghost use Rattle.reader.specs.Stepping.{begun, isComplete, slot, Ranges, stepped};
 
-// What the lines so far have said, in numbers: tables counts the prev and since entries, effects those of event,
-// and relation, from and to are the last edge or bit of a table.
+// What the lines so far have said, in numbers: tables counts the prev and since entries, marks is one past the last event marked as kept,
+// effects counts those of event, and relation, from and to are the last edge or bit of a table.
 pub struct Context {
     pub stored: bool,
     pub phase: usize,
@@ -16,6 +16,7 @@ pub struct Context {
     pub entries: usize,
     pub tables: usize,
     pub policies: usize,
+    pub marks: usize,
     pub event: usize,
     pub effects: usize,
     pub relation: usize,
@@ -36,6 +37,7 @@ pub(crate) fn begin() -> Context
         entries: 0,
         tables: 0,
         policies: 0,
+        marks: 0,
         event: 0,
         effects: 0,
         relation: 0,
@@ -44,7 +46,7 @@ pub(crate) fn begin() -> Context
     }
 }
 
-// Whether all policies have been given, so that E, G, T and V lines, or the end, are due.
+// Whether all policies have been given, so that K, E, G, T and V lines, or the end, are due.
 pub(crate) fn is_complete(c: Context) -> bool
     ensures { λ r. ⌜ r ≡ isComplete c ⌝ }
 {
@@ -108,6 +110,10 @@ pub(crate) fn step(c: Context, line: Line) -> Context
         }
         Line::EventEdge(_, _, _) => {
             d.phase = 8;
+        }
+        Line::Mark(j) => {
+            d.phase = 4;
+            d.marks = j + 1;
         }
         Line::Malformed => {}
     }

@@ -10,13 +10,13 @@ use memory::layout::ENTRIES_AT;
 use memory::layout::ENTRY;
 use memory::layout::EVENT;
 use memory::layout::EVENT_AT;
+use memory::layout::MARKS_AT;
 use memory::layout::POLICIES_AT;
 use memory::layout::TABLES_AT;
 ghost use mathlib.Core.Path.{_≡_};
-ghost use Prim.Native.Nat.{_+_, _<_};
+ghost use Prim.Native.Nat.{_+_, _*_, _<_};
 ghost use lib.ListN.{length, set};
-ghost use Rattle.theory.specs.Moment.Event.{happened};
-ghost use Rattle.memory.specs.Layout.{termsWords, stateWords, entryAt, policyAt, effectAt, relationAt, tableAt, eventAt, eventWord};
+ghost use Rattle.memory.specs.Layout.{termsWords, stateWords, entryAt, policyAt, effectAt, markAt, relationAt, tableAt, eventAt, eventUnit, fromUnit};
 ghost use Rattle.reader.specs.Stepping.{Ranges};
 ghost use Rattle.reader.specs.Storing.{three, four, withBitAt, storedTerms, storedState, storedSets};
 
@@ -92,6 +92,15 @@ fn store_effect(terms: &mut [u16], j: usize, i: usize, a: usize, k: usize, d: us
     store_three(terms, EFFECTS_AT + EVENT * j + EFFECT * i, a, k, d);
 }
 
+// The mark of event j.
+fn store_mark(terms: &mut [u16], j: usize)
+    requires { ⌜ j < 16 ⌝ }
+    requires { ⌜ length (now terms) ≡ termsWords ⌝ }
+    ensures { λ _. ⌜ now (terms .exit) ≡ set (now (terms .entry)) (markAt j) 1 ⌝ }
+{
+    store(terms, MARKS_AT + j, 1);
+}
+
 // Bit b of word at.
 fn set_bit(words: &mut [u64], at: usize, b: usize)
     requires { ⌜ (at < length (now words)) × (b < 64) ⌝ }
@@ -118,11 +127,11 @@ fn store_bit(state: &mut [u64], t: usize, a: usize, b: usize)
     set_bit(state, TABLES_AT + BLOCK * t + a, b);
 }
 
-// The event word.
+// The event word. It names an event, granted or denied, as the line does.
 fn store_event(state: &mut [u64], j: usize, u: usize, v: usize)
-    requires { ⌜ (j < 16) × (u < 64) × (v < 64) ⌝ }
+    requires { ⌜ (j < 32) × (u < 64) × (v < 64) ⌝ }
     requires { ⌜ length (now state) ≡ stateWords ⌝ }
-    ensures { λ _. ⌜ now (state .exit) ≡ set (now (state .entry)) eventAt (eventWord (happened j u v)) ⌝ }
+    ensures { λ _. ⌜ now (state .exit) ≡ set (now (state .entry)) eventAt (1 + j * eventUnit + u * fromUnit + v) ⌝ }
 {
     state[EVENT_AT] = (1 + j * EVENT_UNIT + u * FROM_UNIT + v) as u64;
 }
@@ -139,6 +148,7 @@ pub(crate) fn store_terms(terms: &mut [u16], c: Context, line: Line)
         Line::Entry(n, o, a, b, d) => store_entry(terms, n, o, a, b, d),
         Line::Policy(j, n) => store_policy(terms, j, n),
         Line::Effect(j, a, k, d) => store_effect(terms, j, slot_of(c, j), a, k, d),
+        Line::Mark(j) => store_mark(terms, j),
         _ => {}
     }
 }

@@ -2,14 +2,14 @@
 use Prim.Native.Nat.{ℕ, zero, suc, _≤_, _<_}
 use native.Mathlib.Omega.{arith}
 use mathlib.Core.Path.{_≡_, refl, ap, _∙_}
-use mathlib.Core.Bool.{Bool, cond}
+use mathlib.Core.Bool.{Bool, true, false, cond}
 use lib.Dec.{eqb}
 use Rattle.theory.specs.Formula.{Formula, Entry, number, below}
 use Rattle.theory.specs.Meaning.{Graph, alone, standing}
 use Rattle.theory.specs.Terms.{Terms, formula}
-use Rattle.theory.specs.Moment.{Moment, graph, affectAll, next}
+use Rattle.theory.specs.Moment.{Moment, graph, affectAll}
 use Rattle.theory.specs.Moment.Event.{happened}
-use Rattle.theory.specs.Tables.{Tables, holdsNow, store, prevStep, prevTables, sinceTables, State, decideNow, advance}
+use Rattle.theory.specs.Tables.{Tables, holdsNow, store, prevStep, prevTables, sinceTables, State, decideNow, made, advance}
 use Rattle.theory.proofs.Good.{Good}
 use Rattle.theory.proofs.Like.{Alike, met, met-is, below-agree, same-number, same-formula, since-met}
 
@@ -19,7 +19,7 @@ module _ (T U : Terms) (a : Alike T U) (good : Good T) where
 
   decide-met : (S : State) (j u v : ℕ) → j < T .events → decideNow T S j u v ≡ decideNow W S j u v
   decide-met S j u v l =
-      ap (λ φ. holdsNow (T .members) (graph (T .relations) (S .now)) (S .table) φ (alone 0 v) u)
+      ap (λ φ. holdsNow (T .members) (graph T (S .now)) (S .table) φ (alone 0 v) u)
       (same-formula T U a (T .policy j) (good .policy-exists j l) ∙ ap (formula W) (a .policy j l))
 
   prev-step-met : (G : Graph) (n : ℕ) → n < T .entries → (X : Tables) → prevStep T G n X ≡ prevStep W G n X
@@ -35,18 +35,24 @@ module _ (T U : Terms) (a : Alike T U) (good : Good T) where
   prev-met G zero l X = refl
   prev-met G (suc n) l X = prev-met G n (omega arith) (prevStep T G n X) ∙ ap (prevTables W G n) (prev-step-met G n l X)
 
-  advance-met : (S : State) (j u v : ℕ) → j < T .events → advance T S j u v ≡ advance W S j u v
+  made-met : (M : Moment) (g : Bool) (j u v : ℕ) → j < T .events → made T M g j u v ≡ made W M g j u v
+  made-met M true j u v l = λ d. record { edge = affectAll u v (a .effects j l d) (M .edge); event = happened j u v }
+  made-met M false j u v l = refl
+
+  advance-met : (S : State) (M : Moment) → advance T S M ≡ advance W S M
   unfolding advance
-  advance-met S j u v l =
-      let M : next T (S .now) j u v ≡ next W (S .now) j u v = λ d. record { edge = affectAll u v (a .effects j l d) (S .now .edge); event = happened j u v } in
-      let G : Graph = graph (T .relations) (S .now) in
+  advance-met S M =
+      let G : Graph = graph T (S .now) in
       let P : prevTables T G (T .entries) (S .table) ≡ prevTables W G (T .entries) (S .table) = prev-met G (T .entries) (omega arith) (S .table) in
-      let Q = since-met T U a (graph (T .relations) (next W (S .now) j u v)) (prevTables W G (T .entries) (S .table)) (T .entries) (omega arith) in
-      (λ d. record { now = M d; table = sinceTables T (graph (T .relations) (M d)) (T .entries) (P d) })
-      ∙ (λ d. record { now = next W (S .now) j u v; table = Q d })
+      let Q = since-met T U a (graph T M) (prevTables W G (T .entries) (S .table)) (T .entries) (omega arith) in
+      (λ d. record { now = M; table = sinceTables T (graph T M) (T .entries) (P d) })
+      ∙ (λ d. record { now = M; table = Q d })
 
   pub decide-alike : (S : State) (j u v : ℕ) → j < T .events → decideNow T S j u v ≡ decideNow U S j u v
   decide-alike S j u v l = decide-met S j u v l ∙ ap (λ X. decideNow X S j u v) (met-is T U a)
 
-  pub advance-alike : (S : State) (j u v : ℕ) → j < T .events → advance T S j u v ≡ advance U S j u v
-  advance-alike S j u v l = advance-met S j u v l ∙ ap (λ X. advance X S j u v) (met-is T U a)
+  pub made-alike : (M : Moment) (g : Bool) (j u v : ℕ) → j < T .events → made T M g j u v ≡ made U M g j u v
+  made-alike M g j u v l = made-met M g j u v l ∙ ap (λ X. made X M g j u v) (met-is T U a)
+
+  pub advance-alike : (S : State) (M : Moment) → advance T S M ≡ advance U S M
+  advance-alike S M = advance-met S M ∙ ap (λ X. advance X S M) (met-is T U a)

@@ -10,7 +10,7 @@ use Rattle.sets.proofs.Finite.{and-under}
 use Rattle.theory.specs.Meaning.{standing, holds}
 use Rattle.theory.specs.Terms.{Terms, formula, tables, pastEntry}
 use Rattle.theory.specs.Moment.{Relations, Event, Moment, graph, first}
-use Rattle.theory.specs.Moment.Event.{none, happened}
+use Rattle.theory.specs.Moment.Event.{none, happened, tried}
 use Rattle.theory.specs.Keeper.{recordOf, last, keeperHolds}
 use Rattle.theory.specs.Tables.{State, opening}
 use Rattle.theory.proofs.Past.{past-entry}
@@ -55,7 +55,7 @@ module _ (T U : Terms) (a : Alike T U) where
   words-met R = λ d. tabulate stateWords (λ i.
       cond (ltb i relationWords) (cond (ltb (i / 64) (T .relations)) (row (T .members) (R (i / 64)) (i % 64)) 0)
       (cond (ltb i eventAt) (cond (ltb ((i - relationWords) / 64) (same-number T U a (T .entries) (omega arith) d))
-      (row (T .members) (since-met T U a (graph (T .relations) (first R)) (λ t a b. false) (T .entries) (omega arith) d ((i - relationWords) / 64)) (i % 64)) 0)
+      (row (T .members) (since-met T U a (graph T (first R)) (λ t a b. false) (T .entries) (omega arith) d ((i - relationWords) / 64)) (i % 64)) 0)
       0))
 
   pub agrees-alike : {m₀ m : List ℕ} {Ms : List Moment} → Agrees T m₀ m Ms → Agrees U m₀ m Ms
@@ -70,6 +70,7 @@ module _ (T U : Terms) (a : Alike T U) where
   event-met : (x : Event) → EventInside T x → EventInside W x
   event-met none i = i
   event-met (happened j u v) i = i
+  event-met (tried j u v) i = i
 
   pub inside-alike : (M : Moment) → Inside T M → Inside U M
   inside-alike M i = subst (λ X. Inside X M) (met-is T U a) (record { edges = i .edges; event = event-met (M .event) (i .event) })

@@ -14,7 +14,7 @@ use Rattle.sets.proofs.Bits.{bit-zero, bit-mask}
 use Rattle.theory.specs.Formula.{Formula, number, isPast}
 use Rattle.theory.specs.Terms.{Terms, formula, tables, pastEntry}
 use Rattle.theory.specs.Moment.{Event}
-use Rattle.theory.specs.Moment.Event.{none as noEvent, happened as granted}
+use Rattle.theory.specs.Moment.Event.{none as noEvent, happened as granted, tried as denied}
 use Rattle.theory.specs.Fit.{_⇒_, closed}
 use Rattle.theory.specs.Tables.{State}
 use Rattle.theory.proofs.Good.{Good, every-at}
@@ -25,7 +25,7 @@ use Rattle.memory.specs.Checks.{fits, level, stateTests, goodState}
 use Rattle.memory.proofs.Row.{fits-inside}
 use Rattle.memory.proofs.Inside.{EventInside, state-inside}
 use Rattle.file.proofs.Fit.{Inside, EventFits}
-use Rattle.file.proofs.Fit.EventFits.{none, happened}
+use Rattle.file.proofs.Fit.EventFits.{none, happened, tried}
 use Rattle.file.proofs.Reread.{Storable}
 
 implied : (x : Bool) {y : Bool} → (x ⇒ y) ≡ true → x ≡ true → y ≡ true
@@ -43,6 +43,7 @@ level-word N w b c h e l = go (or-cases (eqb w 0) _ h)
 event-fits : (T : Terms) (e : Event) → EventInside T e → EventFits (T .events) (T .members) e
 event-fits T noEvent i = none
 event-fits T (granted j u v) i = happened (i .0) (i .1) (i .2)
+event-fits T (denied j u v) i = tried (i .0) (i .1) (i .2)
 
 module _ (T : Terms) (w : List ℕ) (good : goodState T w ≡ true) where
   abbrev word : ℕ → ℕ → ℕ

@@ -13,7 +13,7 @@ use Rattle.theory.specs.Keeper.{Answer}
 use Rattle.theory.specs.Keeper.Verdict.{grant, deny}
 use Rattle.theory.specs.Keeper.Answer.{decided, refused}
 use Rattle.theory.specs.Limits.{scratchWords}
-use Rattle.theory.specs.Tables.{State, decideNow, advance}
+use Rattle.theory.specs.Tables.{State, decideNow, made, advance}
 use Rattle.theory.proofs.Like.{Alike}
 use Rattle.memory.specs.Layout.{termsWords, stateWords, termsOf, stateOf, wordsOf}
 use Rattle.memory.specs.Outcome.{Outcome, hasPassed, checks}
@@ -22,16 +22,16 @@ use Rattle.memory.proofs.Accepted.{good}
 use Rattle.memory.proofs.Front.{state-cong}
 use Rattle.memory.proofs.Words.{length-words}
 use Rattle.memory.proofs.Outcomes.{Checked, check-passed}
-use Rattle.monitor.specs.Monitor.{named, answer, granted, stateAfter, scratchAfter}
+use Rattle.monitor.specs.Monitor.{named, answer, granted, moves, stateAfter, scratchAfter}
 use Rattle.monitor.specs.SetList.{Run, filled, singly, listChecks, listing, listed, left}
 use Rattle.monitor.specs.SetList.Listing.{counted}
 use Rattle.monitor.specs.Agreement.{LentCall, LentStep, leaves, answersIn, serveSteps}
 use Rattle.monitor.specs.Agreement.LentStep.{once, setList}
 use Rattle.monitor.specs.declared.set_list.Record.{Record}
-use Rattle.monitor.proofs.Answers.{granted-says}
+use Rattle.monitor.proofs.Answers.{moves-decided, decided-says}
 use Rattle.monitor.proofs.Singly.{after-checked}
 use Rattle.text.proofs.AlikeWords.{state-alike}
-use Rattle.text.proofs.AlikeMoments.{decide-alike, advance-alike}
+use Rattle.text.proofs.AlikeMoments.{decide-alike, made-alike, advance-alike}
 
 pub record Twins (m s m' s' : List ℕ) : Type 0 where
   pub checked : Checked m s
@@ -49,6 +49,14 @@ module _ (sc : List ℕ) (j u v : ℕ) where
   answer-is : (m s : List ℕ) → Checked m s → answer m s sc j u v ≡ given (termsOf m) (stateOf s)
   unfolding answer
   answer-is m s c = rw (le-ltb (length m) termsWords (c .long-terms), le-ltb (length s) stateWords (c .long-state), c .good-terms, c .good-state)
+
+  -- a call that names no event or no member makes no moment
+  unmoved : (m s : List ℕ) → Checked m s → named (termsOf m) j u v ≡ false → (k : Bool) → moves k (answer m s sc j u v) ≡ false
+  unmoved m s c n k = ap (moves k) (answer-is m s c) ∙ rw n (go (ltb (length sc) scratchWords))
+    where
+      go : (b : Bool) → moves k (cond b (refused 6 0) (refused 9 0)) ≡ false
+      go true = refl
+      go false = refl
 
   module _ (m s m' s' : List ℕ) (t : Twins m s m' s') where
     abbrev T : Terms
@@ -78,27 +86,47 @@ module _ (sc : List ℕ) (j u v : ℕ) where
     pub same-answer : answer m s sc j u v ≡ answer m' s' sc j u v
     same-answer = answer-is m s (t .checked) ∙ same-given (named T j u v) refl ∙ sym (answer-is m' s' (t .other))
 
+    same-moves : moves (T .kept j) (answer m s sc j u v) ≡ moves (U .kept j) (answer m' s' sc j u v)
+    same-moves = go (named T j u v) refl
+      where
+        go : (b : Bool) → named T j u v ≡ b → moves (T .kept j) (answer m s sc j u v) ≡ moves (U .kept j) (answer m' s' sc j u v)
+        go true n = λ d. moves (t .like .kept j (event-known n) d) (same-answer d)
+        go false n = unmoved m s (t .checked) n (T .kept j) ∙ sym (unmoved m' s' (t .other) (sym same-named ∙ n) (U .kept j))
+
     pub same-scratch : scratchAfter m s sc j u v ≡ scratchAfter m' s' sc j u v
     unfolding scratchAfter
-    same-scratch = ap (λ (x : Answer). cond (granted x) (replicate scratchWords 0 ++ drop scratchWords sc) sc) same-answer
+    same-scratch = ap (λ (b : Bool). cond b (replicate scratchWords 0 ++ drop scratchWords sc) sc) same-moves
 
-    moved : named T j u v ≡ true → wordsOf T (advance T (stateOf s) j u v) ≡ wordsOf U (advance U (stateOf s') j u v)
-    moved n =
-        state-alike T U (t .like) (advance T (stateOf s) j u v)
-        ∙ ap (wordsOf U) (advance-alike T U (t .like) (good m (t .checked .good-terms)) (stateOf s) j u v (event-known n) ∙ ap (λ S. advance U S j u v) same-state)
+    -- the states at the moment that a verdict makes
+    abbrev left-at : Bool → State
+    left-at g = advance T (stateOf s) (made T (stateOf s .now) g j u v)
+
+    abbrev right-at : Bool → State
+    right-at g = advance U (stateOf s') (made U (stateOf s' .now) g j u v)
+
+    moved : named T j u v ≡ true → (g : Bool) → wordsOf T (left-at g) ≡ wordsOf U (right-at g)
+    moved n g =
+        let fine = good m (t .checked .good-terms) in
+        state-alike T U (t .like) (left-at g)
+        ∙ ap (wordsOf U) (advance-alike T U (t .like) fine (stateOf s) (made T (stateOf s .now) g j u v)
+        ∙ ap (advance U (stateOf s)) (made-alike T U (t .like) fine (stateOf s .now) g j u v (event-known n))
+        ∙ ap (λ (S : State). advance U S (made U (S .now) g j u v)) same-state)
 
     same-words : (i : ℕ) → i < stateWords → getD (stateAfter m s sc j u v) i 0 ≡ getD (stateAfter m' s' sc j u v) i 0
     unfolding stateAfter
-    same-words i l = rw (sym same-answer) (go (granted (answer m s sc j u v)) refl)
+    same-words i l = rw (sym same-moves, sym same-answer) (go (moves (T .kept j) (answer m s sc j u v)) refl)
       where
-        go : (b : Bool) → granted (answer m s sc j u v) ≡ b →
-            getD (cond b (wordsOf T (advance T (stateOf s) j u v) ++ drop stateWords s) s) i 0
-            ≡ getD (cond b (wordsOf U (advance U (stateOf s') j u v) ++ drop stateWords s') s') i 0
+        g : Bool
+        g = granted (answer m s sc j u v)
+
+        go : (b : Bool) → moves (T .kept j) (answer m s sc j u v) ≡ b →
+            getD (cond b (wordsOf T (left-at g) ++ drop stateWords s) s) i 0 ≡ getD (cond b (wordsOf U (right-at g) ++ drop stateWords s') s') i 0
         go true e =
-            let S : State = advance T (stateOf s) j u v in
-            let S' : State = advance U (stateOf s') j u v in
+            let S : State = left-at g in
+            let S' : State = right-at g in
+            let n = decided-says m s sc j u v (moves-decided (T .kept j) (answer m s sc j u v) e) .names in
             List·getD-append (wordsOf T S) (drop stateWords s) 0 i (omega (arith, length-words T S))
-            ∙ ap (λ w. getD w i 0) (moved (granted-says m s sc j u v e .names))
+            ∙ ap (λ w. getD w i 0) (moved n g)
             ∙ sym (List·getD-append (wordsOf U S') (drop stateWords s') 0 i (omega (arith, length-words U S')))
         go false e = t .words i l
 

@@ -2,7 +2,8 @@
 use Prim.Native.Nat.{ℕ}
 use mathlib.Core.Path.{_≡_, refl}
 use mathlib.Core.List.{List, [], _∷_}
-use mathlib.Core.Bool.{cond, not, _&&_}
+use mathlib.Core.Bool.{true, false, cond, not, _&&_, _||_}
+use lib.Dec.{eqb}
 use lib.ListN.{getD}
 use borrow.Author.Tests.{ltb-true, lt-ltb, eqb-true, eq-eqb}
 use Rattle.sets.specs.Sets.{anyBelow, allBelow, countBelow}
@@ -12,10 +13,10 @@ use Rattle.theory.specs.Formula.Formula.{top, neg}
 use Rattle.theory.specs.Meaning.{Record, Assignment, holds}
 use Rattle.theory.specs.Terms.{Terms}
 use Rattle.theory.specs.Moment.{affectAll}
-use Rattle.theory.specs.Keeper.{Call, Answer, keep, keepAll, keeper}
+use Rattle.theory.specs.Keeper.{Call, Answer, judge, keep, keepAll, keeper}
 use Rattle.theory.specs.Keeper.Answer.{refused}
-use Rattle.theory.specs.Tables.{State, holdsNow, prevTables, sinceTables, opening, decideNow, advance}
-use Rattle.theory.specs.Cases.{line, requests, looks, yes, no, preset, circle, own, cases, keptAnswers, expected, Anywhere}
+use Rattle.theory.specs.Tables.{State, holdsNow, prevTables, sinceTables, opening, decideNow, made, advance}
+use Rattle.theory.specs.Cases.{line, adds, requests, looks, yes, no, preset, circle, own, cases, keptAnswers, expected, Anywhere}
 use Rattle.theory.proofs.Record.{since-unfolds}
 
 -- ---- the preset's requests
@@ -23,7 +24,7 @@ use Rattle.theory.proofs.Record.{since-unfolds}
 pub preset-answers :
     keeper preset own (requests 2 1 2 ∷ requests 0 0 1 ∷ requests 2 1 2 ∷ requests 1 0 1 ∷ requests 2 1 2 ∷ requests 9 0 0 ∷ []) .0
     ≡ no ∷ yes ∷ yes ∷ yes ∷ no ∷ refused 9 0 ∷ []
-unfolding preset own keep keepAll holds anyBelow allBelow node number below spelled affectAll
+unfolding preset own judge keep keepAll holds anyBelow allBelow node number below spelled affectAll
 preset-answers = refl
 
 -- ---- the marked cases
@@ -41,7 +42,7 @@ anywhere N γ i g m = record {
 -- The keeper answers every call of the table as it says; and what is marked as holding always, or with where it holds, does so for every
 -- number of members, record, moment, assignment and member.
 pub marked-cases : (keptAnswers cases ≡ expected cases) × ((N : ℕ) (γ : Record) (i : ℕ) (g : Assignment) (m : ℕ) → Anywhere N γ i g m)
-unfolding cases keptAnswers expected preset circle own keep keepAll holds anyBelow allBelow countBelow node number below spelled affectAll
+unfolding cases keptAnswers expected preset circle own judge keep keepAll holds anyBelow allBelow countBelow node number below spelled affectAll
 marked-cases = (refl, anywhere)
 
 -- ---- nested past-time terms, by the keeper and by the tables
@@ -51,8 +52,8 @@ unfoldable pub byTables : Terms → State → List Call → List Answer
 byTables T S [] = []
 byTables T S (c ∷ cs) =
     let p = decideNow T S (c .event) (c .from) (c .to) in
-    let after = advance T S (c .event) (c .from) (c .to) in
-    let rest = byTables T (cond (p && not (c .look)) after S) cs in
+    let after = advance T S (made T (S .now) p (c .event) (c .from) (c .to)) in
+    let rest = byTables T (cond (not (c .look) && (p || T .kept (c .event))) after S) cs in
     cond p yes no ∷ rest
 
 -- Event 0 is always granted; the others go by: prev of prev, prev of a since, since over a since, since with a first operand that never holds, prev.
@@ -67,6 +68,7 @@ nested = record {
       ) n (line 0 0 0);
   policy = λ j. getD (0 ∷ 2 ∷ 5 ∷ 7 ∷ 9 ∷ 10 ∷ []) j 0;
   effects = λ j. [];
+  kept = λ j. false;
 }
 
 -- three grants, and at each moment the five policies at member 0
@@ -85,5 +87,35 @@ nestedAnswers =
     ∷ yes ∷ yes ∷ yes ∷ no ∷ no ∷ []
 
 pub nested-answers : (keeper nested own nestedCalls .0 ≡ nestedAnswers) × (byTables nested (opening nested own) nestedCalls ≡ nestedAnswers)
-unfolding nested nestedCalls nestedAnswers own keep keepAll holds anyBelow allBelow node number below spelled affectAll byTables holdsNow free highest prevTables sinceTables opening advance
+unfolding nested nestedCalls nestedAnswers own judge keep keepAll holds anyBelow allBelow node number below spelled affectAll byTables holdsNow free highest prevTables sinceTables opening advance
 nested-answers = (refl, refl)
+
+-- ---- denied requests that are kept, by the keeper and by the tables
+
+-- Denied requests of event 0 are kept; a grant of it adds an edge of relation 0. It is granted where there is no such edge yet and the same request was denied just before. Event 1 goes by: I was granted event 0
+-- at some time; event 2 by: I was denied it at some time, to the target. Label 1 is event 0, label 4 event 0 denied.
+unfoldable pub trying : Terms
+trying = record {
+  members = 2;
+  relations = 1;
+  events = 3;
+  entries = 10;
+  entry = λ n. getD (
+      line 0 0 0 ∷ line 1 0 0 ∷ line 4 0 1 ∷ line 4 4 1 ∷ line 2 3 0 ∷ line 3 2 4 ∷ line 2 5 0 ∷ line 4 1 0 ∷ line 7 0 7 ∷ line 7 0 3 ∷ []
+      ) n (line 0 0 0);
+  policy = λ j. getD (6 ∷ 8 ∷ 9 ∷ []) j 0;
+  effects = λ j. cond (eqb j 0) (adds ∷ []) [];
+  kept = λ j. eqb j 0;
+}
+
+unfoldable pub tries : List Call
+tries =
+    looks 0 0 1 ∷ requests 0 0 1 ∷ looks 1 0 1 ∷ looks 2 0 1 ∷ looks 2 0 0 ∷ looks 2 1 0 ∷ looks 0 0 1
+    ∷ requests 0 0 1 ∷ looks 1 0 1 ∷ requests 0 0 1 ∷ looks 2 1 0 ∷ requests 2 1 0 ∷ looks 0 0 1 ∷ []
+
+unfoldable pub triesAnswers : List Answer
+triesAnswers = no ∷ no ∷ no ∷ yes ∷ no ∷ no ∷ yes ∷ yes ∷ yes ∷ no ∷ no ∷ no ∷ no ∷ []
+
+pub tries-answers : (keeper trying own tries .0 ≡ triesAnswers) × (byTables trying (opening trying own) tries ≡ triesAnswers)
+unfolding trying tries triesAnswers own judge keep keepAll holds anyBelow allBelow node number below spelled affectAll byTables holdsNow free highest prevTables sinceTables opening advance
+tries-answers = (refl, refl)

@@ -9,10 +9,10 @@ use borrow.Author.Tests.{ltb-true, leb-false}
 use Rattle.sets.proofs.Finite.{and-under}
 use Rattle.theory.specs.Formula.{Formula, Entry, node, firstOperand, secondOperand, thirdOperand, isPast, number, below, spelled, highest}
 use Rattle.theory.specs.Meaning.{Graph, standing, holds}
-use Rattle.theory.specs.Terms.{Terms, Effect, formula}
-use Rattle.theory.specs.Moment.{Relations, Moment, graph, affectAll, first}
+use Rattle.theory.specs.Terms.{Terms, Effect, labels, formula}
+use Rattle.theory.specs.Moment.{Relations, Moment, graph, affectAll, denied, first}
 use Rattle.theory.specs.Moment.Event.{happened}
-use Rattle.theory.specs.Keeper.{Call, Answer, recordOf, last, lastMoment, target, keeperHolds, keep, keepAll, keeper}
+use Rattle.theory.specs.Keeper.{Call, Answer, recordOf, last, lastMoment, target, keeperHolds, judge, keep, keepAll, keeper}
 use Rattle.theory.specs.Keeper.Verdict.{grant, deny}
 use Rattle.theory.specs.Keeper.Answer.{decided, refused}
 use Rattle.theory.specs.Terms.{tables, pastEntry}
@@ -59,6 +59,7 @@ pub record Alike (T U : Terms) : Type 0 where
   pub entry : (n : ℕ) → n < T .entries → T .entry n ≡ U .entry n
   pub policy : (j : ℕ) → j < T .events → T .policy j ≡ U .policy j
   pub effects : (j : ℕ) → j < T .events → T .effects j ≡ U .effects j
+  pub kept : (j : ℕ) → j < T .events → T .kept j ≡ U .kept j
 
 highest-alike : (n : ℕ) {p q : ℕ → Bool} → ((k : ℕ) → k < n → p k ≡ q k) → highest n p ≡ highest n q
 unfolding highest
@@ -77,6 +78,7 @@ met T U = record {
   entry = U .entry;
   policy = U .policy;
   effects = U .effects;
+  kept = U .kept;
 }
 
 module _ (T U : Terms) (a : Alike T U) where
@@ -89,6 +91,7 @@ module _ (T U : Terms) (a : Alike T U) where
     entry = U .entry;
     policy = U .policy;
     effects = U .effects;
+    kept = U .kept;
   }
 
   abbrev W : Terms
@@ -128,9 +131,9 @@ module _ (T U : Terms) (a : Alike T U) where
           let same : T .entry n ≡ W .entry n = a .entry n l in
           record {
             known = subst (λ (e : Entry). e .op < 12) same (h .known);
-            first = subst (λ (e : Entry). operandFits (firstOperand (e .op)) (T .relations + T .events) n (e .a) ≡ true) same (h .first);
-            second = subst (λ (e : Entry). operandFits (secondOperand (e .op)) (T .relations + T .events) n (e .b) ≡ true) same (h .second);
-            third = subst (λ (e : Entry). operandFits (thirdOperand (e .op)) (T .relations + T .events) n (e .c) ≡ true) same (h .third);
+            first = subst (λ (e : Entry). operandFits (firstOperand (e .op)) (labels T) n (e .a) ≡ true) same (h .first);
+            second = subst (λ (e : Entry). operandFits (secondOperand (e .op)) (labels T) n (e .b) ≡ true) same (h .second);
+            third = subst (λ (e : Entry). operandFits (thirdOperand (e .op)) (labels T) n (e .c) ≡ true) same (h .third);
             one-free = λ p. subst (λ φ. lone φ ≡ true) (same-formula n l) (h .one-free (subst (λ (e : Entry). isPast (e .op) ≡ true) (sym same) p));
             reaches = λ p.
                 let op-is : T .entry n .op ≡ 10 = ap (λ (e : Entry). e .op) same ∙ p in
@@ -143,27 +146,33 @@ module _ (T U : Terms) (a : Alike T U) where
 
   -- ---- the keeper
 
-  keep-met : Good T → (Ms : List Moment) (c : Call) → keep T Ms c ≡ keep W Ms c
-  unfolding keep
-  keep-met g Ms c = go (leb (T .events) (c .event)) refl
+  judge-met : Good T → (Ms : List Moment) (c : Call) → judge T Ms c ≡ judge W Ms c
+  unfolding judge
+  judge-met g Ms c = go (leb (T .events) (c .event)) refl
     where
-      -- what becomes of a call with policy φ and effects es
-      kept : Formula → List Effect → Answer × List Moment
-      kept φ es =
-          cond (not (holds (T .members) (recordOf T Ms) φ (last Ms) (target (c .to)) (c .from))) (decided deny, Ms)
-          (cond (c .look) (decided grant, Ms)
-          (decided grant, Ms ++ (record { edge = affectAll (c .from) (c .to) es (lastMoment Ms .edge); event = happened (c .event) (c .from) (c .to) } ∷ [])))
+      -- what becomes of a call of an event with policy φ and effects es, kept or not
+      kept : Formula → List Effect → Bool → Answer × List Moment
+      kept φ es k =
+          cond (not (holds (T .members) (recordOf T Ms) φ (last Ms) (target (c .to)) (c .from)))
+          (decided deny, cond (not (c .look) && k) (denied (lastMoment Ms) (c .event) (c .from) (c .to) ∷ []) [])
+          (cond (c .look) (decided grant, [])
+          (decided grant, record { edge = affectAll (c .from) (c .to) es (lastMoment Ms .edge); event = happened (c .event) (c .from) (c .to) } ∷ []))
 
       -- a call, where it is told whether its event is out of range, and what becomes of it if it is in range
       called : Bool → Answer × List Moment → Answer × List Moment
-      called b k = cond (ltb (c .scratch) 2048) (refused 6 0, Ms) (cond (b || leb (T .members) (c .from) || leb (T .members) (c .to)) (refused 9 0, Ms) k)
+      called b k = cond (ltb (c .scratch) 2048) (refused 6 0, []) (cond (b || leb (T .members) (c .from) || leb (T .members) (c .to)) (refused 9 0, []) k)
 
       go : (b : Bool) → leb (T .events) (c .event) ≡ b →
-          called b (kept (formula T (T .policy (c .event))) (T .effects (c .event))) ≡ called b (kept (formula W (W .policy (c .event))) (W .effects (c .event)))
+          called b (kept (formula T (T .policy (c .event))) (T .effects (c .event)) (T .kept (c .event)))
+          ≡ called b (kept (formula W (W .policy (c .event))) (W .effects (c .event)) (W .kept (c .event)))
       go true e = refl
       go false e =
           let l : c .event < T .events = leb-false (T .events) (c .event) e in
-          λ d. called false (kept (same-policy g (c .event) l d) (a .effects (c .event) l d))
+          λ d. called false (kept (same-policy g (c .event) l d) (a .effects (c .event) l d) (a .kept (c .event) l d))
+
+  keep-met : Good T → (Ms : List Moment) (c : Call) → keep T Ms c ≡ keep W Ms c
+  unfolding keep
+  keep-met g Ms c = ap (λ (r : Answer × List Moment). (r .0, Ms ++ r .1)) (judge-met g Ms c)
 
   keepAll-met : Good T → (Ms : List Moment) (cs : List Call) → keepAll T Ms cs ≡ keepAll W Ms cs
   unfolding keepAll
@@ -225,6 +234,7 @@ alike-sym a = record {
   entry = λ n l. sym (a .entry n (rw (a .entries) l));
   policy = λ j l. sym (a .policy j (rw (a .events) l));
   effects = λ j l. sym (a .effects j (rw (a .events) l));
+  kept = λ j l. sym (a .kept j (rw (a .events) l));
 }
 
 pub alike-trans : {T U X : Terms} → Alike T U → Alike U X → Alike T X
@@ -236,4 +246,5 @@ alike-trans a b = record {
   entry = λ n l. a .entry n l ∙ b .entry n (rw (sym (a .entries)) l);
   policy = λ j l. a .policy j l ∙ b .policy j (rw (sym (a .events)) l);
   effects = λ j l. a .effects j l ∙ b .effects j (rw (sym (a .events)) l);
+  kept = λ j l. a .kept j l ∙ b .kept j (rw (sym (a .events)) l);
 }

@@ -50,6 +50,7 @@ preset = record {
       ) n (line 0 0 0);
   policy = λ j. getD (8 ∷ 8 ∷ 7 ∷ []) j 0;
   effects = λ j. [];
+  kept = λ j. false;
 }
 
 -- G 0 0 2
@@ -69,6 +70,7 @@ circle = record {
       ) n (line 0 0 0);
   policy = λ j. getD (0 ∷ 5 ∷ 6 ∷ []) j 0;
   effects = λ j. [];
+  kept = λ j. false;
 }
 
 -- ---- the table
@@ -92,6 +94,20 @@ small n es fs = record {
   entry = λ k. getD (line 0 0 0 ∷ es) k (line 0 0 0);
   policy = λ j. cond (eqb j 1) (n - 1) 0;
   effects = λ j. cond (eqb j 0) fs [];
+  kept = λ j. false;
+}
+
+-- The same, where event 1 has the effects fs too and its denied requests are kept. Label 2 is event 1, label 4 event 1 denied.
+abbrev pub keeping : (n : ℕ) → List Entry → List Effect → Terms
+keeping n es fs = record {
+  members = 3;
+  relations = 1;
+  events = 2;
+  entries = n;
+  entry = λ k. getD (line 0 0 0 ∷ es) k (line 0 0 0);
+  policy = λ j. cond (eqb j 1) (n - 1) 0;
+  effects = λ j. fs;
+  kept = λ j. eqb j 1;
 }
 
 abbrev pub adds : Effect
@@ -150,6 +166,16 @@ cases =
     -- at least one, and at least two, that are the target
     ∷ case (small 3 (line 1 0 0 ∷ counting 0 1 1 ∷ []) (adds ∷ [])) (looks 1 0 1 ∷ requests 0 0 1 ∷ looks 1 0 1 ∷ []) (no ∷ yes ∷ yes ∷ [])
     ∷ case (small 3 (line 1 0 0 ∷ counting 0 1 2 ∷ []) (adds ∷ [])) (requests 0 0 1 ∷ looks 1 0 1 ∷ []) (yes ∷ no ∷ [])
+    -- a denied request makes a moment where its event is kept, and none where it is not; a look makes none either way
+    ∷ case (small 2 (line 6 0 0 ∷ []) []) (requests 1 0 1 ∷ looks 1 0 1 ∷ []) (no ∷ no ∷ [])
+    ∷ case (keeping 2 (line 6 0 0 ∷ []) []) (looks 1 0 1 ∷ looks 1 0 1 ∷ requests 1 0 1 ∷ looks 1 0 1 ∷ []) (no ∷ no ∷ no ∷ yes ∷ [])
+    -- the event edge of that moment is from initiator to target under the label of event 1 denied, and not under that of event 1
+    ∷ case (keeping 3 (line 1 0 0 ∷ line 4 4 1 ∷ []) []) (requests 1 0 1 ∷ looks 1 0 1 ∷ looks 1 0 2 ∷ looks 1 1 0 ∷ []) (no ∷ yes ∷ no ∷ no ∷ [])
+    ∷ case (keeping 2 (line 4 2 0 ∷ []) []) (requests 1 0 1 ∷ looks 1 0 1 ∷ []) (no ∷ no ∷ [])
+    -- it has no effects
+    ∷ case (keeping 3 (line 1 0 0 ∷ line 4 0 1 ∷ []) (adds ∷ [])) (requests 1 1 2 ∷ looks 1 1 2 ∷ requests 0 1 2 ∷ looks 1 1 2 ∷ []) (no ∷ no ∷ yes ∷ yes ∷ [])
+    -- at least one try ever: denied at first, then granted; a try by another counts for that one
+    ∷ case (keeping 3 (counting 4 0 1 ∷ line 7 0 1 ∷ []) []) (requests 1 0 1 ∷ requests 1 1 2 ∷ requests 0 2 2 ∷ looks 1 0 1 ∷ looks 1 1 0 ∷ looks 1 2 0 ∷ []) (no ∷ no ∷ yes ∷ yes ∷ yes ∷ no ∷ [])
     ∷ []
 
 -- The keeper's answers to the calls of each case, and those that the table has.

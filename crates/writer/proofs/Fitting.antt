@@ -1,7 +1,8 @@
 -- The ways that writing a text ends: a refusal leaves the output as it was, a whole text fills it from its first byte. And those of asking for the size.
-use Prim.Native.Nat.{ℕ, zero, suc, _/_, _≤_, _<_}
+use Prim.Native.Nat.{ℕ, zero, suc, _-_, _/_, _≤_, _<_}
 use mathlib.Core.Path.{_≡_, refl, ap, _∙_}
-use mathlib.Core.Bool.{true, false}
+use mathlib.Core.Logic.{⊎-elim}
+use mathlib.Core.Bool.{true, false, cond}
 use mathlib.Core.List.{List, _++_}
 use native.Mathlib.Omega.{arith}
 use native.Mathlib.Nat.{zero-add}
@@ -9,7 +10,7 @@ use lib.Dec.{ltb}
 use lib.ListN.{length, getD, drop}
 use lib.Seq.{sets-eq}
 use borrow.Author.Tests.{lt-ltb, le-ltb, ltb-true}
-use Rattle.sets.proofs.Finite.{and-left}
+use Rattle.sets.proofs.Finite.{true-or-false, and-left}
 use Rattle.theory.specs.Terms.{Terms}
 use Rattle.theory.proofs.Good.{every-at}
 use Rattle.memory.specs.Layout.{eventAt, termsOf}
@@ -52,13 +53,19 @@ module _ (o : Outcome) (text : List ℕ) where
 
 -- ---- the event word of checked terms and state
 
-event-few : (T : Terms) (w : ℕ) → T .events < 17 → goodEvent T w ≡ true → w ≤ 65536
+-- an event that is named, granted or denied
+event-named : (j e : ℕ) → e < 17 → cond (ltb j 16) j (j - 16) < e → j < 32
+event-named j e h l =
+    ⊎-elim (λ p. let m = ltb-true j 16 p in omega arith) (λ p. let m : j - 16 < e = rw p at l in omega arith) (true-or-false (ltb j 16))
+
+event-few : (T : Terms) (w : ℕ) → T .events < 17 → goodEvent T w ≡ true → w ≤ 131072
 event-few T zero h e = omega arith
 event-few T (suc n) h e =
-    let l : n / 4096 < T .events = ltb-true (n / 4096) (T .events) (and-left (ltb (n / 4096) (T .events)) _ e) in
+    let j : ℕ = n / 4096 in
+    let l = event-named j (T .events) h (ltb-true (cond (ltb j 16) j (j - 16)) (T .events) (and-left (ltb (cond (ltb j 16) j (j - 16)) (T .events)) _ e)) in
     omega arith
 
-pub event-small : (terms state : List ℕ) → passed ≡ checks terms state → getD state eventAt 0 ≤ 65536
+pub event-small : (terms state : List ℕ) → passed ≡ checks terms state → getD state eventAt 0 ≤ 131072
 unfolding goodState
 event-small terms state e =
     let k = passed-checked terms state e in

@@ -13,11 +13,13 @@ use Rattle.sets.proofs.Bits.{bit-zero}
 use Rattle.memory.specs.Layout.{effectAt, effectsFrom, eventOf, stateOf}
 use Rattle.file.specs.Line.{printed}
 use Rattle.fields.specs.Put.{Put}
-use Rattle.file.specs.Writing.{listed, effectLines, bitAt, eventEdgeLine, printedAll}
+use Rattle.theory.specs.Terms.{Terms}
+use Rattle.file.specs.Writing.{listed, markLine, effectLines, bitAt, eventEdgeLine, printedAll}
 use Rattle.writer.specs.Kinds.{edgeLines, tableLines, tripleOf, says, bitOf, rowOf, rowsOf}
 use Rattle.file.specs.declared.line.Line.{Line}
-use Rattle.file.specs.declared.line.Line.the-variants.{EventEdge}
+use Rattle.file.specs.declared.line.Line.the-variants.{EventEdge, Mark}
 use Rattle.fields.proofs.Output.{put-none, put-then}
+use Rattle.file.proofs.SoFar.{event-line}
 
 -- ---- lists of lines
 
@@ -156,7 +158,19 @@ pub put-event-there : {o p : List ℕ} {at m : ℕ} (w : ℕ) → (w ≡ 0 → �
     → Put o p at m (printed (EventEdge ((w - 1) / 4096) ((w - 1) / 64 % 64) ((w - 1) % 64)) ++ (10 ∷ []))
     → Put o p at m (printedAll (eventEdgeLine (eventOf w)))
 put-event-there zero h x = absurd (h refl)
-put-event-there (suc n) h x = let e : suc n - 1 ≡ n = omega arith in put-line _ (rw e at x)
+put-event-there {o} {p} {at} {m} (suc n) h x =
+    let e : suc n - 1 ≡ n = omega arith in
+    subst (λ (ls : List Line). Put o p at m (printedAll ls)) (sym (event-line (n / 4096) (n / 64 % 64) (n % 64))) (put-line _ (rw e at x))
+
+-- ---- the line of a kept event
+
+module _ (T : Terms) (j : ℕ) (c : Bool) (e : c ≡ T .kept j) where
+  pub put-mark-there : {o p : List ℕ} {at m : ℕ} → c ≡ true → Put o p at m (printed (Mark j) ++ (10 ∷ [])) → Put o p at m (printedAll (markLine T j))
+  put-mark-there y x = rw (← e, y) (put-line (Mark j) x)
+
+  pub put-mark-none : (o : List ℕ) (at : ℕ) → c ≡ false → Put o o at at (printedAll (markLine T j))
+  unfolding printedAll
+  put-mark-none o at y = rw (← e, y) (put-none o at)
 
 -- ---- what is put so far and what is left make the whole
 

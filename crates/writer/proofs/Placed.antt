@@ -51,7 +51,8 @@ kind-short (suc (suc (suc (suc (suc zero))))) = omega arith
 kind-short (suc (suc (suc (suc (suc (suc zero)))))) = omega arith
 kind-short (suc (suc (suc (suc (suc (suc (suc zero))))))) = omega arith
 kind-short (suc (suc (suc (suc (suc (suc (suc (suc zero)))))))) = omega arith
-kind-short (suc (suc (suc (suc (suc (suc (suc (suc (suc k))))))))) = omega arith
+kind-short (suc (suc (suc (suc (suc (suc (suc (suc (suc zero))))))))) = omega arith
+kind-short (suc (suc (suc (suc (suc (suc (suc (suc (suc (suc k)))))))))) = omega arith
 
 -- ---- the word of a number: field k of a text whose fields are the table
 

@@ -8,14 +8,14 @@ use Rattle.sets.specs.Sets.{bit}
 use Rattle.theory.specs.Terms.{Terms}
 use Rattle.theory.specs.Moment.{Relations}
 use Rattle.theory.specs.Tables.{Tables}
-use Rattle.file.specs.Writing.{listed, lineOfEntry, effectLines, bitAt}
+use Rattle.file.specs.Writing.{listed, lineOfEntry, markLine, effectLines, bitAt}
 use Rattle.file.specs.declared.line.Line.{Line}
 use Rattle.file.specs.declared.line.Line.the-variants.{Members, Labels, Policy, Effect, Edge, TableBit}
 
 abbrev pub frontLines : Terms → List Line
 frontLines T = Members (T .members) ∷ Labels (T .relations) (T .events) ∷ []
 
--- The line of entry n, and all of them; so for policies and effects.
+-- The line of entry n, and all of them; so for policies, marks and effects.
 abbrev pub entryOf : Terms → ℕ → List Line
 entryOf T n = lineOfEntry T n ∷ []
 
@@ -27,6 +27,9 @@ policyOf T j = Policy j (T .policy j) ∷ []
 
 abbrev pub policyLines : Terms → List Line
 policyLines T = listed (T .events) (policyOf T)
+
+abbrev pub markLines : Terms → List Line
+markLines T = listed (T .events) (markLine T)
 
 abbrev pub effectsOf : Terms → ℕ → List Line
 effectsOf T j = effectLines j (T .effects j)

@@ -68,11 +68,11 @@ fn put_head(out: &mut [u8], at: usize, kind: usize, n: usize) -> usize
     put_field(out, next, n)
 }
 
-// Puts a line of a kind and one number: M and S.
+// Puts a line of a kind and one number: M, S and K. It has at most 8 bytes.
 pub(crate) fn put_single(out: &mut [u8], at: usize, kind: usize, n: usize) -> usize
     requires { ⌜ (n < 100000) × (at < 2 ^ 58) ⌝ }
     ensures { λ r. ⌜ Put (now (out .entry)) (now (out .exit)) at r (join 9 (getD kindWords kind [] ∷ digits n ∷ []) ++ (10 ∷ [])) ⌝ }
-    ensures { λ r. ⌜ r ≤ at + 32 ⌝ }
+    ensures { λ r. ⌜ r ≤ at + 8 ⌝ }
 {
     let first = put_head(out, at, kind, n);
     put_byte(out, first, 10)

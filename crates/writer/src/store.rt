@@ -28,9 +28,9 @@ const EVENT_UNIT: usize = layout::EVENT_UNIT as usize;
 
 const FROM_UNIT: usize = layout::FROM_UNIT as usize;
 
-// Puts the V line of an event word, if there is an event edge.
+// Puts the V line of an event word, if there is an event edge. Line and word name a denied event alike.
 fn put_event(out: &mut [u8], at: usize, w: u64) -> usize
-    requires { ⌜ (w ≤ maxEvents * eventUnit) × (at < 2 ^ 58) ⌝ }
+    requires { ⌜ (w ≤ 2 * maxEvents * eventUnit) × (at < 2 ^ 58) ⌝ }
     ensures { λ r. ⌜ Put (now (out .entry)) (now (out .exit)) at r (printedAll (eventEdgeLine (eventOf w))) ⌝ }
     ensures { λ r. ⌜ r ≤ at + 32 ⌝ }
 {
@@ -50,7 +50,7 @@ fn put_event(out: &mut [u8], at: usize, w: u64) -> usize
 
 // Puts the whole text.
 fn put_stored(terms: &[u16], state: &[u64], out: &mut [u8], at: usize) -> usize
-    requires { ⌜ (stateWords ≤ length (now state)) × (getD (now state) eventAt 0 ≤ maxEvents * eventUnit) × (at < 2 ^ 54) ⌝ }
+    requires { ⌜ (stateWords ≤ length (now state)) × (getD (now state) eventAt 0 ≤ 2 * maxEvents * eventUnit) × (at < 2 ^ 54) ⌝ }
     ensures { λ r. ⌜ Put (now (out .entry)) (now (out .exit)) at r (storedText (now (terms .entry)) (now (state .entry))) ⌝ }
     ensures { λ r. ⌜ r ≤ at + 2 ^ 25 ⌝ }
 {
@@ -62,7 +62,7 @@ fn put_stored(terms: &[u16], state: &[u64], out: &mut [u8], at: usize) -> usize
 
 // The count of bytes of the text, found by putting it into one byte.
 fn count(terms: &[u16], state: &[u64]) -> usize
-    requires { ⌜ (stateWords ≤ length (now state)) × (getD (now state) eventAt 0 ≤ maxEvents * eventUnit) ⌝ }
+    requires { ⌜ (stateWords ≤ length (now state)) × (getD (now state) eventAt 0 ≤ 2 * maxEvents * eventUnit) ⌝ }
     ensures { λ r. ⌜ r ≡ length (storedText (now (terms .entry)) (now (state .entry))) ⌝ }
 {
     let mut one = [0u8; 1];

@@ -39,10 +39,10 @@ pub(crate) fn put_direction(out: &mut [u8], at: usize, direction: usize) -> usiz
     put_bytes(out, at, piece(b"fwd\tback", 9, direction))
 }
 
-// Puts the word of a line kind, 0 to 8 for M, L, F, P, E, G, S, T, V; nothing from 9 up.
+// Puts the word of a line kind, 0 to 9 for M, L, F, P, E, G, S, T, V, K; nothing from 10 up.
 pub(crate) fn put_kind(out: &mut [u8], at: usize, kind: usize) -> usize
     requires { ⌜ at < 2 ^ 61 ⌝ }
     ensures { λ r. ⌜ Put (now (out .entry)) (now (out .exit)) at r (getD kindWords kind []) ⌝ }
 {
-    put_bytes(out, at, piece(b"M\tL\tF\tP\tE\tG\tS\tT\tV", 9, kind))
+    put_bytes(out, at, piece(b"M\tL\tF\tP\tE\tG\tS\tT\tV\tK", 9, kind))
 }

@@ -15,6 +15,7 @@ use memory::layout::EVENT;
 use memory::layout::entries;
 use memory::layout::events;
 use memory::layout::first_of;
+use memory::layout::is_kept;
 use memory::layout::members;
 use memory::layout::op_of;
 use memory::layout::policy_of;
@@ -33,8 +34,8 @@ ghost use Rattle.memory.specs.Outcome.{checks};
 ghost use Rattle.memory.specs.Outcome.Outcome.{passed};
 ghost use Rattle.fields.specs.Put.{Put};
 ghost use Rattle.writer.specs.Write.{writtenText, writingOf, sizeGives, writeGives, writeLeaves};
-ghost use Rattle.file.specs.Writing.{printedAll};
-ghost use Rattle.writer.specs.Kinds.{frontLines, entryOf, entryLines, policyOf, policyLines, effectsOf, eventLines, tripleOf};
+ghost use Rattle.file.specs.Writing.{markLine, printedAll};
+ghost use Rattle.writer.specs.Kinds.{frontLines, entryOf, entryLines, policyOf, policyLines, markLines, effectsOf, eventLines, tripleOf};
 
 // Puts the F line of entry n.
 fn put_entry_of(terms: &[u16], out: &mut [u8], at: usize, n: usize) -> usize
@@ -86,6 +87,34 @@ fn put_policies(terms: &[u16], out: &mut [u8], at: usize) -> usize
     let mut next = at;
     while j < count {
         next = put_policy_of(terms, out, next, j);
+        j += 1;
+    }
+    next
+}
+
+// Puts the K line of event j, if it is kept.
+fn put_mark_of(terms: &[u16], out: &mut [u8], at: usize, j: usize) -> usize
+    requires { ⌜ (j < 65536) × (at < 2 ^ 58) ⌝ }
+    ensures { λ r. ⌜ Put (now (out .entry)) (now (out .exit)) at r (printedAll (markLine (termsOf (now (terms .entry))) j)) ⌝ }
+    ensures { λ r. ⌜ r ≤ at + 8 ⌝ }
+{
+    if !is_kept(terms, j) {
+        return at;
+    }
+    put_single(out, at, kind::MARK, j)
+}
+
+// Puts the K lines.
+fn put_marks(terms: &[u16], out: &mut [u8], at: usize) -> usize
+    requires { ⌜ at < 2 ^ 57 ⌝ }
+    ensures { λ r. ⌜ Put (now (out .entry)) (now (out .exit)) at r (printedAll (markLines (termsOf (now (terms .entry))))) ⌝ }
+    ensures { λ r. ⌜ r ≤ at + 8 * 65536 ⌝ }
+{
+    let count = events(terms);
+    let mut j = 0;
+    let mut next = at;
+    while j < count {
+        next = put_mark_of(terms, out, next, j);
         j += 1;
     }
     next
@@ -163,7 +192,8 @@ pub(crate) fn put_text(terms: &[u16], state: &[u64], out: &mut [u8], at: usize) 
 {
     let entries = put_front(terms, out, at);
     let policies = put_entries(terms, out, entries);
-    let effects = put_policies(terms, out, policies);
+    let marks = put_policies(terms, out, policies);
+    let effects = put_marks(terms, out, marks);
     let edges = put_effects(terms, out, effects);
     put_edges(state, out, edges)
 }

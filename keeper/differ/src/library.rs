@@ -158,13 +158,15 @@ impl Other for Library<'_> {
     ) -> Answer {
         let Call { event, from, to, .. } = *call;
         let request = raw::Request { event, from, to };
+        let before = state.get(STATE_WORDS - 1).copied();
         let got = if call.look {
             raw::look(terms, state, scratch, request)
         } else {
             raw::request(terms, state, scratch, request)
         };
         let got = answer(got);
-        self.tally.call(call, got);
+        let moved = state.get(STATE_WORDS - 1).copied() != before;
+        self.tally.call(call, got, moved);
         if let (Some(monitor), true) = (&mut self.monitor, scratch.len() >= SCRATCH_WORDS) {
             let bound = answer(named(call).and_then(|request| match call.look {
                 true => monitor.look(request),

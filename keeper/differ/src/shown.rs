@@ -1,13 +1,13 @@
 //! What the binding shows of terms and a state, in the keeper's words.
 
-use cuckooormolu::{Action, Direction, Entry, Label, Monitor};
+use cuckooormolu::{Action, Answer, Direction, Entry, Label, Monitor};
 use keeper::terms::memory::State;
-use keeper::terms::{self, Effect, Past, Terms};
+use keeper::terms::{self, Effect, EventEdge, Past, Terms};
 
 /// The terms, without edges.
 pub fn terms(monitor: &Monitor) -> Terms {
     let shown = monitor.terms();
-    let relations = shown.relations().len();
+    let (relations, events) = (shown.relations().len(), shown.events().len());
     let policy = |event| shown.policy(event).expect("each event has a policy");
     let effects = |event| {
         let effects = shown.effects(event).map(|effect| Effect {
@@ -20,19 +20,21 @@ pub fn terms(monitor: &Monitor) -> Terms {
     Terms {
         members: shown.members().len(),
         relations,
-        events: shown.events().len(),
-        entries: shown.entries().map(|entry| plain(entry, relations)).collect(),
+        events,
+        entries: shown.entries().map(|entry| plain(entry, relations, events)).collect(),
         policies: shown.events().map(policy).collect(),
+        kept: shown.kept().map(usize::from).collect(),
         effects: shown.events().map(effects).collect(),
         ..Terms::default()
     }
 }
 
-/// The entry with a label by its number: relations first, then events.
-fn plain(entry: Entry, relations: usize) -> terms::Entry {
+/// The entry with a label by its number: relations, events, denied events.
+fn plain(entry: Entry, relations: usize, events: usize) -> terms::Entry {
     let number = |label| match label {
         Label::Relation(relation) => usize::from(relation),
         Label::Event(event) => relations + usize::from(event),
+        Label::Denied(event) => relations + events + usize::from(event),
     };
     match entry {
         Entry::Top => terms::Entry::Top,
@@ -63,7 +65,11 @@ pub fn state(monitor: &Monitor) -> State {
         });
         pairs.collect()
     };
-    let event = |edge: cuckooormolu::Request| (edge.event.into(), edge.from.into(), edge.to.into());
+    let event = |edge: cuckooormolu::EventEdge| {
+        let cuckooormolu::Request { event, from, to } = edge.request;
+        let denied = edge.answer == Answer::Deny;
+        EventEdge { event: event.into(), from: from.into(), to: to.into(), denied }
+    };
     let tables = (0..monitor.terms().tables().count()).map(table).collect();
     let past = Past { tables, event: shown.event().map(event) };
     State { edges: shown.edges().map(edge).collect(), past }

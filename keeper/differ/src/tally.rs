@@ -37,6 +37,7 @@ impl Tally {
             wanted.extend([6, 7, 8, 9].map(|number| (kind, format!("refuse {number}"))));
             wanted.extend([(kind, "grant".into()), (kind, "deny".into())]);
         }
+        wanted.push(("request", "deny, kept".into()));
         wanted.extend([6, 7, 8].map(|number| ("set list", format!("refuse {number}"))));
         wanted.extend(["answered", "empty"].map(|outcome| ("set list", outcome.into())));
         wanted.extend(["grant", "deny", "refuse 9"].map(|outcome| ("in a list", outcome.into())));
@@ -60,10 +61,12 @@ impl Tally {
         self.count(kind, got.map_or_else(refused, |_| "written".into()));
     }
 
-    pub fn call(&mut self, call: &Call, got: Answer) {
+    /// A request or a look, and whether it moved the event word.
+    pub fn call(&mut self, call: &Call, got: Answer, moved: bool) {
         let kind = if call.look { "look" } else { "request" };
         let outcome = match got {
             Answer::Grant => "grant".into(),
+            Answer::Deny if moved => "deny, kept".into(),
             Answer::Deny => "deny".into(),
             Answer::Refused(refusal) => refused(refusal),
         };

@@ -43,16 +43,17 @@ fn record_list(
         (lent.terms.clone(), lent.state.clone(), scratch.to_vec(), items.to_vec());
     let got = other.set_list(&mut terms, &mut state, &mut scratch_after, &mut answered);
     let mut wanted_items = items.to_vec();
+    let before = record.graphs().len();
     let wanted = set_list::answer(record, &mut wanted_items, scratch.len());
     same("items", &answered, &wanted_items)?;
     equal("grants", got, wanted)?;
     same("terms after a set list", &terms, &lent.terms)?;
-    if wanted.is_ok_and(|grants| grants > 0) {
-        same("state after grants", &state, &over(&lent.state, &record.state_words()))?;
-        same("scratch after grants", &scratch_after, &over(scratch, &[0; SCRATCH_WORDS]))?;
+    if record.graphs().len() > before {
+        same("state after moments", &state, &over(&lent.state, &record.state_words()))?;
+        same("scratch after moments", &scratch_after, &over(scratch, &[0; SCRATCH_WORDS]))?;
     } else {
-        same("state without a grant", &state, &lent.state)?;
-        same("scratch without a grant", &scratch_after, scratch)?;
+        same("state without a moment", &state, &lent.state)?;
+        same("scratch without a moment", &scratch_after, scratch)?;
     }
     lent.state = state;
     Ok(())

@@ -1,6 +1,6 @@
 //! Damaged texts: each refusal of reading, at varied lines.
 
-use super::{formulas, lines, stored, Rng, Size};
+use super::{formulas, kept, lines, stored, Rng, Size};
 use crate::terms::{Effect, Entry, File, Terms, MOST_ENTRIES, MOST_PAST};
 
 /// A text of either form with one damage, now and then two.
@@ -23,7 +23,8 @@ pub fn text(rng: &mut Rng) -> Vec<u8> {
     }
     if kind >= 4 || rng.percent(20) {
         match rng.below(4) {
-            _ if stored && rng.percent(60) => stored::damage(rng, &file.terms, &mut text),
+            _ if stored && rng.percent(50) => stored::damage(rng, &file.terms, &mut text),
+            _ if rng.percent(15) => kept::damage(rng, &file.terms, &mut text),
             0 | 1 => lines::damage_field(rng, &file.terms, &mut text),
             2 if rng.percent(15) => lines::damage_long(rng, &mut text),
             2 => lines::damage_line(rng, &mut text),
@@ -139,7 +140,7 @@ fn bad_reach(rng: &mut Rng, terms: &mut Terms, place: usize) {
 
 /// A many that asks for too few or too many, or for just as many as may be.
 fn bad_count(rng: &mut Rng, terms: &mut Terms, place: usize) {
-    let labels = terms.relations + terms.events;
+    let labels = terms.labels();
     let label = if rng.percent(80) { rng.below(labels) } else { labels };
     let count = rng.pick(&[0, 0, 1, 63, 64, 65, 65, 66, 256, 65_536, 99_999]);
     put_in(terms, place, &[Entry::Top, Entry::Many(label, place, count)]);
@@ -192,8 +193,8 @@ fn head(rng: &mut Rng, terms: &mut Terms) {
 /// An entry with a variable or a label out of range, or at its last value.
 fn bad_number(rng: &mut Rng, terms: &mut Terms, place: usize) {
     let variable = rng.pick(&[0, 14, 15, 16, 17, 99_999]);
-    let labels = terms.relations + terms.events;
-    let label = rng.pick(&[labels - 1, labels, labels + 1, 31, 32, 33, 99_999]);
+    let labels = terms.labels();
+    let label = rng.pick(&[labels - 1, labels, labels + 1, 31, 32, 33, 47, 48, 49, 99_999]);
     let f = if rng.percent(70) { place } else { place + 1 };
     let entry = match rng.below(6) {
         0 => Entry::Var(variable),

@@ -1,6 +1,6 @@
 //! Sound terms, built so that the rules on free variables hold.
 
-use super::{Rng, Size};
+use super::{kept, Rng, Size};
 use crate::terms::{Effect, Entry, Terms, Variables, MOST_COUNTED, MOST_EFFECTS};
 
 /// Random terms within the given size.
@@ -26,6 +26,7 @@ pub fn terms(rng: &mut Rng, size: &Size) -> Terms {
     for _ in 0..size.events {
         terms.effects.push(effects(rng, size));
     }
+    terms.kept = kept::events(rng, size);
     for _ in 0..size.first_edges * size.relations.min(1) {
         let from = rng.below(size.members);
         let to = if rng.percent(15) { from } else { rng.below(size.members) };
@@ -164,9 +165,16 @@ impl<'a> Builder<'a> {
         let relation = self.size.relations > 0 && self.rng.percent(45);
         if relation {
             self.rng.below(self.size.relations)
-        } else {
+        } else if self.rng.percent(70) {
             self.size.relations + self.rng.below(self.size.events)
+        } else {
+            self.denied()
         }
+    }
+
+    /// The label of an event's denied requests.
+    pub fn denied(&mut self) -> usize {
+        self.size.relations + self.size.events + self.rng.below(self.size.events)
     }
 
     /// An earlier entry, leaning to the newest.

@@ -22,6 +22,25 @@ pub(super) fn join(lines: &Lines) -> Vec<u8> {
     text
 }
 
+/// The places of the lines of a kind.
+pub(super) fn places(lines: &Lines, kind: &[u8]) -> Vec<usize> {
+    (0..lines.len()).filter(|&place| lines[place][0] == kind).collect()
+}
+
+/// One of these places, or any.
+pub(super) fn some(rng: &mut Rng, places: &[usize], count: usize) -> usize {
+    match places {
+        [] => rng.below(count),
+        places => rng.pick(places),
+    }
+}
+
+/// A line of a kind and numbers.
+pub(super) fn line(kind: &str, numbers: &[usize]) -> Vec<Vec<u8>> {
+    let numbers = numbers.iter().map(|number| number.to_string().into_bytes());
+    std::iter::once(kind.as_bytes().to_vec()).chain(numbers).collect()
+}
+
 /// Pads number fields, up to five digits: few of them, or all.
 pub fn pad(rng: &mut Rng, text: &mut Vec<u8>) {
     let mut lines = split(text);
@@ -56,7 +75,8 @@ pub fn damage_field(rng: &mut Rng, terms: &Terms, text: &mut Vec<u8>) {
 
 fn other_kind(rng: &mut Rng) -> String {
     let kinds = [
-        "M", "L", "F", "P", "E", "G", "S", "T", "V", "R", "X", "m", "f", "t", "MM", "", " M", "F ",
+        "M", "L", "F", "P", "K", "E", "G", "S", "T", "V", "R", "X", "m", "f", "k", "MM", "", " M",
+        "F ",
     ];
     rng.pick(&kinds).to_string()
 }
@@ -67,7 +87,9 @@ fn other_number(rng: &mut Rng, terms: &Terms, number: usize) -> usize {
         terms.members,
         terms.relations,
         terms.relations + terms.events,
+        terms.labels(),
         terms.events,
+        terms.events + 16,
         terms.entries.len(),
     ];
     let fixed = [0, 1, 2, 15, 16, 17, 31, 32, 63, 64, 65, 255, 256, 4_096, 65_535, 65_536, 99_999];
@@ -142,6 +164,7 @@ pub fn damage_line(rng: &mut Rng, text: &mut Vec<u8>) {
         12 => {
             let extra = rng.pick(&[
                 "P\t0\t0",
+                "K\t0",
                 "E\t0\tadd\t0\tfwd",
                 "F\t0\ttop\t0\t0",
                 "G\t0\t0\t0",
@@ -180,7 +203,7 @@ pub fn damage_long(rng: &mut Rng, text: &mut Vec<u8>) {
 /// Changes, puts in or takes out one byte, or cuts the text.
 pub fn damage_byte(rng: &mut Rng, text: &mut Vec<u8>) {
     let place = rng.below(text.len());
-    let likely = rng.pick(b"\t\n\r 0123456789MLFPEGSTV-+");
+    let likely = rng.pick(b"\t\n\r 0123456789MLFPKEGSTV-+");
     let byte = if rng.percent(70) { likely } else { rng.below(256) as u8 };
     match rng.below(6) {
         0 | 1 => text[place] = byte,

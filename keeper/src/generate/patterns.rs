@@ -6,13 +6,14 @@ use crate::terms::Entry;
 impl Builder<'_> {
     /// One pattern, as far as the bounds allow.
     pub fn pattern(&mut self) {
-        match self.rng.below(16) {
+        match self.rng.below(19) {
             0 | 1 => self.once_and_not_since(),
             2 | 3 => self.bind_again(),
             4 | 5 => self.before_the_past(),
             6 => self.both(),
             7..=10 => self.reached(),
             11..=13 => self.counted(),
+            14..=16 => self.tried(),
             _ => self.shown(),
         };
     }
@@ -75,6 +76,31 @@ impl Builder<'_> {
             }
             _ => Some(near),
         }
+    }
+
+    /// "Not denied twice since somebody lifted it", as a policy may say; of here,
+    /// or of here and another.
+    fn tried(&mut self) -> Option<usize> {
+        let (tried, lifted) = (self.denied(), self.label());
+        let whom = match self.rng.below(3) {
+            0 => Entry::Var(0),
+            _ => Entry::Top,
+        };
+        let (whom, top) = (self.push(whom)?, self.push(Entry::Top)?);
+        let denied = self.push(Entry::Out(tried, whom))?;
+        let lifting = self.push(Entry::In(lifted, top))?;
+        let lasting = self.push(Entry::Not(lifting))?;
+        let once = self.push(Entry::Since(lasting, denied))?;
+        if self.rng.percent(30) {
+            return self.push(Entry::Not(once));
+        }
+        let before = self.push(Entry::Prev(once))?;
+        let (not_now, not_before) =
+            (self.push(Entry::Not(denied))?, self.push(Entry::Not(before))?);
+        let not_again = self.push(Entry::Or(not_now, not_before))?;
+        let again = self.push(Entry::Not(not_again))?;
+        let twice = self.push(Entry::Since(lasting, again))?;
+        self.push(Entry::Not(twice))
     }
 
     /// A variable bound, bound again further in, and used in both places.

@@ -1,11 +1,11 @@
 //! Stored files, and damage to the lines that only the stored form has.
 
 use super::damage::put_in;
-use super::lines::{join, split, Lines};
+use super::lines::{join, line, places, some, split};
 use super::{calls, Rng};
 use crate::record::Record;
 use crate::terms::memory::pairs;
-use crate::terms::{Entry, EventEdge, File, Past, Tables, Terms, MOST_PAST};
+use crate::terms::{Entry, EventEdge, File, Past, Tables, Terms, MOST_EVENTS, MOST_PAST};
 use std::collections::BTreeSet;
 
 /// A stored file of sound terms: that of a record after some calls, or one
@@ -41,9 +41,15 @@ fn drawn_tables(rng: &mut Rng, terms: &Terms) -> Tables {
     terms.past().into_iter().map(&mut table).collect()
 }
 
+/// No event, a granted one, or a denied one of an event that is kept or not.
 fn drawn_event(rng: &mut Rng, terms: &Terms) -> Option<EventEdge> {
-    let member = |rng: &mut Rng| rng.below(terms.members);
-    rng.percent(60).then(|| (rng.below(terms.events), member(rng), member(rng)))
+    let [from, to] = [rng.below(terms.members), rng.below(terms.members)];
+    let event = rng.below(terms.events);
+    match rng.below(10) {
+        0..=3 => None,
+        4..=6 => Some(EventEdge::granted(event, from, to)),
+        _ => Some(EventEdge::denied(event, from, to)),
+    }
 }
 
 /// Takes some bits, and not all, from a word of a table without a free
@@ -69,24 +75,6 @@ pub fn partly_fill(rng: &mut Rng, file: &mut File) {
         let kept = (0..terms.members).filter(|&b| b != left && rng.percent(60));
         tables[t].extend(kept.map(|b| (a, b)));
     }
-}
-
-/// The places of the lines of a kind.
-fn places(lines: &Lines, kind: &[u8]) -> Vec<usize> {
-    (0..lines.len()).filter(|&place| lines[place][0] == kind).collect()
-}
-
-/// One of these places, or any.
-fn some(rng: &mut Rng, places: &[usize], count: usize) -> usize {
-    match places {
-        [] => rng.below(count),
-        places => rng.pick(places),
-    }
-}
-
-fn line(kind: &str, numbers: &[usize]) -> Vec<Vec<u8>> {
-    let numbers = numbers.iter().map(|number| number.to_string().into_bytes());
-    std::iter::once(kind.as_bytes().to_vec()).chain(numbers).collect()
 }
 
 /// Damages what only the stored form has: its first line, the order and number
@@ -154,6 +142,9 @@ fn bit(rng: &mut Rng, terms: &Terms) -> [usize; 3] {
     [near(rng, terms.past().len()), near(rng, terms.members), near(rng, terms.members)]
 }
 
+/// What a V line names. Of an event the numbers below 16 are grants, those from
+/// 16 on denials.
 fn event(rng: &mut Rng, terms: &Terms) -> [usize; 3] {
-    [near(rng, terms.events), near(rng, terms.members), near(rng, terms.members)]
+    let first = if rng.percent(50) { MOST_EVENTS } else { 0 };
+    [first + near(rng, terms.events), near(rng, terms.members), near(rng, terms.members)]
 }

@@ -10,13 +10,16 @@ pub fn damage_terms(rng: &mut Rng, words: &mut [u16]) {
         let count = usize::from(words[3]).min(256);
         let event = rng.below(MOST_EVENTS);
         let effect = effect_place(event, rng.below(MOST_EFFECTS));
-        let place = match rng.below(8) {
+        let events = usize::from(words[2]).min(15);
+        let place = match rng.below(10) {
             0 => rng.below(4),
             1 | 2 => FIRST_ENTRY + rng.below(4 * count),
             3 => FIRST_ENTRY + rng.below(4 * 256),
             4 => FIRST_POLICY + event,
             5 => FIRST_POLICY + rng.below(usize::from(words[2])).min(15),
             6 => effect + rng.below(3),
+            7 => FIRST_MARK + event,
+            8 => FIRST_MARK + rng.below(events + 1),
             _ => rng.below(TERMS_WORDS),
         };
         let old = words[place];
@@ -65,7 +68,8 @@ fn event_word(rng: &mut Rng, terms: &Terms) -> u64 {
         let choices = [0, bound - 1, bound, rng.below(bound)];
         rng.pick(&choices) as u64
     };
-    let event = near(rng, terms.events);
+    let first = if rng.percent(50) { MOST_EVENTS as u64 } else { 0 };
+    let event = first + near(rng, terms.events);
     let from = near(rng, terms.members);
     let to = near(rng, terms.members);
     let code = 1 + event * 4_096 + from * 64 + to;

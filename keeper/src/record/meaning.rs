@@ -132,10 +132,10 @@ impl<'a> Meaning<'a> {
     /// Whether the graph of moment i has an edge under a label.
     fn edge(&self, i: usize, label: usize, from: usize, to: usize) -> bool {
         let graph = &self.graphs[i];
-        match label.checked_sub(self.terms.relations) {
-            None => graph.edges.contains(&(label, from, to)),
-            Some(event) => graph.event == Some((event, from, to)),
+        if label < self.terms.relations {
+            return graph.edges.contains(&(label, from, to));
         }
+        graph.event.is_some_and(|event| event.is(self.terms, label, from, to))
     }
 }
 

@@ -1,14 +1,16 @@
-//! The lent memory: terms as 1,236 words of 16 bits, state as 3,073 of 64.
+//! The lent memory: terms as 1,252 words of 16 bits, state as 3,073 of 64.
 
 use super::*;
 
-pub const TERMS_WORDS: usize = 1_236;
+pub const TERMS_WORDS: usize = 1_252;
 pub const STATE_WORDS: usize = 3_073;
 pub const SCRATCH_WORDS: usize = 2_048;
 
 pub const FIRST_ENTRY: usize = 4;
 pub const FIRST_POLICY: usize = entry_place(MOST_ENTRIES);
 pub const FIRST_EFFECT: usize = FIRST_POLICY + MOST_EVENTS;
+/// A word for each event, 1 where its denied requests are kept.
+pub const FIRST_MARK: usize = FIRST_EFFECT + 3 * MOST_EFFECTS * MOST_EVENTS;
 pub const FIRST_TABLE: usize = 1_024;
 pub const EVENT_WORD: usize = 3_072;
 
@@ -22,7 +24,7 @@ pub fn effect_place(event: usize, effect: usize) -> usize {
     FIRST_EFFECT + 3 * (MOST_EFFECTS * event + effect)
 }
 
-/// The 1,236 words of accepted terms.
+/// The 1,252 words of accepted terms.
 pub fn terms_words(terms: &Terms) -> Vec<u16> {
     let mut words = vec![0; TERMS_WORDS];
     let mut put = |place: usize, value: usize| {
@@ -49,6 +51,9 @@ pub fn terms_words(terms: &Terms) -> Vec<u16> {
             put(place + 1, effect.relation);
             put(place + 2, usize::from(effect.back));
         }
+    }
+    for event in &terms.kept {
+        put(FIRST_MARK + event, 1);
     }
     words
 }
@@ -91,6 +96,9 @@ fn guess_terms(words: &[u16]) -> Option<Terms> {
             }
         }
         terms.effects.push(effects);
+        if word(FIRST_MARK + event) == 1 {
+            terms.kept.insert(event);
+        }
     }
     Some(terms)
 }
@@ -113,8 +121,8 @@ pub fn state_words(state: &State) -> Vec<u64> {
             words[FIRST_TABLE + 64 * t + a] |= 1 << b;
         }
     }
-    if let Some((event, from, to)) = state.past.event {
-        words[EVENT_WORD] = (1 + event * 4_096 + from * 64 + to) as u64;
+    if let Some(edge) = state.past.event {
+        words[EVENT_WORD] = (1 + edge.number() * 4_096 + edge.from * 64 + edge.to) as u64;
     }
     words
 }
@@ -151,10 +159,9 @@ pub fn state_of_words(terms: &Terms, words: &[u64]) -> Option<State> {
 }
 
 fn event_of_word(terms: &Terms, code: u64) -> Option<EventEdge> {
-    let event = usize::try_from(code / 4_096).ok()?;
+    let number = usize::try_from(code / 4_096).ok()?;
     let (from, to) = ((code / 64 % 64) as usize, (code % 64) as usize);
-    let named = event < terms.events && from < terms.members && to < terms.members;
-    named.then_some((event, from, to))
+    EventEdge::of_number(terms, number, from, to)
 }
 
 /// All pairs of members.

@@ -17,8 +17,8 @@ pub fn store(terms: &Terms, state: &State) -> Vec<u8> {
     for (t, table) in state.past.tables.iter().enumerate() {
         lines.extend(table.iter().map(|(a, b)| format!("T\t{t}\t{a}\t{b}")));
     }
-    if let Some((event, from, to)) = state.past.event {
-        lines.push(format!("V\t{event}\t{from}\t{to}"));
+    if let Some(edge) = state.past.event {
+        lines.push(format!("V\t{}\t{}\t{}", edge.number(), edge.from, edge.to));
     }
     text(lines)
 }
@@ -35,6 +35,7 @@ fn old_lines(terms: &Terms, edges: &BTreeSet<Edge>) -> Vec<String> {
     for (event, entry) in terms.policies.iter().enumerate() {
         lines.push(format!("P\t{event}\t{entry}"));
     }
+    lines.extend(terms.kept.iter().map(|event| format!("K\t{event}")));
     for (event, effects) in terms.effects.iter().enumerate() {
         for effect in effects {
             let action = if effect.add { "add" } else { "del" };

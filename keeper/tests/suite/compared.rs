@@ -31,6 +31,10 @@ enum Fault {
     StoresNoEvent,
     StoresOneBitLess,
     LoadsAsFresh,
+    ForgetsDenials,
+    KeepsAllDenials,
+    LookIsKept,
+    DenialKeepsScratch,
 }
 
 /// An implementation that has the record itself, and perhaps a fault.
@@ -67,9 +71,14 @@ impl Other for Mirror {
         };
         let (front_terms, mut front_state) =
             expect::reading(text, terms.len(), state.len()).map_err(line)?;
-        self.record = terms::read(text).ok().map(|file| match self.fault {
-            Fault::LoadsAsFresh => Record::new(file.terms),
-            _ => Record::of(file),
+        self.record = terms::read(text).ok().map(|mut file| {
+            match self.fault {
+                Fault::LoadsAsFresh => file.past = None,
+                Fault::ForgetsDenials => file.terms.kept.clear(),
+                Fault::KeepsAllDenials => file.terms.kept = (0..file.terms.events).collect(),
+                _ => {}
+            }
+            Record::of(file)
         });
         if let (Fault::LoadsAsFresh, Some(record)) = (self.fault, &self.record) {
             front_state = record.state_words();
@@ -99,9 +108,15 @@ impl Other for Mirror {
             let (terms, state) = expect::lent(terms, state).expect("nothing was refused");
             expect::going_on(&terms, &state)
         });
-        let look = call.look && self.fault != Fault::LookMakesMoment;
+        let denied = !record.permits(call.event, call.from, call.to);
+        let look = match self.fault {
+            Fault::LookMakesMoment => call.look && denied,
+            Fault::LookIsKept => call.look && !denied,
+            _ => call.look,
+        };
+        let before = record.graphs().len();
         let answer = record.answer(&Call { look, ..*call });
-        if answer == Answer::Grant && !look {
+        if record.graphs().len() > before {
             let words = record.state_words();
             let tables = match self.fault {
                 Fault::MovesNoTable => false,
@@ -113,7 +128,8 @@ impl Other for Mirror {
             if tables {
                 state[1_024..3_072].copy_from_slice(&words[1_024..3_072]);
             }
-            if self.fault != Fault::KeepsScratch {
+            let kept = self.fault == Fault::DenialKeepsScratch && denied;
+            if self.fault != Fault::KeepsScratch && !kept {
                 scratch[..2_048].fill(0);
             }
             if self.fault == Fault::TouchesBeyond {
@@ -199,7 +215,7 @@ fn a_faithful_one_passes() {
         let result = compare::lists(&mut Mirror::new(Fault::None), &case);
         assert_eq!(result, Ok(()), "{case}");
         let text = generate::damaged_text(seed);
-        for (terms, state) in [(1_236, 3_073), (1_235, 3_073), (1_236, 3_072), (2_000, 4_000)] {
+        for (terms, state) in [(1_252, 3_073), (1_251, 3_073), (1_252, 3_072), (2_000, 4_000)] {
             let result = compare::read(&mut Mirror::new(Fault::None), &text, terms, state);
             assert_eq!(result, Ok(()), "seed {seed}");
         }
@@ -223,6 +239,10 @@ fn impostors_are_caught() {
         StoresNoEvent,
         StoresOneBitLess,
         LoadsAsFresh,
+        ForgetsDenials,
+        KeepsAllDenials,
+        LookIsKept,
+        DenialKeepsScratch,
     ];
     for fault in faults {
         let caught = (0..30).filter(|&seed| differs(fault, &generate::case(seed, 99_999))).count();
@@ -230,7 +250,7 @@ fn impostors_are_caught() {
     }
     let named = |seed| {
         let text = generate::damaged_text(seed);
-        compare::read(&mut Mirror::new(FixedLine), &text, 1_236, 3_073).is_err()
+        compare::read(&mut Mirror::new(FixedLine), &text, 1_252, 3_073).is_err()
     };
     assert!((0..60).filter(|&seed| named(seed)).count() > 20);
 }
@@ -249,6 +269,9 @@ fn impostors_are_caught_by_set_lists() {
         CountsRefusals,
         KeepsDenials,
         WritesUnchecked,
+        ForgetsDenials,
+        KeepsAllDenials,
+        DenialKeepsScratch,
     ];
     for fault in faults {
         let cases = (0..90).map(|seed| generate::case(seed, 99_999));

@@ -38,7 +38,7 @@ fn every_feature_is_reached() {
     let mut operators = [0; 12];
     let (mut no_relation, mut self_edge, mut nested, mut again) = (0, 0, 0, 0);
     let (mut most_members, mut most_entries, mut most_tables, mut full_effects) = (0, 0, 0, 0);
-    let (mut two_free, mut small) = (0, 0);
+    let (mut two_free, mut small, mut kept, mut tried) = (0, 0, 0, 0);
     for seed in 0..2_000 {
         let terms = accepted(&generate::case(seed, 99_999).text);
         terms.entries.iter().for_each(|entry| operators[entry.parts().0] += 1);
@@ -47,6 +47,12 @@ fn every_feature_is_reached() {
         full_effects += usize::from(terms.effects.iter().any(|effects| effects.len() == 4));
         two_free += usize::from(terms.free().iter().any(|free| free.count_ones() > 1));
         small += usize::from(terms.members <= 8);
+        kept += usize::from(!terms.kept.is_empty());
+        let first = terms.relations + terms.events;
+        tried += usize::from(terms.entries.iter().any(|entry| match *entry {
+            Entry::Out(l, _) | Entry::In(l, _) | Entry::Many(l, _, _) => l >= first,
+            _ => false,
+        }));
         most_members = most_members.max(terms.members);
         most_entries = most_entries.max(terms.entries.len());
         most_tables = most_tables.max(terms.past().len());
@@ -57,7 +63,7 @@ fn every_feature_is_reached() {
     }
     println!("{operators:?} {no_relation} {self_edge} {nested} {again} {full_effects} {two_free}");
     assert!(operators.iter().all(|&count| count > 200), "{operators:?}");
-    for count in [no_relation, self_edge, nested, again, full_effects, two_free] {
+    for count in [no_relation, self_edge, nested, again, full_effects, two_free, kept, tried] {
         assert!(count > 50, "{count}");
     }
     assert!(small > 1_500);
@@ -82,23 +88,27 @@ fn some_texts_are_padded() {
 
 #[test]
 fn calls_are_mixed() {
-    let (mut grants, mut denies, mut looks, mut moments) = (0, 0, 0, 0);
+    let (mut grants, mut denies, mut looks, mut moments, mut kept) = (0, 0, 0, 0, 0);
     let mut refusals = [0; 10];
     for seed in 0..600 {
         let case = generate::case(seed, 99_999);
         let mut record = opened(&case.text);
         for call in &case.calls {
+            let before = record.graphs().len();
             looks += usize::from(call.look);
             match record.answer(call) {
                 Answer::Grant => grants += 1,
-                Answer::Deny => denies += 1,
+                Answer::Deny => {
+                    denies += 1;
+                    kept += record.graphs().len() - before;
+                }
                 Answer::Refused(refusal) => refusals[usize::from(refusal.number)] += 1,
             }
         }
         moments = moments.max(record.graphs().len());
     }
-    println!("{grants} grants, {denies} denies, {looks} looks, {refusals:?}, {moments} moments");
-    assert!(grants > 1_000 && denies > 1_000 && looks > 500 && moments > 15);
+    println!("{grants} grants, {denies} denies, {kept} kept, {looks} looks, {refusals:?}");
+    assert!(grants > 1_000 && denies > 1_000 && kept > 400 && looks > 500 && moments > 15);
     assert!(refusals[6] > 100 && refusals[9] > 100);
 }
 

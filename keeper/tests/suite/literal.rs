@@ -5,7 +5,7 @@ use keeper::generate;
 use keeper::record::meaning::Assigned;
 use keeper::record::{Graph, Record};
 use keeper::terms::memory::pairs;
-use keeper::terms::{Entry, Terms};
+use keeper::terms::{Entry, EventEdge, Terms};
 
 type Members = [usize; 16];
 
@@ -18,7 +18,15 @@ impl Literal<'_> {
     fn edge(&self, i: usize, l: usize, from: usize, to: usize) -> bool {
         let (r, graph) = (self.terms.relations, &self.graphs[i]);
         (l < r && graph.edges.contains(&(l, from, to)))
-            || (l >= r && graph.event == Some((l - r, from, to)))
+            || (l >= r && graph.event == self.said(l - r, from, to))
+    }
+
+    /// The event edge that a label from r on asks for, counted from r.
+    fn said(&self, l: usize, from: usize, to: usize) -> Option<EventEdge> {
+        match l.checked_sub(self.terms.events) {
+            None => Some(EventEdge::granted(l, from, to)),
+            Some(event) => Some(EventEdge::denied(event, from, to)),
+        }
     }
 
     fn holds(&self, entry: usize, i: usize, m: usize, s: Members) -> bool {

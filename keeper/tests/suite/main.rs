@@ -6,6 +6,7 @@ mod counted;
 mod damaged;
 mod generated;
 mod help;
+mod kept;
 mod lists;
 mod literal;
 mod memory;

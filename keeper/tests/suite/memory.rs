@@ -13,7 +13,7 @@ const SEEDS: std::ops::Range<u64> = 0..600;
 fn words_of_the_preset() {
     let mut record = preset();
     let words = terms_words(record.terms());
-    assert_eq!(words.len(), 1_236);
+    assert_eq!(words.len(), 1_252);
     assert_eq!(words[..12], [3, 1, 3, 9, 1, 1, 0, 0, 4, 1, 0, 0]);
     assert_eq!(words[20..24], [7, 3, 1, 0]);
     assert_eq!(words[1_028..1_032], [8, 8, 7, 0]);
@@ -104,7 +104,10 @@ fn terms_words_that_no_file_yields() {
     assert!(broken(1_044, 3), "an action that does not exist");
     assert!(broken(1_045, 1), "a relation without an action");
     assert!(broken(1_047, 1), "effects with a gap");
-    assert!(broken(1_235, 1), "the last word");
+    assert!(broken(1_235, 1), "the last effect");
+    assert!(broken(1_236, 2) && broken(1_238, 65_535), "a mark that is neither 0 nor 1");
+    assert!(broken(1_239, 1) && broken(1_251, 1), "a mark of no event");
+    assert!(!broken(1_236, 1) && !broken(1_238, 1), "a kept event");
     assert!(!broken(1_044, 1), "an effect in the first place");
     assert!(!broken(0, 4), "a member more");
     assert!(!broken(3, 10), "one more entry, top");
@@ -115,7 +118,7 @@ fn refusals_over_lent_memory_come_in_order() {
     let record = preset();
     let (terms, state) = (terms_words(record.terms()), record.state_words());
     let (mut bad_terms, mut bad_state) = (terms.clone(), state.clone());
-    bad_terms[1_235] = 1;
+    bad_terms[1_251] = 1;
     bad_state[3_072] = 1 + 3 * 4_096;
     let good = Call::request(0, 0, 0);
     let far = Call::request(3, 0, 0);
@@ -124,7 +127,7 @@ fn refusals_over_lent_memory_come_in_order() {
         expect::calling(terms, state, call).map_or_else(|refusal| refusal.number, |_| 0)
     };
     assert_eq!(number(&bad_terms, &bad_state, &short), 6);
-    assert_eq!(number(&bad_terms[..1_235], &bad_state, &far), 6);
+    assert_eq!(number(&bad_terms[..1_251], &bad_state, &far), 6);
     assert_eq!(number(&bad_terms, &bad_state[..3_072], &far), 6);
     assert_eq!(number(&bad_terms, &bad_state, &far), 7);
     assert_eq!(number(&terms, &bad_state, &far), 8);
@@ -134,7 +137,7 @@ fn refusals_over_lent_memory_come_in_order() {
     assert_eq!(number(&terms, &state, &good), 0);
     for write in [expect::writing, expect::storing] {
         let number = |terms: &[u16], state: &[u64]| write(terms, state, 0).unwrap_err().number;
-        assert_eq!(number(&bad_terms[..1_235], &bad_state), 6);
+        assert_eq!(number(&bad_terms[..1_251], &bad_state), 6);
         assert_eq!([number(&bad_terms, &bad_state), number(&terms, &bad_state)], [7, 8]);
         assert_eq!(number(&terms, &state), 6);
     }

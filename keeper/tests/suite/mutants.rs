@@ -4,7 +4,7 @@ use crate::help::file;
 use keeper::generate;
 use keeper::record::{Answer, Graph, Record};
 use keeper::terms::memory::pairs;
-use keeper::terms::{Entry, Terms};
+use keeper::terms::{Entry, EventEdge, Terms};
 
 #[derive(Clone, Copy, PartialEq, Debug)]
 enum Fault {
@@ -32,6 +32,9 @@ enum Fault {
     ManyIsIn,
     ManyCountsAll,
     ManyCountsTwice,
+    DenialIsGrant,
+    DenialOfAnother,
+    DenialUnseen,
 }
 
 type Members = [usize; 16];
@@ -53,12 +56,16 @@ impl Faulty<'_> {
         if l < r {
             return self.graphs[of].edges.contains(&(l, from, to));
         }
-        let event = match self.fault {
-            Fault::EventLabelOffByOne => (l - r + 1) % self.terms.events,
-            _ => l - r,
+        let (e, shift) = (self.terms.events, usize::from(self.fault == Fault::EventLabelOffByOne));
+        let event = (l - r + shift) % e;
+        let edge = match (l - r < e, self.fault) {
+            (true, _) | (false, Fault::DenialIsGrant) => EventEdge::granted(event, from, to),
+            (false, Fault::DenialOfAnother) => EventEdge::denied((event + 1) % e, from, to),
+            (false, Fault::DenialUnseen) => return false,
+            (false, _) => EventEdge::denied(event, from, to),
         };
         let lived = self.fault == Fault::EventLivesOn && i > 0;
-        let had = |i: usize| self.graphs[i].event == Some((event, from, to));
+        let had = |i: usize| self.graphs[i].event == Some(edge);
         had(i) || lived && had(i - 1)
     }
 
@@ -226,6 +233,9 @@ fn faults_show() {
         ManyIsIn,
         ManyCountsAll,
         ManyCountsTwice,
+        DenialIsGrant,
+        DenialOfAnother,
+        DenialUnseen,
     ];
     let count = |fault| (0..1_600).filter(|&seed| shows(fault, seed) == Some(true)).count();
     let tried = (0..1_600).filter(|&seed| shows(None, seed).is_some()).count();

@@ -1,7 +1,7 @@
 //! The worked example of docs/MEMORY.md.
 
 use crate::help::*;
-use keeper::record::Answer::Grant;
+use keeper::record::Answer::{Deny, Grant};
 use keeper::record::Record;
 use keeper::set_list::{self, Item};
 use keeper::terms::memory::{terms_words, SCRATCH_WORDS, STATE_WORDS, TERMS_WORDS};
@@ -39,9 +39,9 @@ fn text() -> Vec<u8> {
 }
 
 #[test]
-fn its_lines_are_the_preset_and_one_effect() {
-    let effect = "E 2 add 0 fwd\n";
-    assert_eq!(text(), tabs(&PRESET.replace("G 0 0 2\n", &format!("{effect}G 0 0 2\n"))));
+fn its_lines_are_the_preset_with_a_kept_event_and_one_effect() {
+    let more = "K 2\nE 2 add 0 fwd\n";
+    assert_eq!(text(), tabs(&PRESET.replace("G 0 0 2\n", &format!("{more}G 0 0 2\n"))));
 }
 
 #[test]
@@ -59,22 +59,25 @@ fn its_words_of_terms() {
 #[test]
 fn its_words_of_state() {
     let mut record = Record::new(accepted(&text()));
-    for (column, call) in [None, Some([0, 0, 1]), Some([2, 1, 2])].into_iter().enumerate() {
-        if let Some([event, from, to]) = call {
-            assert_eq!(request(&mut record, event, from, to), Grant);
+    let mut stored = Vec::new();
+    let calls = [None, Some(([0, 0, 1], Grant)), Some(([2, 1, 2], Grant)), Some(([2, 2, 0], Deny))];
+    for (column, call) in calls.into_iter().enumerate() {
+        if let Some(([event, from, to], answer)) = call {
+            assert_eq!(request(&mut record, event, from, to), answer);
         }
         let mut words = vec![0; STATE_WORDS];
-        for row in table("| word | moment 0 | share 0 1 | load 1 2 |") {
+        for row in table("| word | moment 0 | share 0 1 | load 1 2 | load 2 0 |") {
             words[number(row[0]) as usize] = number(row[1 + column]);
         }
         assert_eq!(record.state_words(), words, "column {column}");
+        stored.push(store(record.terms(), &record.state()));
     }
     let said = "`G 0 0 2`, `G 0 1 2`, `T 0 0 1` and `V 2 1 2`";
     assert!(PAGE.contains(said));
-    let stored = store(record.terms(), &record.state());
     let lines: String =
         said.split('`').skip(1).step_by(2).map(|line| format!("{line}\n")).collect();
-    assert!(stored.ends_with(&[b"fwd\n", &tabs(&lines)[..]].concat()));
+    assert!(stored[2].ends_with(&[b"fwd\n", &tabs(&lines)[..]].concat()));
+    assert!(PAGE.contains("`V 18 2 0`") && stored[3].ends_with(&tabs("V 18 2 0\n")));
 }
 
 #[test]

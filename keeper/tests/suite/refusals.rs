@@ -120,7 +120,7 @@ fn ranges() {
     assert_eq!(after_head("F 0 var 15 1"), (2, 3));
     assert_eq!(after_head("F 0 top 0 0/F 1 not 0 1"), (2, 4));
     assert_eq!(after_head("F 0 top 0 0/F 1 prev 0 1"), (2, 4));
-    assert_eq!(after_head("F 0 top 0 0/F 1 out 4 0"), (2, 4));
+    assert_eq!(after_head("F 0 top 0 0/F 1 out 6 0"), (2, 4));
     assert_eq!(after_head("F 0 top 0 0/F 1 in 99999 0"), (2, 4));
     assert_eq!(after_head("F 0 top 0 0/F 1 bind 0 0"), (2, 4));
     assert_eq!(after_head("F 0 top 0 0/F 1 bind 16 0"), (2, 4));
@@ -141,8 +141,8 @@ fn ranges() {
 fn operands() {
     assert_eq!(after_head("F 0 not 99999 0"), (3, 3));
     assert_eq!(after_head("F 0 not 0 1"), (2, 3));
-    assert_eq!(after_head("F 0 out 4 0"), (2, 3));
-    assert_eq!(after_head("F 0 out 3 0"), (3, 3));
+    assert_eq!(after_head("F 0 out 6 0"), (2, 3));
+    assert_eq!(after_head("F 0 out 5 0"), (3, 3));
     assert_eq!(after_head("F 0 top 0 0/F 1 or 0 1"), (3, 4));
     assert_eq!(after_head("F 0 top 0 0/F 1 or 1 0"), (3, 4));
     assert_eq!(after_head("F 0 top 0 0/F 1 since 0 256"), (3, 4));
@@ -215,9 +215,9 @@ fn reach() {
 
 #[test]
 fn many() {
-    // Labels are 0 to 3.
+    // Labels are 0 to 5.
     let after = |line: &str| after_head(&format!("F 0 top 0 0/{line}"));
-    for line in ["many 0 0 1", "many 3 0 64", "many 0 0 00002", "many 03 00 01"] {
+    for line in ["many 0 0 1", "many 5 0 64", "many 0 0 00002", "many 03 00 01"] {
         accepted(&slashes(&format!("{HEAD}/F 0 top 0 0/F 1 {line}/P 0 1/P 1 0")));
     }
     assert_eq!(after("F 1 many 0 0"), (1, 4));
@@ -228,7 +228,7 @@ fn many() {
     assert_eq!(after("F 1 many 0 0 0"), (2, 4));
     assert_eq!(after("F 1 many 0 0 65"), (2, 4));
     assert_eq!(after("F 1 many 0 0 99999"), (2, 4));
-    assert_eq!(after("F 1 many 4 0 1"), (2, 4));
+    assert_eq!(after("F 1 many 6 0 1"), (2, 4));
     assert_eq!(after("F 1 many 0 1 0"), (2, 4));
     assert_eq!(after("F 1 many 0 1 1"), (3, 4));
     assert_eq!(after("F 1 var 1 0/F 2 many 0 1 2/P 0 2"), (5, 6));

@@ -134,12 +134,21 @@ fn order_and_ranges_of_t() {
     assert_eq!(after("T 1 2 0"), (2, 10));
     assert_eq!(after("T 1 0 2"), (2, 10));
     assert_eq!(after("V 2 0 0"), (2, 10));
+    assert_eq!(after("V 15 0 0"), (2, 10));
+    assert_eq!(after("V 18 0 0"), (2, 10));
+    assert_eq!(after("V 31 0 0"), (2, 10));
+    assert_eq!(after("V 32 0 0"), (2, 10));
+    assert_eq!(after("V 99999 0 0"), (2, 10));
+    assert_eq!(after("V 17 2 0"), (2, 10));
+    assert_eq!(after("V 16 0 2"), (2, 10));
     assert_eq!(after("V 0 2 0"), (2, 10));
     assert_eq!(after("V 0 0 2"), (2, 10));
     assert_eq!(after("V 0 0"), (1, 10));
     assert_eq!(after("V 0 0 0 0"), (1, 10));
     assert_eq!(after("V 0 0 -1"), (1, 10));
     sound("T 01 00000 1/T 1 0001 0/V 01 0 00");
+    sound("V 16 0 1");
+    sound("V 00017 1 1");
 }
 
 #[test]
@@ -194,7 +203,7 @@ fn the_old_form_is_written_only_from_a_fresh_start() {
 
 #[test]
 fn generated_files_of_the_stored_form() {
-    let (mut stored, mut bits, mut events, mut strange) = (0, 0, 0, 0);
+    let (mut stored, mut bits, mut events, mut strange, mut denied) = (0, 0, 0, 0, 0);
     for seed in 0..1_500 {
         let text = generate::case(seed, 99_999).text;
         let file = file(&text);
@@ -203,14 +212,15 @@ fn generated_files_of_the_stored_form() {
         stored += 1;
         bits += usize::from(past.tables.iter().any(|table| !table.is_empty()));
         events += usize::from(past.event.is_some());
+        denied += usize::from(past.event.is_some_and(|edge| edge.denied));
         let record = Record::of(file.clone());
         assert_eq!(&record.state().past, past, "seed {seed}");
         // True of no record: a since over its second operand is false.
         strange +=
             usize::from(past.event.is_none() && record.state() != Record::new(file.terms).state());
     }
-    println!("{stored} stored, {bits} with bits, {events} with an event, {strange} strange");
-    assert!(stored > 200 && bits > 100 && events > 100 && strange > 30);
+    println!("{stored} stored, {bits} bits, {events} events, {denied} denied, {strange} strange");
+    assert!(stored > 200 && bits > 100 && events > 100 && denied > 60 && strange > 30);
 }
 
 /// Run, store, load, go on, any number of times: answers and words are those

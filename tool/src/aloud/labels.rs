@@ -3,7 +3,7 @@
 
 use super::grammar::{article, be, do_, have, with, Linking, Time};
 use super::wording::Wording;
-use crate::names::{Kind, Names};
+use crate::names::{Kind, Labelled, Names};
 use keeper::terms::Terms;
 use std::collections::BTreeMap;
 
@@ -26,7 +26,8 @@ pub enum Voice {
     Passive,
 }
 
-/// The wordings of all labels of some terms.
+/// The wordings of all labels of some terms: those of relations and events, the
+/// events denied having those of the events.
 pub struct Labels {
     relations: usize,
     wordings: Vec<Wording>,
@@ -35,11 +36,8 @@ pub struct Labels {
 impl Labels {
     pub fn new(terms: &Terms, names: &Names) -> Labels {
         let labels = 0..terms.relations + terms.events;
-        let kinds = labels.map(|label| match label.checked_sub(terms.relations) {
-            None => (Kind::Relation, label),
-            Some(event) => (Kind::Event, event),
-        });
-        let kinds: Vec<(Kind, usize)> = kinds.collect();
+        let kinds: Vec<(Kind, usize)> =
+            labels.map(|label| Labelled::of(terms, label).named()).collect();
         let wording = |&(kind, number): &(Kind, usize)| match names.given(kind, number) {
             None => Wording::Name(format!("{kind} {number}")),
             Some(name) => Wording::of(kind, name),
@@ -79,14 +77,25 @@ impl Labels {
         label >= self.relations
     }
 
+    /// The wording of a label, or of the event that is denied.
+    fn wording(&self, label: usize) -> &Wording {
+        let events = self.wordings.len() - self.relations;
+        self.wordings.get(label).unwrap_or_else(|| &self.wordings[label - events])
+    }
+
+    /// Whether a label is that of an event denied.
+    fn is_denied(&self, label: usize) -> bool {
+        label >= self.wordings.len()
+    }
+
     /// Whether an edge is said from its end to its beginning.
     pub fn is_reversed(&self, label: usize) -> bool {
-        matches!(self.wordings[label], Wording::Role(_))
+        matches!(self.wording(label), Wording::Role(_))
     }
 
     /// The noun of a label that is said with "of".
     pub fn noun(&self, label: usize) -> Option<&str> {
-        match &self.wordings[label] {
+        match self.wording(label) {
             Wording::Of(name) | Wording::Role(name) => Some(name),
             Wording::Verb(_) | Wording::Name(_) => None,
         }
@@ -94,7 +103,7 @@ impl Labels {
 
     /// What may be done to the target: `share with`.
     pub fn may(&self, label: usize) -> String {
-        match &self.wordings[label] {
+        match self.wording(label) {
             Wording::Verb(verb) => with(&verb.base, verb.preposition),
             Wording::Of(name) | Wording::Role(name) | Wording::Name(name) => {
                 format!("do {name} to")
@@ -127,7 +136,7 @@ impl Labels {
         holds: bool,
     ) -> Option<Linking> {
         let not = if holds { "" } else { " not" };
-        let said = match (&self.wordings[label], voice) {
+        let said = match (self.wording(label), voice) {
             (Wording::Verb(verb), Voice::Active) => {
                 let said = match (time, holds, you) {
                     (Time::Now, true, true) => verb.base.clone(),
@@ -180,9 +189,13 @@ impl Labels {
         Some(format!("{} {adverb} {done}", have(you, time)))
     }
 
-    /// What follows "has": `shared with`, `been joined by`.
+    /// What follows "has": `shared with`, `been joined by`, `tried in vain to load`.
     pub fn done(&self, label: usize, voice: Voice) -> Option<String> {
-        Some(match (&self.wordings[label], voice) {
+        if self.is_denied(label) {
+            let tried = || format!("tried in vain to {}", self.may(label));
+            return (voice == Voice::Active).then(tried);
+        }
+        Some(match (self.wording(label), voice) {
             (Wording::Verb(verb), Voice::Active) => with(&verb.participle, verb.preposition),
             (Wording::Verb(verb), Voice::Passive) if verb.preposition.is_empty() => {
                 format!("been {} by", verb.participle)

@@ -35,8 +35,9 @@ pub fn stored(
             lines.push((1, format!("and {} more like these", pairs.len() - MOST)));
         }
     }
-    if let Some((event, from, to)) = record.graphs()[0].event {
-        let (label, from, to) = (forms.terms.relations + event, Who::Member(from), Who::Member(to));
+    if let Some(edge) = record.graphs()[0].event {
+        let label = edge.label(forms.terms);
+        let (from, to) = (Who::Member(edge.from), Who::Member(edge.to));
         let edge = speaker.edge(label, from, to, Time::Now, Manner::Plain, None);
         outline(edge, 1, &mut lines);
     }

@@ -102,7 +102,7 @@ impl Reader<'_> {
                 "variable 0 bound".to_string(),
                 format!("variable 0 is always the target; bind 1 to {last}"),
             ),
-            Field::Label if value >= relations + events => {
+            Field::Label if value >= self.terms.labels() => {
                 (format!("no label {value}"), labels(relations, events, self.names))
             }
             Field::Count if value == 0 => (
@@ -157,24 +157,33 @@ fn shown(variables: Variables) -> String {
     listed(&chosen.map(|x| x.to_string()).collect::<Vec<_>>())
 }
 
-/// `labels are 0 to 3: 0 for the relation, 1 to 3 for the events`; with names,
-/// `labels are 0 own, 1 share, 2 withdraw and 3 load`.
+/// `labels are 0 to 6: 0 for the relation, 1 to 3 for the events, 4 to 6 for
+/// the events denied`; with names, `labels are 0 own, 1 share, 2 withdraw and 3
+/// load, and 4 to 6 for these events denied`.
 pub fn labels(relations: usize, events: usize, names: &Names) -> String {
     let named = (0..relations).map(|relation| names.given(Kind::Relation, relation));
     let named = named.chain((0..events).map(|event| names.given(Kind::Event, event)));
     let named = named.enumerate().map(|(label, name)| Some(format!("{label} {}", name?)));
     if let Some(named) = named.collect::<Option<Vec<String>>>() {
-        return format!("labels are {}", listed(&named));
+        let first = relations + events;
+        let denied = match events {
+            1 => format!("{first} for this event denied"),
+            _ => format!("{first} to {} for these events denied", first + events - 1),
+        };
+        return format!("labels are {}, and {denied}", listed(&named));
     }
     let run = |thing: &str, first: usize, count: usize| match count {
         1 => format!("{first} for the {thing}"),
         count => format!("{first} to {} for the {thing}s", first + count - 1),
     };
-    let all = range("labels", relations + events);
+    let all = range("labels", relations + 2 * events);
+    let events = format!(
+        "{}, {} denied",
+        run("event", relations, events),
+        run("event", relations + events, events)
+    );
     match relations {
-        0 => format!("{all}, for the events; there are no relations"),
-        _ => {
-            format!("{all}: {}, {}", run("relation", 0, relations), run("event", relations, events))
-        }
+        0 => format!("{all}: {events}; there are no relations"),
+        _ => format!("{all}: {}, {events}", run("relation", 0, relations)),
     }
 }

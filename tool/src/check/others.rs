@@ -1,10 +1,11 @@
-//! M, L, P, E and G lines.
+//! M, L, P, K, E and G lines.
 
 use super::advice::nearest_word;
 use super::fault::Fault;
 use super::line::{number, Field, FORM};
 use super::reader::Reader;
 use crate::aloud::listed;
+use crate::names::Labelled;
 use keeper::terms::{
     Effect, Entry, MOST_EFFECTS, MOST_EVENTS, MOST_MEMBERS, MOST_RELATIONS, VARIABLES,
 };
@@ -97,6 +98,23 @@ impl Reader<'_> {
         Fault::new(POLICY_VARIABLES, field.place(), what).right(right)
     }
 
+    pub fn kept(&mut self, e: Field) -> Result<(), Fault> {
+        let (event, events) = (number(e)?, self.terms.events);
+        if let Some(&last) = self.terms.kept.last().filter(|&&last| last >= event) {
+            let what = match last == event {
+                true => format!("event {event} kept a second time"),
+                false => format!("event {event} kept after event {last}"),
+            };
+            let right = "K lines rise by event; none comes twice";
+            return Err(Fault::new(FORM, e.place(), what).right(right));
+        }
+        if event >= events {
+            return Err(out_of_range(e, format!("no event {event}"), range("events", events)));
+        }
+        self.terms.kept.insert(event);
+        Ok(())
+    }
+
     pub fn effect(&mut self, e: Field, action: Field, r: Field, way: Field) -> Result<(), Fault> {
         let (event, relation) = (number(e)?, number(r)?);
         let add = either(action, "action", ["del", "add"])?;
@@ -112,13 +130,17 @@ impl Reader<'_> {
             return Err(out_of_range(e, format!("no event {event}"), range("events", events)));
         }
         if relation >= relations {
-            let right = match relation < relations + events {
-                true => format!(
-                    "{}; {relation} is the label of event {}, and effects change relations only",
-                    range("relations", relations),
-                    relation - relations
+            let label = match Labelled::of(&self.terms, relation) {
+                Labelled::Event(event) => Some(format!("event {event}")),
+                Labelled::Denied(event) if event < events => Some(format!("event {event} denied")),
+                _ => None,
+            };
+            let right = match label {
+                Some(event) => format!(
+                    "{}; {relation} is the label of {event}, and effects change relations only",
+                    range("relations", relations)
                 ),
-                false => range("relations", relations),
+                None => range("relations", relations),
             };
             return Err(out_of_range(r, format!("no relation {relation}"), right));
         }

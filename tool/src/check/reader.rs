@@ -55,11 +55,12 @@ pub struct Reader<'a> {
 }
 
 /// The kinds of lines and the names of their fields.
-const KINDS: [(&str, &[&str]); 9] = [
+const KINDS: [(&str, &[&str]); 10] = [
     ("M", &["kind M", "count of members"]),
     ("L", &["kind L", "count of relations", "count of events"]),
     ("F", &["kind F", "entry number", "word", "first operand", "second operand"]),
     ("P", &["kind P", "event", "entry"]),
+    ("K", &["kind K", "event"]),
     ("E", &["kind E", "event", "action", "relation", "direction"]),
     ("G", &["kind G", "relation", "from", "to"]),
     ("S", &["kind S", "form"]),
@@ -110,6 +111,7 @@ impl<'a> Reader<'a> {
         })?;
         match fields[1..] {
             [form] if *word == "S" => self.form(form),
+            [event] if *word == "K" => self.kept(event),
             [table, a, b] if *word == "T" => self.bit(table, a, b),
             [event, from, to] if *word == "V" => self.event_edge(event, from, to),
             [n] => self.members(n),
@@ -133,8 +135,8 @@ impl<'a> Reader<'a> {
         let policies = self.terms.policies.len();
         let told = |what: &str, right: &str| Some((what.to_string(), right.to_string()));
         let order = match self.stored {
-            false => "the kinds come in the order M, L, F, P, E, G",
-            true => "the kinds come in the order S, M, L, F, P, E, G, T, V",
+            false => "the kinds come in the order M, L, F, P, K, E, G",
+            true => "the kinds come in the order S, M, L, F, P, K, E, G, T, V",
         };
         if let Some(told) = self.stored_out_of_order(kind, order) {
             return Some(told);
@@ -154,11 +156,15 @@ impl<'a> Reader<'a> {
                 let what = format!("a policy too many: {}", events(self.terms.events));
                 told(&what, "each event has its policy above")
             }
-            "E" | "G" | "T" | "V" if !self.complete() => {
+            "K" | "E" | "G" | "T" | "V" if !self.complete() => {
                 let what = format!("{kind} where the policy of event {policies} is due");
                 told(&what, &each_needs_one(self.terms.events))
             }
             "E" if !self.terms.edges.is_empty() => told("an E line after a G line", order),
+            "K" if !self.terms.edges.is_empty() => told("a K line after a G line", order),
+            "K" if self.terms.effects.iter().any(|effects| !effects.is_empty()) => {
+                told("a K line after an E line", order)
+            }
             _ => None,
         }
     }
@@ -213,6 +219,6 @@ fn no_kind(kind: Field) -> Fault {
         return fault(format!("no kind `{shown}`")).right(format!("kinds are capitals: {upper}"));
     }
     let hint = did_you_mean(&shown, kinds);
-    let kinds = "kinds are M, L, F, P, E and G, and in the stored form S, T and V";
+    let kinds = "kinds are M, L, F, P, K, E and G, and in the stored form S, T and V";
     fault(format!("no kind `{shown}`{hint}")).right(kinds)
 }

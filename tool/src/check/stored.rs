@@ -5,6 +5,7 @@ use super::line::{number, Field, FORM};
 use super::others::{out_of_range, range};
 use super::reader::Reader;
 use crate::aloud::listed;
+use keeper::terms::MOST_EVENTS;
 
 /// The refusal of a partly filled word.
 const PARTLY_FILLED: u16 = 11;
@@ -87,8 +88,13 @@ impl Reader<'_> {
     pub fn event_edge(&mut self, e: Field, a: Field, b: Field) -> Result<(), Fault> {
         let (event, from, to) = (number(e)?, number(a)?, number(b)?);
         let events = self.terms.events;
-        if event >= events {
-            return Err(out_of_range(e, format!("no event {event}"), range("events", events)));
+        if event % MOST_EVENTS >= events || event >= 2 * MOST_EVENTS {
+            let denied = match events {
+                1 => format!("{MOST_EVENTS} where it was denied"),
+                _ => format!("{MOST_EVENTS} to {} where denied", MOST_EVENTS + events - 1),
+            };
+            let right = format!("{}, or {denied}", range("events", events));
+            return Err(out_of_range(e, format!("no event {event}"), right));
         }
         self.both_members([(a, from), (b, to)])?;
         self.event = true;

@@ -5,7 +5,7 @@ use super::{long, tried};
 use crate::aloud::listed;
 use crate::both::Both;
 use crate::folder::Request;
-use crate::names::{Kind, Names};
+use crate::names::{Kind, Labelled, Names};
 use crate::stop::Stop;
 use keeper::terms::{Entry, Terms};
 
@@ -42,6 +42,7 @@ pub fn warnings(both: &Both, names: &Names, requests: &[Request]) -> Result<Vec<
     warnings.extend(edgeless(terms, names, &reached));
     warnings.extend(swapped(terms, names, &reached));
     warnings.extend(uncountable(terms, names, &reached));
+    warnings.extend(unkept(terms, names, &reached));
     warnings.extend(strangers(terms, names));
     match long::long(terms) {
         Some(warning) => warnings.push(warning),
@@ -128,14 +129,45 @@ fn named(thing: &str, number: usize, name: Option<&str>) -> String {
     }
 }
 
+/// `event 2 (load)`, `denied event 2 (load)`; nothing for a relation's label.
+fn event_named(terms: &Terms, names: &Names, label: usize) -> Option<String> {
+    let thing = match Labelled::of(terms, label) {
+        Labelled::Relation(_) => return None,
+        Labelled::Event(_) => "event",
+        Labelled::Denied(_) => "denied event",
+    };
+    let (kind, event) = Labelled::of(terms, label).named();
+    Some(named(thing, event, names.given(kind, event)))
+}
+
+/// Entries that follow a denied event whose denials are not kept.
+fn unkept(terms: &Terms, names: &Names, reached: &[bool]) -> Vec<Warning> {
+    let mut warnings = Vec::new();
+    for (index, entry) in terms.entries.iter().enumerate().filter(|&(index, _)| reached[index]) {
+        let (Entry::Out(label, _) | Entry::In(label, _) | Entry::Many(label, _, _)) = *entry else {
+            continue;
+        };
+        let Labelled::Denied(event) = Labelled::of(terms, label) else { continue };
+        if terms.kept.contains(&event) {
+            continue;
+        }
+        let shown = named("event", event, names.given(Kind::Event, event));
+        let what = format!(
+            "entry {index} asks for a denied request of {shown}, but none of them makes a moment: the event is not kept"
+        );
+        let right = format!("a line `K {event}` after the P lines keeps them");
+        warnings.push(Warning { kind: "unkept", line: entry_line(index), what, right });
+    }
+    warnings
+}
+
 /// A since whose first operand is an event's edge.
 fn swapped(terms: &Terms, names: &Names, reached: &[bool]) -> Vec<Warning> {
     let mut warnings = Vec::new();
     for (index, entry) in terms.entries.iter().enumerate().filter(|&(index, _)| reached[index]) {
         let Entry::Since(f, g) = *entry else { continue };
         let (Entry::Out(label, _) | Entry::In(label, _)) = terms.entries[f] else { continue };
-        let Some(event) = label.checked_sub(terms.relations) else { continue };
-        let shown = named("event", event, names.given(Kind::Event, event));
+        let Some(shown) = event_named(terms, names, label) else { continue };
         let what = format!(
             "entry {index} asks for an edge of {shown} at every moment after that of entry {g}, but an event's edge is there for one moment only"
         );
@@ -152,10 +184,9 @@ fn uncountable(terms: &Terms, names: &Names, reached: &[bool]) -> Vec<Warning> {
     let mut warnings = Vec::new();
     for (index, entry) in terms.entries.iter().enumerate().filter(|&(index, _)| reached[index]) {
         let Entry::Many(label, _, count) = *entry else { continue };
-        let event = label.checked_sub(terms.relations).filter(|_| count > 1);
+        let event = event_named(terms, names, label).filter(|_| count > 1);
         let (why, right) = match event {
-            Some(event) => {
-                let shown = named("event", event, names.given(Kind::Event, event));
+            Some(shown) => {
                 let why = format!("edges of {shown}, and a moment has one event edge at most");
                 (why, "count along a relation that the event's effects add to")
             }

@@ -23,7 +23,7 @@ Names are those of names.tsv beside it. Known verbs are inflected: own, owns. An
 edge of member-of from A to B says that A is a member of B; one of friend and the
 like, that B is a friend of A. Any other relation's edges are called by its name.
 
-  --json             one line for each event: event, name, policy, effects;
+  --json             one line for each event: event, name, policy, effects, kept;
                      for a stored file one: stored; then one for each numbered
                      clause: clause, text
   --verify DOCUMENT  say whether the block fenced as ```aloud in a document is
@@ -52,6 +52,7 @@ pub fn main(arguments: &[String], out: &mut dyn Write) -> Result<i32, Stop> {
             ("name", folder.names.given(Kind::Event, spoken.event).map(str::to_string).into()),
             ("policy", spoken.policy.text().into()),
             ("effects", spoken.effects.as_ref().map(Sentence::text).into()),
+            ("kept", spoken.kept.is_some().into()),
         ]);
         writeln!(out, "{line}")?;
     }

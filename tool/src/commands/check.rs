@@ -92,7 +92,7 @@ fn accepted(out: &mut dyn Write, both: &Both, warnings: &[Warning]) -> Result<()
         count => format!("{count} {more}"),
     };
     let effects = terms.effects.iter().map(Vec::len).sum();
-    let parts = [
+    let mut parts = vec![
         counted(terms.members, "member", "members"),
         counted(terms.relations, "relation", "relations"),
         counted(terms.events, "event", "events"),
@@ -101,6 +101,9 @@ fn accepted(out: &mut dyn Write, both: &Both, warnings: &[Warning]) -> Result<()
         counted(effects, "effect", "effects"),
         counted(terms.edges.len(), "first edge", "first edges"),
     ];
+    if !terms.kept.is_empty() {
+        parts.push(counted(terms.kept.len(), "event kept when denied", "events kept when denied"));
+    }
     writeln!(out, "accepted: {}", parts.join(", "))?;
     if let Some(tables) = both.record().before() {
         let bits = tables.iter().map(BTreeSet::len).sum();
@@ -141,6 +144,7 @@ fn accepted_json(both: &Both) -> Json {
         ("events", terms.events.into()),
         ("entries", terms.entries.len().into()),
         ("past", terms.past().len().into()),
+        ("kept", terms.kept.len().into()),
         ("edges", terms.edges.len().into()),
         ("stored", both.is_stored().into()),
     ])

@@ -16,9 +16,10 @@ pub const HELP: &str = "\
 usage: cuckooormolu why DIR [LINE] [--all] [--json]
 
 Says for each request of DIR/requests.tsv, or for the one at LINE, why it is
-granted or denied, with the moments that decide it. A grant makes a moment; the
-first edges are moment 0, or what was stored is. Of a denial every possibility is
-told that fails, the one that came nearest first.
+granted or denied, with the moments that decide it. A grant makes a moment, and
+so does a denial of a kept event; the first edges are moment 0, or what was stored
+is. Of a denial every possibility is told that fails, the one that came nearest
+first.
 
   --all    every line and every fact, not only the first few
   --json   one JSON object a line

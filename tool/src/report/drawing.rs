@@ -6,7 +6,7 @@ use super::layout::Layout;
 use super::palette;
 use crate::words::Words;
 use keeper::record::Graph;
-use keeper::terms::Edge;
+use keeper::terms::{Edge, EventEdge};
 use std::collections::BTreeSet;
 
 /// So many edges are named in a picture's description.
@@ -35,9 +35,12 @@ pub struct Changes {
 
 impl<'a> Drawing<'a> {
     pub fn new(words: &'a Words<'a>, graphs: &'a [Graph]) -> Drawing<'a> {
-        let edges = graphs.iter().flat_map(|graph| graph.edges.iter().chain(&graph.event));
         let mut looped = vec![false; words.terms.members];
-        edges.filter(|(_, from, to)| from == to).for_each(|&(_, from, _)| looped[from] = true);
+        for graph in graphs {
+            let event = graph.event.map(|edge| (edge.from, edge.to));
+            let edges = graph.edges.iter().map(|&(_, from, to)| (from, to)).chain(event);
+            edges.filter(|(from, to)| from == to).for_each(|(from, _)| looped[from] = true);
+        }
         let (mut layers, mut layer) = (Vec::<&BTreeSet<Edge>>::new(), Vec::new());
         let mut left = MOST_EDGES;
         for graph in graphs.iter().take(MOST_PICTURES) {
@@ -178,8 +181,8 @@ impl<'a> Drawing<'a> {
         text.push_str(&format!("<use href=\"#edges{}\"/>\n", self.layer[moment]));
         let added = self.changes(moment).added;
         text.push_str(&self.relation_edges(added.iter(), &graph.edges, " added"));
-        if let Some((event, from, to)) = graph.event {
-            text.push_str(&self.event_edge(event, from, to));
+        if let Some(edge) = graph.event {
+            text.push_str(&self.event_edge(edge));
         }
         text.push_str("<use href=\"#members\"/></svg>\n");
         text
@@ -200,9 +203,7 @@ impl<'a> Drawing<'a> {
     pub fn title(&self, moment: usize) -> String {
         match self.graphs[moment].event {
             None => format!("Moment {moment}: the first edges"),
-            Some((event, from, to)) => {
-                format!("Moment {moment}: {}", self.words.event(event, from, to))
-            }
+            Some(edge) => format!("Moment {moment}: {}", self.words.happened(edge)),
         }
     }
 
@@ -219,7 +220,9 @@ impl<'a> Drawing<'a> {
         format!("Relation edges: {}.", edges.join(", "))
     }
 
-    fn event_edge(&self, event: usize, from: usize, to: usize) -> String {
+    fn event_edge(&self, edge: EventEdge) -> String {
+        let EventEdge { from, to, denied, .. } = edge;
+        let class = if denied { "event-edge denied-edge" } else { "event-edge" };
         let mut text = String::new();
         for member in [from, to] {
             let (x, y) = self.layout.places[member];
@@ -230,12 +233,13 @@ impl<'a> Drawing<'a> {
         }
         if from == to {
             let path = self.layout.loop_path(from, 0);
-            return text + &format!("<path class=\"event-edge\" d=\"{path}\"/>\n");
+            return text + &format!("<path class=\"{class}\" d=\"{path}\"/>\n");
         }
         let (path, (x, y)) = self.layout.path(from, to, 0.0, [0.0, 13.0]);
-        let name = escaped(&self.words.names.event(event));
+        let label = edge.label(self.words.terms);
+        let name = escaped(&self.words.names.label(self.words.terms, label));
         text + &format!(
-            "<path class=\"event-edge\" d=\"{path}\" marker-end=\"url(#arrow)\"/>\
+            "<path class=\"{class}\" d=\"{path}\" marker-end=\"url(#arrow)\"/>\
              <text class=\"event-name\" x=\"{x:.1}\" y=\"{y:.1}\" dy=\"-0.5em\" \
              text-anchor=\"middle\" font-size=\"{}\">{name}</text>\n",
             self.layout.font

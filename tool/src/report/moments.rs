@@ -22,7 +22,7 @@ pub fn section(replay: &Replay, words: &Words, drawing: &Drawing) -> Result<Stri
         legend(words, drawing.count(), graphs.len()),
     );
     for (moment, graph) in graphs.iter().enumerate() {
-        let event = graph.event.map(|(event, from, to)| words.event(event, from, to));
+        let event = graph.event.map(|edge| words.happened(edge));
         let heading = match (moment, event) {
             (0, Some(event)) => format!("as stored, after {event}"),
             (_, Some(event)) => event,
@@ -64,7 +64,7 @@ fn strip(replay: &Replay, words: &Words) -> String {
             escaped(&said),
             sign(step.verdict),
         ));
-        if step.verdict == Verdict::Grant {
+        if step.made {
             text.push_str(&moment_link(step.moment + 1));
         }
     }
@@ -95,8 +95,16 @@ fn legend(words: &Words, pictures: usize, moments: usize) -> String {
     text.push_str(
         "<li><svg width=\"38\" height=\"14\" viewBox=\"0 0 38 14\" aria-hidden=\"true\">\
          <path class=\"event-edge\" d=\"M1 7H24\" marker-end=\"url(#arrow)\"/></svg>\
-         the event that made the moment</li>\n</ul>\n",
+         the event that made the moment</li>\n",
     );
+    if !words.terms.kept.is_empty() {
+        text.push_str(
+            "<li><svg width=\"38\" height=\"14\" viewBox=\"0 0 38 14\" aria-hidden=\"true\">\
+             <path class=\"event-edge denied-edge\" d=\"M1 7H24\" marker-end=\"url(#arrow)\"/></svg>\
+             the denied try that made the moment</li>\n",
+        );
+    }
+    text.push_str("</ul>\n");
     if pictures < moments {
         text.push_str(&format!(
             "<p class=\"quiet\">The first {pictures} of {moments} moments are drawn.</p>\n"

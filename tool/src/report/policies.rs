@@ -17,6 +17,9 @@ pub fn section(record: &Record, words: &Words) -> String {
         if let Some(effects) = &spoken.effects {
             text.push_str(&format!("<div class=\"effects\">{}</div>", sentence(effects)));
         }
+        if let Some(kept) = &spoken.kept {
+            text.push_str(&format!("<div class=\"effects\">{}</div>", sentence(kept)));
+        }
         text.push_str("</dd></div>\n");
     }
     text.push_str("</dl>\n");

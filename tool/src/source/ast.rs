@@ -41,6 +41,8 @@ pub struct Source {
     pub members: Vec<Name>,
     pub relations: Vec<Name>,
     pub events: Vec<Event>,
+    /// The events whose denied requests are kept.
+    pub kept: Vec<Name>,
     pub definitions: Vec<Definition>,
     pub first: Vec<Fact>,
 }
@@ -123,8 +125,8 @@ pub enum Kind {
     False,
     /// `a is b`; where b names no person: the attribute or definition b of a.
     Is(Person, Person),
-    /// `a owns b`, the word a relation, an event or a definition of two
-    /// people. None stands for `someone`; never on both sides.
+    /// `a owns b`, the word a relation, an event, `denied` with an event, or a
+    /// definition of two people. None stands for `someone`; never on both sides.
     Edge(Option<Person>, Name, Option<Person>),
     /// `name` or `name(a, b)`.
     Defined(Name, Vec<Person>),

@@ -47,6 +47,13 @@ pub fn compile(text: &str) -> Result<Compiled, Mistake> {
         let effects = event.effects.iter().map(|effect| changed(effect, &names));
         terms.effects.push(effects.collect::<Result<_, _>>()?);
     }
+    for name in &source.kept {
+        let event = find(&names, Kind::Event, name)?;
+        if !terms.kept.insert(event) {
+            let message = format!("denied `{}` is kept already", name.text);
+            return Err(Mistake::new(name.span, message));
+        }
+    }
     for fact in &source.first {
         let relation = find(&names, Kind::Relation, &fact.relation)?;
         let from = find(&names, Kind::Member, &fact.from)?;

@@ -46,6 +46,7 @@ pub fn agrees(source: &Source, terms: &Terms) -> bool {
         let other = &compiled.terms;
         let counts = |terms: &Terms| (terms.members, terms.relations, terms.events);
         counts(terms) == counts(other)
+            && terms.kept == other.kept
             && terms.effects == other.effects
             && terms.edges == other.edges
             && differing(terms, other).is_empty()
@@ -122,6 +123,8 @@ fn told(terms: &Terms, words: &Words, sizes: &[usize], styles: &[Style]) -> Sour
         });
     }
     source.definitions = teller.definitions();
+    let event = |event: &usize| name(&words.labels[terms.relations + event]);
+    source.kept = terms.kept.iter().map(event).collect();
     for &(relation, from, to) in &terms.edges {
         source.first.push(Fact {
             from: name(&words.members[from]),

@@ -14,8 +14,8 @@ const DEEPEST: usize = 200;
 /// The same with parts counted that stand side by side.
 const TALLEST: usize = 600;
 
-const STATEMENTS: [&str; 8] =
-    ["members", "member", "relation", "relations", "event", "events", "define", "first"];
+const STATEMENTS: [&str; 9] =
+    ["members", "member", "relation", "relations", "event", "events", "keep", "define", "first"];
 
 /// Reads a whole source.
 pub fn parse(text: &str) -> Result<Source, Mistake> {
@@ -51,6 +51,13 @@ impl Parser {
                 self.next += 1;
                 self.event(&mut source.events)?;
             }
+            "keep" => {
+                self.next += 1;
+                if !self.take("denied") {
+                    return Err(self.expected("`denied` after `keep`", &["denied"]));
+                }
+                source.kept.extend(self.names("the name of an event")?);
+            }
             "define" => {
                 self.next += 1;
                 source.definitions.push(self.definition()?);
@@ -63,7 +70,7 @@ impl Parser {
                 }
             }
             _ => {
-                let what = "a statement: members, relation, event, define or first";
+                let what = "a statement: members, relation, event, keep, define or first";
                 return Err(self.expected(what, &STATEMENTS));
             }
         }

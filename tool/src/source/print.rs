@@ -33,6 +33,10 @@ pub fn print(source: &Source) -> String {
             text.push_str(&format!("  then {}\n", effects.join(",\n       ")));
         }
     }
+    if !source.kept.is_empty() {
+        let names: Vec<&str> = source.kept.iter().map(|name| &name.text[..]).collect();
+        text.push_str(&format!("\nkeep denied {}\n", names.join(", ")));
+    }
     if !source.first.is_empty() {
         text.push('\n');
     }

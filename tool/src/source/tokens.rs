@@ -5,11 +5,11 @@ use super::mistake::Mistake;
 
 /// The words of the language; none of them can be a name.
 #[rustfmt::skip]
-pub const WORDS: [&str; 42] = [
+pub const WORDS: [&str; 43] = [
     "member", "members", "relation", "relations", "event", "events", "define", "first", "when", "by",
     "anyone", "then", "add", "remove", "me", "target", "here", "someone", "nobody", "is", "of", "as",
     "at", "least", "some", "every", "not", "and", "or", "since", "once", "always", "never",
-    "previously", "true", "false", "both", "ways", "such", "that", "reach", "many",
+    "previously", "true", "false", "both", "ways", "such", "that", "reach", "many", "denied",
 ];
 
 #[derive(Clone, Debug, PartialEq, Eq)]

@@ -63,8 +63,8 @@ impl Fact {
                 };
                 let edge = words.arrow(label, &end(from), &end(to));
                 match graphs[moment].event {
-                    Some((event, from, to)) if label >= words.terms.relations && moment == now => {
-                        format!("the last event is {}, not {edge}", words.event(event, from, to))
+                    Some(event) if label >= words.terms.relations && moment == now => {
+                        format!("the last event is {}, not {edge}", words.happened(event))
                     }
                     _ => format!("no {edge}{}", at(moment)),
                 }

@@ -276,8 +276,8 @@ pub fn neighbours(terms: &Terms, graphs: &[Graph], place: Place) -> Vec<usize> {
 
 /// Whether a graph has an edge under a label.
 pub fn has_edge(terms: &Terms, graph: &Graph, label: usize, from: usize, to: usize) -> bool {
-    match label.checked_sub(terms.relations) {
-        None => graph.edges.contains(&(label, from, to)),
-        Some(event) => graph.event == Some((event, from, to)),
+    if label < terms.relations {
+        return graph.edges.contains(&(label, from, to));
     }
+    graph.event.is_some_and(|event| event.is(terms, label, from, to))
 }

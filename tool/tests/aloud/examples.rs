@@ -50,7 +50,7 @@ fn for_programs() {
         text.lines().next().unwrap(),
         "{\"event\":0,\"name\":\"invite\",\"policy\":\"You may invite the target if you are not the \
          target and the target is not a friend of yours.\",\"effects\":\"From then on you have an \
-         invited edge to the target.\"}"
+         invited edge to the target.\",\"kept\":false}"
     );
     assert_eq!(text.lines().count(), 4);
 }

@@ -4,12 +4,13 @@
 use cuckooormolu_tool::aloud::clause::{Clause, Counted, Link, Reached, Who};
 use cuckooormolu_tool::aloud::form::{Forms, Quantity};
 use cuckooormolu_tool::aloud::resolve;
+use cuckooormolu_tool::names::Labelled;
 use keeper::generate::size::Size;
 use keeper::generate::{calls, formulas, Rng};
 use keeper::record::meaning::Assigned;
 use keeper::record::Record;
 use keeper::terms::memory::pairs;
-use keeper::terms::VARIABLES;
+use keeper::terms::{EventEdge, VARIABLES};
 
 /// One evaluation of clauses over a record.
 struct Evaluation<'a> {
@@ -33,10 +34,11 @@ impl Evaluation<'_> {
     }
 
     fn has_edge(&self, moment: usize, label: usize, from: usize, to: usize) -> bool {
-        let (graph, relations) = (&self.record.graphs()[moment], self.record.terms().relations);
-        match label.checked_sub(relations) {
-            None => graph.edges.contains(&(label, from, to)),
-            Some(event) => graph.event == Some((event, from, to)),
+        let (graph, terms) = (&self.record.graphs()[moment], self.record.terms());
+        match Labelled::of(terms, label) {
+            Labelled::Relation(_) => graph.edges.contains(&(label, from, to)),
+            Labelled::Event(event) => graph.event == Some(EventEdge::granted(event, from, to)),
+            Labelled::Denied(event) => graph.event == Some(EventEdge::denied(event, from, to)),
         }
     }
 

@@ -4,7 +4,8 @@
 use cuckooormolu_tool::source::ast::*;
 use std::collections::BTreeSet;
 
-/// An edge: relation or event by name, from, to.
+/// An edge: relation or event by name, `denied` before an event that was denied,
+/// from, to.
 pub type Edge = (String, usize, usize);
 
 /// One moment: the relations, and the event that made it.
@@ -62,10 +63,17 @@ impl<'a> World<'a> {
         World { source, moments: vec![Moment { edges, event: None }] }
     }
 
-    /// Makes the next moment by a granted request.
+    /// Makes the next moment by a request, if it makes one.
     pub fn request(&mut self, event: usize, from: usize, to: usize) {
         let asked = &self.source.events[event];
         let mut next = self.moments[self.moments.len() - 1].clone();
+        if !self.permits(event, from, to) {
+            if self.source.kept.contains(&asked.name) {
+                next.event = Some((format!("denied {}", asked.name.text), from, to));
+                self.moments.push(next);
+            }
+            return;
+        }
         for effect in &asked.effects {
             let member = |person: &Person| if person.who == Who::Me { from } else { to };
             let edge = (effect.relation.text.clone(), member(&effect.from), member(&effect.to));

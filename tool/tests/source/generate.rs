@@ -49,7 +49,9 @@ pub fn source(dice: &mut Dice) -> Source {
     };
     let (members, relations) = (names("m", members), names("r", relations));
     let events = names("e", events);
-    let labels = relations.iter().chain(&events).map(|name| name.text.clone()).collect();
+    let kept: Vec<Name> = events.iter().filter(|_| dice.below(2) == 0).cloned().collect();
+    let labels = relations.iter().chain(&events).map(|name| name.text.clone());
+    let labels = labels.chain(kept.iter().map(|name| format!("denied {}", name.text))).collect();
     let mut maker = Maker { dice, labels, relations: relations.len(), definitions: Vec::new() };
     let mut made = Source::default();
     for number in 0..definitions {
@@ -68,7 +70,7 @@ pub fn source(dice: &mut Dice) -> Source {
             made.first.push(Fact { from, relation, to: maker.dice.pick(&members) });
         }
     }
-    Source { members, relations, ..made }
+    Source { members, relations, kept, ..made }
 }
 
 impl Maker<'_> {

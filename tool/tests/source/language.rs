@@ -84,6 +84,18 @@ fn the_definitions_and_effects_compile() {
 }
 
 #[test]
+fn the_denied_tries_compile() {
+    let block = blocks(&document(), "Denied tries").concat();
+    let twice = "me denied load someone and previously once me denied load someone";
+    assert!(document().contains(&format!("`{twice}`")));
+    let text = format!("{block}\nevent suspend when {twice}\n");
+    let compiled =
+        compile(&text).unwrap_or_else(|mistake| panic!("{}", mistake.render("f", &text)));
+    assert!(compiled.terms.kept.iter().eq([&0]));
+    assert_eq!(compiled.terms.events, 3);
+}
+
+#[test]
 fn the_grammar_has_every_word() {
     let document = document();
     let grammar = blocks(&document, "Grammar").concat();

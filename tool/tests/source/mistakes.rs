@@ -81,8 +81,17 @@ fn named_precisely() {
 fn in_statements() {
     let cases = [
         ("evnt load by anyone", "4:1: expected `and`, `or`, `since` or the next statement, found `evnt`; did you mean `event`?"),
-        ("relation likes evnt load", "4:16: expected a statement: members, relation, event, define or first, found `evnt`; did you mean `event`?"),
+        ("relation likes evnt load", "4:16: expected a statement: members, relation, event, keep, define or first, found `evnt`; did you mean `event`?"),
         ("event load", "expected `when` and who may do it, or `by anyone`"),
+        ("keep share", "4:6: expected `denied` after `keep`, found `share`"),
+        ("keep denied", "expected the name of an event, found the end of the file"),
+        ("keep denied shrae", "4:13: no event `shrae`; did you mean `share`?"),
+        ("keep denied owns", "4:13: no event `owns`"),
+        ("keep denied share, share", "4:20: denied `share` is kept already"),
+        ("event load when me denied owns target", "no event `owns` that could be denied"),
+        ("event load when me denied shrae target", "4:20: no event `shrae` that could be denied; did you mean `share`?"),
+        ("event load when me denied some", "expected the name of an event after `denied`"),
+        ("event denied by anyone", "`denied` is a word of the language and can be no name"),
         ("event load by everyone", "expected `anyone` after `by`, found `everyone`"),
         ("event first by anyone", "`first` is a word of the language and can be no name"),
         ("event load by anyone then add me own target", "no relation `own`; did you mean `owns`?"),

@@ -38,7 +38,7 @@ fn compiled_terms_mean_what_is_written() {
     }
     println!("{done} compiled, {past} with a past, {tally:?}");
     assert!(done > SOURCES as usize / 2 && past > done / 3, "{done} {past}");
-    assert!(tally.granted > 10_000 && tally.denied > 10_000, "{tally:?}");
+    assert!(tally.granted > 10_000 && tally.denied > 10_000 && tally.kept > 500, "{tally:?}");
 }
 
 /// Names that hide others, and definitions used where their own names are taken.
@@ -64,6 +64,11 @@ fn names_are_kept_apart() {
         "event go when some x such that (some y r x: once y give me): x is target",
         "event go when some x1 such that once me give x1: some x1 such that once x1 mark here: x1 r target",
         "event go when me r some x: some y such that (not x give y since x mark y): y r me",
+        "event go when once me denied go target or me give some x: x is target\nkeep denied go",
+        "event go when some x denied go target: x is not me and not x is me\nkeep denied go",
+        "event go when not someone denied go me since me give target\nkeep denied go, give",
+        "event go when me r target or some denied go of me as x: x is target\nkeep denied go",
+        "event go when some x such that (once x denied go target): here is me\nkeep denied go",
     ];
     for policy in policies {
         let text = format!("{start}{policy}\n");
@@ -83,6 +88,8 @@ fn names_are_kept_apart() {
 struct Tally {
     granted: usize,
     denied: usize,
+    /// Moments of denied requests.
+    kept: usize,
 }
 
 /// Some moments at random; at each, everybody may do the same by both.
@@ -102,12 +109,14 @@ fn compare(written: &Source, compiled: Compiled, dice: &mut Dice, tally: &mut Ta
         }
         tally.granted += allowed.len();
         tally.denied += calls.len() - allowed.len();
-        if allowed.is_empty() {
-            return;
-        }
-        let (event, from, to) = allowed[dice.below(allowed.len())];
+        // Mostly what is allowed, since most denials make no moment.
+        let some = if allowed.is_empty() || dice.below(4) == 0 { &calls } else { &allowed };
+        let (event, from, to) = some[dice.below(some.len())];
         world.request(event, from, to);
         record.call(false, event, from, to, SCRATCH_WORDS);
+        let same = world.moments.len() == record.graphs().len();
+        assert!(same, "moments after event {event} from {from} to {to}:\n{}", print(written));
+        tally.kept += usize::from(record.last().event.is_some_and(|edge| edge.denied));
         let name = |relation: usize| written.relations[relation].text.clone();
         let edges = record.last().edges.iter();
         let kept = edges.map(|&(relation, from, to)| (name(relation), from, to)).collect();

@@ -93,6 +93,7 @@ impl Reader {
                 self.entry(index, word, fields)
             }
             [b"P", event, entry] if head && !complete => self.policy(event, entry),
+            [b"K", event] if complete && old && self.unchanged() => self.kept(event),
             [b"E", event, action, relation, direction]
                 if complete && old && self.terms.edges.is_empty() =>
             {
@@ -176,7 +177,7 @@ impl Reader {
             Field::Unused => value == 0,
             Field::Variable => value < VARIABLES,
             Field::BoundVariable => (1..VARIABLES).contains(&value),
-            Field::Label => value < self.terms.relations + self.terms.events,
+            Field::Label => value < self.terms.labels(),
             Field::Entry => true,
             Field::Count => (1..=MOST_COUNTED).contains(&value),
         }
@@ -188,6 +189,19 @@ impl Reader {
         require(entry < self.terms.entries.len(), 2)?;
         require(self.free[entry] & !1 == 0, 5)?;
         self.terms.policies.push(entry);
+        Ok(())
+    }
+
+    /// Whether no effect and no edge has come yet.
+    fn unchanged(&self) -> bool {
+        self.terms.effects.iter().all(Vec::is_empty) && self.terms.edges.is_empty()
+    }
+
+    fn kept(&mut self, event: &[u8]) -> Checked<()> {
+        let [event] = numbers([event])?;
+        require(self.terms.kept.last().is_none_or(|last| *last < event), 1)?;
+        require(event < self.terms.events, 2)?;
+        self.terms.kept.insert(event);
         Ok(())
     }
 
@@ -232,9 +246,7 @@ impl Reader {
 
     fn event_edge(&mut self, event: &[u8], from: &[u8], to: &[u8]) -> Checked<()> {
         let [event, from, to] = numbers([event, from, to])?;
-        require(event < self.terms.events, 2)?;
-        require(from < self.terms.members && to < self.terms.members, 2)?;
-        self.event = Some((event, from, to));
-        Ok(())
+        self.event = EventEdge::of_number(&self.terms, event, from, to);
+        require(self.event.is_some(), 2)
     }
 }

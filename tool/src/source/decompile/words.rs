@@ -6,7 +6,7 @@ use keeper::terms::Terms;
 
 pub struct Words {
     pub members: Vec<String>,
-    /// Relations, then events.
+    /// Relations, then events, then `denied` with each event.
     pub labels: Vec<String>,
 }
 
@@ -23,6 +23,9 @@ impl Words {
         for number in 0..terms.events {
             labels.push(word(&names.event(number), Kind::Event, number, &labels));
         }
+        let denied = |event: &String| format!("denied {event}");
+        let denied: Vec<String> = labels[terms.relations..].iter().map(denied).collect();
+        labels.extend(denied);
         Words { members, labels }
     }
 

@@ -37,9 +37,11 @@ impl Parser {
         *self.token() == Token::Sign(sign)
     }
 
-    /// Whether a word some places ahead can be a name.
+    /// Whether a word some places ahead can be a name. `keep` is one, but not
+    /// where `denied` follows: that begins a statement.
     pub(super) fn name_ahead(&self, places: usize) -> bool {
-        self.word_ahead(places).is_some_and(|word| !WORDS.contains(&word))
+        let keeping = |word: &str| word == "keep" && self.word_ahead(places + 1) == Some("denied");
+        self.word_ahead(places).is_some_and(|word| !WORDS.contains(&word) && !keeping(word))
     }
 
     /// Reads a word if it comes next.
@@ -91,6 +93,22 @@ impl Parser {
             }
             _ => Err(self.expected(what, &[])),
         }
+    }
+
+    /// Whether a relation, an event or `denied` comes some places ahead.
+    pub(super) fn label_ahead(&self, places: usize) -> bool {
+        self.name_ahead(places) || self.word_ahead(places) == Some("denied")
+    }
+
+    /// Reads the name of a relation or an event, or `denied` and that of an
+    /// event; these two words are one name.
+    pub(super) fn label(&mut self, what: &str) -> Result<Name, Mistake> {
+        let span = self.span();
+        if !self.take("denied") {
+            return self.name(what);
+        }
+        let event = self.name("the name of an event after `denied`")?;
+        Ok(Name { text: format!("denied {}", event.text), span: span.to(event.span) })
     }
 
     /// Reads names parted by commas.

@@ -126,7 +126,7 @@ impl Parser {
         if !self.name_ahead(0) {
             return Err(self.expected("a formula", &BEGINNINGS));
         }
-        if self.word_ahead(1) == Some("is") || self.name_ahead(1) {
+        if self.word_ahead(1) == Some("is") || self.label_ahead(1) {
             return self.told();
         }
         let name = self.name("a definition")?;

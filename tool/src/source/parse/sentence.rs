@@ -29,8 +29,9 @@ impl Parser {
 
     /// `some friend of a as x: f`, `some x owns a: f` or `some owns a: f`.
     pub(super) fn walk_to(&mut self, quantifier: Quantifier) -> Result<Kind, Mistake> {
-        let first = self.name("a relation, an event, or a name for whom is sought")?;
-        if self.is_word("such") {
+        let denied = self.is_word("denied");
+        let first = self.label("a relation, an event, or a name for whom is sought")?;
+        if self.is_word("such") && !denied {
             return self.step(quantifier, first);
         }
         if self.take("of") {
@@ -39,9 +40,12 @@ impl Parser {
             return self.walk(quantifier, person, first, true, name);
         }
         let somebody = matches!(self.word_ahead(1), Some("me" | "target" | "here"));
-        let named = self.name_ahead(0) && (somebody || self.name_ahead(1));
-        let (name, label) =
-            if named { (Some(first), self.name("a relation or an event")?) } else { (None, first) };
+        let plain = self.name_ahead(0) && (somebody || self.name_ahead(1));
+        let named = !denied && (plain || self.is_word("denied"));
+        let (name, label) = match named {
+            true => (Some(first), self.label("a relation or an event")?),
+            false => (None, first),
+        };
         let person = self.person("`of`, a relation or an event, or somebody")?;
         self.walk(quantifier, person, label, false, name)
     }
@@ -92,7 +96,7 @@ impl Parser {
             self.next += 1;
             return self.being(subject);
         }
-        let label = self.name("`is`, a relation, an event or a definition")?;
+        let label = self.label("`is`, a relation, an event or a definition")?;
         let walking = self.span();
         let kind = match (self.quantifier()?, subject) {
             (Some(quantifier), Some(subject)) => {

@@ -1,6 +1,6 @@
 //! Finds people, labels and definitions by name, or says what was meant.
 
-use super::super::ast::{Name, Person, Who as Written};
+use super::super::ast::{Name, Person, Span, Who as Written};
 use super::super::mistake::Mistake;
 use super::super::said::{Who, ME, TARGET};
 use super::{Resolver, Scope};
@@ -72,14 +72,20 @@ impl Resolver<'_> {
     }
 
     pub(super) fn find_label(&self, text: &str) -> Option<usize> {
-        let relations = &self.source.relations;
+        let (relations, events) = (&self.source.relations, &self.source.events);
+        let event = |text: &str| events.iter().position(|known| known.name.text == text);
+        if let Some(denied) = text.strip_prefix("denied ") {
+            return Some(relations.len() + events.len() + event(denied)?);
+        }
         let relation = relations.iter().position(|known| known.text == text);
-        let event = || self.source.events.iter().position(|known| known.name.text == text);
-        relation.or_else(|| Some(relations.len() + event()?))
+        relation.or_else(|| Some(relations.len() + event(text)?))
     }
 
     pub(super) fn label(&self, word: &Name) -> Result<usize, Mistake> {
         self.find_label(&word.text).ok_or_else(|| {
+            if let Some(denied) = word.text.strip_prefix("denied ") {
+                return self.no_event(denied, word.span);
+            }
             let mut known: Vec<&str> =
                 self.source.relations.iter().map(|known| known.text.as_str()).collect();
             known.extend(self.source.events.iter().map(|known| known.name.text.as_str()));
@@ -90,5 +96,14 @@ impl Resolver<'_> {
             let mistake = Mistake::new(word.span, message);
             mistake.advise(format!("relations and events: {}", known.join(", ")))
         })
+    }
+
+    /// What is denied is no event.
+    fn no_event(&self, text: &str, span: Span) -> Mistake {
+        let events: Vec<&str> =
+            self.source.events.iter().map(|known| known.name.text.as_str()).collect();
+        let hint = did_you_mean(text, events.iter().copied());
+        let mistake = Mistake::new(span, format!("no event `{text}` that could be denied{hint}"));
+        mistake.advise(format!("events: {}", events.join(", ")))
     }
 }

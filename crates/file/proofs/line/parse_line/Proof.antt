@@ -19,8 +19,8 @@ piece-requires c κs = search needs
 read-kind-requires : tie.Need-read-kind-requires
 read-kind-requires c κs = search needs
 
-members-line-requires : tie.Need-members-line-requires
-members-line-requires c κs = search needs
+single-line-requires : tie.Need-single-line-requires
+single-line-requires c κs = search needs
 
 labels-line-requires : tie.Need-labels-line-requires
 labels-line-requires c κs = search needs
@@ -37,8 +37,8 @@ effect-line-requires c κs = search needs
 triple-line-requires : tie.Need-triple-line-requires
 triple-line-requires c κs = search needs
 
-form-line-requires : tie.Need-form-line-requires
-form-line-requires c κs = search needs
+single-line-requires-2 : tie.Need-single-line-requires-2
+single-line-requires-2 c κs = search needs
 
 triple-line-requires-2 : tie.Need-triple-line-requires-2
 triple-line-requires-2 c κs = search needs
@@ -46,9 +46,12 @@ triple-line-requires-2 c κs = search needs
 triple-line-requires-3 : tie.Need-triple-line-requires-3
 triple-line-requires-3 c κs = search needs
 
+single-line-requires-3 : tie.Need-single-line-requires-3
+single-line-requires-3 c κs = search needs
+
 returns : tie.Need-returns
 unfolding lineOf
-returns c = line-kind 0 _ (c .members-line .ensures) (sym (c .before .match .keys1) ∙ kind (c .before .before))
+returns c = line-kind 0 _ (c .single-line .ensures .0 refl) (sym (c .before .match .keys1) ∙ kind (c .before .before))
 
 returns-2 : tie.Need-returns-2
 unfolding lineOf
@@ -72,7 +75,7 @@ returns-6 c = line-kind 5 _ (c .triple-line .ensures .0 refl) (sym (c .before .m
 
 returns-7 : tie.Need-returns-7
 unfolding lineOf
-returns-7 c = line-kind 6 _ (c .form-line .ensures) (sym (c .before .match .keys7) ∙ kind (c .before .before))
+returns-7 c = line-kind 6 _ (c .single-line2 .ensures .1 refl) (sym (c .before .match .keys7) ∙ kind (c .before .before))
 
 returns-8 : tie.Need-returns-8
 unfolding lineOf
@@ -83,11 +86,15 @@ unfolding lineOf
 returns-9 c = line-kind 8 _ (c .triple-line3 .ensures .2 refl) (sym (c .before .match .keys9) ∙ kind (c .before .before))
 
 returns-10 : tie.Need-returns-10
-returns-10 c =
+unfolding lineOf
+returns-10 c = line-kind 9 _ (c .single-line3 .ensures .2 refl) (sym (c .before .match .keys10) ∙ kind (c .before .before))
+
+returns-11 : tie.Need-returns-11
+returns-11 c =
     let r = c .match .rest in
-    let r6 = r .0 .0 .0 in
+    let r6 = r .0 .0 .0 .0 in
     line-kind _ _
-    (line-none _ _ (r6 .0 .0 .0 .0 .0 .1) (r6 .0 .0 .0 .0 .1) (r6 .0 .0 .0 .1) (r6 .0 .0 .1) (r6 .0 .1) (r6 .1) (r .0 .0 .1) (r .0 .1) (r .1))
+    (line-none _ _ (r6 .0 .0 .0 .0 .0 .1) (r6 .0 .0 .0 .0 .1) (r6 .0 .0 .0 .1) (r6 .0 .0 .1) (r6 .0 .1) (r6 .1) (r .0 .0 .0 .1) (r .0 .0 .1) (r .0 .1) (r .1))
     (kind (c .before))
 
 pub parse-line-spec : {M : Type 1} → statement M
@@ -96,15 +103,16 @@ parse-line-spec =
     (tie.spec
     piece-requires
     read-kind-requires
-    members-line-requires
+    single-line-requires
     labels-line-requires
     entry-line-requires
     policy-line-requires
     effect-line-requires
     triple-line-requires
-    form-line-requires
+    single-line-requires-2
     triple-line-requires-2
     triple-line-requires-3
+    single-line-requires-3
     returns
     returns-2
     returns-3
@@ -114,4 +122,5 @@ parse-line-spec =
     returns-7
     returns-8
     returns-9
-    returns-10)
+    returns-10
+    returns-11)

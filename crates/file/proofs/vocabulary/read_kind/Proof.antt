@@ -59,10 +59,17 @@ slice-aggregate-pick-9 c = search needs
 pick-requires-9 : tie.Need-pick-requires-9
 pick-requires-9 c κs = search needs
 
+slice-aggregate-pick-10 : tie.Need-slice-aggregate-pick-10
+slice-aggregate-pick-10 c = search needs
+
+pick-requires-10 : tie.Need-pick-requires-10
+pick-requires-10 c κs = search needs
+
 returns : tie.Need-returns
 unfolding kindOf kindWords
 returns c =
-    let c8 = c .before .before in
+    let c9 = c .before .before in
+    let c8 = c9 .before .before in
     let c7 = c8 .before .before in
     let c6 = c7 .before .before in
     let c5 = c6 .before .before in
@@ -70,7 +77,8 @@ returns c =
     let c3 = c4 .before .before in
     let c2 = c3 .before .before in
     let c1 = c2 .before .before in
-    picked _ _ _ _ (c .pick9 .ensures)
+    picked _ _ _ _ (c .pick10 .ensures)
+    (picked _ _ _ _ (c9 .pick9 .ensures)
     (picked _ _ _ _ (c8 .pick8 .ensures)
     (picked _ _ _ _ (c7 .pick7 .ensures)
     (picked _ _ _ _ (c6 .pick6 .ensures)
@@ -78,7 +86,7 @@ returns c =
     (picked _ _ _ _ (c4 .pick4 .ensures)
     (picked _ _ _ _ (c3 .pick3 .ensures)
     (picked _ _ _ _ (c2 .pick2 .ensures)
-    (picked _ _ _ _ (c1 .pick .ensures) (picked-none _ _)))))))))
+    (picked _ _ _ _ (c1 .pick .ensures) (picked-none _ _))))))))))
 
 pub read-kind-spec : {M : Type 1} → statement M
 read-kind-spec =
@@ -102,4 +110,6 @@ read-kind-spec =
     pick-requires-8
     slice-aggregate-pick-9
     pick-requires-9
+    slice-aggregate-pick-10
+    pick-requires-10
     returns)

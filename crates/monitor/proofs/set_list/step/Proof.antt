@@ -2,7 +2,7 @@ use borrow.Author.Needs.{needs}
 use borrow.Author.Tests.{not-true}
 use mathlib.Core.Path.{sym, _∙_}
 use Rattle.memory.proofs.Outcomes.{not-false}
-use Rattle.monitor.proofs.Singly.{step-unnamed, step-denied, step-granted}
+use Rattle.monitor.proofs.Singly.{step-unnamed, step-denied, step-kept, step-granted}
 use Rattle.monitor.proofs.set_list.step.Statement.{statement}
 use Rattle.monitor.proofs.set_list.step.Tie as tie
 
@@ -61,16 +61,46 @@ returns-2 c =
     let t = m .before .before .before .before in
     let e = t .before .before .before .before in
     step-granted _ _ _ _ _ _ _ (start (e .before) .pre) (sym (e .before .is-named .ensures) ∙ not-false _ (e .if1 .left))
-    (t .if2 .taken) (t .before .is-granted .ensures) (m .next-moment .ensures .0) (m .next-moment .ensures .1)
+    (t .if2 .taken) (t .before .is-granted .ensures) (m .next-moment .ensures)
+
+is-kept-requires : tie.Need-is-kept-requires
+is-kept-requires c κs = search needs
+
+slice-aggregate-next-moment-2 : tie.Need-slice-aggregate-next-moment-2
+slice-aggregate-next-moment-2 c = search needs
+
+next-moment-requires-2 : tie.Need-next-moment-requires-2
+next-moment-requires-2 c κs =
+    let e = c .before .before .before .before .before .before .before .before .before in
+    let p = start (e .before) .pre in (
+      (p .long-terms, p .good-terms, p .planned),
+      ((p .long-state, p .good-state, sym (e .before .is-named .ensures) ∙ not-false _ (e .if1 .left)), p .long-scratch),
+    )
 
 same-length-3 : tie.Need-same-length-3
 same-length-3 c = search needs
 
+same-length-4 : tie.Need-same-length-4
+same-length-4 c = search needs
+
 returns-3 : tie.Need-returns-3
 returns-3 c =
-    let e = c .before .before .before .before in
+    let m = c .before .before .before .before in
+    let t = m .before .before .before .before in
+    let d = t .before .before in
+    let e = d .before .before .before .before in
+    step-kept _ _ _ _ _ _ _ (start (e .before) .pre) (sym (e .before .is-named .ensures) ∙ not-false _ (e .if1 .left))
+    (d .if2 .left) (d .before .is-granted .ensures) (t .if3 .taken) (t .before .is-kept .ensures) (m .next-moment2 .ensures)
+
+same-length-5 : tie.Need-same-length-5
+same-length-5 c = search needs
+
+returns-4 : tie.Need-returns-4
+returns-4 c =
+    let d = c .before .before in
+    let e = d .before .before .before .before in
     step-denied _ _ _ _ _ _ _ (start (e .before) .pre) (sym (e .before .is-named .ensures) ∙ not-false _ (e .if1 .left))
-    (c .if2 .left) (c .before .is-granted .ensures)
+    (d .if2 .left) (d .before .is-granted .ensures) (c .if3 .left) (c .before .is-kept .ensures)
 
 pub step-spec : {M : Type 1} → statement M
 step-spec =
@@ -88,5 +118,11 @@ step-spec =
     same-length
     same-length-2
     returns-2
+    is-kept-requires
+    slice-aggregate-next-moment-2
+    next-moment-requires-2
     same-length-3
-    returns-3)
+    same-length-4
+    returns-3
+    same-length-5
+    returns-4)

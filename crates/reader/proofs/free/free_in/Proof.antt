@@ -6,23 +6,24 @@ use types.Run.{OneOf, miss}
 use Rattle.memory.proofs.FreeSets.{free-entry}
 use Rattle.reader.specs.Testing.{FreeIn}
 use Rattle.file.specs.declared.line.Line.{Line}
-use Rattle.file.specs.declared.line.Line.the-variants.{Members, Labels, Entry, Policy, Effect, Edge, Form, TableBit, EventEdge, Malformed}
+use Rattle.file.specs.declared.line.Line.the-variants.{Members, Labels, Entry, Policy, Effect, Edge, Form, TableBit, EventEdge, Mark, Malformed}
 use Rattle.file.proofs.line.Line.{the-type}
 use borrow.Author.Needs.{needs}
 use Rattle.reader.proofs.free.free_in.Statement.{statement}
 use Rattle.reader.proofs.free.free_in.Tie as tie
 
 -- the kinds that are tested by no set
-no-set : (masks : List ℕ) (l : Line) → OneOf (0 ∷ 1 ∷ 4 ∷ 5 ∷ 6 ∷ 7 ∷ 8 ∷ 9 ∷ []) (tagOf the-type l) → FreeIn masks l 0
+no-set : (masks : List ℕ) (l : Line) → OneOf (0 ∷ 1 ∷ 4 ∷ 5 ∷ 6 ∷ 7 ∷ 8 ∷ 9 ∷ 10 ∷ []) (tagOf the-type l) → FreeIn masks l 0
 no-set masks (Members n) h = tt
 no-set masks (Labels r e) h = tt
-no-set masks (Entry n o a b c) h = absurd (miss (0 ∷ 1 ∷ 4 ∷ 5 ∷ 6 ∷ 7 ∷ 8 ∷ 9 ∷ []) 2 tt h)
-no-set masks (Policy j n) h = absurd (miss (0 ∷ 1 ∷ 4 ∷ 5 ∷ 6 ∷ 7 ∷ 8 ∷ 9 ∷ []) 3 tt h)
+no-set masks (Entry n o a b c) h = absurd (miss (0 ∷ 1 ∷ 4 ∷ 5 ∷ 6 ∷ 7 ∷ 8 ∷ 9 ∷ 10 ∷ []) 2 tt h)
+no-set masks (Policy j n) h = absurd (miss (0 ∷ 1 ∷ 4 ∷ 5 ∷ 6 ∷ 7 ∷ 8 ∷ 9 ∷ 10 ∷ []) 3 tt h)
 no-set masks (Effect j a k d) h = tt
 no-set masks (Edge k a b) h = tt
 no-set masks (Form n) h = tt
 no-set masks (TableBit t a b) h = tt
 no-set masks (EventEdge j u v) h = tt
+no-set masks (Mark j) h = tt
 no-set masks Malformed h = tt
 
 enum-known-line : tie.Need-enum-known-line

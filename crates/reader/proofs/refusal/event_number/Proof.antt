@@ -16,6 +16,9 @@ first-requires-2 c κs = search needs
 first-requires-3 : tie.Need-first-requires-3
 first-requires-3 c κs = search needs
 
+named-requires : tie.Need-named-requires
+named-requires c κs = search needs
+
 first-requires-4 : tie.Need-first-requires-4
 first-requires-4 c κs = search needs
 
@@ -31,17 +34,19 @@ returns c =
     let k1 = c .before .before in
     let k2 = k1 .before .before in
     let k3 = k2 .before .before in
-    let k4 = k3 .before .before in
-    let k5 = k4 .before in
+    let k4 = k3 .before in
+    let k5 = k4 .before .before in
     let k6 = k5 .before in
+    let k7 = k6 .before in
     rw (
       c .first6 .ensures,
       k1 .first5 .ensures,
       k2 .first4 .ensures,
-      k3 .first3 .ensures,
-      k4 .first2 .ensures,
-      k6 .first .ensures,
-      k5 .is-complete .ensures,
+      k4 .first3 .ensures,
+      k5 .first2 .ensures,
+      k7 .first .ensures,
+      k6 .is-complete .ensures,
+      k3 .named .ensures,
     )
 
 pub event-number-spec : {M : Type 1} → statement M
@@ -52,6 +57,7 @@ event-number-spec =
     is-complete-requires
     first-requires-2
     first-requires-3
+    named-requires
     first-requires-4
     first-requires-5
     first-requires-6

@@ -58,6 +58,12 @@ enum-known-line-9 c = search needs
 event-number-requires : tie.Need-event-number-requires
 event-number-requires c κs = search needs
 
+enum-known-line-10 : tie.Need-enum-known-line-10
+enum-known-line-10 c = search needs
+
+mark-number-requires : tie.Need-mark-number-requires
+mark-number-requires c κs = search needs
+
 enum-told : tie.Need-enum-told
 enum-told c = search needs
 
@@ -89,8 +95,11 @@ returns-9 : tie.Need-returns-9
 returns-9 c = rw (c .before .before .line9 .given .1) (c .event-number .ensures)
 
 returns-10 : tie.Need-returns-10
+returns-10 c = rw (c .before .before .line10 .given .1) (c .mark-number .ensures)
+
+returns-11 : tie.Need-returns-11
 unfolding numberFrom contextTests refusedBy
-returns-10 c = rw (c .enum-told .given .1)
+returns-11 c = rw (c .enum-told .given .1)
 
 pub number-of-spec : {M : Type 1} → statement M
 number-of-spec =
@@ -114,6 +123,8 @@ number-of-spec =
     bit-number-requires
     enum-known-line-9
     event-number-requires
+    enum-known-line-10
+    mark-number-requires
     enum-told
     returns
     returns-2
@@ -124,4 +135,5 @@ number-of-spec =
     returns-7
     returns-8
     returns-9
-    returns-10)
+    returns-10
+    returns-11)

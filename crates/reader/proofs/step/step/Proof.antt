@@ -58,6 +58,12 @@ enum-known-line-7 c = search needs
 enum-told-2 : tie.Need-enum-told-2
 enum-told-2 c = search needs
 
+enum-known-line-8 : tie.Need-enum-known-line-8
+enum-known-line-8 c = search needs
+
+add-d-5 : tie.Need-add-d-5
+add-d-5 c = omega (arith, subst (Ranges (c .before .before .before .args .c)) (c .before .line8 .given .1) (c .before .before .before .pre .0))
+
 enum-told-3 : tie.Need-enum-told-3
 enum-told-3 c = search needs
 
@@ -108,7 +114,11 @@ returns-10 c = rw (c .enum-told2 .given .1)
 
 returns-11 : tie.Need-returns-11
 unfolding stepped
-returns-11 c = rw (c .enum-told3 .given .1)
+returns-11 c = rw (c .before .line8 .given .1)
+
+returns-12 : tie.Need-returns-12
+unfolding stepped
+returns-12 c = rw (c .enum-told3 .given .1)
 
 pub step-spec : {M : Type 1} → statement M
 step-spec =
@@ -129,6 +139,8 @@ step-spec =
     enum-told
     enum-known-line-7
     enum-told-2
+    enum-known-line-8
+    add-d-5
     enum-told-3
     returns
     returns-2
@@ -140,4 +152,5 @@ step-spec =
     returns-8
     returns-9
     returns-10
-    returns-11)
+    returns-11
+    returns-12)

@@ -7,24 +7,25 @@ use mathlib.Core.List.{List, [], _∷_}
 use denote.Enum.Declared.{tagOf}
 use types.Run.{OneOf, miss}
 use Rattle.file.specs.declared.line.Line.{Line}
-use Rattle.file.specs.declared.line.Line.the-variants.{Members, Labels, Entry, Policy, Effect, Edge, Form, TableBit, EventEdge, Malformed}
+use Rattle.file.specs.declared.line.Line.the-variants.{Members, Labels, Entry, Policy, Effect, Edge, Form, TableBit, EventEdge, Mark, Malformed}
 use Rattle.file.proofs.line.Line.{the-type}
 use borrow.Author.Needs.{needs}
 use Rattle.reader.proofs.store.store_state.Statement.{statement}
 use Rattle.reader.proofs.store.store_state.Tie as tie
 
 -- the kinds that give no word of the state
-no-word : (l : Line) (w : List ℕ) → OneOf (0 ∷ 1 ∷ 2 ∷ 3 ∷ 4 ∷ 6 ∷ 9 ∷ []) (tagOf the-type l) → w ≡ storedState l w
+no-word : (l : Line) (w : List ℕ) → OneOf (0 ∷ 1 ∷ 2 ∷ 3 ∷ 4 ∷ 6 ∷ 9 ∷ 10 ∷ []) (tagOf the-type l) → w ≡ storedState l w
 unfolding storedState
 no-word (Members n) w h = refl
 no-word (Labels r e) w h = refl
 no-word (Entry n o a b c) w h = refl
 no-word (Policy j n) w h = refl
 no-word (Effect j a k d) w h = refl
-no-word (Edge k a b) w h = absurd (miss (0 ∷ 1 ∷ 2 ∷ 3 ∷ 4 ∷ 6 ∷ 9 ∷ []) 5 tt h)
+no-word (Edge k a b) w h = absurd (miss (0 ∷ 1 ∷ 2 ∷ 3 ∷ 4 ∷ 6 ∷ 9 ∷ 10 ∷ []) 5 tt h)
 no-word (Form n) w h = refl
-no-word (TableBit t a b) w h = absurd (miss (0 ∷ 1 ∷ 2 ∷ 3 ∷ 4 ∷ 6 ∷ 9 ∷ []) 7 tt h)
-no-word (EventEdge j u v) w h = absurd (miss (0 ∷ 1 ∷ 2 ∷ 3 ∷ 4 ∷ 6 ∷ 9 ∷ []) 8 tt h)
+no-word (TableBit t a b) w h = absurd (miss (0 ∷ 1 ∷ 2 ∷ 3 ∷ 4 ∷ 6 ∷ 9 ∷ 10 ∷ []) 7 tt h)
+no-word (EventEdge j u v) w h = absurd (miss (0 ∷ 1 ∷ 2 ∷ 3 ∷ 4 ∷ 6 ∷ 9 ∷ 10 ∷ []) 8 tt h)
+no-word (Mark j) w h = refl
 no-word Malformed w h = refl
 
 enum-known-line : tie.Need-enum-known-line

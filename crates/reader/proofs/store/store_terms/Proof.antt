@@ -7,7 +7,7 @@ use types.Run.{OneOf, miss}
 use Rattle.reader.specs.Stepping.{Ranges}
 use Rattle.reader.specs.Storing.{storedTerms}
 use Rattle.file.specs.declared.line.Line.{Line}
-use Rattle.file.specs.declared.line.Line.the-variants.{Members, Labels, Entry, Policy, Effect, Edge, Form, TableBit, EventEdge, Malformed}
+use Rattle.file.specs.declared.line.Line.the-variants.{Members, Labels, Entry, Policy, Effect, Edge, Form, TableBit, EventEdge, Mark, Malformed}
 use Rattle.file.proofs.line.Line.{the-type}
 use Rattle.reader.specs.declared.step.Context.{Context}
 use borrow.Author.Needs.{needs}
@@ -15,17 +15,18 @@ use Rattle.reader.proofs.store.store_terms.Statement.{statement}
 use Rattle.reader.proofs.store.store_terms.Tie as tie
 
 -- the kinds that give no word of the terms
-no-word : (c : Context) (l : Line) (w : List ℕ) → OneOf (5 ∷ 6 ∷ 7 ∷ 8 ∷ 9 ∷ []) (tagOf the-type l) → w ≡ storedTerms c l w
+no-word : (c : Context) (l : Line) (w : List ℕ) → OneOf (5 ∷ 6 ∷ 7 ∷ 8 ∷ 10 ∷ []) (tagOf the-type l) → w ≡ storedTerms c l w
 unfolding storedTerms
-no-word c (Members n) w h = absurd (miss (5 ∷ 6 ∷ 7 ∷ 8 ∷ 9 ∷ []) 0 tt h)
-no-word c (Labels r e) w h = absurd (miss (5 ∷ 6 ∷ 7 ∷ 8 ∷ 9 ∷ []) 1 tt h)
-no-word c (Entry n o a b d) w h = absurd (miss (5 ∷ 6 ∷ 7 ∷ 8 ∷ 9 ∷ []) 2 tt h)
-no-word c (Policy j n) w h = absurd (miss (5 ∷ 6 ∷ 7 ∷ 8 ∷ 9 ∷ []) 3 tt h)
-no-word c (Effect j a k d) w h = absurd (miss (5 ∷ 6 ∷ 7 ∷ 8 ∷ 9 ∷ []) 4 tt h)
+no-word c (Members n) w h = absurd (miss (5 ∷ 6 ∷ 7 ∷ 8 ∷ 10 ∷ []) 0 tt h)
+no-word c (Labels r e) w h = absurd (miss (5 ∷ 6 ∷ 7 ∷ 8 ∷ 10 ∷ []) 1 tt h)
+no-word c (Entry n o a b d) w h = absurd (miss (5 ∷ 6 ∷ 7 ∷ 8 ∷ 10 ∷ []) 2 tt h)
+no-word c (Policy j n) w h = absurd (miss (5 ∷ 6 ∷ 7 ∷ 8 ∷ 10 ∷ []) 3 tt h)
+no-word c (Effect j a k d) w h = absurd (miss (5 ∷ 6 ∷ 7 ∷ 8 ∷ 10 ∷ []) 4 tt h)
 no-word c (Edge k a b) w h = refl
 no-word c (Form n) w h = refl
 no-word c (TableBit t a b) w h = refl
 no-word c (EventEdge j u v) w h = refl
+no-word c (Mark j) w h = absurd (miss (5 ∷ 6 ∷ 7 ∷ 8 ∷ 10 ∷ []) 9 tt h)
 no-word c Malformed w h = refl
 
 enum-known-line : tie.Need-enum-known-line
@@ -75,6 +76,15 @@ store-effect-requires c κs =
     let k1 = c .before .before .before in
     let k2 = k1 .before .before .before in
     (rw (c .slot-of .ensures) (subst (Ranges (k2 .args .c)) (k1 .line5 .given .1) (k2 .pre .0)), k2 .pre .1)
+
+enum-known-line-6 : tie.Need-enum-known-line-6
+enum-known-line-6 c = search needs
+
+store-mark-requires : tie.Need-store-mark-requires
+store-mark-requires c κs =
+    let k1 = c .before .before in
+    let k2 = k1 .before .before .before in
+    (subst (Ranges (k2 .args .c)) (k1 .line6 .given .1) (k2 .pre .0), k2 .pre .1)
 
 same-length : tie.Need-same-length
 same-length c = search needs
@@ -127,8 +137,18 @@ returns-5 c =
     let k3 = k2 .before .before .before in
     rw (k3 .line5 .given .1, ← k2 .slot-of .ensures) (k1 .store-effect .ensures)
 
+same-length-6 : tie.Need-same-length-6
+same-length-6 c = search needs
+
 returns-6 : tie.Need-returns-6
-returns-6 c = no-word (c .before .before .args .c) (c .before .before .args .line) (c .before .before .args .terms .now) (c .match .keys6)
+unfolding storedTerms
+returns-6 c =
+    let k1 = c .before .before in
+    let k2 = k1 .before .before .before in
+    rw (k2 .line6 .given .1) (k1 .store-mark .ensures)
+
+returns-7 : tie.Need-returns-7
+returns-7 c = no-word (c .before .before .args .c) (c .before .before .args .line) (c .before .before .args .terms .now) (c .match .keys7)
 
 pub store-terms-spec : {M : Type 1} → statement M
 store-terms-spec =
@@ -145,6 +165,8 @@ store-terms-spec =
     enum-known-line-5
     slot-of-requires
     store-effect-requires
+    enum-known-line-6
+    store-mark-requires
     same-length
     returns
     same-length-2
@@ -155,4 +177,6 @@ store-terms-spec =
     returns-4
     same-length-5
     returns-5
-    returns-6)
+    same-length-6
+    returns-6
+    returns-7)

@@ -9,7 +9,7 @@ use Rattle.writer.proofs.Placed.{kind-short, put-word}
 use Rattle.writer.proofs.vocabulary.put_kind.Statement.{statement}
 use Rattle.writer.proofs.vocabulary.put_kind.Tie as tie
 
-words : split 9 (77 ∷ 9 ∷ 76 ∷ 9 ∷ 70 ∷ 9 ∷ 80 ∷ 9 ∷ 69 ∷ 9 ∷ 71 ∷ 9 ∷ 83 ∷ 9 ∷ 84 ∷ 9 ∷ 86 ∷ []) ≡ kindWords
+words : split 9 (77 ∷ 9 ∷ 76 ∷ 9 ∷ 70 ∷ 9 ∷ 80 ∷ 9 ∷ 69 ∷ 9 ∷ 71 ∷ 9 ∷ 83 ∷ 9 ∷ 84 ∷ 9 ∷ 86 ∷ 9 ∷ 75 ∷ []) ≡ kindWords
 unfolding split kindWords
 words = refl
 

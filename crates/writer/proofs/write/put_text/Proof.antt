@@ -15,6 +15,9 @@ put-entries-requires c κs = search needs
 put-policies-requires : tie.Need-put-policies-requires
 put-policies-requires c κs = search needs
 
+put-marks-requires : tie.Need-put-marks-requires
+put-marks-requires c κs = search needs
+
 put-effects-requires : tie.Need-put-effects-requires
 put-effects-requires c κs = search needs
 
@@ -27,7 +30,8 @@ same-length c = search needs
 returns : tie.Need-returns
 unfolding writtenText written allLines
 returns c =
-    let c5 = c .before .before in
+    let c6 = c .before .before in
+    let c5 = c6 .before .before .before .before in
     let c4 = c5 .before .before .before .before in
     let c3 = c4 .before .before .before .before in
     let c2 = c3 .before .before .before .before in
@@ -35,7 +39,8 @@ returns c =
       put-lines _ _ (c1 .put-front .ensures .0)
           (put-lines _ _ (c2 .put-entries .ensures .0)
           (put-lines _ _ (c3 .put-policies .ensures .0)
-          (put-lines _ _ (c4 .put-effects .ensures .0) (c5 .put-edges .ensures .0)))),
+          (put-lines _ _ (c4 .put-marks .ensures .0)
+          (put-lines _ _ (c5 .put-effects .ensures .0) (c6 .put-edges .ensures .0))))),
       search needs,
     )
 
@@ -46,6 +51,7 @@ put-text-spec =
     put-front-requires
     put-entries-requires
     put-policies-requires
+    put-marks-requires
     put-effects-requires
     put-edges-requires
     same-length

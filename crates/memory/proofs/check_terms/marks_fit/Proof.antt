@@ -1,0 +1,62 @@
+use Prim.Native.Nat.{ℕ, _-_}
+use native.Mathlib.Omega.{arith}
+use mathlib.Core.Path.{ap₂, _∙_}
+use mathlib.Core.Bool.{cond}
+use lib.Dec.{ltb}
+use lib.ListN.{getD}
+use Rattle.memory.specs.Layout.{termsOf, markAt}
+use Rattle.memory.proofs.TermsTests.{Testing, testing-none, testing-more, testing-all}
+use Rattle.memory.proofs.check_terms.marks_fit.Statement.{statement}
+use Rattle.memory.proofs.check_terms.marks_fit.Tie as tie
+
+abbrev Inv-loop : tie.InvT-loop
+Inv-loop terms e ok₀ j₀ ok j = Testing 16 (λ j. ltb (getD terms (markAt j) 0) (cond (ltb j (termsOf terms .events)) 2 1)) ok j
+
+abbrev μ-loop : tie.MeasureT-loop
+μ-loop terms e ok₀ j₀ ok j = 16 - j
+
+events-requires : tie.Need-events-requires Inv-loop μ-loop
+events-requires c κs = tt
+
+loop-holds : tie.Need-loop-holds Inv-loop μ-loop
+loop-holds c = testing-none _ _
+
+add-word : tie.Need-add-word Inv-loop μ-loop
+add-word c = omega arith
+
+word-requires : tie.Need-word-requires Inv-loop μ-loop
+word-requires c κs = tt
+
+mark-fits-requires : tie.Need-mark-fits-requires Inv-loop μ-loop
+mark-fits-requires c κs = tt
+
+add-j : tie.Need-add-j Inv-loop μ-loop
+add-j c = omega arith
+
+loop-less : tie.Need-loop-less Inv-loop μ-loop
+loop-less c = omega arith
+
+loop-again : tie.Need-loop-again Inv-loop μ-loop
+loop-again c =
+    let k = c .before .before .before in
+    testing-more (k .loop .inv) (omega arith) (c .mark-fits .result)
+    (c .mark-fits .ensures ∙ ap₂ (λ (w e : ℕ). ltb w (cond (ltb (k .loop .j) e) 2 1)) (c .before .word .ensures .0) (k .before .events .ensures .0))
+
+returns : tie.Need-returns Inv-loop μ-loop
+returns c = testing-all (c .before .loop .inv) (omega arith)
+
+pub marks-fit-spec : {M : Type 1} → statement M
+marks-fit-spec =
+    tie.close
+    (tie.spec
+    Inv-loop
+    μ-loop
+    events-requires
+    loop-holds
+    add-word
+    word-requires
+    mark-fits-requires
+    add-j
+    loop-less
+    loop-again
+    returns)

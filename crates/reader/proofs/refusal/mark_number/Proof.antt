@@ -1,0 +1,33 @@
+-- `reader::refusal::mark_number` meets its contract: the tests are taken one after the other.
+use Rattle.reader.specs.Testing.{numberFrom, contextTests}
+use borrow.Author.Needs.{needs}
+use Rattle.reader.proofs.refusal.mark_number.Statement.{statement}
+use Rattle.reader.proofs.refusal.mark_number.Tie as tie
+
+is-complete-requires : tie.Need-is-complete-requires
+is-complete-requires c κs = search needs
+
+first-requires : tie.Need-first-requires
+first-requires c κs = search needs
+
+first-requires-2 : tie.Need-first-requires-2
+first-requires-2 c κs = search needs
+
+first-requires-3 : tie.Need-first-requires-3
+first-requires-3 c κs = search needs
+
+first-requires-4 : tie.Need-first-requires-4
+first-requires-4 c κs = search needs
+
+returns : tie.Need-returns
+unfolding numberFrom contextTests
+returns c =
+    let k1 = c .before .before in
+    let k2 = k1 .before .before in
+    let k3 = k2 .before .before in
+    let k4 = k3 .before in
+    rw (c .first4 .ensures, k1 .first3 .ensures, k2 .first2 .ensures, k3 .first .ensures, k4 .is-complete .ensures)
+
+pub mark-number-spec : {M : Type 1} → statement M
+mark-number-spec =
+    tie.close (tie.spec is-complete-requires first-requires first-requires-2 first-requires-3 first-requires-4 returns)
