@@ -3,8 +3,8 @@ use native.Mathlib.Omega.{arith}
 use Prim.Native.Nat.{_+_}
 use mathlib.Core.Path.{sym, ap}
 use mathlib.Core.Bool.{Bool, cond}
-use Rattle.monitor.proofs.moment.held.Statement.{statement}
-use Rattle.monitor.proofs.moment.held.Tie as tie
+use Rattle.monitor.proofs.entering.held.Statement.{statement}
+use Rattle.monitor.proofs.entering.held.Tie as tie
 
 add-result : tie.Need-add-result
 add-result c = search needs

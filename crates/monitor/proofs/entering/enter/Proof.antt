@@ -1,7 +1,7 @@
 use borrow.Author.Needs.{needs}
 use Rattle.monitor.proofs.Moves.{entered-granted, entered-denied}
-use Rattle.monitor.proofs.moment.enter.Statement.{statement}
-use Rattle.monitor.proofs.moment.enter.Tie as tie
+use Rattle.monitor.proofs.entering.enter.Statement.{statement}
+use Rattle.monitor.proofs.entering.enter.Tie as tie
 
 make-effects-requires : tie.Need-make-effects-requires
 make-effects-requires c κs = search needs
