@@ -3,7 +3,7 @@ use crate::columns::Call;
 use crate::columns::put_text;
 use memory::Outcome;
 use memory::layout::SCRATCH;
-use monitor::Answer;
+use calls::Answer;
 use monitor::look;
 use monitor::request;
 use text::read::read;
