@@ -1,8 +1,8 @@
 // The line of a case: its label, a tab, the result.
-use libc::STDOUT_FILENO;
-use memory::Outcome;
 use calls::Answer;
 use calls::Verdict;
+use libc::STDOUT_FILENO;
+use memory::Outcome;
 use writer::Written;
 
 fn put(bytes: &[u8]) {

@@ -12,7 +12,7 @@ use borrow.Author.Tests.{lt-ltb, le-ltb, eqb-true, eqb-false, eq-eqb, ne-eqb}
 use Rattle.sets.specs.Sets.{bit}
 use Rattle.sets.proofs.Finite.{and-both, true-or-false}
 use Rattle.theory.specs.Meaning.{Assignment, assign, alone}
-use Rattle.deciding.specs.Rows.{tableBit, assigned, opened, remembered, Rows, Vars}
+use Rattle.deciding.specs.Rows.{tableBit, assigned, opened, openUnder, remembered, Rows, Vars}
 use Rattle.deciding.proofs.Loops.{zeros, rows-map}
 
 pub assigned-set : (vars : List ℕ) (x m y : ℕ) → x < length vars → assigned (set vars x m) y ≡ assign (assigned vars) x m y
@@ -43,10 +43,10 @@ pub opened-other : (g : Assignment) (x b y : ℕ) → (y ≡ x → ⊥) → open
 opened-other g x b y n = ap (λ (t : Bool). cond (t && ltb y 16) b (g y)) (ne-eqb y x n)
 
 -- the open variable under a binding of y
-pub opened-bind : (g : Assignment) (x y a b : ℕ) → y < 16 → opened (assign g y a) (cond (eqb y x) 16 x) b ≡ assign (opened g x b) y a
+pub opened-bind : (g : Assignment) (x y a b : ℕ) → y < 16 → opened (assign g y a) (openUnder y x) b ≡ assign (opened g x b) y a
 opened-bind g x y a b l = fun-ext (λ z. ⊎-elim (λ e. same z e) (λ e. other z e) (true-or-false (eqb y x)))
   where
-    same : (z : ℕ) → eqb y x ≡ true → opened (assign g y a) (cond (eqb y x) 16 x) b z ≡ assign (opened g x b) y a z
+    same : (z : ℕ) → eqb y x ≡ true → opened (assign g y a) (openUnder y x) b z ≡ assign (opened g x b) y a z
     same z e =
         ap (λ (t : Bool). opened (assign g y a) (cond t 16 x) b z) e
         ∙ ⊎-elim
@@ -65,7 +65,7 @@ opened-bind g x y a b l = fun-ext (λ z. ⊎-elim (λ e. same z e) (λ e. other 
             ap (λ (s : Bool). cond s a (g z)) p
             ∙ sym (ap₂ (λ (s t : Bool). cond s a (cond (t && ltb z 16) b (g z))) p q)
 
-    other : (z : ℕ) → eqb y x ≡ false → opened (assign g y a) (cond (eqb y x) 16 x) b z ≡ assign (opened g x b) y a z
+    other : (z : ℕ) → eqb y x ≡ false → opened (assign g y a) (openUnder y x) b z ≡ assign (opened g x b) y a z
     other z e =
         ap (λ (t : Bool). opened (assign g y a) (cond t 16 x) b z) e
         ∙ ⊎-elim

@@ -13,7 +13,7 @@ use Rattle.theory.specs.Formula.{number, isPast, column}
 use Rattle.theory.specs.Meaning.{Assignment, assign, alone}
 use Rattle.theory.specs.Terms.{Terms, formula}
 use Rattle.memory.specs.Layout.{termsOf}
-use Rattle.deciding.specs.Rows.{tableBit, assigned, opened, nowAt, cell, Rows, Has, Asked}
+use Rattle.deciding.specs.Rows.{tableBit, assigned, opened, openUnder, nowAt, cell, Rows, Has, Asked}
 use Rattle.deciding.specs.Rows.{inRow, Added, ahead, Recalled, remembered}
 use Rattle.theory.proofs.Spelled.{number-lt}
 use Rattle.deciding.proofs.Loops.{rows-map}
@@ -117,7 +117,7 @@ module _ {terms plan rel past : List ℕ} {g : Assignment} {x i want o a b r all
       now-bind T rel past (opened g x v) i m (entry-good s) (op-is s 8 e)
       ∙ ap₂ (λ (y z : ℕ). nowAt T rel past (assign (opened g x v) y m) z m) (sym (s .a-is)) (sym (s .b-is))
 
-  pub bound-row : (m w y : ℕ) (g' : Assignment) {f : List ℕ} → o ≡ 8 → y ≡ cond (eqb a x) 16 x → ((z : ℕ) → g' z ≡ assign g a m z)
+  pub bound-row : (m w y : ℕ) (g' : Assignment) {f : List ℕ} → o ≡ 8 → y ≡ openUnder a x → ((z : ℕ) → g' z ≡ assign g a m z)
       → Has w (λ k. eqb k m)
       → Rows w (cell T rel past g' y b) f → (v : ℕ) → inRow f m v ≡ cell T rel past g x i m v
   unfolding cell
