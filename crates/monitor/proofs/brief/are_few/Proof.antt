@@ -1,8 +1,8 @@
 use native.Mathlib.Omega.{arith}
 use Prim.Native.Nat.{_-_}
 use borrow.Author.Needs.{needs}
-use Rattle.monitor.proofs.memo.are_few.Statement.{statement}
-use Rattle.monitor.proofs.memo.are_few.Tie as tie
+use Rattle.monitor.proofs.brief.are_few.Statement.{statement}
+use Rattle.monitor.proofs.brief.are_few.Tie as tie
 
 abbrev Inv-loop : tie.InvT-loop
 Inv-loop terms once₀ twice₀ i₀ once twice i = Unit {0}

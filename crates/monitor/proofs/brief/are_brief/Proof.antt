@@ -1,8 +1,8 @@
 use native.Mathlib.Omega.{arith}
 use Prim.Native.Nat.{_-_}
 use borrow.Author.Needs.{needs}
-use Rattle.monitor.proofs.memo.are_brief.Statement.{statement}
-use Rattle.monitor.proofs.memo.are_brief.Tie as tie
+use Rattle.monitor.proofs.brief.are_brief.Statement.{statement}
+use Rattle.monitor.proofs.brief.are_brief.Tie as tie
 
 abbrev Inv-loop : tie.InvT-loop
 Inv-loop terms n left₀ i₀ left i = Unit {0}
