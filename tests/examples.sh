@@ -1,7 +1,7 @@
 #!/bin/sh
 # examples.sh PROGRAM KEEPER: every example as it stands, and with each change that its README tells of under "Change one thing". The first column there is `line 4 to R 1 2 1`, of
 # the requests, or `without G 0 0 2`, of the terms; the second lists the answers that differ, `5, 6 deny; 7 grant`. All others must stay. Where an example has a folder `later`, its terms
-# are what is stored after the example's requests.
+# are what is stored after the example's requests. Where it has a folder `strangers`, that has the same terms but for first edges, and what both ask alike both answer alike.
 here=$(cd "$(dirname "$0")" && pwd)
 # shellcheck source=tests/hold.sh
 . "$here/hold.sh"
@@ -46,7 +46,7 @@ differ() {
         END { exit left != 0 }' "$dir/expected.tsv" >"$work/wanted"
 }
 
-for dir in "$here"/../examples/*/ "$here"/../examples/*/later/; do
+for dir in "$here"/../examples/*/ "$here"/../examples/*/later/ "$here"/../examples/*/strangers/; do
     example=${dir#"$here"/../examples/} example=${example%/}
     if [ -d "$dir/later" ]; then
         "$work/keeper" store "$dir" | cmp -s - "$dir/later/terms.tsv" || { echo "FAIL $example: later/terms.tsv is not what is stored" && failed=$((failed + 1)); }
@@ -70,5 +70,19 @@ done
 # The same policy, spelled out with binders and counted.
 for file in requests.tsv expected.tsv; do
     cmp "$here/../examples/policy-20/$file" "$here/../examples/policy-20-many/$file" || failed=$((failed + 1))
+done
+
+# The same circle with other strangers.
+# told FOLDER: each request with its answer.
+told() { paste -d ' ' "$1/requests.tsv" "$1/expected.tsv"; }
+for dir in "$here"/../examples/*/strangers; do
+    told "$dir/.." >"$work/told"
+    grep -v '^G' "$dir/../terms.tsv" >"$work/terms"
+    grep -v '^G' "$dir/terms.tsv" | cmp - "$work/terms" || failed=$((failed + 1))
+    told "$dir" | awk -F '[ ]' '
+        NR == FNR { asked[FNR] = $1; said[FNR] = $2; next }
+        $1 != asked[FNR] { other++; next }
+        { alike++; differ += $2 != said[FNR] }
+        END { exit differ || !alike || !other }' "$work/told" - || { echo "FAIL $dir: the circle's answers differ" && failed=$((failed + 1)); }
 done
 finish

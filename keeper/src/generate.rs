@@ -7,6 +7,7 @@ pub mod lines;
 mod patterns;
 pub mod size;
 pub mod stored;
+pub mod strangers;
 pub mod words;
 
 use crate::record::{Call, Record};

@@ -18,4 +18,5 @@ mod set_lists;
 mod shrinking;
 mod speed;
 mod stored;
+mod strangers;
 mod traps;
