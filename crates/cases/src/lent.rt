@@ -1,9 +1,9 @@
 // The calls over the front of lent memory. Memory that does not reach so far gives a refusal by 0, which no call gives.
 use crate::columns::Call;
 use crate::columns::put_text;
+use calls::Answer;
 use memory::Outcome;
 use memory::layout::SCRATCH;
-use monitor::Answer;
 use monitor::look;
 use monitor::request;
 use text::read::read;

@@ -1,6 +1,6 @@
 // Runs the cases of cases.tsv in the current folder: every case of docs/SCOPE.md, Cases, and a dozen more of each refusal. A case prints one
 // line: its label, a tab, the result. The keeper reads the same file and works out by itself what is to be printed.
-mod calls;
+mod asks;
 mod columns;
 mod lent;
 mod reads;
@@ -48,10 +48,10 @@ fn run(l: &[u8], head: &[u8]) {
     if reads::run(kind, l, head) {
         return;
     }
-    if calls::run(kind, l, head) {
+    if asks::run(kind, l, head) {
         return;
     }
-    if calls::run_with(kind, l, head) {
+    if asks::run_with(kind, l, head) {
         return;
     }
     if writes::run(kind, l, head) {

@@ -1,8 +1,8 @@
 // The line of a case: its label, a tab, the result.
+use calls::Answer;
+use calls::Verdict;
 use libc::STDOUT_FILENO;
 use memory::Outcome;
-use monitor::Answer;
-use monitor::Verdict;
 use writer::Written;
 
 fn put(bytes: &[u8]) {

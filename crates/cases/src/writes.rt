@@ -1,6 +1,6 @@
 // Cases that read the head and write the memory out again: `writes` and its like in the old form, `stores` and its like in the stored form.
-use crate::calls::put_term;
-use crate::calls::put_word;
+use crate::asks::put_term;
+use crate::asks::put_word;
 use crate::columns::call_at;
 use crate::columns::label;
 use crate::columns::number_at;

@@ -18,10 +18,10 @@ use Rattle.memory.specs.Layout.{termsWords, stateWords, termsOf, stateOf}
 use Rattle.memory.specs.Checks.{goodMemory, goodState, goodRelations}
 use Rattle.memory.specs.Outcome.{Outcome, checks, opens}
 use Rattle.memory.specs.Outcome.Outcome.{passed, failed}
-use Rattle.monitor.specs.Monitor.{named, answer}
-use Rattle.monitor.specs.SetList.{Listing, singly, listChecks, listing, listed}
-use Rattle.monitor.specs.SetList.Listing.{counted, refused as unlisted}
-use Rattle.monitor.specs.declared.set_list.Record.{Record}
+use Rattle.calls.specs.Monitor.{named, answer}
+use Rattle.calls.specs.SetList.{Listing, singly, listChecks, listing, listed}
+use Rattle.calls.specs.SetList.Listing.{counted, refused as unlisted}
+use Rattle.calls.specs.declared.Record.{Record}
 use Rattle.fields.specs.Split.{Lines, split, lines}
 use Rattle.fields.specs.Split.Lines.{done, cut, line}
 use Rattle.file.specs.Line.{parsed}

@@ -7,8 +7,8 @@ use Rattle.theory.specs.Keeper.Verdict.{grant, deny}
 use Rattle.theory.specs.Keeper.Answer.{decided, refused}
 use Rattle.memory.specs.Outcome.{Outcome}
 use Rattle.memory.specs.Outcome.Outcome.{passed, failed}
-use Rattle.monitor.specs.SetList.{Listing}
-use Rattle.monitor.specs.SetList.Listing.{counted, refused as unlisted}
+use Rattle.calls.specs.SetList.{Listing}
+use Rattle.calls.specs.SetList.Listing.{counted, refused as unlisted}
 use Rattle.writer.specs.Write.{Writing}
 use Rattle.writer.specs.Write.Writing.{bytes, unwritten}
 

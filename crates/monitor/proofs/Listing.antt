@@ -3,22 +3,44 @@
 use mathlib.Core.Path.{_≡_, refl, sym, ap, _∙_, subst}
 use Prim.Native.Nat.{ℕ, suc, _+_, _<_, _≤_, _^_}
 use native.Mathlib.Omega.{arith}
-use mathlib.Core.Bool.{Bool, true, false, cond}
+use mathlib.Core.Bool.{Bool, true, false, cond, false≢true}
 use mathlib.Core.List.{List, [], _∷_, _++_, append-nil}
 use lib.Dec.{eqb, lit≤}
 use lib.ListN.{length, getD, set, length-append, length-set}
 use Rattle.memory.specs.Outcome.{Outcome, outcomeOf, hasPassed}
 use Rattle.memory.specs.Outcome.Outcome.{passed, failed}
-use Rattle.monitor.specs.Monitor.{answer, granted}
-use Rattle.monitor.specs.SetList.{listingOf, Run, singly, listing, listed, left}
-use Rattle.monitor.specs.SetList.Listing.{counted}
-use Rattle.monitor.specs.Listing.{Passed, Seen, turnsOf, gainOf}
-use Rattle.monitor.specs.declared.set_list.Record.{Record}
-use Rattle.monitor.specs.declared.set_list.Listed.{Listed}
+use Rattle.memory.proofs.Outcomes.{Checked}
+use Rattle.calls.specs.Monitor.{answer, granted}
+use Rattle.calls.specs.SetList.{listingOf, Run, singly, listing, listed, left}
+use Rattle.calls.specs.SetList.Listing.{counted}
+use Rattle.calls.specs.Listing.{Passed, turnsOf, gainOf}
+use Rattle.monitor.specs.Inspecting.{Seen}
+use Rattle.calls.specs.declared.Record.{Record}
+use Rattle.calls.specs.declared.Listed.{Listed}
 use Rattle.monitor.specs.declared.set_list.Inspected.{Inspected}
-use Rattle.monitor.proofs.Records.{blank, put-answer}
-use Rattle.monitor.proofs.ListChecks.{passed-all}
-use Rattle.monitor.proofs.Singly.{more, singly-more, one-granted, AsRequest, after-passed}
+use Rattle.monitor.proofs.Records.{put-answer}
+use Rattle.calls.proofs.ListChecks.{list-passed}
+use Rattle.calls.proofs.Singly.{blank, more, singly-more, one-granted, AsRequest, after-passed}
+
+-- ---- the checks
+
+module _ (terms state scratch : List ℕ) where
+  is-passed : (o : Outcome) → hasPassed o ≡ true → passed ≡ o
+  is-passed passed e = refl
+  is-passed (failed n l) e = absurd (false≢true e)
+
+  pub passed-all : (c : Inspected) → Seen terms state scratch c → hasPassed (outcomeOf (c .outcome)) ≡ true → Passed terms (c .plan) state scratch
+  passed-all c seen e =
+      let p = list-passed terms state scratch (is-passed (outcomeOf (c .outcome)) e ∙ seen .outcome) in
+      let k : Checked terms state = p .1 in
+      record {
+        long-terms = k .long-terms;
+        good-terms = k .good-terms;
+        planned = seen .planned e;
+        long-state = k .long-state;
+        good-state = k .good-state;
+        long-scratch = p .0;
+      }
 
 -- ---- one element between two lists
 

@@ -11,9 +11,9 @@ use denote.Laws.{Is, Tells}
 use denote.Slice.{Room}
 use denote.Index.{place, place-is}
 use denote.Struct.Laws as LL
-use Rattle.monitor.specs.declared.set_list.Record.{Record}
-use Rattle.monitor.proofs.set_list.Record as T
-use Rattle.monitor.proofs.set_list.Record.Laws as T′
+use Rattle.calls.specs.declared.Record.{Record}
+use Rattle.calls.proofs.Record as T
+use Rattle.calls.proofs.Record.Laws as T′
 
 abbrev pub R : RattleType
 R = T.the-row
@@ -38,10 +38,6 @@ scaled i n l room = scaled-fits i n bytes l (room .1)
 -- the place of element i is what the code computes
 pub at-place : (o i : ℕ) → i * bytes + o ≡ place (mem R .size) o i
 at-place o i = sym (place-is bytes o i)
-
--- elements past the end
-abbrev pub blank : Record
-blank = record { event = 0; from = 0; to = 0; answer = 0 }
 
 -- the record with another answer
 abbrev pub put-answer : Record → ℕ → Record

@@ -2,28 +2,16 @@
 ghost use mathlib.Core.Path.{_≡_};
 ghost use Prim.Native.Nat.{_+_, _<_, _^_};
 ghost use Rattle.memory.specs.Outcome.{outcomeOf};
-ghost use Rattle.monitor.specs.Monitor.{answer, stateAfter, scratchAfter};
-ghost use Rattle.monitor.specs.SetList.{listingOf, numberOf, listing, listed, left};
-ghost use Rattle.monitor.specs.Listing.{Passed, Seen, turnsOf, gainOf};
+ghost use Rattle.calls.specs.Monitor.{answer, stateAfter, scratchAfter};
+ghost use Rattle.calls.specs.SetList.{listingOf, numberOf, listing, listed, left};
+ghost use Rattle.calls.specs.Listing.{Passed, turnsOf, gainOf};
+ghost use Rattle.monitor.specs.Inspecting.{Seen};
 use crate::is_named;
 use crate::moment;
+use calls::Listed;
+use calls::Record;
 use memory::Outcome;
 use memory::layout;
-
-// A request and its answer: 0 for deny, 1 for grant, 9 where event, from or to names nothing.
-#[repr(C)]
-pub struct Record {
-    pub event: u32,
-    pub from: u32,
-    pub to: u32,
-    pub answer: u32,
-}
-
-// How many records were granted, or the refusal's number and line.
-pub enum Listed {
-    Granted(usize),
-    Refused(usize, usize),
-}
 
 // What the checks give, and the terms' plan where they pass.
 struct Inspected {

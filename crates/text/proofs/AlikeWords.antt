@@ -17,7 +17,7 @@ use Rattle.theory.proofs.Past.{past-entry}
 use Rattle.theory.proofs.Like.{Alike, met, met-is, same-number, same-formula, same-past, since-met}
 use Rattle.memory.specs.Layout.{stateWords, relationWords, eventAt, eventWord, row, wordAt, tabulate, wordsOf}
 use Rattle.memory.proofs.Inside.{EventInside, Inside}
-use Rattle.monitor.specs.Agreement.{Agrees}
+use Rattle.calls.specs.Agreement.{Agrees}
 
 module _ (T U : Terms) (a : Alike T U) where
   abbrev W : Terms

@@ -20,7 +20,7 @@ use Rattle.memory.proofs.Inside.{Inside}
 use Rattle.memory.proofs.Front.{state-front}
 use Rattle.memory.proofs.Words.{length-words, now-back}
 use Rattle.memory.proofs.Outcomes.{check-passed}
-use Rattle.monitor.proofs.Held.{Held, held-words}
+use Rattle.calls.proofs.Held.{Held, held-words}
 use Rattle.file.specs.File.{File, stateSaid}
 use Rattle.file.specs.Reading.{reading}
 use Rattle.file.specs.Reading.Reading.{accepted}

@@ -22,9 +22,9 @@ use Rattle.memory.proofs.Accepted.{good}
 use Rattle.memory.proofs.Inside.{Inside, state-inside}
 use Rattle.memory.proofs.Front.{good-cong}
 use Rattle.memory.proofs.Outcomes.{Checked, passed-checked}
-use Rattle.monitor.specs.Agreement.{LentStep, fedSteps, serveSteps, Agrees}
-use Rattle.monitor.proofs.Held.{Held, held-words, agrees}
-use Rattle.monitor.proofs.Demand.{run}
+use Rattle.calls.specs.Agreement.{LentStep, fedSteps, serveSteps, Agrees}
+use Rattle.calls.proofs.Held.{Held, held-words, agrees}
+use Rattle.calls.proofs.Demand.{run}
 use Rattle.file.specs.File.{File}
 use Rattle.file.proofs.Accepted.{Accepted, accepted-good}
 use Rattle.reader.specs.Memory.{memoryOf}

@@ -11,7 +11,7 @@ use Rattle.theory.specs.Tables.{opening}
 use Rattle.memory.specs.Layout.{termsWords, stateWords, termsOf, wordsOf}
 use Rattle.memory.specs.Outcome.{Outcome, opens}
 use Rattle.memory.specs.Outcome.Outcome.{passed, failed}
-use Rattle.monitor.specs.Monitor.{openedState}
+use Rattle.calls.specs.Monitor.{openedState}
 use Rattle.file.specs.File.{File, stateSaid}
 use Rattle.file.specs.Reading.{Reading, reading}
 use Rattle.file.specs.Reading.Reading.{accepted, refused}

@@ -22,7 +22,7 @@ use Rattle.memory.proofs.Row.{length-tabulate, getD-tabulate}
 use Rattle.memory.proofs.Words.{length-words}
 use Rattle.memory.proofs.Front.{state-cong, relations-cong}
 use Rattle.memory.proofs.Outcomes.{Checked, passed-checked}
-use Rattle.monitor.specs.Monitor.{openedState}
+use Rattle.calls.specs.Monitor.{openedState}
 use Rattle.text.specs.Text.{isFresh}
 
 -- The first i words of s in front of what was there.

@@ -11,7 +11,7 @@ use Rattle.theory.specs.Strangers.{Circle, WithoutReach, Separate, SeparateFirs
 use Rattle.theory.proofs.Good.{Good}
 use Rattle.theory.proofs.Strangers.{strangers, strangers-first}
 use Rattle.memory.specs.Layout.{termsWords, stateWords}
-use Rattle.monitor.specs.Agreement.{LentStep, fedSteps, serveSteps}
+use Rattle.calls.specs.Agreement.{LentStep, fedSteps, serveSteps}
 use Rattle.fields.specs.Split.{lines}
 use Rattle.file.specs.File.{File}
 use Rattle.file.specs.Reading.{reading}

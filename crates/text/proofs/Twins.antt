@@ -22,14 +22,14 @@ use Rattle.memory.proofs.Accepted.{good}
 use Rattle.memory.proofs.Front.{state-cong}
 use Rattle.memory.proofs.Words.{length-words}
 use Rattle.memory.proofs.Outcomes.{Checked, check-passed}
-use Rattle.monitor.specs.Monitor.{named, answer, granted, moves, stateAfter, scratchAfter}
-use Rattle.monitor.specs.SetList.{Run, filled, singly, listChecks, listing, listed, left}
-use Rattle.monitor.specs.SetList.Listing.{counted}
-use Rattle.monitor.specs.Agreement.{LentCall, LentStep, leaves, answersIn, serveSteps}
-use Rattle.monitor.specs.Agreement.LentStep.{once, setList}
-use Rattle.monitor.specs.declared.set_list.Record.{Record}
-use Rattle.monitor.proofs.Answers.{moves-decided, decided-says}
-use Rattle.monitor.proofs.Singly.{after-checked}
+use Rattle.calls.specs.Monitor.{named, answer, granted, moves, stateAfter, scratchAfter}
+use Rattle.calls.specs.SetList.{Run, filled, singly, listChecks, listing, listed, left}
+use Rattle.calls.specs.SetList.Listing.{counted}
+use Rattle.calls.specs.Agreement.{LentCall, LentStep, leaves, answersIn, serveSteps}
+use Rattle.calls.specs.Agreement.LentStep.{once, setList}
+use Rattle.calls.specs.declared.Record.{Record}
+use Rattle.calls.proofs.Answers.{moves-decided, decided-says}
+use Rattle.calls.proofs.Singly.{after-checked}
 use Rattle.text.proofs.AlikeWords.{state-alike}
 use Rattle.text.proofs.AlikeMoments.{decide-alike, made-alike, advance-alike}
 

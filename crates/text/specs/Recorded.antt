@@ -9,7 +9,7 @@ use Rattle.theory.specs.Terms.{Terms}
 use Rattle.theory.specs.Moment.{Moment, first}
 use Rattle.theory.specs.Keeper.{keepAll}
 use Rattle.memory.specs.Layout.{termsWords, stateWords}
-use Rattle.monitor.specs.Agreement.{LentStep, fedSteps, serveSteps}
+use Rattle.calls.specs.Agreement.{LentStep, fedSteps, serveSteps}
 use Rattle.fields.specs.Split.{lines}
 use Rattle.file.specs.File.{File}
 use Rattle.file.specs.Reading.{reading}

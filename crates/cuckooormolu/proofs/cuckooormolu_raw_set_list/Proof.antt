@@ -36,12 +36,12 @@ use denote.Triple.Call.{calls-at}
 use denote.Triple.Clauses.{ensured, lasts}
 use denote.Triple.Table.{entered, cited}
 use denote.Triple.Walked.{Stays, stay-dropped, gave-slice, gave-ref, walkOf, goes-dropped, goes-gave-slice, goes-gave-ref, Walks, ends-at, walked, walk-meets}
-use Rattle.monitor.specs.declared.set_list.Record.{Record}
-use Rattle.monitor.specs.declared.set_list.Listed.{Listed}
-use Rattle.monitor.specs.SetList.{listingOf, listed, left}
-use Rattle.monitor.proofs.set_list.Record as T
-use Rattle.monitor.proofs.set_list.Listed as S
-use Rattle.monitor.proofs.set_list.Listed.Laws as S′
+use Rattle.calls.specs.declared.Record.{Record}
+use Rattle.calls.specs.declared.Listed.{Listed}
+use Rattle.calls.specs.SetList.{listingOf, listed, left}
+use Rattle.calls.proofs.Record as T
+use Rattle.calls.proofs.Listed as S
+use Rattle.calls.proofs.Listed.Laws as S′
 use Rattle.monitor.proofs.set_list.set_list as list
 use Rattle.monitor.proofs.set_list.set_list.Symbol as list-def
 use Rattle.monitor.proofs.set_list.set_list.Symbol.{name as #monitor·set-list}

@@ -1,5 +1,5 @@
 use borrow.Author.Needs.{needs}
-use Rattle.monitor.proofs.Moves.{entered-granted, entered-denied}
+use Rattle.deciding.proofs.Moves.{entered-granted, entered-denied}
 use Rattle.monitor.proofs.entering.enter.Statement.{statement}
 use Rattle.monitor.proofs.entering.enter.Tie as tie
 

@@ -4,8 +4,8 @@ use mathlib.Core.Path.{ap, _∙_}
 use mathlib.Core.Bool.{Bool, _&&_}
 use lib.ListN.{getD}
 use Rattle.sets.proofs.Finite.{any-cong}
-use Rattle.monitor.specs.Rows.{inRow, ahead}
-use Rattle.monitor.proofs.Loops as loops
+use Rattle.deciding.specs.Rows.{inRow, ahead}
+use Rattle.deciding.proofs.Loops as loops
 use Rattle.monitor.proofs.rows.follow.Statement.{statement}
 use Rattle.monitor.proofs.rows.follow.Tie as tie
 

@@ -2,7 +2,7 @@ use borrow.Author.Needs.{needs}
 use mathlib.Core.Path.{sym, ap}
 use Rattle.memory.specs.Outcome.{outcomeOf}
 use Rattle.memory.specs.declared.Outcome.{Outcome as OutcomeCase}
-use Rattle.monitor.specs.SetList.{listing}
+use Rattle.calls.specs.SetList.{listing}
 use Rattle.monitor.proofs.set_list.finish.Statement.{statement}
 use Rattle.monitor.proofs.set_list.finish.Tie as tie
 

@@ -1,7 +1,7 @@
 use borrow.Author.Needs.{needs}
 use mathlib.Core.Path.{refl, _∙_}
 use mathlib.Core.Bool.{false≢true}
-use Rattle.monitor.proofs.ListChecks.{list-short, list-checked}
+use Rattle.calls.proofs.ListChecks.{list-short, list-checked}
 use Rattle.monitor.proofs.set_list.inspect.Statement.{statement}
 use Rattle.monitor.proofs.set_list.inspect.Tie as tie
 

@@ -51,18 +51,20 @@ use denote.Triple.Clauses.{ensured, lasts}
 use denote.Triple.Table.{entered, cited}
 use denote.Triple.Walked.{says, Stays, stay-slice, stay-none-slice, walkOf, goes-slice, goes-none-slice, Walks, ends-at, walked, walk-meets}
 use Rattle.memory.specs.Outcome.{outcomeOf}
-use Rattle.monitor.specs.declared.set_list.Record.{Record}
-use Rattle.monitor.specs.declared.set_list.Listed.{Listed}
+use Rattle.calls.specs.declared.Record.{Record}
+use Rattle.calls.specs.declared.Listed.{Listed}
 use Rattle.monitor.specs.declared.set_list.Inspected.{Inspected}
-use Rattle.monitor.specs.SetList.{listingOf, listing}
-use Rattle.monitor.specs.Listing.{Passed, Seen, turnsOf, gainOf}
-use Rattle.monitor.proofs.set_list.Record as T
-use Rattle.monitor.proofs.set_list.Record.Laws as T′
-use Rattle.monitor.proofs.set_list.Listed as S
-use Rattle.monitor.proofs.set_list.Listed.Laws as S′
+use Rattle.calls.specs.SetList.{listingOf, listing}
+use Rattle.calls.specs.Listing.{Passed, turnsOf, gainOf}
+use Rattle.monitor.specs.Inspecting.{Seen}
+use Rattle.calls.proofs.Record as T
+use Rattle.calls.proofs.Record.Laws as T′
+use Rattle.calls.proofs.Listed as S
+use Rattle.calls.proofs.Listed.Laws as S′
 use Rattle.monitor.proofs.set_list.Inspected as I
 use Rattle.monitor.proofs.set_list.Inspected.Laws as I′
-use Rattle.monitor.proofs.Records.{R, val, vals, tells, scaled, at-place, blank, put-answer, with-answer}
+use Rattle.monitor.proofs.Records.{R, val, vals, tells, scaled, at-place, put-answer, with-answer}
+use Rattle.calls.proofs.Singly.{blank}
 use Rattle.monitor.proofs.LentAgain.{LentAgain, takes-slice, gives-slice}
 use Rattle.monitor.proofs.Listing.{Facts, begins, asks, Said, turn, next-fits, count-below, turns-within, ends as ended-facts}
 use Rattle.monitor.proofs.set_list.inspect as inspect

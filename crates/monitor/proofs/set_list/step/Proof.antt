@@ -2,7 +2,7 @@ use borrow.Author.Needs.{needs}
 use borrow.Author.Tests.{not-true}
 use mathlib.Core.Path.{sym, _∙_}
 use Rattle.memory.proofs.Outcomes.{not-false}
-use Rattle.monitor.proofs.Singly.{step-unnamed, step-denied, step-kept, step-granted}
+use Rattle.calls.proofs.Singly.{step-unnamed, step-denied, step-kept, step-granted}
 use Rattle.monitor.proofs.set_list.step.Statement.{statement}
 use Rattle.monitor.proofs.set_list.step.Tie as tie
 

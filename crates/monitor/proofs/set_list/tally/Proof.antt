@@ -2,7 +2,7 @@ use borrow.Author.Needs.{needs}
 use borrow.Author.Tests.{eq-eqb, ne-eqb}
 use native.Mathlib.Nat.{add-zero}
 use mathlib.Core.Path.{sym}
-use Rattle.monitor.specs.Listing.{gainOf}
+use Rattle.calls.specs.Listing.{gainOf}
 use Rattle.monitor.proofs.set_list.tally.Statement.{statement}
 use Rattle.monitor.proofs.set_list.tally.Tie as tie
 

@@ -1,5 +1,5 @@
 use borrow.Author.Needs.{needs}
-use Rattle.monitor.specs.Listing.{turnsOf}
+use Rattle.calls.specs.Listing.{turnsOf}
 use Rattle.monitor.proofs.set_list.turns.Statement.{statement}
 use Rattle.monitor.proofs.set_list.turns.Tie as tie
 

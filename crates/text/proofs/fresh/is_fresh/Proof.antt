@@ -3,7 +3,7 @@ use mathlib.Core.Path.{_≡_, refl, sym, ap, _∙_}
 use Rattle.memory.proofs.Outcomes.{passed-checked}
 use native.Mathlib.Omega.{arith}
 use borrow.Author.Needs.{needs}
-use Rattle.monitor.specs.Monitor.{openedState}
+use Rattle.calls.specs.Monitor.{openedState}
 use Rattle.text.proofs.Started.{copy-long, opened-long, fresh-is}
 use Rattle.text.proofs.fresh.is_fresh.Statement.{statement}
 use Rattle.text.proofs.fresh.is_fresh.Tie as tie

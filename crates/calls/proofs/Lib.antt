@@ -1,0 +1,10 @@
+pub mod Level
+pub mod Held
+pub mod Refused
+pub mod InStep
+pub mod Demand
+pub mod Answers
+pub mod Reached
+pub mod ListChecks
+pub mod Singly
+pub mod AsSingle

@@ -1,0 +1,96 @@
+-- What demand 3 asks (docs/SCOPE.md, The keeper): a list of calls and set lists over lent memory, and the words afterwards.
+use Prim.Native.Nat.{ℕ, _<_}
+use mathlib.Core.Path.{_≡_}
+use mathlib.Core.Bool.{Bool, false, cond, _&&_}
+use mathlib.Core.List.{List, [], _∷_, _++_, map}
+use lib.Dec.{eqb, ltb}
+use lib.ListN.{length, getD, drop}
+use Rattle.sets.specs.Sets.{bit}
+use Rattle.theory.specs.Meaning.{standing}
+use Rattle.theory.specs.Terms.{Terms, formula, tables, pastEntry}
+use Rattle.theory.specs.Moment.{Moment}
+use Rattle.theory.specs.Keeper.{Call, Answer, lastMoment, keeperHolds}
+use Rattle.memory.specs.Layout.{stateWords, relationAt, tableAt, eventAt, eventWord}
+use Rattle.theory.specs.Keeper.Verdict.{grant, deny}
+use Rattle.theory.specs.Keeper.Answer.{decided, refused}
+use Rattle.calls.specs.Monitor.{answer, stateAfter}
+use Rattle.calls.specs.SetList.{Listing, listed, left}
+use Rattle.calls.specs.SetList.Listing.{counted, refused as refusedList}
+use Rattle.calls.specs.declared.Record.{Record}
+
+-- A call over lent memory: a look or a request; event, initiator, target; the scratch that is lent with it.
+pub record LentCall : Type 0 where
+  pub look : Bool
+  pub event : ℕ
+  pub from : ℕ
+  pub to : ℕ
+  pub scratch : List ℕ
+
+-- The same call, as the keeper is fed it.
+abbrev pub fed : LentCall → Call
+fed c = record { look = c .look; event = c .event; from = c .from; to = c .to; scratch = length (c .scratch) }
+
+unfoldable pub fedAll : List LentCall → List Call
+fedAll [] = []
+fedAll (c ∷ cs) = fed c ∷ fedAll cs
+
+-- What a call leaves of the state's memory.
+abbrev pub leaves : (terms state : List ℕ) → LentCall → List ℕ
+leaves terms state c = cond (c .look) state (stateAfter terms state (c .scratch) (c .event) (c .from) (c .to))
+
+-- The calls of a list, each handed terms and state as the last left them: the answers in order, and the state's memory at the end.
+unfoldable pub serveAll : (terms state : List ℕ) → List LentCall → List Answer × List ℕ
+serveAll terms state [] = ([], state)
+serveAll terms state (c ∷ cs) =
+    let later = serveAll terms (leaves terms state c) cs in
+    (answer terms state (c .scratch) (c .event) (c .from) (c .to) ∷ later .0, later .1)
+
+-- ---- set lists among the calls
+
+-- A step over lent memory: one call, or a set list with the scratch that is lent with it.
+pub data LentStep : Type 0 where
+  once : LentCall → LentStep
+  setList : (scratch : List ℕ) → List Record → LentStep
+
+-- The request of a record, as the keeper is fed it.
+abbrev pub fedRecord : (scratch : ℕ) → Record → Call
+fedRecord n r = record { look = false; event = r .event; from = r .from; to = r .to; scratch = n }
+
+-- The same steps, as the keeper is fed them: a set list is its requests, one after another.
+unfoldable pub fedSteps : List LentStep → List Call
+fedSteps [] = []
+fedSteps (once c ∷ ss) = fed c ∷ fedSteps ss
+fedSteps (setList scratch rs ∷ ss) = map (fedRecord (length scratch)) rs ++ fedSteps ss
+
+-- The answer that a number stands for: 0 for deny, 1 for grant, else a refusal by that number.
+abbrev pub answerIn : ℕ → Answer
+answerIn n = cond (eqb n 0) (decided deny) (cond (eqb n 1) (decided grant) (refused n 0))
+
+-- What a set list answers to each record: the number that is filled in, or the refusal of the list as a whole.
+abbrev pub answersIn : Listing → (after : List Record) → List Answer
+answersIn (counted n) rs = map (λ r. answerIn (r .answer)) rs
+answersIn (refusedList n l) rs = map (λ r. refused n l) rs
+
+-- The steps of a list, each handed terms and state as the last left them: the answers in order, and the state's memory at the end.
+unfoldable pub serveSteps : (terms state : List ℕ) → List LentStep → List Answer × List ℕ
+serveSteps terms state [] = ([], state)
+serveSteps terms state (once c ∷ ss) =
+    let later = serveSteps terms (leaves terms state c) ss in
+    (answer terms state (c .scratch) (c .event) (c .from) (c .to) ∷ later .0, later .1)
+serveSteps terms state (setList scratch rs ∷ ss) =
+    let after = left terms state scratch rs in
+    let later = serveSteps terms (after .state) ss in
+    (answersIn (listed terms state scratch rs) (after .records) ++ later .0, later .1)
+
+-- ---- the words afterwards
+
+-- The state's memory m agrees with the keeper's list, for a and b below 64, k below 16 and t below 32; it is as long as m₀ and has m₀'s further words.
+pub record Agrees (T : Terms) (m₀ m : List ℕ) (Ms : List Moment) : Type 0 where
+  pub edges : (k a b : ℕ) → k < 16 → a < 64 → b < 64 → bit (getD m (relationAt k a) 0) b ≡ lastMoment Ms .edge k a b
+  pub tables : (t a b : ℕ) → t < 32 → a < 64 → b < 64 →
+      bit (getD m (tableAt t a) 0) b
+      ≡ ltb a (T .members) && (ltb b (T .members) && (ltb t (tables T)
+      && keeperHolds T Ms (pastEntry T t) (standing (formula T (pastEntry T t)) b) a))
+  pub event : getD m eventAt 0 ≡ eventWord (lastMoment Ms .event)
+  pub long : length m ≡ length m₀
+  pub further : drop stateWords m ≡ drop stateWords m₀

@@ -1,0 +1,6 @@
+pub mod Monitor
+pub mod SetList
+pub mod Refused
+pub mod Agreement
+pub mod Reached
+pub mod Listing

@@ -1,0 +1,17 @@
+pub mod Loops
+pub mod Counting
+pub mod EdgeLaws
+pub mod Assignments
+pub mod Unfolded
+pub mod Settled
+pub mod Sites
+pub mod Operators
+pub mod Neighbours
+pub mod Requests
+pub mod Seen
+pub mod Stored
+pub mod Moves
+pub mod Copying
+pub mod Remembering
+pub mod ReadSets
+pub mod Steps
