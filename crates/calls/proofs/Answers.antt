@@ -14,9 +14,9 @@ use Rattle.theory.specs.Keeper.Answer.{decided, refused}
 use Rattle.theory.specs.Limits.{scratchWords}
 use Rattle.memory.specs.Layout.{termsWords, stateWords, termsOf, stateOf, wordsOf}
 use Rattle.memory.specs.Checks.{goodMemory, goodState}
-use Rattle.theory.specs.Tables.{opening, decideNow, made, advance}
+use Rattle.theory.specs.Tables.{named, opening, decideNow, made, advance}
 use Rattle.memory.specs.Outcome.{hasPassed, checks, opens}
-use Rattle.calls.specs.Monitor.{named, answer, granted, isDecided, moves, stateAfter, scratchAfter, openedState}
+use Rattle.calls.specs.Monitor.{answer, granted, isDecided, moves, stateAfter, scratchAfter, openedState}
 use Rattle.memory.specs.Outcome.Outcome.{passed, failed}
 use Rattle.memory.proofs.Outcomes.{Checked}
 

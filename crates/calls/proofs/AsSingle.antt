@@ -8,11 +8,11 @@ use mathlib.Core.List.{List, [], _∷_}
 use lib.ListN.{length, getD}
 use Rattle.theory.specs.Keeper.Answer.{refused}
 use Rattle.theory.specs.Limits.{scratchWords}
-use Rattle.theory.specs.Tables.{decideNow}
+use Rattle.theory.specs.Tables.{named, decideNow}
 use Rattle.memory.specs.Layout.{termsOf, stateOf}
 use Rattle.memory.specs.Outcome.Outcome.{passed, failed}
 use Rattle.memory.proofs.Outcomes.{Checked}
-use Rattle.calls.specs.Monitor.{named, answer, stateAfter, scratchAfter}
+use Rattle.calls.specs.Monitor.{answer, stateAfter, scratchAfter}
 use Rattle.calls.specs.SetList.{numberOf, singly, listChecks, listed, left}
 use Rattle.calls.specs.SetList.Listing.{counted, refused as refusedList}
 use Rattle.calls.specs.Listing.{gainOf}

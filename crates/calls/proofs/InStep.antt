@@ -16,8 +16,8 @@ use Rattle.theory.specs.Keeper.Answer.{decided, refused}
 use Rattle.theory.specs.Limits.{scratchWords}
 use Rattle.memory.specs.Layout.{termsWords, stateWords, termsOf, stateOf, wordsOf}
 use Rattle.memory.specs.Checks.{goodMemory}
-use Rattle.theory.specs.Tables.{decideNow, made, advance}
-use Rattle.calls.specs.Monitor.{named, answer, granted, moves, stateAfter}
+use Rattle.theory.specs.Tables.{named, decideNow, made, advance}
+use Rattle.calls.specs.Monitor.{answer, granted, moves, stateAfter}
 use Rattle.calls.specs.Agreement.{LentCall, fed, leaves}
 use Rattle.theory.proofs.Good.{Good}
 use Rattle.theory.proofs.Kept.{Kept, decide-kept, advance-kept}

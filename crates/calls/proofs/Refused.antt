@@ -15,10 +15,10 @@ use Rattle.theory.specs.Keeper.Answer.{decided, refused}
 use Rattle.theory.specs.Limits.{scratchWords}
 use Rattle.memory.specs.Layout.{termsWords, stateWords, termsOf, stateOf}
 use Rattle.memory.specs.Checks.{goodMemory, goodState, goodRelations}
-use Rattle.theory.specs.Tables.{decideNow}
+use Rattle.theory.specs.Tables.{named, decideNow}
 use Rattle.calls.specs.Refused.{Long, Refusal, OpeningRefusal}
 use Rattle.calls.specs.Refused.Refusal.{short-terms, short-state, short-scratch, bad-terms, bad-state, no-event, no-initiator, no-target}
-use Rattle.calls.specs.Monitor.{named, answer, stateAfter, scratchAfter, openedState}
+use Rattle.calls.specs.Monitor.{answer, stateAfter, scratchAfter, openedState}
 use Rattle.memory.specs.Outcome.{Outcome, opens}
 use Rattle.memory.specs.Outcome.Outcome.{passed, failed}
 

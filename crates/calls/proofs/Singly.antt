@@ -15,14 +15,14 @@ use Rattle.theory.specs.Keeper.{Answer}
 use Rattle.theory.specs.Keeper.Verdict.{grant, deny}
 use Rattle.theory.specs.Keeper.Answer.{decided, refused}
 use Rattle.theory.specs.Limits.{scratchWords}
-use Rattle.theory.specs.Tables.{decideNow, made, advance}
+use Rattle.theory.specs.Tables.{named, decideNow, made, advance}
 use Rattle.memory.specs.Layout.{termsWords, stateWords, termsOf, stateOf, wordsOf}
 use Rattle.memory.specs.Checks.{goodMemory, goodState}
 use Rattle.memory.proofs.Outcomes.{Checked}
 use Rattle.memory.proofs.Accepted.{good}
 use Rattle.memory.proofs.Inside.{made-inside, state-inside}
 use Rattle.memory.proofs.Words.{length-words}
-use Rattle.calls.specs.Monitor.{named, answer, granted, moves, stateAfter, scratchAfter}
+use Rattle.calls.specs.Monitor.{answer, granted, moves, stateAfter, scratchAfter}
 use Rattle.calls.specs.SetList.{numberOf, filled, Run, singly}
 use Rattle.calls.specs.Agreement.{answerIn}
 use Rattle.calls.specs.Listing.{Passed, gainOf}

@@ -12,7 +12,7 @@ use Rattle.theory.specs.Limits.{scratchWords}
 use Rattle.memory.specs.Layout.{termsWords, stateWords, termsOf, stateOf, wordsOf}
 use Rattle.memory.specs.Checks.{goodMemory, goodState}
 use Rattle.memory.specs.Outcome.{hasPassed, opens}
-use Rattle.theory.specs.Tables.{opening, decideNow, made, advance}
+use Rattle.theory.specs.Tables.{opening, named, decideNow, made, advance}
 use Rattle.calls.specs.declared.Verdict.{Verdict as VerdictCase}
 use Rattle.calls.specs.declared.Verdict.the-variants.{Grant, Deny}
 use Rattle.calls.specs.declared.Answer.{Answer as AnswerCase}
@@ -30,10 +30,6 @@ answerOf (Decided v) = decided (verdictOf v)
 answerOf (Refused n l) = refused n l
 
 -- ---- look and request
-
--- The call names an event and two members.
-abbrev pub named : Terms → (j u v : ℕ) → Bool
-named T j u v = ltb j (T .events) && (ltb u (T .members) && ltb v (T .members))
 
 -- What a look gives, and a request: lengths of terms, state and scratch (6), terms (7), state (8), request (9), else the verdict.
 unfoldable pub answer : (terms state scratch : List ℕ) → (j u v : ℕ) → Answer

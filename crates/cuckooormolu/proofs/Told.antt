@@ -9,7 +9,7 @@ use lib.Dec.{eqb, ltb}
 use lib.ListN.{length}
 use borrow.Author.Tests.{ltb-true}
 use Rattle.sets.proofs.Finite.{and-left, and-right}
-use Rattle.theory.specs.Tables.{decideNow}
+use Rattle.theory.specs.Tables.{named, decideNow}
 use Rattle.theory.specs.Keeper.{Verdict, Answer}
 use Rattle.theory.specs.Keeper.Verdict.{grant, deny}
 use Rattle.theory.specs.Keeper.Answer.{decided, refused}
@@ -18,7 +18,7 @@ use Rattle.memory.specs.Layout.{termsWords, stateWords, termsOf, stateOf}
 use Rattle.memory.specs.Checks.{goodMemory, goodState, goodRelations}
 use Rattle.memory.specs.Outcome.{Outcome, checks, opens}
 use Rattle.memory.specs.Outcome.Outcome.{passed, failed}
-use Rattle.calls.specs.Monitor.{named, answer}
+use Rattle.calls.specs.Monitor.{answer}
 use Rattle.calls.specs.SetList.{Listing, singly, listChecks, listing, listed}
 use Rattle.calls.specs.SetList.Listing.{counted, refused as unlisted}
 use Rattle.calls.specs.declared.Record.{Record}

@@ -17,10 +17,9 @@ use Rattle.theory.specs.Moment.Event.{happened, tried}
 use Rattle.memory.specs.Layout.{termsWords, stateWords, relationAt, effectAt, effectsFrom, eventAt, eventOf, termsOf, stateOf}
 use Rattle.theory.specs.Terms.{tables}
 use Rattle.memory.specs.Checks.{goodMemory, goodEvent, stateTests, goodState}
-use Rattle.theory.specs.Tables.{Tables, State, decideNow, prevBits, sinceBits, prevStep, prevTables, sinceTables, made, advance}
+use Rattle.theory.specs.Tables.{named, Tables, State, decideNow, prevBits, sinceBits, prevStep, prevTables, sinceTables, made, advance}
 use Rattle.memory.specs.Plan.{Planned}
 use Rattle.deciding.specs.Rows.{Ready, Table, nowAt, nextPrev, nextSince}
-use Rattle.calls.specs.Monitor.{named}
 use Rattle.deciding.specs.Moving.{known, HasState, Movable, Becomes, put, tabled, edged, prevAt, prevMoved, effectOf, affected, allAffected, evented, entered, sinceAt, sinceBelow, sinceMoved}
 use Rattle.theory.proofs.Spelled.{number-lt}
 use Rattle.theory.proofs.Good.{Good, Within, more, every-at}

@@ -18,10 +18,9 @@ use Rattle.theory.specs.Moment.Event.{none, happened, tried}
 use Rattle.memory.specs.Layout.{termsWords, stateWords, termsOf, relationAt, tableAt, eventAt, eventWord, row, wordsOf}
 use Rattle.theory.specs.Terms.{tables}
 use Rattle.memory.specs.Checks.{goodMemory}
-use Rattle.theory.specs.Tables.{State, holdsNow, prevBits, sinceBits}
+use Rattle.theory.specs.Tables.{named, State, holdsNow, prevBits, sinceBits}
 use Rattle.deciding.specs.Rows.{labelled, fired, edge, tableBit, pastEvent, nowAt, nextPrev, nextSince, Ready}
 use Rattle.memory.specs.Plan.{Planned}
-use Rattle.calls.specs.Monitor.{named}
 use Rattle.deciding.specs.Moving.{known, HasState}
 use Rattle.theory.proofs.Spelled.{tableOf, number-lt, table-spelled, visible-spelled, below-spelled}
 use Rattle.theory.proofs.Good.{Good, first-lower, second-lower}

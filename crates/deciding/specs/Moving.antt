@@ -10,9 +10,8 @@ use Rattle.theory.specs.Moment.{Relations, Event, graph, affect, affectAll}
 use Rattle.theory.specs.Moment.Event.{none, happened, tried}
 use Rattle.memory.specs.Layout.{termsWords, termsOf, wordsOf}
 use Rattle.memory.specs.Checks.{goodMemory}
-use Rattle.theory.specs.Tables.{Tables, State, prevStep, sinceStep, prevTables, sinceTables, made}
+use Rattle.theory.specs.Tables.{named, Tables, State, prevStep, sinceStep, prevTables, sinceTables, made}
 use Rattle.memory.specs.Plan.{Planned}
-use Rattle.calls.specs.Monitor.{named}
 
 -- The event edge, if any, is of an event and members that there are.
 abbrev pub known : Terms → Event → Bool

@@ -8,7 +8,7 @@ ghost use Rattle.sets.specs.Sets.{bit};
 ghost use Rattle.theory.specs.Limits.{maxMembers, maxEvents, maxEffects};
 ghost use Rattle.memory.specs.Layout.{stateWords, triedFrom, effectAt, termsOf};
 ghost use Rattle.memory.specs.Checks.{goodMemory};
-ghost use Rattle.calls.specs.Monitor.{named};
+ghost use Rattle.theory.specs.Tables.{named};
 ghost use Rattle.deciding.specs.Moving.{Becomes, effectOf, affected, allAffected, occurring, evented, entered};
 use memory::layout;
 use memory::limits::EFFECTS;

@@ -13,7 +13,7 @@ use Rattle.theory.specs.Keeper.{Answer}
 use Rattle.theory.specs.Keeper.Verdict.{grant, deny}
 use Rattle.theory.specs.Keeper.Answer.{decided, refused}
 use Rattle.theory.specs.Limits.{scratchWords}
-use Rattle.theory.specs.Tables.{State, decideNow, made, advance}
+use Rattle.theory.specs.Tables.{named, State, decideNow, made, advance}
 use Rattle.theory.proofs.Like.{Alike}
 use Rattle.memory.specs.Layout.{termsWords, stateWords, termsOf, stateOf, wordsOf}
 use Rattle.memory.specs.Outcome.{Outcome, hasPassed, checks}
@@ -22,7 +22,7 @@ use Rattle.memory.proofs.Accepted.{good}
 use Rattle.memory.proofs.Front.{state-cong}
 use Rattle.memory.proofs.Words.{length-words}
 use Rattle.memory.proofs.Outcomes.{Checked, check-passed}
-use Rattle.calls.specs.Monitor.{named, answer, granted, moves, stateAfter, scratchAfter}
+use Rattle.calls.specs.Monitor.{answer, granted, moves, stateAfter, scratchAfter}
 use Rattle.calls.specs.SetList.{Run, filled, singly, listChecks, listing, listed, left}
 use Rattle.calls.specs.SetList.Listing.{counted}
 use Rattle.calls.specs.Agreement.{LentCall, LentStep, leaves, answersIn, serveSteps}
