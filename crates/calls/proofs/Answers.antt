@@ -10,12 +10,13 @@ use Rattle.sets.proofs.Finite.{or-right}
 use Rattle.theory.specs.Terms.{Terms}
 use Rattle.theory.specs.Keeper.{Answer}
 use Rattle.theory.specs.Keeper.Verdict.{grant, deny}
-use Rattle.theory.specs.Keeper.Answer.{decided, refused}
+use Rattle.theory.specs.Keeper.Answer.{decided, done, refused}
 use Rattle.theory.specs.Limits.{scratchWords}
 use Rattle.memory.specs.Layout.{termsWords, stateWords, termsOf, stateOf, wordsOf}
 use Rattle.memory.specs.Checks.{goodMemory, goodState}
-use Rattle.theory.specs.Tables.{named, opening, decideNow, made, advance}
-use Rattle.memory.specs.Outcome.{hasPassed, checks, opens}
+use Rattle.theory.specs.Tables.{named, opening, decideNow, made, advance, revised}
+use Rattle.calls.specs.Revising.{revisedState}
+use Rattle.memory.specs.Outcome.{hasPassed, checks, opens, revises}
 use Rattle.calls.specs.Monitor.{answer, granted, isDecided, moves, stateAfter, scratchAfter, openedState}
 use Rattle.memory.specs.Outcome.Outcome.{passed, failed}
 use Rattle.memory.proofs.Outcomes.{Checked}
@@ -34,6 +35,7 @@ module _ (T : Terms) (j u v e n : ℕ) (events : e ≡ T .events) (members : n �
 -- What makes a moment is a verdict.
 pub moves-decided : (kept : Bool) (a : Answer) → moves kept a ≡ true → isDecided a ≡ true
 moves-decided kept (decided d) e = refl
+moves-decided kept done e = e
 moves-decided kept (refused n l) e = e
 
 module _ (terms state scratch : List ℕ) (j u v : ℕ) where
@@ -160,3 +162,13 @@ module _ (terms state : List ℕ) where
       wordsOf (termsOf terms) (opening (termsOf terms) (stateOf state .now .edge)) ++ drop stateWords state ≡ openedState terms state
   unfolding openedState
   open-done e = rw (sym e)
+
+module _ (old state new second : List ℕ) where
+  pub revise-kept : (n l : ℕ) → failed n l ≡ revises old state new second → second ≡ revisedState old state new second
+  unfolding revisedState
+  revise-kept n l e = rw (sym e)
+
+  pub revise-done : passed ≡ revises old state new second →
+      wordsOf (termsOf new) (revised (termsOf old) (stateOf state) (termsOf new)) ++ drop stateWords second ≡ revisedState old state new second
+  unfolding revisedState
+  revise-done e = rw (sym e)

@@ -11,7 +11,7 @@ use borrow.Author.Tests.{lt-ltb, ltb-true}
 use Rattle.sets.specs.Sets.{bit}
 use Rattle.sets.proofs.Finite.{and-under, and-swap}
 use Rattle.theory.specs.Formula.{number}
-use Rattle.theory.specs.Meaning.{standing}
+use Rattle.theory.specs.Meaning.{Starts, standing}
 use Rattle.theory.specs.Terms.{Terms, formula}
 use Rattle.theory.specs.Moment.{Moment}
 use Rattle.theory.specs.Keeper.{recordOf, last, keeperHolds}
@@ -30,25 +30,27 @@ use Rattle.memory.proofs.Words.{length-words, word-table, now-back, table-back,
 use Rattle.theory.proofs.Past.{PastEntry, past-entry}
 use Rattle.calls.proofs.Level.{Level, words-level}
 
-module _ (T : Terms) (fine : Good T) where
+module _ (T : Terms) (s : Starts) (fine : Good T) where
   -- ---- the words of a state that is kept
 
-  kept-back : (S : State) (Ms : List Moment) → Kept T S Ms → Inside T (S .now) → Kept T (stateOf (wordsOf T S)) Ms
+  kept-back : (S : State) (Ms : List Moment) → Kept T s S Ms → Inside T (S .now) → Kept T s (stateOf (wordsOf T S)) Ms
   kept-back S Ms kept i = record {
     some = kept .some;
     now = now-back T fine S i ∙ kept .now;
+    begun = kept .begun;
+    together = kept .together;
     tables = λ n l p a b al bl. table-back T fine S (number (T .entry) n) a b (number-lt (T .entry) n (T .entries) l p) al bl ∙ kept .tables n l p a b al bl;
     unused = λ t a b h. no-table T fine S t a b h;
   }
 
   -- a table without a free variable has equal bits in a word
-  level-kept : (S : State) (Ms : List Moment) → Kept T S Ms → Level T (S .table)
+  level-kept : (S : State) (Ms : List Moment) → Kept T s S Ms → Level T (S .table)
   level-kept S Ms kept n l p none a b c al bl cl =
       kept .tables n l p a b al bl
-      ∙ coincidence (T .members) (recordOf T Ms) (formula T n) (last Ms) (standing (formula T n) b) (standing (formula T n) c) a (λ x q. absurd (none x q))
+      ∙ coincidence (T .members) s (recordOf T Ms) (formula T n) (last Ms) (standing (formula T n) b) (standing (formula T n) c) a (λ x q. absurd (none x q))
       ∙ sym (kept .tables n l p a c al cl)
 
-  words-good : (S : State) (Ms : List Moment) → Kept T S Ms → Inside T (S .now) → goodState T (wordsOf T S) ≡ true
+  words-good : (S : State) (Ms : List Moment) → Kept T s S Ms → Inside T (S .now) → goodState T (wordsOf T S) ≡ true
   words-good S Ms kept i = words-level T fine S (level-kept S Ms kept) i
 
   -- ---- the invariant
@@ -58,11 +60,11 @@ module _ (T : Terms) (fine : Good T) where
     pub long : length m ≡ length m₀
     pub further : drop stateWords m ≡ drop stateWords m₀
     pub good : goodState T m ≡ true
-    pub kept : Kept T (stateOf m) Ms
+    pub kept : Kept T s (stateOf m) Ms
 
   -- the words of a state that is kept, before any memory's further words
   pub held-words : (m₀ m : List ℕ) → stateWords ≤ length m₀ → length m ≡ length m₀ → drop stateWords m ≡ drop stateWords m₀ →
-      (S : State) (Ms : List Moment) → Kept T S Ms → Inside T (S .now) → Held m₀ (wordsOf T S ++ drop stateWords m) Ms
+      (S : State) (Ms : List Moment) → Kept T s S Ms → Inside T (S .now) → Held m₀ (wordsOf T S ++ drop stateWords m) Ms
   held-words m₀ m long same further S Ms kept i =
       let front : stateWords ≤ length (wordsOf T S) = omega (arith, length-words T S) in
       record {
@@ -72,7 +74,7 @@ module _ (T : Terms) (fine : Good T) where
         kept = rw (state-front (wordsOf T S) (drop stateWords m) front) (kept-back S Ms kept i);
       }
 
-  pub agrees : (m₀ m : List ℕ) (Ms : List Moment) → stateWords ≤ length m₀ → Held m₀ m Ms → Agrees T m₀ m Ms
+  pub agrees : (m₀ m : List ℕ) (Ms : List Moment) → stateWords ≤ length m₀ → Held m₀ m Ms → Agrees T s m₀ m Ms
   unfolding stateOf
   agrees m₀ m Ms long h = record {
     edges = λ k a b kl al bl. edge-bit k a b kl al ∙ ap (λ (M : Moment). M .edge k a b) (h .kept .now);
@@ -99,7 +101,7 @@ module _ (T : Terms) (fine : Good T) where
       edge-bit k a b kl al = rw (lt-ltb k 16 kl, lt-ltb a 64 al)
 
       table-bit : (t a b : ℕ) → t < tables T → a < T .members → b < T .members →
-          S .table t a b ≡ keeperHolds T Ms (pastEntry T t) (standing (formula T (pastEntry T t)) b) a
+          S .table t a b ≡ keeperHolds T s Ms (pastEntry T t) (standing (formula T (pastEntry T t)) b) a
       table-bit t a b tl al bl =
           let e : PastEntry T t = past-entry T t tl in
           ap (λ n. S .table n a b) (sym (e .numbered)) ∙ h .kept .tables (pastEntry T t) (e .exists) (e .past) a b al bl

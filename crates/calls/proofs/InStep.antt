@@ -8,6 +8,7 @@ use lib.Dec.{ltb, leb}
 use lib.ListN.{length, drop}
 use borrow.Author.Tests.{le-ltb, ltb-true, ltb-false, le-leb, lt-leb}
 use Rattle.sets.proofs.Finite.{and-left, and-right}
+use Rattle.theory.specs.Meaning.{Starts}
 use Rattle.theory.specs.Terms.{Terms}
 use Rattle.theory.specs.Moment.{Moment, next, denied}
 use Rattle.theory.specs.Keeper.{Answer, target, lastMoment, keeperHolds, judge, keep}
@@ -44,7 +45,7 @@ unnamed T j u v =
 
 -- one call over memory that holds what the keeper's list says
 module _ (terms : List ℕ) (long-terms : termsWords ≤ length terms) (fine : Good (termsOf terms)) (good-terms : goodMemory terms ≡ true)
-    (m₀ m : List ℕ) (long : stateWords ≤ length m₀) (Ms : List Moment) (h : Held (termsOf terms) fine m₀ m Ms) (c : LentCall)
+    (s₀ : Starts) (m₀ m : List ℕ) (long : stateWords ≤ length m₀) (Ms : List Moment) (h : Held (termsOf terms) s₀ fine m₀ m Ms) (c : LentCall)
   where
     abbrev T : Terms
     T = termsOf terms
@@ -66,7 +67,7 @@ module _ (terms : List ℕ) (long-terms : termsWords ≤ length terms) (fine : G
     given-is = rw (le-ltb (length terms) termsWords long-terms, le-ltb (length m) stateWords (omega (arith, h .long)), good-terms, h .good)
 
     abbrev holding : Bool
-    holding = keeperHolds T Ms (T .policy (c .event)) (target (c .to)) (c .from)
+    holding = keeperHolds T s₀ Ms (T .policy (c .event)) (target (c .to)) (c .from)
 
     -- the moment that a verdict may make, by the keeper and by the monitor
     abbrev kept : Bool → Moment
@@ -75,7 +76,7 @@ module _ (terms : List ℕ) (long-terms : termsWords ≤ length terms) (fine : G
     abbrev now : Bool → Moment
     now g = made T (stateOf m .now) g (c .event) (c .from) (c .to)
 
-    judge-is : judge T Ms (fed c)
+    judge-is : judge T s₀ Ms (fed c)
         ≡ cond short (refused 6 0, []) (cond (not known) (refused 9 0, [])
         (cond (not holding) (decided deny, cond (not (c .look) && T .kept (c .event)) (kept false ∷ []) [])
         (cond (c .look) (decided grant, []) (decided grant, kept true ∷ []))))
@@ -96,10 +97,10 @@ module _ (terms : List ℕ) (long-terms : termsWords ≤ length terms) (fine : G
     goes e l = rw (l, e)
 
     abbrev InStep : Type 0
-    InStep = (given ≡ keep T Ms (fed c) .0) × Held T fine m₀ (leaves terms m c) (keep T Ms (fed c) .1)
+    InStep = (given ≡ keep T s₀ Ms (fed c) .0) × Held T s₀ fine m₀ (leaves terms m c) (keep T s₀ Ms (fed c) .1)
 
     -- no moment is made
-    still : (x : Answer) → given ≡ x → judge T Ms (fed c) ≡ (x, []) → (not (c .look) && moves (T .kept (c .event)) given) ≡ false → InStep
+    still : (x : Answer) → given ≡ x → judge T s₀ Ms (fed c) ≡ (x, []) → (not (c .look) && moves (T .kept (c .event)) given) ≡ false → InStep
     unfolding keep
     still x e k s = rw (k, stays s, append-nil Ms) (e, h)
 
@@ -114,18 +115,18 @@ module _ (terms : List ℕ) (long-terms : termsWords ≤ length terms) (fine : G
       to-known = ltb-true (c .to) (T .members) (and-right (ltb (c .from) (T .members)) _ (and-right (ltb (c .event) (T .events)) _ n))
 
       decides : allowed ≡ holding
-      decides = decide-kept T fine (stateOf m) Ms (h .kept) (c .event) (c .from) (c .to) event-known from-known to-known
+      decides = decide-kept T fine s₀ (stateOf m) Ms (h .kept) (c .event) (c .from) (c .to) event-known from-known to-known
 
-      moved : (g : Bool) → Held T fine m₀ (wordsOf T (advance T (stateOf m) (now g)) ++ drop stateWords m) (Ms ++ (kept g ∷ []))
+      moved : (g : Bool) → Held T s₀ fine m₀ (wordsOf T (advance T (stateOf m) (now g)) ++ drop stateWords m) (Ms ++ (kept g ∷ []))
       unfolding advance
       moved g =
-          held-words T fine m₀ m long (h .long) (h .further) (advance T (stateOf m) (now g)) (Ms ++ (kept g ∷ []))
-          (subst (λ (M : Moment). Kept T (advance T (stateOf m) (now g)) (Ms ++ (made T M g (c .event) (c .from) (c .to) ∷ []))) (h .kept .now)
-          (advance-kept T fine (stateOf m) Ms (h .kept) (now g)))
+          held-words T s₀ fine m₀ m long (h .long) (h .further) (advance T (stateOf m) (now g)) (Ms ++ (kept g ∷ []))
+          (subst (λ (M : Moment). Kept T s₀ (advance T (stateOf m) (now g)) (Ms ++ (made T M g (c .event) (c .from) (c .to) ∷ []))) (h .kept .now)
+          (advance-kept T fine s₀ (stateOf m) Ms (h .kept) (now g)))
           (made-inside T fine (stateOf m .now) (state-inside T m (h .good)) g (c .event) (c .from) (c .to) event-known from-known to-known)
 
       -- the moment of a verdict is made
-      onward : (x : Answer) → given ≡ x → judge T Ms (fed c) ≡ (x, kept (granted x) ∷ []) → moves (T .kept (c .event)) x ≡ true → c .look ≡ false → InStep
+      onward : (x : Answer) → given ≡ x → judge T s₀ Ms (fed c) ≡ (x, kept (granted x) ∷ []) → moves (T .kept (c .event)) x ≡ true → c .look ≡ false → InStep
       unfolding keep
       onward x e k g l = rw (k, goes (ap (moves (T .kept (c .event))) e ∙ g) l, ap granted e) (e, moved (granted x))
 
@@ -161,5 +162,5 @@ module _ (terms : List ℕ) (long-terms : termsWords ≤ length terms) (fine : G
     by-scratch false s = by-name s known refl
 
     -- the keeper's answer, and the invariant again
-    pub step : (given ≡ keep T Ms (fed c) .0) × Held T fine m₀ (leaves terms m c) (keep T Ms (fed c) .1)
+    pub step : (given ≡ keep T s₀ Ms (fed c) .0) × Held T s₀ fine m₀ (leaves terms m c) (keep T s₀ Ms (fed c) .1)
     step = by-scratch short refl

@@ -1,4 +1,4 @@
--- A moment keeps the layout, of any state that keeps it and not of those of a record only: a table without a free variable keeps equal bits in a word.
+-- A moment keeps the layout, and so do new terms, of any state that keeps it and not of those of a record only: a table without a free variable keeps equal bits in a word.
 use Prim.Native.Nat.{ℕ, zero, suc, _-_, _^_, _≤_, _<_}
 use native.Mathlib.Omega.{arith}
 use mathlib.Core.Path.{_≡_, refl, sym, ap, ap₂, _∙_}
@@ -6,25 +6,28 @@ use mathlib.Core.Bool.{Bool, true, false, cond, not, _&&_, _||_}
 use mathlib.Core.List.{List, _++_}
 use lib.Dec.{eqb, ltb, leb}
 use lib.ListN.{getD}
-use borrow.Author.Tests.{eq-eqb, eqb-true, lt-ltb, not-true}
+use borrow.Author.Tests.{eq-eqb, eqb-true, lt-ltb, ltb-true, not-true}
 use Rattle.sets.specs.Sets.{anyBelow, allBelow, bit}
 use Rattle.sets.proofs.Finite.{any-cong, any-elim, any-intro, all-true, all-out, not-both, is-false, or-left, or-right, count-cong}
 use Rattle.sets.proofs.Bits.{bit-zero, bit-mask}
-use Rattle.theory.specs.Formula.{Formula, number, below, isPast, free, column}
+use Rattle.theory.specs.Formula.{Formula, number, below, isPast, free, column, bare}
 use Rattle.theory.specs.Formula.Formula.{top, var, neg, or, out, into, prev, since, bind, at, reach, many}
 use Rattle.theory.specs.Meaning.{Graph, Assignment, assign, alone, standing}
 use Rattle.theory.specs.Terms.{Terms, formula, tables}
 use Rattle.theory.specs.Fit.{_⇒_, closed}
-use Rattle.theory.specs.Moment.{Moment, graph}
-use Rattle.theory.specs.Tables.{Tables, holdsNow, store, operandNow, sinceBits, sinceStep, prevTables, sinceTables, State, advance}
+use Rattle.theory.specs.Moment.{Event, Moment, graph}
+use Rattle.theory.specs.Moment.Event.{none as eventless, happened, tried}
+use Rattle.theory.specs.Tables.{Tables, holdsNow, store, operandNow, sinceBits, sinceStep, prevTables, sinceTables, State, advance, taken, startBits, startTables, revised}
 use Rattle.memory.specs.Layout.{tableAt, stateOf, wordsOf}
 use Rattle.memory.specs.Checks.{level, goodRelations, stateTests, goodState}
 use Rattle.theory.proofs.Spelled.{Visible, tableOf, or-cases, number-lt, number-apart, spelled-prev, spelled-since, table-spelled, visible-below}
 use Rattle.theory.proofs.Good.{Good, small, column-free, implied, implies, every-at, every-in}
 use Rattle.theory.proofs.Now.{Among, among-assign, among-standing}
 use Rattle.theory.proofs.Sweeps.{prev-keeps, prev-worked}
+use Rattle.theory.proofs.Renumbered.{free-renumbered, past-same}
+use Rattle.theory.proofs.Taken.{first-has}
 use Rattle.memory.proofs.Row.{fits-row, level-row}
-use Rattle.memory.proofs.Inside.{Inside, good-event}
+use Rattle.memory.proofs.Inside.{Inside, EventInside, state-inside, good-event}
 use Rattle.memory.proofs.Words.{length-words, word-relation, word-of-table, word-event}
 use Rattle.memory.proofs.Front.{good-front}
 
@@ -140,8 +143,11 @@ module _ (T : Terms) (fine : Good T) (G : Graph) where
       (ap₂ _&&_ (operand-level X lev n l (T .entry n .a) (λ x f. none x (free-since-a T n z x f)) a b c al bl cl)
       (lev n l (rw z) none a b c al bl cl))
 
-  since-step-level : (X : Tables) → Level T X → (n : ℕ) → n < T .entries → Level T (sinceStep T G n X)
-  since-step-level X lev n l k kl e none a b c al bl cl = by-op (eqb (T .entry n .op) 7) refl
+  -- a table stored, or not
+  store-level : (X : Tables) → Level T X → (n : ℕ) → (D : ℕ → ℕ → Bool) (stores : Bool) → (stores ≡ true → isPast (T .entry n .op) ≡ true) →
+      (stores ≡ true → ((x : ℕ) → free (formula T n) x ≡ true → ⊥) → (a b c : ℕ) → a < T .members → b < T .members → c < T .members → D a b ≡ D a c) →
+      Level T (cond stores (store (number (T .entry) n) D X) X)
+  store-level X lev n D stores past even k kl e none a b c al bl cl = by-op stores refl
     where
       s : ℕ
       s = number (T .entry) k
@@ -149,18 +155,20 @@ module _ (T : Terms) (fine : Good T) (G : Graph) where
       t : ℕ
       t = number (T .entry) n
 
-      B : ℕ → ℕ → Bool
-      B = sinceBits T G n X
-
-      by-table : T .entry n .op ≡ 7 → (d : Bool) → eqb s t ≡ d → cond d (B a b) (X s a b) ≡ cond d (B a c) (X s a c)
+      by-table : stores ≡ true → (d : Bool) → eqb s t ≡ d → cond d (D a b) (X s a b) ≡ cond d (D a c) (X s a c)
       by-table z true f =
-          let same : k ≡ n = number-apart (T .entry) k n e (rw z) (eqb-true s t f) in
-          since-bits-level X lev n l z (λ x g. none x (rw same g)) a b c al bl cl
+          let same : k ≡ n = number-apart (T .entry) k n e (past z) (eqb-true s t f) in
+          even z (λ x g. none x (rw same g)) a b c al bl cl
       by-table z false f = lev k kl e none a b c al bl cl
 
-      by-op : (d : Bool) → eqb (T .entry n .op) 7 ≡ d → cond d (store t B X) X s a b ≡ cond d (store t B X) X s a c
-      by-op true z = by-table (eqb-true (T .entry n .op) 7 z) (eqb s t) refl
+      by-op : (d : Bool) → stores ≡ d → cond d (store t D X) X s a b ≡ cond d (store t D X) X s a c
+      by-op true z = by-table z (eqb s t) refl
       by-op false z = lev k kl e none a b c al bl cl
+
+  since-step-level : (X : Tables) → Level T X → (n : ℕ) → n < T .entries → Level T (sinceStep T G n X)
+  since-step-level X lev n l =
+      store-level X lev n (sinceBits T G n X) (eqb (T .entry n .op) 7) (λ z. rw (eqb-true (T .entry n .op) 7 z))
+      (λ z none. since-bits-level X lev n l (eqb-true (T .entry n .op) 7 z) none)
 
   since-level : (X : Tables) → Level T X → (n : ℕ) → n ≤ T .entries → Level T (sinceTables T G n X)
   unfolding sinceTables
@@ -236,3 +244,61 @@ module _ (T : Terms) (fine : Good T) where
     where
       S : State
       S = stateOf m
+
+-- ---- new terms
+
+module _ (T : Terms) (S : State) (lev : Level T (S .table)) (U : Terms) (fine : Good U) (em : T .members ≡ U .members) where
+  abbrev G : Graph
+  G = graph U (S .now)
+
+  start-bits-level : (X : Tables) → Level U X → (n : ℕ) → n < U .entries → isPast (U .entry n .op) ≡ true → ((x : ℕ) → free (formula U n) x ≡ true → ⊥) →
+      (a b c : ℕ) → a < U .members → b < U .members → c < U .members → startBits T S U n X a b ≡ startBits T S U n X a c
+  start-bits-level X lower n l p none a b c al bl cl = go (ltb k (T .entries)) refl
+    where
+      k : ℕ
+      k = taken T S U n
+
+      anew : (d : Bool) → eqb (U .entry n .op) 7 ≡ d → (d && operandNow U G n (U .entry n .b) X a b) ≡ (d && operandNow U G n (U .entry n .b) X a c)
+      anew true z = operand-level U fine G X lower n l (U .entry n .b) (λ x f. none x (free-since-b U n (eqb-true (U .entry n .op) 7 z) x f)) a b c al bl cl
+      anew false z = refl
+
+      go : (d : Bool) → ltb k (T .entries) ≡ d →
+          cond d (S .table (number (T .entry) k) a b) (eqb (U .entry n .op) 7 && operandNow U G n (U .entry n .b) X a b)
+          ≡ cond d (S .table (number (T .entry) k) a c) (eqb (U .entry n .op) 7 && operandNow U G n (U .entry n .b) X a c)
+      go true z =
+          let kl : k < T .entries = ltb-true k (T .entries) z in
+          let e : bare (formula T k) ≡ bare (formula U n) = first-has T (formula U n) kl in
+          lev k kl (past-same (T .entry) (U .entry) k n e ∙ p)
+          (λ x f. none x (sym (free-renumbered (λ t. 0) (formula U n) x) ∙ ap (λ (φ : Formula). free φ x) (sym e) ∙ free-renumbered (λ t. 0) (formula T k) x ∙ f))
+          a b c (omega arith) (omega arith) (omega arith)
+      go false z = anew (eqb (U .entry n .op) 7) refl
+
+  start-level : (n : ℕ) → n ≤ U .entries → Level U (startTables T S U n (λ t a b. false))
+  unfolding startTables
+  start-level zero l = λ n nl p none a b c al bl cl. refl
+  start-level (suc n) l =
+      let X : Tables = startTables T S U n (λ t a b. false) in
+      store-level U fine G X (start-level n (omega arith)) n (startBits T S U n X) (isPast (U .entry n .op)) (λ z. z)
+      (λ z none. start-bits-level X (start-level n (omega arith)) n l z none)
+
+-- what is inside T is inside terms of the same size
+pub inside-size : (T U : Terms) → T .members ≡ U .members → T .relations ≡ U .relations → T .events ≡ U .events → (M : Moment) → Inside T M → Inside U M
+inside-size T U em er ee M i = record {
+  edges = λ k a b h. let x = i .edges k a b h in (omega (arith, x .0), omega (arith, x .1), omega (arith, x .2));
+  event = at (M .event) (i .event);
+}
+  where
+    at : (e : Event) → EventInside T e → EventInside U e
+    at eventless x = tt
+    at (happened j u v) x = (omega (arith, x .0), omega (arith, x .1), omega (arith, x .2))
+    at (tried j u v) x = (omega (arith, x .0), omega (arith, x .1), omega (arith, x .2))
+
+-- New terms of the same size begin with a state that keeps their layout, whatever state it was that kept the old terms' layout.
+pub revised-good : (T U : Terms) → Good T → Good U → T .members ≡ U .members → T .relations ≡ U .relations → T .events ≡ U .events →
+    (m : List ℕ) → goodState T m ≡ true → (rest : List ℕ) → goodState U (wordsOf U (revised T (stateOf m) U) ++ rest) ≡ true
+unfolding revised
+revised-good T U old fine em er ee m g rest =
+    let S : State = stateOf m in
+    good-front (wordsOf U (revised T S U)) rest (omega (arith, length-words U (revised T S U))) U fine
+    ∙ words-level U fine (revised T S U) (start-level T S (level-good T old m g) U fine em (U .entries) (omega arith))
+    (inside-size T U em er ee (S .now) (state-inside T m g))

@@ -1,6 +1,7 @@
 pub mod Level
 pub mod Held
 pub mod Refused
+pub mod RefusedRevision
 pub mod InStep
 pub mod Demand
 pub mod Answers

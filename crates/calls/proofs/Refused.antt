@@ -11,7 +11,7 @@ use borrow.Author.Tests.{lt-ltb, le-ltb, ltb-true, ltb-false}
 use Rattle.sets.proofs.Finite.{or-left, or-right, or-cases}
 use Rattle.theory.specs.Keeper.{Answer}
 use Rattle.theory.specs.Keeper.Verdict.{grant, deny}
-use Rattle.theory.specs.Keeper.Answer.{decided, refused}
+use Rattle.theory.specs.Keeper.Answer.{decided, done, refused}
 use Rattle.theory.specs.Limits.{scratchWords}
 use Rattle.memory.specs.Layout.{termsWords, stateWords, termsOf, stateOf}
 use Rattle.memory.specs.Checks.{goodMemory, goodState, goodRelations}
@@ -78,6 +78,7 @@ module _ (terms state scratch : List ℕ) (j u v : ℕ) where
   -- what an answer says of the memory
   abbrev Said : Answer → Type 0
   Said (decided d) = Unit {0}
+  Said done = Unit {0}
   Said (refused n l) = (l ≡ 0) × Refusal terms state scratch j u v n
 
   says : Said given

@@ -1,4 +1,4 @@
--- What demand 3 asks (docs/SCOPE.md, The keeper): a list of calls and set lists over lent memory, and the words afterwards.
+-- What demand 3 asks (docs/SCOPE.md, The keeper): a list of calls, set lists and new terms over lent memory, and the words afterwards.
 use Prim.Native.Nat.{ℕ, _<_}
 use mathlib.Core.Path.{_≡_}
 use mathlib.Core.Bool.{Bool, false, cond, _&&_}
@@ -6,16 +6,21 @@ use mathlib.Core.List.{List, [], _∷_, _++_, map}
 use lib.Dec.{eqb, ltb}
 use lib.ListN.{length, getD, drop}
 use Rattle.sets.specs.Sets.{bit}
-use Rattle.theory.specs.Meaning.{standing}
+use Rattle.theory.specs.Meaning.{Starts, standing}
 use Rattle.theory.specs.Terms.{Terms, formula, tables, pastEntry}
 use Rattle.theory.specs.Moment.{Moment}
-use Rattle.theory.specs.Keeper.{Call, Answer, lastMoment, keeperHolds}
-use Rattle.memory.specs.Layout.{stateWords, relationAt, tableAt, eventAt, eventWord}
+use Rattle.theory.specs.Keeper.{Call, Answer, Offer, Step, lastMoment, keeperHolds}
+use Rattle.theory.specs.Keeper.Step.{call, revise as reviseStep}
+use Rattle.memory.specs.Layout.{stateWords, relationAt, tableAt, eventAt, eventWord, termsOf}
+use Rattle.memory.specs.Checks.{goodMemory}
+use Rattle.memory.specs.Outcome.{Outcome, hasPassed, revises}
+use Rattle.memory.specs.Outcome.Outcome.{passed, failed}
 use Rattle.theory.specs.Keeper.Verdict.{grant, deny}
-use Rattle.theory.specs.Keeper.Answer.{decided, refused}
+use Rattle.theory.specs.Keeper.Answer.{decided, done, refused}
 use Rattle.calls.specs.Monitor.{answer, stateAfter}
 use Rattle.calls.specs.SetList.{Listing, listed, left}
 use Rattle.calls.specs.SetList.Listing.{counted, refused as refusedList}
+use Rattle.calls.specs.Revising.{revisedState}
 use Rattle.calls.specs.declared.Record.{Record}
 
 -- A call over lent memory: a look or a request; event, initiator, target; the scratch that is lent with it.
@@ -45,22 +50,42 @@ serveAll terms state (c ∷ cs) =
     let later = serveAll terms (leaves terms state c) cs in
     (answer terms state (c .scratch) (c .event) (c .from) (c .to) ∷ later .0, later .1)
 
--- ---- set lists among the calls
+-- ---- set lists and new terms among the calls
 
--- A step over lent memory: one call, or a set list with the scratch that is lent with it.
+-- A step over lent memory: one call; a set list with the scratch that is lent with it; new terms with the second state that is lent with them.
 pub data LentStep : Type 0 where
   once : LentCall → LentStep
   setList : (scratch : List ℕ) → List Record → LentStep
+  revise : (new second : List ℕ) → LentStep
 
 -- The request of a record, as the keeper is fed it.
 abbrev pub fedRecord : (scratch : ℕ) → Record → Call
 fedRecord n r = record { look = false; event = r .event; from = r .from; to = r .to; scratch = n }
 
+-- New terms, as the keeper is fed them.
+abbrev pub offered : (new second : List ℕ) → Offer
+offered new second = record { words = length new; state = length second; sound = goodMemory new; terms = termsOf new }
+
 -- The same steps, as the keeper is fed them: a set list is its requests, one after another.
-unfoldable pub fedSteps : List LentStep → List Call
+unfoldable pub fedSteps : List LentStep → List Step
 fedSteps [] = []
-fedSteps (once c ∷ ss) = fed c ∷ fedSteps ss
-fedSteps (setList scratch rs ∷ ss) = map (fedRecord (length scratch)) rs ++ fedSteps ss
+fedSteps (once c ∷ ss) = call (fed c) ∷ fedSteps ss
+fedSteps (setList scratch rs ∷ ss) = map (λ r. call (fedRecord (length scratch) r)) rs ++ fedSteps ss
+fedSteps (revise new second ∷ ss) = reviseStep (offered new second) ∷ fedSteps ss
+
+-- No step is new terms.
+abbrev pub KeepsTerms : List LentStep → Type 0
+KeepsTerms [] = Unit {0}
+KeepsTerms (once c ∷ ss) = KeepsTerms ss
+KeepsTerms (setList scratch rs ∷ ss) = KeepsTerms ss
+KeepsTerms (revise new second ∷ ss) = ⊥
+
+-- The calls of a list that keeps the terms.
+unfoldable pub fedCalls : List LentStep → List Call
+fedCalls [] = []
+fedCalls (once c ∷ ss) = fed c ∷ fedCalls ss
+fedCalls (setList scratch rs ∷ ss) = map (fedRecord (length scratch)) rs ++ fedCalls ss
+fedCalls (revise new second ∷ ss) = fedCalls ss
 
 -- The answer that a number stands for: 0 for deny, 1 for grant, else a refusal by that number.
 abbrev pub answerIn : ℕ → Answer
@@ -71,26 +96,50 @@ abbrev pub answersIn : Listing → (after : List Record) → List Answer
 answersIn (counted n) rs = map (λ r. answerIn (r .answer)) rs
 answersIn (refusedList n l) rs = map (λ r. refused n l) rs
 
--- The steps of a list, each handed terms and state as the last left them: the answers in order, and the state's memory at the end.
-unfoldable pub serveSteps : (terms state : List ℕ) → List LentStep → List Answer × List ℕ
-serveSteps terms state [] = ([], state)
-serveSteps terms state (once c ∷ ss) =
-    let later = serveSteps terms (leaves terms state c) ss in
-    (answer terms state (c .scratch) (c .event) (c .from) (c .to) ∷ later .0, later .1)
-serveSteps terms state (setList scratch rs ∷ ss) =
-    let after = left terms state scratch rs in
-    let later = serveSteps terms (after .state) ss in
-    (answersIn (listed terms state scratch rs) (after .records) ++ later .0, later .1)
+-- What new terms answer.
+abbrev pub outcomeIn : Outcome → Answer
+outcomeIn passed = done
+outcomeIn (failed n l) = refused n l
+
+-- The lent memory in use: terms, and state, with what stood in the state's memory when it was lent.
+pub record Lent : Type 0 where
+  pub terms : List ℕ
+  pub state : List ℕ
+  pub before : List ℕ
+
+abbrev pub withState : Lent → List ℕ → Lent
+withState L m = record { terms = L .terms; state = m; before = L .before }
+
+-- New terms: from then on these and the second state are in use; refused, all is as before.
+abbrev pub inUse : Lent → (new second : List ℕ) → Lent
+inUse L new second =
+    cond (hasPassed (revises (L .terms) (L .state) new second))
+    (record { terms = new; state = revisedState (L .terms) (L .state) new second; before = second })
+    L
+
+-- The steps of a list, each handed the memory in use as the last left it: the answers in order, and the memory in use at the end.
+unfoldable pub serveSteps : Lent → List LentStep → List Answer × Lent
+serveSteps L [] = ([], L)
+serveSteps L (once c ∷ ss) =
+    let later = serveSteps (withState L (leaves (L .terms) (L .state) c)) ss in
+    (answer (L .terms) (L .state) (c .scratch) (c .event) (c .from) (c .to) ∷ later .0, later .1)
+serveSteps L (setList scratch rs ∷ ss) =
+    let after = left (L .terms) (L .state) scratch rs in
+    let later = serveSteps (withState L (after .state)) ss in
+    (answersIn (listed (L .terms) (L .state) scratch rs) (after .records) ++ later .0, later .1)
+serveSteps L (revise new second ∷ ss) =
+    let later = serveSteps (inUse L new second) ss in
+    (outcomeIn (revises (L .terms) (L .state) new second) ∷ later .0, later .1)
 
 -- ---- the words afterwards
 
--- The state's memory m agrees with the keeper's list, for a and b below 64, k below 16 and t below 32; it is as long as m₀ and has m₀'s further words.
-pub record Agrees (T : Terms) (m₀ m : List ℕ) (Ms : List Moment) : Type 0 where
+-- The state's memory m agrees with the keeper's list, each past-time entry judged from its start, for a and b below 64, k below 16 and t below 32; it is as long as m₀ and has m₀'s further words.
+pub record Agrees (T : Terms) (s : Starts) (m₀ m : List ℕ) (Ms : List Moment) : Type 0 where
   pub edges : (k a b : ℕ) → k < 16 → a < 64 → b < 64 → bit (getD m (relationAt k a) 0) b ≡ lastMoment Ms .edge k a b
   pub tables : (t a b : ℕ) → t < 32 → a < 64 → b < 64 →
       bit (getD m (tableAt t a) 0) b
       ≡ ltb a (T .members) && (ltb b (T .members) && (ltb t (tables T)
-      && keeperHolds T Ms (pastEntry T t) (standing (formula T (pastEntry T t)) b) a))
+      && keeperHolds T s Ms (pastEntry T t) (standing (formula T (pastEntry T t)) b) a))
   pub event : getD m eventAt 0 ≡ eventWord (lastMoment Ms .event)
   pub long : length m ≡ length m₀
   pub further : drop stateWords m ≡ drop stateWords m₀

@@ -1,5 +1,6 @@
 pub mod Monitor
 pub mod SetList
+pub mod Revising
 pub mod Refused
 pub mod Agreement
 pub mod Reached

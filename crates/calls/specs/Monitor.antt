@@ -7,7 +7,7 @@ use lib.ListN.{length, drop, replicate}
 use Rattle.theory.specs.Terms.{Terms}
 use Rattle.theory.specs.Keeper.{Verdict, Answer}
 use Rattle.theory.specs.Keeper.Verdict.{grant, deny}
-use Rattle.theory.specs.Keeper.Answer.{decided, refused}
+use Rattle.theory.specs.Keeper.Answer.{decided, done, refused}
 use Rattle.theory.specs.Limits.{scratchWords}
 use Rattle.memory.specs.Layout.{termsWords, stateWords, termsOf, stateOf, wordsOf}
 use Rattle.memory.specs.Checks.{goodMemory, goodState}
@@ -43,17 +43,20 @@ answer terms state scratch j u v =
 abbrev pub granted : Answer → Bool
 granted (decided grant) = true
 granted (decided deny) = false
+granted done = false
 granted (refused n l) = false
 
 -- The answer is a verdict.
 abbrev pub isDecided : Answer → Bool
 isDecided (decided v) = true
+isDecided done = false
 isDecided (refused n l) = false
 
 -- The answer to a request makes a moment: a grant does, and a denial where the event is kept.
 abbrev pub moves : (kept : Bool) → Answer → Bool
 moves kept (decided grant) = true
 moves kept (decided deny) = kept
+moves kept done = false
 moves kept (refused n l) = false
 
 -- What a request leaves: one that makes a moment the words of the next state, and 0 in the named words of scratch; anything else all memory as lent.

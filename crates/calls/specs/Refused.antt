@@ -5,6 +5,7 @@ use mathlib.Core.List.{List}
 use mathlib.Core.Bool.{true, false}
 use lib.ListN.{length}
 use Rattle.theory.specs.Limits.{scratchWords}
+use Rattle.theory.specs.Terms.{sameSize}
 use Rattle.memory.specs.Layout.{termsWords, stateWords, termsOf}
 use Rattle.memory.specs.Checks.{goodMemory, goodState, goodRelations}
 
@@ -35,3 +36,23 @@ pub data OpeningRefusal (terms state : List ℕ) : (number : ℕ) → Type 0 whe
   bad-terms : termsWords ≤ length terms → stateWords ≤ length state → goodMemory terms ≡ false → OpeningRefusal terms state 7
   bad-relations : termsWords ≤ length terms → stateWords ≤ length state → goodMemory terms ≡ true →
       goodRelations (termsOf terms) state ≡ false → OpeningRefusal terms state 8
+
+-- The memory that is lent with new terms is as long as named.
+pub record LongToRevise (old state new second : List ℕ) : Type 0 where
+  pub old-long : termsWords ≤ length old
+  pub state-long : stateWords ≤ length state
+  pub new-long : termsWords ≤ length new
+  pub second-long : stateWords ≤ length second
+
+-- Why new terms are refused with a number.
+pub data RevisionRefusal (old state new second : List ℕ) : (number : ℕ) → Type 0 where
+  short-old : length old < termsWords → RevisionRefusal old state new second 6
+  short-state : length state < stateWords → RevisionRefusal old state new second 6
+  short-new : length new < termsWords → RevisionRefusal old state new second 6
+  short-second : length second < stateWords → RevisionRefusal old state new second 6
+  bad-old : LongToRevise old state new second → goodMemory old ≡ false → RevisionRefusal old state new second 7
+  bad-new : LongToRevise old state new second → goodMemory new ≡ false → RevisionRefusal old state new second 7
+  bad-state : LongToRevise old state new second → goodMemory old ≡ true → goodMemory new ≡ true →
+      goodState (termsOf old) state ≡ false → RevisionRefusal old state new second 8
+  other-size : LongToRevise old state new second → goodMemory old ≡ true → goodMemory new ≡ true → goodState (termsOf old) state ≡ true →
+      sameSize (termsOf old) (termsOf new) ≡ false → RevisionRefusal old state new second 13

@@ -6,7 +6,7 @@ use lib.Dec.{ltb}
 use lib.ListN.{length}
 use Rattle.theory.specs.Keeper.{Answer}
 use Rattle.theory.specs.Keeper.Verdict.{grant, deny}
-use Rattle.theory.specs.Keeper.Answer.{decided, refused as refusedAnswer}
+use Rattle.theory.specs.Keeper.Answer.{decided, done, refused as refusedAnswer}
 use Rattle.theory.specs.Limits.{scratchWords}
 use Rattle.memory.specs.Outcome.{Outcome, hasPassed, checks}
 use Rattle.memory.specs.Outcome.Outcome.{passed, failed}
@@ -28,10 +28,11 @@ listingOf (Refused n l) = refused n l
 
 -- ---- single requests one after another
 
--- The answer field: 0 for deny, 1 for grant, the number of a refusal.
+-- The answer field: 0 for deny, 1 for grant, the number of a refusal. (No request is answered with done.)
 abbrev pub numberOf : Answer → ℕ
 numberOf (decided deny) = 0
 numberOf (decided grant) = 1
+numberOf done = 0
 numberOf (refusedAnswer n l) = n
 
 -- The record with its answer field filled in, whatever that was.

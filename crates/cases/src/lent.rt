@@ -6,6 +6,7 @@ use memory::Outcome;
 use memory::layout::SCRATCH;
 use monitor::look;
 use monitor::request;
+use monitor::revise::revise;
 use text::read::read;
 use text::write::write;
 use writer::Written;
@@ -121,6 +122,32 @@ pub(crate) fn looking(
         call.1,
         call.2,
     )
+}
+
+// Revises the first t words of old terms and s of state to the first n words of new terms, into the first m of a second state.
+pub(crate) fn revising(
+    old: &[u16],
+    t: usize,
+    state: &[u64],
+    s: usize,
+    new: &[u16],
+    n: usize,
+    second: &mut [u64],
+    m: usize,
+) -> Outcome {
+    if old.len() < t {
+        return Outcome::Refused(0, 0);
+    }
+    if state.len() < s {
+        return Outcome::Refused(0, 0);
+    }
+    if new.len() < n {
+        return Outcome::Refused(0, 0);
+    }
+    if second.len() < m {
+        return Outcome::Refused(0, 0);
+    }
+    revise(&old[0..t], &state[0..s], &new[0..n], &mut second[0..m])
 }
 
 // Writes the first t words of terms and s of state into the first n bytes of out, in the stored form or the old.

@@ -4,6 +4,7 @@ mod asks;
 mod columns;
 mod lent;
 mod reads;
+mod revises;
 mod show;
 mod writes;
 
@@ -55,6 +56,9 @@ fn run(l: &[u8], head: &[u8]) {
         return;
     }
     if writes::run(kind, l, head) {
+        return;
+    }
+    if revises::run(kind, l, head) {
         return;
     }
     show_word(label(l), b"unknown");

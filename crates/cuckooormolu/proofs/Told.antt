@@ -12,11 +12,12 @@ use Rattle.sets.proofs.Finite.{and-left, and-right}
 use Rattle.theory.specs.Tables.{named, decideNow}
 use Rattle.theory.specs.Keeper.{Verdict, Answer}
 use Rattle.theory.specs.Keeper.Verdict.{grant, deny}
-use Rattle.theory.specs.Keeper.Answer.{decided, refused}
+use Rattle.theory.specs.Keeper.Answer.{decided, done as revised, refused}
 use Rattle.theory.specs.Limits.{scratchWords}
 use Rattle.memory.specs.Layout.{termsWords, stateWords, termsOf, stateOf}
 use Rattle.memory.specs.Checks.{goodMemory, goodState, goodRelations}
-use Rattle.memory.specs.Outcome.{Outcome, checks, opens}
+use Rattle.theory.specs.Terms.{sameSize}
+use Rattle.memory.specs.Outcome.{Outcome, checks, opens, revises}
 use Rattle.memory.specs.Outcome.Outcome.{passed, failed}
 use Rattle.calls.specs.Monitor.{answer}
 use Rattle.calls.specs.SetList.{Listing, singly, listChecks, listing, listed}
@@ -40,6 +41,7 @@ use Rattle.cuckooormolu.specs.Codes.{doneCode, Low, ToldAnswer, ToldOutc
 
 abbrev LowAnswer : Answer → Type 0
 LowAnswer (decided v) = Unit {0}
+LowAnswer revised = Unit {0}
 LowAnswer (refused n l) = Low n
 
 abbrev LowOutcome : Outcome → Type 0
@@ -63,6 +65,11 @@ told-answer (decided grant) h = record {
 told-answer (decided deny) h = record {
   grants = ((λ e. absurd (omega arith)), (λ e. let z : _≡_ {A = ℕ} 0 1 = cc in absurd (omega arith)));
   denies = ((λ e. refl), (λ e. refl));
+  refuses = λ n l e. let z : _≡_ {A = ℕ} 0 1 = cc in absurd (omega arith);
+}
+told-answer revised h = record {
+  grants = ((λ e. absurd (omega arith)), (λ e. let z : _≡_ {A = ℕ} 0 1 = cc in absurd (omega arith)));
+  denies = ((λ e. absurd (omega arith)), (λ e. let z : _≡_ {A = ℕ} 0 1 = cc in absurd (omega arith)));
   refuses = λ n l e. let z : _≡_ {A = ℕ} 0 1 = cc in absurd (omega arith);
 }
 told-answer (refused n l) h = record {
@@ -121,6 +128,19 @@ low-opens : (terms state : List ℕ) → LowOutcome (opens terms state)
 unfolding opens
 low-opens terms state =
     low-checked (ltb (length terms) termsWords || ltb (length state) stateWords) (not (goodMemory terms)) (not (goodRelations (termsOf terms) state))
+
+low-revising : (a b c d : Bool) → LowOutcome (cond a (failed 6 0) (cond b (failed 7 0) (cond c (failed 8 0) (cond d (failed 13 0) passed))))
+low-revising true b c d = low 6 refl
+low-revising false true c d = low 7 refl
+low-revising false false true d = low 8 refl
+low-revising false false false true = low 13 refl
+low-revising false false false false = tt
+
+low-revises : (old state new second : List ℕ) → LowOutcome (revises old state new second)
+unfolding revises
+low-revises old state new second =
+    low-revising (ltb (length old) termsWords || (ltb (length state) stateWords || (ltb (length new) termsWords || ltb (length second) stateWords)))
+    (not (goodMemory old && goodMemory new)) (not (goodState (termsOf old) state)) (not (sameSize (termsOf old) (termsOf new)))
 
 low-decided : (a b c d : Bool) (v : Verdict) →
     LowAnswer (cond a (refused 6 0) (cond b (refused 7 0) (cond c (refused 8 0) (cond d (refused 9 0) (decided v)))))
@@ -233,6 +253,9 @@ told-check terms state = told-outcome (checks terms state) (low-checks terms sta
 
 pub told-open : (terms state : List ℕ) → ToldOutcome (opens terms state)
 told-open terms state = told-outcome (opens terms state) (low-opens terms state)
+
+pub told-revise : (old state new second : List ℕ) → ToldOutcome (revises old state new second)
+told-revise old state new second = told-outcome (revises old state new second) (low-revises old state new second)
 
 pub told-size : (terms state : List ℕ) → ToldWriting (oldSizeGives terms state)
 unfolding sizeGives oldSizeGives

@@ -4,7 +4,7 @@ use mathlib.Core.Path.{_≡_}
 use mathlib.Core.Logic.{_↔_}
 use Rattle.theory.specs.Keeper.{Answer}
 use Rattle.theory.specs.Keeper.Verdict.{grant, deny}
-use Rattle.theory.specs.Keeper.Answer.{decided, refused}
+use Rattle.theory.specs.Keeper.Answer.{decided, done as revised, refused}
 use Rattle.memory.specs.Outcome.{Outcome}
 use Rattle.memory.specs.Outcome.Outcome.{passed, failed}
 use Rattle.calls.specs.SetList.{Listing}
@@ -24,6 +24,7 @@ grantedCode = 300
 abbrev pub codeOf : Answer → ℕ
 codeOf (decided grant) = grantedCode
 codeOf (decided deny) = deniedCode
+codeOf revised = doneCode
 codeOf (refused n l) = n
 
 abbrev pub outcomeCode : Outcome → ℕ

@@ -15,3 +15,4 @@ pub mod Copying
 pub mod Remembering
 pub mod ReadSets
 pub mod Steps
+pub mod Starting

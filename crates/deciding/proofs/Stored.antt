@@ -95,7 +95,7 @@ put-back a e l ys vs q z = rw (q, post-is a e l (omega arith), z)
 -- ---- one table
 
 module _ (T : Terms) (fine : Good T) {S : State} {rest m : List ℕ} (has : HasState T S rest m) where
-  has-rest : drop stateWords m ≡ rest
+  pub has-rest : drop stateWords m ≡ rest
   has-rest = ap (drop stateWords) (has .words) ∙ drop-at (wordsOf T S) rest stateWords (length-words T S)
 
   module _ (t : ℕ) (tl : t < tables T) (p B : ℕ → ℕ → Bool) (same : Same (T .members) p B) (vs : List ℕ) (new : Table (T .members) p vs) where

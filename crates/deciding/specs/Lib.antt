@@ -1,3 +1,4 @@
 pub mod Rows
 pub mod Memo
 pub mod Moving
+pub mod Starting

@@ -7,7 +7,7 @@ use mathlib.Core.List.{List}
 use lib.Dec.{ltb}
 use borrow.Author.Tests.{ltb-true}
 use Rattle.sets.proofs.Finite.{and-under}
-use Rattle.theory.specs.Meaning.{standing, holds}
+use Rattle.theory.specs.Meaning.{Starts, standing, holds}
 use Rattle.theory.specs.Terms.{Terms, formula, tables, pastEntry}
 use Rattle.theory.specs.Moment.{Relations, Event, Moment, graph, first}
 use Rattle.theory.specs.Moment.Event.{none, happened, tried}
@@ -23,8 +23,8 @@ module _ (T U : Terms) (a : Alike T U) where
   abbrev W : Terms
   W = met T U
 
-  agrees-met : {m₀ m : List ℕ} {Ms : List Moment} → Agrees T m₀ m Ms → Agrees W m₀ m Ms
-  agrees-met {m₀} {m} {Ms} h = record {
+  agrees-met : (s : Starts) {m₀ m : List ℕ} {Ms : List Moment} → Agrees T s m₀ m Ms → Agrees W s m₀ m Ms
+  agrees-met s {m₀} {m} {Ms} h = record {
     edges = h .edges;
     tables = λ t i b tl al bl. h .tables t i b tl al bl ∙ ap (λ x. ltb i (T .members) && (ltb b (T .members) && x)) (table t i b);
     event = h .event;
@@ -33,14 +33,14 @@ module _ (T U : Terms) (a : Alike T U) where
   }
     where
       table : (t i b : ℕ) →
-          (ltb t (tables T) && keeperHolds T Ms (pastEntry T t) (standing (formula T (pastEntry T t)) b) i)
-          ≡ (ltb t (tables W) && keeperHolds W Ms (pastEntry W t) (standing (formula W (pastEntry W t)) b) i)
+          (ltb t (tables T) && keeperHolds T s Ms (pastEntry T t) (standing (formula T (pastEntry T t)) b) i)
+          ≡ (ltb t (tables W) && keeperHolds W s Ms (pastEntry W t) (standing (formula W (pastEntry W t)) b) i)
       table t i b =
           and-under (ltb t (tables T)) _ _ (λ tl.
           let φ : formula T (pastEntry T t) ≡ formula W (pastEntry W t) =
           same-formula T U a (pastEntry T t) (past-entry T t (ltb-true t (tables T) tl) .exists) ∙ ap (formula W) (same-past T U a t) in
-          λ d. holds (T .members) (recordOf T Ms) (φ d) (last Ms) (standing (φ d) b) i)
-          ∙ (λ d. ltb t (same-number T U a (T .entries) (omega arith) d) && keeperHolds W Ms (pastEntry W t) (standing (formula W (pastEntry W t)) b) i)
+          λ d. holds (T .members) s (recordOf T Ms) (φ d) (last Ms) (standing (φ d) b) i)
+          ∙ (λ d. ltb t (same-number T U a (T .entries) (omega arith) d) && keeperHolds W s Ms (pastEntry W t) (standing (formula W (pastEntry W t)) b) i)
 
   state-met : (S : State) → wordsOf T S ≡ wordsOf W S
   unfolding wordsOf wordAt
@@ -58,8 +58,8 @@ module _ (T U : Terms) (a : Alike T U) where
       (row (T .members) (since-met T U a (graph T (first R)) (λ t a b. false) (T .entries) (omega arith) d ((i - relationWords) / 64)) (i % 64)) 0)
       0))
 
-  pub agrees-alike : {m₀ m : List ℕ} {Ms : List Moment} → Agrees T m₀ m Ms → Agrees U m₀ m Ms
-  agrees-alike {m₀} {m} {Ms} h = subst (λ X. Agrees X m₀ m Ms) (met-is T U a) (agrees-met h)
+  pub agrees-alike : (s : Starts) {m₀ m : List ℕ} {Ms : List Moment} → Agrees T s m₀ m Ms → Agrees U s m₀ m Ms
+  agrees-alike s {m₀} {m} {Ms} h = subst (λ X. Agrees X s m₀ m Ms) (met-is T U a) (agrees-met s h)
 
   pub words-alike : (R : Relations) → wordsOf T (opening T R) ≡ wordsOf U (opening U R)
   words-alike R = words-met R ∙ ap (λ X. wordsOf X (opening X R)) (met-is T U a)

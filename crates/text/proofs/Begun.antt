@@ -5,6 +5,7 @@ use mathlib.Core.Path.{_≡_, refl, sym, ap, subst, _∙_}
 use mathlib.Core.Bool.{true, false, cond}
 use mathlib.Core.List.{List, [], _∷_, _++_}
 use lib.ListN.{length, drop, length-append, length-drop}
+use Rattle.theory.specs.Meaning.{fromFirst}
 use Rattle.theory.specs.Terms.{Terms}
 use Rattle.theory.specs.Moment.{Moment, first}
 use Rattle.theory.specs.Tables.{State, opening}
@@ -70,10 +71,10 @@ module _ (text : List ℕ) (f : File) (e : reading text ≡ accepted f) (form : 
     pub same-opened : opened ≡ wordsOf U (opening U (f .edges)) ++ drop stateWords state
     same-opened = ap (λ w. w ++ drop stateWords state) (words-alike T U begun-like (f .edges))
 
-    pub begun-held : Held U fine state opened (first (f .edges) ∷ [])
+    pub begun-held : Held U fromFirst fine state opened (first (f .edges) ∷ [])
     unfolding opening
-    begun-held = subst (λ w. Held U fine state w (first (f .edges) ∷ [])) (sym same-opened)
-        (held-words U fine state state sl refl refl (opening U (f .edges)) (first (f .edges) ∷ []) (opening-kept U fine (f .edges)) inside)
+    begun-held = subst (λ w. Held U fromFirst fine state w (first (f .edges) ∷ [])) (sym same-opened)
+        (held-words U fromFirst fine state state sl refl refl (opening U (f .edges)) (first (f .edges) ∷ []) (opening-kept U fine (f .edges)) inside)
 
     pub edges-back : stateOf opened .now .edge ≡ f .edges
     unfolding opening

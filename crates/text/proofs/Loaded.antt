@@ -1,5 +1,4 @@
--- Lent memory that holds what a book says: through a list of steps, and through storing and loading again into other memory. What is loaded again is as good as what was stored,
--- also where there is no record.
+-- Lent memory that holds what a book says, stored and loaded again into other memory. What is loaded again is as good as what was stored, also where there is no record.
 use Prim.Native.Nat.{ℕ, _≤_, _<_}
 use native.Mathlib.Omega.{arith}
 use mathlib.Core.Path.{_≡_, refl, sym, ap, subst, subst₂, _∙_}
@@ -9,11 +8,8 @@ use lib.Dec.{ltb}
 use lib.ListN.{length, getD, take, drop, length-append, length-drop, List·getD-append}
 use lib.Seq.{take-at, getD-take, length-take-le}
 use Rattle.theory.specs.Terms.{Terms}
-use Rattle.theory.specs.Moment.{Moment, first}
-use Rattle.theory.specs.Keeper.{Call, Answer, keepAll}
-use Rattle.theory.specs.Tables.{State, opening}
-use Rattle.theory.proofs.Good.{Good}
-use Rattle.theory.proofs.Like.{Alike, alike-sym, alike-trans, keepAll-alike, kept-alike}
+use Rattle.theory.specs.Keeper.{Book}
+use Rattle.theory.proofs.Like.{Alike, alike-trans, kept-alike}
 use Rattle.memory.specs.Layout.{termsWords, stateWords, termsOf, stateOf, wordsOf}
 use Rattle.memory.specs.Checks.{goodMemory, goodState}
 use Rattle.memory.specs.Outcome.{Outcome, checks}
@@ -22,9 +18,8 @@ use Rattle.memory.proofs.Accepted.{good}
 use Rattle.memory.proofs.Inside.{Inside, state-inside}
 use Rattle.memory.proofs.Front.{good-cong}
 use Rattle.memory.proofs.Outcomes.{Checked, passed-checked}
-use Rattle.calls.specs.Agreement.{LentStep, fedSteps, serveSteps, Agrees}
-use Rattle.calls.proofs.Held.{Held, held-words, agrees}
-use Rattle.calls.proofs.Demand.{run}
+use Rattle.calls.proofs.Held.{Held, held-words}
+use Rattle.calls.proofs.Demand.{Playing}
 use Rattle.file.specs.File.{File}
 use Rattle.file.proofs.Accepted.{Accepted, accepted-good}
 use Rattle.reader.specs.Memory.{memoryOf}
@@ -34,47 +29,12 @@ use Rattle.reader.proofs.TermsMemory.{length-memory, memory-alike, memory-good}
 use Rattle.writer.specs.Write.{Writing, storedText, storeGives, storeLeaves, fitted, filledOut}
 use Rattle.writer.specs.Write.Writing.{bytes, unwritten}
 use Rattle.text.specs.Text.{readState}
-use Rattle.text.specs.Recorded.{Book, laterBook}
-use Rattle.text.proofs.AlikeWords.{agrees-alike, state-alike, inside-alike}
+use Rattle.text.specs.Recorded.{loaded}
+use Rattle.text.proofs.AlikeWords.{state-alike, inside-alike}
 use Rattle.text.proofs.Tidied.{tidied, tidied-alike}
 use Rattle.text.proofs.Yields.{read-terms}
 use Rattle.text.proofs.Twins.{Twins}
 use Rattle.text.proofs.Reloaded.{Reloaded, reloaded, reread-stored-memory, named-words}
-
--- Lent memory that holds what the book says: the terms m, and the state s, which was m₀ when it was lent.
-pub record Loaded (B : Book) (m₀ m s : List ℕ) : Type 0 where
-  pub good-terms : Good (B .terms)
-  pub like : Alike (B .terms) (termsOf m)
-  pub long : termsWords ≤ length m
-  pub good-memory : goodMemory m ≡ true
-  pub held : Held (termsOf m) (good m good-memory) m₀ s (B .moments)
-
--- ---- a list of steps
-
-module _ (B : Book) (m₀ m s : List ℕ) (sl : stateWords ≤ length m₀) (l : Loaded B m₀ m s) (ss : List LentStep) where
-  ran : (serveSteps m s ss .0 ≡ keepAll (termsOf m) (B .moments) (fedSteps ss) .0)
-      × Held (termsOf m) (good m (l .good-memory)) m₀ (serveSteps m s ss .1) (keepAll (termsOf m) (B .moments) (fedSteps ss) .1)
-  ran = run m (l .long) (good m (l .good-memory)) (l .good-memory) m₀ sl ss s (B .moments) (l .held)
-
-  same : keepAll (termsOf m) (B .moments) (fedSteps ss) ≡ keepAll (B .terms) (B .moments) (fedSteps ss)
-  same = sym (keepAll-alike (B .terms) (termsOf m) (l .like) (l .good-terms) (B .moments) (fedSteps ss))
-
-  pub answers : serveSteps m s ss .0 ≡ keepAll (B .terms) (B .moments) (fedSteps ss) .0
-  answers = ran .0 ∙ ap (λ (x : List Answer × List Moment). x .0) same
-
-  pub stays : Loaded (laterBook B ss) m₀ m (serveSteps m s ss .1)
-  stays = record {
-    good-terms = l .good-terms;
-    like = l .like;
-    long = l .long;
-    good-memory = l .good-memory;
-    held = subst (λ (x : List Answer × List Moment). Held (termsOf m) (good m (l .good-memory)) m₀ (serveSteps m s ss .1) (x .1)) same (ran .1);
-  }
-
-  pub words : Agrees (B .terms) m₀ (serveSteps m s ss .1) (laterBook B ss .moments)
-  unfolding stays
-  words = agrees-alike (termsOf m) (B .terms) (alike-sym (l .like))
-      (agrees (termsOf m) (good m (l .good-memory)) m₀ (serveSteps m s ss .1) (laterBook B ss .moments) sl (stays .held))
 
 -- ---- stored and loaded again
 
@@ -156,16 +116,16 @@ module _ (m s out : List ℕ) (n : ℕ) (e : storeGives m s out ≡ bytes n) whe
     })
 
     -- So it holds what the first one's record says.
-    module _ (B : Book) (m₀ : List ℕ) (l : Loaded B m₀ m s) where
-      pub loaded-again : Loaded B state (readTerms (storedText m s) terms state) (readState (storedText m s) terms state)
-      loaded-again = subst₂ (Loaded B state) (sym (again .0)) (sym (again .1)) (record {
-        good-terms = l .good-terms;
+    module _ (B : Book) (m₀ : List ℕ) (l : Playing B (record { terms = m; state = s; before = m₀ })) where
+      pub loaded-again : Playing B (loaded (storedText m s) terms state)
+      loaded-again = subst₂ (λ (x y : List ℕ). Playing B (record { terms = x; state = y; before = state })) (sym (again .0)) (sym (again .1)) (record {
         like = alike-trans (l .like) like';
         long = long';
         good-memory = good';
-        held = subst (λ (w : List ℕ). Held (termsOf m') (good m' good') state (w ++ drop stateWords state) (B .moments))
+        room = sl';
+        held = subst (λ (w : List ℕ). Held (termsOf m') (B .start) (good m' good') state (w ++ drop stateWords state) (B .moments))
             (sym (state-alike U (termsOf m') like' (stateOf s)) ∙ named-words U s (checked .long-state) (checked .good-state))
-            (held-words (termsOf m') (good m' good') state state sl' refl refl (stateOf s) (B .moments)
-            (kept-alike U (termsOf m') like' (stateOf s) (B .moments) (l .held .kept))
+            (held-words (termsOf m') (B .start) (good m' good') state state sl' refl refl (stateOf s) (B .moments)
+            (kept-alike U (termsOf m') like' (B .start) (stateOf s) (B .moments) (l .held .kept))
             (inside-alike U (termsOf m') like' (stateOf s .now) (state-inside U s (checked .good-state))));
       })

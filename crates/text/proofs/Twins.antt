@@ -2,33 +2,37 @@
 use Prim.Native.Nat.{ℕ, _+_, _<_}
 use native.Mathlib.Omega.{arith}
 use mathlib.Core.Path.{_≡_, refl, sym, ap, ap₂, subst, _∙_}
-use mathlib.Core.Bool.{Bool, true, false, cond, not, _&&_}
+use mathlib.Core.Bool.{Bool, true, false, cond, not, _&&_, _||_}
 use mathlib.Core.List.{List, [], _∷_, _++_}
 use lib.Dec.{ltb}
-use lib.ListN.{length, getD, drop, replicate, List·getD-append}
+use lib.ListN.{length, getD, drop, replicate, length-append, List·getD-append}
 use borrow.Author.Tests.{le-ltb, ltb-true}
 use Rattle.sets.proofs.Finite.{and-left}
-use Rattle.theory.specs.Terms.{Terms}
+use Rattle.theory.specs.Terms.{Terms, sameSize}
 use Rattle.theory.specs.Keeper.{Answer}
 use Rattle.theory.specs.Keeper.Verdict.{grant, deny}
 use Rattle.theory.specs.Keeper.Answer.{decided, refused}
 use Rattle.theory.specs.Limits.{scratchWords}
-use Rattle.theory.specs.Tables.{named, State, decideNow, made, advance}
-use Rattle.theory.proofs.Like.{Alike}
+use Rattle.theory.specs.Tables.{named, State, decideNow, made, advance, revised}
+use Rattle.theory.proofs.Like.{Alike, alike-refl, size-alike, revised-alike}
+use Rattle.theory.proofs.Size.{same-members, same-relations, same-events}
 use Rattle.memory.specs.Layout.{termsWords, stateWords, termsOf, stateOf, wordsOf}
-use Rattle.memory.specs.Outcome.{Outcome, hasPassed, checks}
+use Rattle.memory.specs.Outcome.{Outcome, hasPassed, checks, revises}
+use Rattle.memory.specs.Checks.{goodMemory}
 use Rattle.memory.specs.Outcome.Outcome.{passed, failed}
 use Rattle.memory.proofs.Accepted.{good}
 use Rattle.memory.proofs.Front.{state-cong}
 use Rattle.memory.proofs.Words.{length-words}
-use Rattle.memory.proofs.Outcomes.{Checked, check-passed}
+use Rattle.memory.proofs.Outcomes.{Checked, check-passed, Revisable, passed-revisable}
 use Rattle.calls.specs.Monitor.{answer, granted, moves, stateAfter, scratchAfter}
 use Rattle.calls.specs.SetList.{Run, filled, singly, listChecks, listing, listed, left}
 use Rattle.calls.specs.SetList.Listing.{counted}
-use Rattle.calls.specs.Agreement.{LentCall, LentStep, leaves, answersIn, serveSteps}
-use Rattle.calls.specs.Agreement.LentStep.{once, setList}
+use Rattle.calls.specs.Agreement.{LentCall, LentStep, leaves, answersIn, outcomeIn, Lent, withState, inUse, serveSteps}
+use Rattle.calls.specs.Revising.{revisedState}
+use Rattle.calls.specs.Agreement.LentStep.{once, setList, revise}
 use Rattle.calls.specs.declared.Record.{Record}
 use Rattle.calls.proofs.Answers.{moves-decided, decided-says}
+use Rattle.calls.proofs.Level.{revised-good}
 use Rattle.calls.proofs.Singly.{after-checked}
 use Rattle.text.proofs.AlikeWords.{state-alike}
 use Rattle.text.proofs.AlikeMoments.{decide-alike, made-alike, advance-alike}
@@ -193,6 +197,75 @@ module _ (m m' : List ℕ) where
       go true = (refl, t)
       go false = (ap₂ {C = List Answer} (λ n qs. answersIn (counted n) qs) (r .grants) (r .records), r .states)
 
+-- ---- new terms
+
+module _ (m s m' s' : List ℕ) (t : Twins m s m' s') (new second : List ℕ) where
+  abbrev Before : Terms
+  Before = termsOf m
+
+  abbrev Before′ : Terms
+  Before′ = termsOf m'
+
+  abbrev New : Terms
+  New = termsOf new
+
+  -- what is left of the checks where terms and state pass
+  abbrev offer : Bool → Outcome
+  offer z =
+      cond (ltb (length new) termsWords || ltb (length second) stateWords) (failed 6 0)
+      (cond (not (goodMemory new)) (failed 7 0) (cond (not z) (failed 13 0) passed))
+
+  revises-is : (m s : List ℕ) → Checked m s → revises m s new second ≡ offer (sameSize (termsOf m) New)
+  unfolding revises
+  revises-is m s c =
+      rw (le-ltb (length m) termsWords (c .long-terms), le-ltb (length s) stateWords (c .long-state), c .good-terms, c .good-state)
+
+  pub same-revises : revises m s new second ≡ revises m' s' new second
+  same-revises = revises-is m s (t .checked) ∙ ap offer (size-alike Before Before′ (t .like) New) ∙ sym (revises-is m' s' (t .other))
+
+  same-revised : revisedState m s new second ≡ revisedState m' s' new second
+  unfolding revisedState
+  same-revised =
+      ap (λ (o : Outcome). cond (hasPassed o) (wordsOf New (revised Before (stateOf s) New) ++ drop stateWords second) second) same-revises
+      ∙ ap (λ (S : State). cond (hasPassed (revises m' s' new second)) (wordsOf New S ++ drop stateWords second) second)
+      (revised-alike Before Before′ (t .like) (stateOf s) New ∙ ap (λ (S : State). revised Before′ S New) (state-cong s s' (t .words)))
+
+  -- the second state passes the checks under the new terms
+  begun-checked : passed ≡ revises m s new second → Checked new (revisedState m s new second)
+  unfolding revisedState
+  begun-checked e =
+      let r : Revisable m s new second = passed-revisable m s new second e in
+      let S : State = revised Before (stateOf s) New in
+      let w : List ℕ = wordsOf New S in
+      rw (sym e) (record {
+        long-terms = r .long-new;
+        long-state = omega (arith, length-append w (drop stateWords second), length-words New S);
+        good-terms = r .good-new;
+        good-state = revised-good Before New (good m (t .checked .good-terms)) (good new (r .good-new)) (same-members Before New (r .same)) (same-relations Before New (r .same)) (same-events Before New (r .same)) s
+            (t .checked .good-state) (drop stateWords second);
+      })
+
+  abbrev TwinLent : Lent → Lent → Type 0
+  TwinLent L K = Twins (L .terms) (L .state) (K .terms) (K .state)
+
+  -- the memory in use afterwards
+  pub same-in-use : (b b' : List ℕ) →
+      TwinLent (inUse (record { terms = m; state = s; before = b }) new second) (inUse (record { terms = m'; state = s'; before = b' }) new second)
+  same-in-use b b' = go (revises m s new second) refl (revises m' s' new second) (sym same-revises)
+    where
+      go : (o : Outcome) → revises m s new second ≡ o → (o' : Outcome) → o' ≡ revises m s new second →
+          TwinLent (cond (hasPassed o) (record { terms = new; state = revisedState m s new second; before = second }) (record { terms = m; state = s; before = b }))
+          (cond (hasPassed o') (record { terms = new; state = revisedState m' s' new second; before = second }) (record { terms = m'; state = s'; before = b' }))
+      go passed e o' e' =
+          let k : Checked new (revisedState m s new second) = begun-checked (sym e) in
+          rw (e' ∙ e) (record {
+            checked = k;
+            other = subst (Checked new) same-revised k;
+            like = alike-refl New;
+            words = λ i _. ap (λ (w : List ℕ). getD w i 0) same-revised;
+          })
+      go (failed n l) e o' e' = rw (e' ∙ e) t
+
 -- ---- any list of steps
 
 module _ (m m' : List ℕ) where
@@ -203,11 +276,15 @@ module _ (m m' : List ℕ) where
       go true = t
       go false = after-twins (c .scratch) (c .event) (c .from) (c .to) m s m' s' t
 
-  pub same-steps : (ss : List LentStep) (s s' : List ℕ) → Twins m s m' s' → serveSteps m s ss .0 ≡ serveSteps m' s' ss .0
-  unfolding serveSteps
-  same-steps [] s s' t = refl
-  same-steps (once c ∷ ss) s s' t =
-      ap₂ _∷_ (same-answer (c .scratch) (c .event) (c .from) (c .to) m s m' s' t) (same-steps ss (leaves m s c) (leaves m' s' c) (leaves-twins c s s' t))
-  same-steps (setList sc rs ∷ ss) s s' t =
-      let r = same-list m m' sc rs s s' t in
-      ap₂ _++_ (r .0) (same-steps ss (left m s sc rs .state) (left m' s' sc rs .state) (r .1))
+pub same-steps : (ss : List LentStep) (L K : Lent) → Twins (L .terms) (L .state) (K .terms) (K .state) → serveSteps L ss .0 ≡ serveSteps K ss .0
+unfolding serveSteps
+same-steps [] L K t = refl
+same-steps (once c ∷ ss) L K t =
+    ap₂ _∷_ (same-answer (c .scratch) (c .event) (c .from) (c .to) (L .terms) (L .state) (K .terms) (K .state) t)
+    (same-steps ss (withState L (leaves (L .terms) (L .state) c)) (withState K (leaves (K .terms) (K .state) c)) (leaves-twins (L .terms) (K .terms) c (L .state) (K .state) t))
+same-steps (setList sc rs ∷ ss) L K t =
+    let r = same-list (L .terms) (K .terms) sc rs (L .state) (K .state) t in
+    ap₂ _++_ (r .0) (same-steps ss (withState L (left (L .terms) (L .state) sc rs .state)) (withState K (left (K .terms) (K .state) sc rs .state)) (r .1))
+same-steps (revise new second ∷ ss) L K t =
+    ap₂ _∷_ (ap outcomeIn (same-revises (L .terms) (L .state) (K .terms) (K .state) t new second))
+    (same-steps ss (inUse L new second) (inUse K new second) (same-in-use (L .terms) (L .state) (K .terms) (K .state) t new second (L .before) (K .before)))

@@ -3,13 +3,11 @@
 use Prim.Native.Nat.{ℕ, _≤_}
 use mathlib.Core.Path.{_≡_}
 use mathlib.Core.Bool.{false}
-use mathlib.Core.List.{List, [], _∷_}
+use mathlib.Core.List.{List}
 use lib.ListN.{length, take}
-use Rattle.theory.specs.Terms.{Terms}
-use Rattle.theory.specs.Moment.{Moment, first}
-use Rattle.theory.specs.Keeper.{keepAll}
+use Rattle.theory.specs.Keeper.{Book, firstBook, keepSteps}
 use Rattle.memory.specs.Layout.{termsWords, stateWords}
-use Rattle.calls.specs.Agreement.{LentStep, fedSteps, serveSteps}
+use Rattle.calls.specs.Agreement.{LentStep, fedSteps, Lent, serveSteps}
 use Rattle.fields.specs.Split.{lines}
 use Rattle.file.specs.File.{File}
 use Rattle.file.specs.Reading.{reading}
@@ -20,26 +18,25 @@ use Rattle.writer.specs.Write.{storeGives, storeLeaves}
 use Rattle.writer.specs.Write.Writing.{bytes}
 use Rattle.text.specs.Text.{readState}
 
--- What the keeper holds: the terms, and the list of graphs.
-pub record Book : Type 0 where
-  pub terms : Terms
-  pub moments : List Moment
+-- What the keeper begins with, fed the lines of an old file. Each past-time entry starts at moment 0.
+abbrev pub saidBook : (text : List ℕ) → Book
+saidBook text = firstBook (termsSaid (records (lines text))) (edgesSaid (records (lines text)))
 
--- What the keeper begins with, fed the lines of an old file.
-abbrev pub firstBook : (text : List ℕ) → Book
-firstBook text = record { terms = termsSaid (records (lines text)); moments = first (edgesSaid (records (lines text))) ∷ [] }
-
--- What it holds after a list of steps.
+-- What it holds after a list of steps: the starts are part of it.
 abbrev pub laterBook : Book → List LentStep → Book
-laterBook B ss = record { terms = B .terms; moments = keepAll (B .terms) (B .moments) (fedSteps ss) .1 }
+laterBook B ss = keepSteps B (fedSteps ss) .1
 
--- The state's memory of a panel that read a text and took a list of steps since.
-abbrev pub after : (text terms state : List ℕ) → List LentStep → List ℕ
-after text terms state ss = serveSteps (readTerms text terms state) (readState text terms state) ss .1
+-- The memory of a panel that has read a text.
+abbrev pub loaded : (text terms state : List ℕ) → Lent
+loaded text terms state = record { terms = readTerms text terms state; state = readState text terms state; before = state }
+
+-- The memory in use of a panel that read a text and took a list of steps since.
+abbrev pub after : (text terms state : List ℕ) → List LentStep → Lent
+after text terms state ss = serveSteps (loaded text terms state) ss .1
 
 pub data Recorded : (text : List ℕ) → Book → Type 0 where
-  old : (text : List ℕ) (f : File) → reading text ≡ accepted f → f .stored ≡ false → Recorded text (firstBook text)
+  old : (text : List ℕ) (f : File) → reading text ≡ accepted f → f .stored ≡ false → Recorded text (saidBook text)
   written : (text : List ℕ) (B : Book) → Recorded text B →
       (terms state : List ℕ) → termsWords ≤ length terms → stateWords ≤ length state → (ss : List LentStep) →
-      (out : List ℕ) (n : ℕ) → storeGives (readTerms text terms state) (after text terms state ss) out ≡ bytes n →
-      Recorded (take n (storeLeaves (readTerms text terms state) (after text terms state ss) out)) (laterBook B ss)
+      (out : List ℕ) (n : ℕ) → storeGives (after text terms state ss .terms) (after text terms state ss .state) out ≡ bytes n →
+      Recorded (take n (storeLeaves (after text terms state ss .terms) (after text terms state ss .state) out)) (laterBook B ss)

@@ -1,5 +1,6 @@
 -- The marked cases hold of the keeper and of the meaning. The preset's requests and nested past-time terms likewise.
 use Prim.Native.Nat.{ℕ}
+use native.Mathlib.Omega.{arith}
 use mathlib.Core.Path.{_≡_, refl}
 use mathlib.Core.List.{List, [], _∷_}
 use mathlib.Core.Bool.{true, false, cond, not, _&&_, _||_}
@@ -10,7 +11,7 @@ use Rattle.sets.specs.Sets.{anyBelow, allBelow, countBelow}
 use Rattle.sets.proofs.Finite.{and-left, and-both}
 use Rattle.theory.specs.Formula.{node, number, below, spelled, free, highest}
 use Rattle.theory.specs.Formula.Formula.{top, neg}
-use Rattle.theory.specs.Meaning.{Record, Assignment, holds}
+use Rattle.theory.specs.Meaning.{Record, fromFirst, Assignment, holds}
 use Rattle.theory.specs.Terms.{Terms}
 use Rattle.theory.specs.Moment.{affectAll}
 use Rattle.theory.specs.Keeper.{Call, Answer, judge, keep, keepAll, keeper}
@@ -33,7 +34,7 @@ anywhere : (N : ℕ) (γ : Record) (i : ℕ) (g : Assignment) (m : ℕ) → Anyw
 unfolding holds
 anywhere N γ i g m = record {
   prev-top = λ t. ((λ e. ltb-true 0 i (and-left _ _ e)), (λ h. and-both _ _ (lt-ltb 0 i h) refl));
-  since-top = λ t. since-unfolds N γ t 0 (neg top) top g m i;
+  since-top = λ t. since-unfolds N fromFirst γ t (neg top) top g m i (omega arith);
   var-target = (eqb-true m (g 0), eq-eqb m (g 0));
   bind-var = eq-eqb m m refl;
   bind-again = eq-eqb (g 0) (g 0) refl;

@@ -7,6 +7,7 @@ use lib.Dec.{ltb, leb}
 use lib.ListN.{length}
 use borrow.Author.Tests.{leb-false, le-ltb}
 use Rattle.theory.specs.Limits.{scratchWords}
+use Rattle.theory.specs.Meaning.{fromFirst}
 use Rattle.theory.specs.Terms.{Terms}
 use Rattle.theory.specs.Moment.{Moment, next, denied}
 use Rattle.theory.specs.Keeper.{Call, Answer, target, lastMoment, keeperHolds, judge}
@@ -23,7 +24,7 @@ unnamed T c = leb (T .events) (c .event) || leb (T .members) (c .from) || leb (T
 
 -- The call names an event and members, and the policy of that event holds.
 abbrev pub granted : Terms → List Moment → Call → Bool
-granted T Ms c = not (unnamed T c) && keeperHolds T Ms (T .policy (c .event)) (target (c .to)) (c .from)
+granted T Ms c = not (unnamed T c) && keeperHolds T fromFirst Ms (T .policy (c .event)) (target (c .to)) (c .from)
 
 -- The answer to a call that is granted or is not, and whether such a call makes a moment.
 abbrev pub answered : Terms → Call → (granted : Bool) → Answer
@@ -38,9 +39,9 @@ madeBy T M c g = cond g (next T M (c .event) (c .from) (c .to)) (denied M (c .ev
 
 -- A call goes by these.
 pub judged : (T : Terms) (Ms : List Moment) (c : Call) →
-    judge T Ms c ≡ (answered T c (granted T Ms c), cond (counted T c (granted T Ms c)) (madeBy T (lastMoment Ms) c (granted T Ms c) ∷ []) [])
+    judge T fromFirst Ms c ≡ (answered T c (granted T Ms c), cond (counted T c (granted T Ms c)) (madeBy T (lastMoment Ms) c (granted T Ms c) ∷ []) [])
 unfolding judge
-judged T Ms c = go (short c) (unnamed T c) (keeperHolds T Ms (T .policy (c .event)) (target (c .to)) (c .from)) (c .look) (T .kept (c .event))
+judged T Ms c = go (short c) (unnamed T c) (keeperHolds T fromFirst Ms (T .policy (c .event)) (target (c .to)) (c .from)) (c .look) (T .kept (c .event))
   where
     A : Moment
     A = madeBy T (lastMoment Ms) c false
@@ -73,7 +74,7 @@ makes-counted T Ms c =
 
 -- how much scratch there is beyond enough makes no difference
 pub judge-lent : (T : Terms) (Ms : List Moment) {c d : Call} → c .look ≡ d .look → c .event ≡ d .event → c .from ≡ d .from → c .to ≡ d .to →
-    scratchWords ≤ c .scratch → scratchWords ≤ d .scratch → judge T Ms c ≡ judge T Ms d
+    scratchWords ≤ c .scratch → scratchWords ≤ d .scratch → judge T fromFirst Ms c ≡ judge T fromFirst Ms d
 unfolding judge
 judge-lent T Ms {c} {d} l e u v p q = rw (le-ltb (c .scratch) scratchWords p, le-ltb (d .scratch) scratchWords q, l, e, u, v)
 

@@ -1,27 +1,30 @@
 -- Terms that agree as far as they count entries and events: whatever reads terms reads the same in both.
 use Prim.Native.Nat.{ℕ, zero, suc, _+_, _-_, _/_, _%_, _≤_, _<_}
 use native.Mathlib.Omega.{arith}
-use mathlib.Core.Path.{_≡_, refl, sym, ap, ap₂, subst, _∙_}
-use mathlib.Core.Bool.{Bool, true, false, cond, not, _&&_, _||_}
+use mathlib.Core.Path.{_≡_, refl, sym, ap, ap₂, subst, _∙_, fun-ext}
+use mathlib.Core.Bool.{Bool, true, false, cond, not, _&&_, _||_, false≢true}
 use mathlib.Core.List.{List, [], _∷_, _++_}
 use lib.Dec.{eqb, ltb, leb}
 use borrow.Author.Tests.{ltb-true, leb-false}
 use Rattle.sets.proofs.Finite.{and-under}
-use Rattle.theory.specs.Formula.{Formula, Entry, node, firstOperand, secondOperand, thirdOperand, isPast, number, below, spelled, highest}
-use Rattle.theory.specs.Meaning.{Graph, standing, holds}
+use Rattle.theory.specs.Formula.{Formula, Entry, node, firstOperand, secondOperand, thirdOperand, isPast, number, below, spelled, highest, bare, same}
+use Rattle.theory.specs.Meaning.{Graph, Starts, fromFirst, standing, holds}
 use Rattle.theory.specs.Terms.{Terms, Effect, labels, formula}
 use Rattle.theory.specs.Moment.{Relations, Moment, graph, affectAll, denied, first}
 use Rattle.theory.specs.Moment.Event.{happened}
-use Rattle.theory.specs.Keeper.{Call, Answer, recordOf, last, lastMoment, target, keeperHolds, judge, keep, keepAll, keeper}
+use Rattle.theory.specs.Limits.{leastTerms, leastState}
+use Rattle.theory.specs.Keeper.{Call, Answer, Book, Step, recordOf, last, lastMoment, target, keeperHolds, judge, keep, keepAll, keeper, revisedStart, revisedBook, keepStep}
+use Rattle.theory.specs.Keeper.Step.{call, revise}
 use Rattle.theory.specs.Keeper.Verdict.{grant, deny}
-use Rattle.theory.specs.Keeper.Answer.{decided, refused}
-use Rattle.theory.specs.Terms.{tables, pastEntry}
+use Rattle.theory.specs.Keeper.Answer.{decided, done, refused}
+use Rattle.theory.specs.Terms.{tables, pastEntry, firstSame, sameSize}
 use Rattle.theory.specs.Fit.{operandFits, lone, onlyFree, reachFits}
-use Rattle.theory.specs.Tables.{Tables, State, store, holdsNow, sinceTables, opening}
+use Rattle.theory.specs.Tables.{Tables, State, store, holdsNow, operandNow, sinceTables, opening, startBits, startStep, startTables, revised}
 use Rattle.theory.proofs.Good.{Good, GoodEntry, Within, second-lower, third-lower}
 use Rattle.theory.proofs.Past.{past-entry}
 use Rattle.theory.proofs.Now.{Same}
 use Rattle.theory.proofs.Kept.{Kept}
+use Rattle.theory.proofs.Lowest.{lowest-cong}
 
 -- ---- tables of entries that agree: the formula of an entry depends on the entries up to it
 
@@ -146,14 +149,14 @@ module _ (T U : Terms) (a : Alike T U) where
 
   -- ---- the keeper
 
-  judge-met : Good T → (Ms : List Moment) (c : Call) → judge T Ms c ≡ judge W Ms c
+  judge-met : Good T → (s : Starts) (Ms : List Moment) (c : Call) → judge T s Ms c ≡ judge W s Ms c
   unfolding judge
-  judge-met g Ms c = go (leb (T .events) (c .event)) refl
+  judge-met g s Ms c = go (leb (T .events) (c .event)) refl
     where
       -- what becomes of a call of an event with policy φ and effects es, kept or not
       kept : Formula → List Effect → Bool → Answer × List Moment
       kept φ es k =
-          cond (not (holds (T .members) (recordOf T Ms) φ (last Ms) (target (c .to)) (c .from)))
+          cond (not (holds (T .members) s (recordOf T Ms) φ (last Ms) (target (c .to)) (c .from)))
           (decided deny, cond (not (c .look) && k) (denied (lastMoment Ms) (c .event) (c .from) (c .to) ∷ []) [])
           (cond (c .look) (decided grant, [])
           (decided grant, record { edge = affectAll (c .from) (c .to) es (lastMoment Ms .edge); event = happened (c .event) (c .from) (c .to) } ∷ []))
@@ -170,16 +173,16 @@ module _ (T U : Terms) (a : Alike T U) where
           let l : c .event < T .events = leb-false (T .events) (c .event) e in
           λ d. called false (kept (same-policy g (c .event) l d) (a .effects (c .event) l d) (a .kept (c .event) l d))
 
-  keep-met : Good T → (Ms : List Moment) (c : Call) → keep T Ms c ≡ keep W Ms c
+  keep-met : Good T → (s : Starts) (Ms : List Moment) (c : Call) → keep T s Ms c ≡ keep W s Ms c
   unfolding keep
-  keep-met g Ms c = ap (λ (r : Answer × List Moment). (r .0, Ms ++ r .1)) (judge-met g Ms c)
+  keep-met g s Ms c = ap (λ (r : Answer × List Moment). (r .0, Ms ++ r .1)) (judge-met g s Ms c)
 
-  keepAll-met : Good T → (Ms : List Moment) (cs : List Call) → keepAll T Ms cs ≡ keepAll W Ms cs
+  keepAll-met : Good T → (s : Starts) (Ms : List Moment) (cs : List Call) → keepAll T s Ms cs ≡ keepAll W s Ms cs
   unfolding keepAll
-  keepAll-met g Ms [] = refl
-  keepAll-met g Ms (c ∷ cs) =
-      (λ d. (keep-met g Ms c d .0 ∷ keepAll T (keep-met g Ms c d .1) cs .0, keepAll T (keep-met g Ms c d .1) cs .1))
-      ∙ (λ d. (keep W Ms c .0 ∷ keepAll-met g (keep W Ms c .1) cs d .0, keepAll-met g (keep W Ms c .1) cs d .1))
+  keepAll-met g s Ms [] = refl
+  keepAll-met g s Ms (c ∷ cs) =
+      (λ d. (keep-met g s Ms c d .0 ∷ keepAll T s (keep-met g s Ms c d .1) cs .0, keepAll T s (keep-met g s Ms c d .1) cs .1))
+      ∙ (λ d. (keep W s Ms c .0 ∷ keepAll-met g s (keep W s Ms c .1) cs d .0, keepAll-met g s (keep W s Ms c .1) cs d .1))
 
   -- ---- tables
 
@@ -200,14 +203,22 @@ module _ (T U : Terms) (a : Alike T U) where
       || (holdsNow (T .members) G (Y d) (f d (e d .a)) (standing (φ d) b) i && Y d (s d) i b)) (Y d))
       (Y d)
 
-  kept-met : (S : State) (Ms : List Moment) → Kept T S Ms → Kept W S Ms
-  kept-met S Ms kept = record {
+  past-back : (n : ℕ) → n < T .entries → isPast (W .entry n .op) ≡ true → isPast (T .entry n .op) ≡ true
+  past-back n l p = ap (λ (e : Entry). isPast (e .op)) (a .entry n l) ∙ p
+
+  kept-met : (s : Starts) (S : State) (Ms : List Moment) → Kept T s S Ms → Kept W s S Ms
+  kept-met s S Ms kept = record {
     some = kept .some;
     now = kept .now;
+    begun = kept .begun;
+    together = λ k n kl nl p q e.
+        ap s (sym (same-number k (omega arith)))
+        ∙ kept .together k n kl nl (past-back k kl p) (past-back n nl q) (ap bare (same-formula k kl) ∙ e ∙ sym (ap bare (same-formula n nl)))
+        ∙ ap s (same-number n (omega arith));
     tables = λ n l p b c bl cl.
         ap (λ t. S .table t b c) (sym (same-number n (omega arith)))
-        ∙ kept .tables n l (subst (λ (e : Entry). isPast (e .op) ≡ true) (sym (a .entry n l)) p) b c bl cl
-        ∙ (λ d. holds (T .members) (recordOf T Ms) (same-formula n l d) (last Ms) (standing (same-formula n l d) c) b);
+        ∙ kept .tables n l (past-back n l p) b c bl cl
+        ∙ (λ d. holds (T .members) s (recordOf T Ms) (same-formula n l d) (last Ms) (standing (same-formula n l d) c) b);
     unused = λ t b c h. kept .unused t b c (subst (λ n. n ≤ t) (sym (same-number (T .entries) (omega arith))) h);
   }
 
@@ -216,14 +227,67 @@ module _ (T U : Terms) (a : Alike T U) where
   pub good-alike : Good T → Good U
   good-alike g = subst Good met-is (good-met g)
 
-  pub keepAll-alike : Good T → (Ms : List Moment) (cs : List Call) → keepAll T Ms cs ≡ keepAll U Ms cs
-  keepAll-alike g Ms cs = keepAll-met g Ms cs ∙ ap (λ X. keepAll X Ms cs) met-is
+  pub keep-alike : Good T → (s : Starts) (Ms : List Moment) (c : Call) → keep T s Ms c ≡ keep U s Ms c
+  keep-alike g s Ms c = keep-met g s Ms c ∙ ap (λ X. keep X s Ms c) met-is
+
+  pub keepAll-alike : Good T → (s : Starts) (Ms : List Moment) (cs : List Call) → keepAll T s Ms cs ≡ keepAll U s Ms cs
+  keepAll-alike g s Ms cs = keepAll-met g s Ms cs ∙ ap (λ X. keepAll X s Ms cs) met-is
 
   pub keeper-alike : Good T → (R : Relations) (cs : List Call) → keeper T R cs ≡ keeper U R cs
-  keeper-alike g R = keepAll-alike g (first R ∷ [])
+  keeper-alike g R = keepAll-alike g fromFirst (first R ∷ [])
 
-  pub kept-alike : (S : State) (Ms : List Moment) → Kept T S Ms → Kept U S Ms
-  kept-alike S Ms kept = subst (λ X. Kept X S Ms) met-is (kept-met S Ms kept)
+  pub kept-alike : (s : Starts) (S : State) (Ms : List Moment) → Kept T s S Ms → Kept U s S Ms
+  kept-alike s S Ms kept = subst (λ X. Kept X s S Ms) met-is (kept-met s S Ms kept)
+
+  -- ---- new terms
+
+  first-met : (φ : Formula) → firstSame T φ ≡ firstSame W φ
+  unfolding firstSame
+  first-met φ = lowest-cong (T .entries) (λ k. same (formula T k) φ) (λ k. same (formula W k) φ) (λ k l. ap (λ (ψ : Formula). same ψ φ) (same-formula k l))
+
+  -- what is looked up by the table of the first old entry with a formula
+  taken-met : {A : Type 0} (φ : Formula) (at : ℕ → A) (other : A) →
+      cond (ltb (firstSame T φ) (T .entries)) (at (number (T .entry) (firstSame T φ))) other
+      ≡ cond (ltb (firstSame W φ) (T .entries)) (at (number (W .entry) (firstSame W φ))) other
+  taken-met φ at other =
+      go (firstSame T φ) (ltb (firstSame T φ) (T .entries)) refl
+      ∙ ap (λ (k : ℕ). cond (ltb k (T .entries)) (at (number (W .entry) k)) other) (first-met φ)
+    where
+      go : (k : ℕ) (c : Bool) → ltb k (T .entries) ≡ c →
+          cond (ltb k (T .entries)) (at (number (T .entry) k)) other ≡ cond (ltb k (T .entries)) (at (number (W .entry) k)) other
+      go k true e =
+          let l : k < T .entries = ltb-true k (T .entries) e in
+          ap (λ (t : ℕ). cond (ltb k (T .entries)) (at t) other) (same-number k (omega arith))
+      go k false e = rw e
+
+  abbrev book : Terms → Starts → List Moment → Book
+  book X s Ms = record { terms = X; start = s; moments = Ms }
+
+  pub start-alike : (s : Starts) (Ms : List Moment) (Z : Terms) → revisedStart (book T s Ms) Z ≡ revisedStart (book U s Ms) Z
+  start-alike s Ms Z =
+      fun-ext (λ t. taken-met (formula Z (pastEntry Z t)) s (last Ms)) ∙ ap (λ (X : Terms). revisedStart (book X s Ms) Z) met-is
+
+  pub size-alike : (Z : Terms) → sameSize T Z ≡ sameSize U Z
+  size-alike Z = λ d. eqb (a .members d) (Z .members) && (eqb (a .relations d) (Z .relations) && eqb (a .events d) (Z .events))
+
+  start-bits-met : (S : State) (Z : Terms) (n : ℕ) (X : Tables) → startBits T S Z n X ≡ startBits W S Z n X
+  start-bits-met S Z n X = fun-ext (λ x. fun-ext (λ y.
+      taken-met (formula Z n) (λ t. S .table t x y) (eqb (Z .entry n .op) 7 && operandNow Z (graph Z (S .now)) n (Z .entry n .b) X x y)))
+
+  start-met : (S : State) (Z : Terms) (n : ℕ) (X : Tables) → startTables T S Z n X ≡ startTables W S Z n X
+  unfolding startTables
+  start-met S Z zero X = refl
+  start-met S Z (suc n) X =
+      ap (λ (D : ℕ → ℕ → Bool). cond (isPast (Z .entry n .op)) (store (number (Z .entry) n) D (startTables T S Z n X)) (startTables T S Z n X))
+      (start-bits-met S Z n (startTables T S Z n X))
+      ∙ ap (startStep W S Z n) (start-met S Z n X)
+
+  -- the state that new terms Z begin with, after terms that are alike
+  pub revised-alike : (S : State) (Z : Terms) → revised T S Z ≡ revised U S Z
+  unfolding revised
+  revised-alike S Z =
+      ap (λ (X : Tables). record { now = S .now; table = X }) (start-met S Z (Z .entries) (λ t x y. false))
+      ∙ ap (λ (Y : Terms). revised Y S Z) met-is
 
 pub alike-sym : {T U : Terms} → Alike T U → Alike U T
 alike-sym a = record {
@@ -248,3 +312,63 @@ alike-trans a b = record {
   effects = λ j l. a .effects j l ∙ b .effects j (rw (sym (a .events)) l);
   kept = λ j l. a .kept j l ∙ b .kept j (rw (sym (a .events)) l);
 }
+
+pub alike-refl : (T : Terms) → Alike T T
+alike-refl T = record {
+  members = refl;
+  relations = refl;
+  events = refl;
+  entries = refl;
+  entry = λ n l. refl;
+  policy = λ j l. refl;
+  effects = λ j l. refl;
+  kept = λ j l. refl;
+}
+
+-- ---- books that are alike: the same starts and the same record
+
+pub record AlikeBooks (B C : Book) : Type 0 where
+  pub terms : Alike (B .terms) (C .terms)
+  pub start : B .start ≡ C .start
+  pub moments : B .moments ≡ C .moments
+
+-- the same answer, and books that are alike
+abbrev Kin : Answer × Book → Answer × Book → Type 0
+Kin k m = (k .0 ≡ m .0) × AlikeBooks (k .1) (m .1)
+
+pub step-alike : (B C : Book) → AlikeBooks B C → Good (B .terms) → (x : Step) → Kin (keepStep B x) (keepStep C x)
+unfolding keepStep
+step-alike B C l g x =
+    subst (λ (D : Book). Kin (keepStep B x) (keepStep D x)) (λ d. record { terms = C .terms; start = l .start d; moments = l .moments d }) (by x)
+  where
+    U : Terms
+    U = C .terms
+
+    D : Book
+    D = record { terms = U; start = B .start; moments = B .moments }
+
+    here : AlikeBooks B D
+    here = record { terms = l .terms; start = refl; moments = refl }
+
+    go : (Z : Terms) (x y z w : Bool) → z ≡ w →
+        Kin (cond x (refused 6 0, B) (cond (not y) (refused 7 0, B) (cond (not z) (refused 13 0, B) (done, revisedBook B Z))))
+        (cond x (refused 6 0, D) (cond (not y) (refused 7 0, D) (cond (not w) (refused 13 0, D) (done, revisedBook D Z))))
+    go Z true y z w q = (refl, here)
+    go Z false false z w q = (refl, here)
+    go Z false true false false q = (refl, here)
+    go Z false true false true q = absurd (false≢true q)
+    go Z false true true false q = absurd (false≢true (sym q))
+    go Z false true true true q = (refl, record { terms = alike-refl Z; start = start-alike (B .terms) U (l .terms) (B .start) (B .moments) Z; moments = refl })
+
+    by : (x : Step) → Kin (keepStep B x) (keepStep D x)
+    by (call c) = (
+      ap (λ (r : Answer × List Moment). r .0) (keep-alike (B .terms) U (l .terms) g (B .start) (B .moments) c),
+      record {
+        terms = l .terms;
+        start = refl;
+        moments = ap (λ (r : Answer × List Moment). r .1) (keep-alike (B .terms) U (l .terms) g (B .start) (B .moments) c);
+      },
+    )
+    by (revise o) =
+        go (o .terms) (ltb (o .words) leastTerms || ltb (o .state) leastState) (o .sound) (sameSize (B .terms) (o .terms)) (sameSize U (o .terms))
+        (size-alike (B .terms) U (l .terms) (o .terms))

@@ -10,7 +10,7 @@ use lib.ListN.{length, getD}
 use borrow.Author.Tests.{ltb-true}
 use Rattle.sets.proofs.Finite.{not-both, and-under}
 use Rattle.theory.specs.Formula.{Formula}
-use Rattle.theory.specs.Meaning.{holds}
+use Rattle.theory.specs.Meaning.{fromFirst, holds}
 use Rattle.theory.specs.Terms.{Terms, Effect, formula}
 use Rattle.theory.specs.Moment.{Relations, Moment, graph, affect, affectAll, first}
 use Rattle.theory.specs.Keeper.{Call, Answer, recordOf, last, lastMoment, target, keeperHolds, judge}
@@ -95,7 +95,7 @@ module _ (T : Terms) (S : Circle) where
 
     -- ---- two calls outside S that make a moment in both runs or in neither
 
-    pub parallel-outside : (c d : Call) → BothOutside T S Ms Ns c d → Parallel T S (judge T Ms c .1) (judge T Ns d .1)
+    pub parallel-outside : (c d : Call) → BothOutside T S Ms Ns c d → Parallel T S (judge T fromFirst Ms c .1) (judge T fromFirst Ns d .1)
     parallel-outside c d o =
         subst₂ (λ (r s : Answer × List Moment). Parallel T S (r .1) (s .1)) (sym (judged T Ms c)) (sym (judged T Ns d))
         (go (counted T c (granted T Ms c)) (counted T d (granted T Ns d)) (sym (makes-counted T Ms c) ∙ o .both ∙ makes-counted T Ns d))
@@ -114,21 +114,21 @@ module _ (T : Terms) (S : Circle) where
       twin = record { left = apart; right = apart'; agree = agree-at (first (λ k a b. false)) al }
 
       policy-within : (c : Call) → c .event < T .events → In (T .members) S (c .from) → In (T .members) S (c .to) →
-          keeperHolds T Ms (T .policy (c .event)) (target (c .to)) (c .from) ≡ keeperHolds T Ns (T .policy (c .event)) (target (c .to)) (c .from)
+          keeperHolds T fromFirst Ms (T .policy (c .event)) (target (c .to)) (c .from) ≡ keeperHolds T fromFirst Ns (T .policy (c .event)) (target (c .to)) (c .from)
       policy-within c l u v =
           let n : T .policy (c .event) < T .entries = good .policy-exists (c .event) l in
-          holds-within (T .members) S (recordOf T Ms) (recordOf T Ns) twin (formula T (T .policy (c .event)))
+          holds-within (T .members) fromFirst S (recordOf T Ms) (recordOf T Ns) twin (formula T (T .policy (c .event)))
           (reach-spelled (T .entry) (λ x (f : Formula). ⊥) (T .policy (c .event)) (λ k kl e. without k (omega arith) e))
           (last Ms) (target (c .to)) (c .from) u
           (λ x p. rw (only-out 0 (formula T (T .policy (c .event))) (good .policy-free (c .event) l) x (small T good (T .policy (c .event)) n x p) p) v)
-          ∙ ap (λ i. holds (T .members) (recordOf T Ns) (formula T (T .policy (c .event))) i (target (c .to)) (c .from)) same-last
+          ∙ ap (λ i. holds (T .members) fromFirst (recordOf T Ns) (formula T (T .policy (c .event))) i (target (c .to)) (c .from)) same-last
 
       same-granted : (c : Call) → S (c .from) ≡ true → S (c .to) ≡ true → granted T Ms c ≡ granted T Ns c
       same-granted c u v =
           and-under (not (unnamed T c)) _ _ (λ e. let n = named T c e in policy-within c (n .0) (n .1, u) (n .2, v))
 
       pub parallel-inside : (c d : Call) → Enough c → Enough d → SameWithin S c d →
-          (judge T Ms c .0 ≡ judge T Ns d .0) × Parallel T S (judge T Ms c .1) (judge T Ns d .1)
+          (judge T fromFirst Ms c .0 ≡ judge T fromFirst Ns d .0) × Parallel T S (judge T fromFirst Ms c .1) (judge T fromFirst Ns d .1)
       parallel-inside c d ce de sm =
           subst₂ (λ (r s : Answer × List Moment). (r .0 ≡ s .0) × Parallel T S (r .1) (s .1)) (sym (judged T Ms c))
           (sym (judged T Ns c) ∙ judge-lent T Ns (sm .look) (sm .event) (sm .from) (sm .to) ce de)

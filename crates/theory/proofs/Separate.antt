@@ -7,7 +7,7 @@ use mathlib.Core.List.{List, [], _∷_, _++_}
 use lib.Dec.{eqb, ltb}
 use borrow.Author.Tests.{eqb-true, ltb-true, lt-ltb}
 use Rattle.sets.proofs.Finite.{and-left, and-right}
-use Rattle.theory.specs.Meaning.{Graph}
+use Rattle.theory.specs.Meaning.{Graph, fromFirst}
 use Rattle.theory.specs.Terms.{Terms, Effect}
 use Rattle.theory.specs.Moment.{Relations, Moment, eventEdge, graph, affect, affectAll, first}
 use Rattle.theory.specs.Keeper.{Call, Answer, recordOf, last, lastMoment, judge, keep, keepAll, keeper}
@@ -99,10 +99,10 @@ module _ (T : Terms) (S : Circle) where
   separate-append (M ∷ Ms) Ns p q zero = p zero
   separate-append (M ∷ Ms) Ns p q (suc i) = separate-append Ms Ns (λ j. p (suc j)) q i
 
-  pub separate-keep : (Ms : List Moment) (c : Call) → S (c .from) ≡ S (c .to) → Separate T S Ms → Separate T S (keep T Ms c .1)
+  pub separate-keep : (Ms : List Moment) (c : Call) → S (c .from) ≡ S (c .to) → Separate T S Ms → Separate T S (keep T fromFirst Ms c .1)
   unfolding keep
   separate-keep Ms c s p =
-      separate-append Ms (judge T Ms c .1) p
+      separate-append Ms (judge T fromFirst Ms c .1) p
       (subst (λ (r : Answer × List Moment). Separate T S (r .1)) (sym (judged T Ms c)) (go (counted T c (granted T Ms c))))
     where
       go : (b : Bool) → Separate T S (cond b (madeBy T (lastMoment Ms) c (granted T Ms c) ∷ []) [])
@@ -112,20 +112,20 @@ module _ (T : Terms) (S : Circle) where
   pub separate-start : (R : Relations) → SeparateFirst T S R → Separate T S (first R ∷ [])
   separate-start R p = separate-one (first R) (apart-first R p)
 
-  separate-all : (cs : List Call) (Ms : List Moment) → OneSided S cs → Separate T S Ms → Separate T S (keepAll T Ms cs .1)
+  separate-all : (cs : List Call) (Ms : List Moment) → OneSided S cs → Separate T S Ms → Separate T S (keepAll T fromFirst Ms cs .1)
   unfolding keepAll
   separate-all [] Ms o p = p
-  separate-all (c ∷ cs) Ms o p = separate-all cs (keep T Ms c .1) (o .1) (separate-keep Ms c (o .0) p)
+  separate-all (c ∷ cs) Ms o p = separate-all cs (keep T fromFirst Ms c .1) (o .1) (separate-keep Ms c (o .0) p)
 
   -- What a designer can check: no first edge joins S to the rest, and each call has both ends on one side. Then no edge ever does.
   pub separate-first : (R : Relations) → SeparateFirst T S R → (cs : List Call) → OneSided S cs → Separate T S (keeper T R cs .1)
   separate-first R p cs o = separate-all cs (first R ∷ []) o (separate-start R p)
 
   -- moment 0 stays at the head of the list
-  begins : (cs : List Call) (M : Moment) (Ms : List Moment) → recordOf T (keepAll T (M ∷ Ms) cs .1) 0 ≡ graph T M
+  begins : (cs : List Call) (M : Moment) (Ms : List Moment) → recordOf T (keepAll T fromFirst (M ∷ Ms) cs .1) 0 ≡ graph T M
   unfolding keepAll keep
   begins [] M Ms = refl
-  begins (c ∷ cs) M Ms = begins cs M (Ms ++ judge T (M ∷ Ms) c .1)
+  begins (c ∷ cs) M Ms = begins cs M (Ms ++ judge T fromFirst (M ∷ Ms) c .1)
 
   pub separate-began : (R : Relations) (cs : List Call) → Separate T S (keeper T R cs .1) → SeparateFirst T S R
   separate-began R cs p k a b kl al bl e =

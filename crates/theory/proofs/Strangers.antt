@@ -5,6 +5,7 @@ use mathlib.Core.Logic.{_⊎_, inl, inr}
 use mathlib.Core.List.{List, [], _∷_}
 use lib.ListN.{getD}
 use Rattle.sets.proofs.Finite.{not-both}
+use Rattle.theory.specs.Meaning.{fromFirst}
 use Rattle.theory.specs.Terms.{Terms}
 use Rattle.theory.specs.Moment.{Relations, Moment, first}
 use Rattle.theory.specs.Keeper.{Call, Answer, judge, keep, keepAll, keeper}
@@ -17,25 +18,25 @@ use Rattle.theory.proofs.Parallel.Parallel.{done, more}
 module _ (T : Terms) (good : Good T) (without : WithoutReach T) (S : Circle) (c₀ : Call) (a₀ : Answer) where
   -- from any two records that agree inside S and join it to nothing else
   strangers-from : (cs ds : List Call) (Ms Ns : List Moment) → Parallel T S Ms Ns → Separate T S Ms → Separate T S Ns → Paired T S Ms Ns cs ds →
-      (n : ℕ) → Inside S (getD cs n c₀) → getD (keepAll T Ms cs .0) n a₀ ≡ getD (keepAll T Ns ds .0) n a₀
+      (n : ℕ) → Inside S (getD cs n c₀) → getD (keepAll T fromFirst Ms cs .0) n a₀ ≡ getD (keepAll T fromFirst Ns ds .0) n a₀
   unfolding keepAll keep
   strangers-from [] [] Ms Ns al p q pair n i = refl
   strangers-from [] (d ∷ ds) Ms Ns al p q pair n i = absurd pair
   strangers-from (c ∷ cs) [] Ms Ns al p q pair n i = absurd pair
   strangers-from (c ∷ cs) (d ∷ ds) Ms Ns al p q pair n i =
-      by (pair .2) (λ new s t. strangers-from cs ds (keep T Ms c .1) (keep T Ns d .1)
+      by (pair .2) (λ new s t. strangers-from cs ds (keep T fromFirst Ms c .1) (keep T fromFirst Ns d .1)
       (parallel-append T S al new) (separate-keep T S Ms c s p) (separate-keep T S Ns d t q) (pair .3)) n i
     where
       As : List Answer
-      As = keepAll T (keep T Ms c .1) cs .0
+      As = keepAll T fromFirst (keep T fromFirst Ms c .1) cs .0
 
       Bs : List Answer
-      Bs = keepAll T (keep T Ns d .1) ds .0
+      Bs = keepAll T fromFirst (keep T fromFirst Ns d .1) ds .0
 
       by : SameWithin S c d ⊎ BothOutside T S Ms Ns c d →
-          (Parallel T S (judge T Ms c .1) (judge T Ns d .1) → S (c .from) ≡ S (c .to) → S (d .from) ≡ S (d .to) →
+          (Parallel T S (judge T fromFirst Ms c .1) (judge T fromFirst Ns d .1) → S (c .from) ≡ S (c .to) → S (d .from) ≡ S (d .to) →
           (n : ℕ) → Inside S (getD cs n c₀) → getD As n a₀ ≡ getD Bs n a₀) →
-          (n : ℕ) → Inside S (getD (c ∷ cs) n c₀) → getD (judge T Ms c .0 ∷ As) n a₀ ≡ getD (judge T Ns d .0 ∷ Bs) n a₀
+          (n : ℕ) → Inside S (getD (c ∷ cs) n c₀) → getD (judge T fromFirst Ms c .0 ∷ As) n a₀ ≡ getD (judge T fromFirst Ns d .0 ∷ Bs) n a₀
       by (inl same) rest zero i = parallel-inside T S Ms Ns al good without p q c d (pair .0) (pair .1) same .0
       by (inl same) rest (suc n) i =
           rest (parallel-inside T S Ms Ns al good without p q c d (pair .0) (pair .1) same .1) (same .inside .0 ∙ sym (same .inside .1))

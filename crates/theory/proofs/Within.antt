@@ -7,7 +7,7 @@ use borrow.Author.Tests.{eq-eqb}
 use Rattle.sets.proofs.Finite.{any-cong, all-cong, count-cong, is-false, or-left, or-right}
 use Rattle.theory.specs.Formula.{Formula, free}
 use Rattle.theory.specs.Formula.Formula.{top, var, neg, or, out, into, prev, since, bind, at, reach, many}
-use Rattle.theory.specs.Meaning.{Record, Assignment, assign, holds}
+use Rattle.theory.specs.Meaning.{Record, Starts, Assignment, assign, holds}
 use Rattle.theory.specs.Strangers.{Circle}
 use Rattle.theory.proofs.Spelled.{EachReach}
 
@@ -29,7 +29,7 @@ and-both-ways : (x y p q : Bool) → x ≡ y → (x ≡ true → p ≡ q) → (x
 and-both-ways true y p q e h = ap₂ _&&_ e (h refl)
 and-both-ways false y p q e h = ap (λ (z : Bool). z && q) e
 
-module _ (N : ℕ) (S : Circle) (γ δ : Record) (tw : Twin N S γ δ) where
+module _ (N : ℕ) (s : Starts) (S : Circle) (γ δ : Record) (tw : Twin N S γ δ) where
   -- an edge with an end in S
   same-edge : (i l a b : ℕ) → a < N → b < N → S a || S b ≡ true → γ i l a b ≡ δ i l a b
   same-edge i l a b al bl = go (S a) (S b) refl refl
@@ -65,7 +65,7 @@ module _ (N : ℕ) (S : Circle) (γ δ : Record) (tw : Twin N S γ δ) where
 
   -- Only the free variables need stand for members of S: it makes no difference on which side member 0 is.
   pub holds-within : (f : Formula) → Reachless f → (i : ℕ) (g : Assignment) (m : ℕ) → In N S m → ((x : ℕ) → free f x ≡ true → In N S (g x)) →
-      holds N γ f i g m ≡ holds N δ f i g m
+      holds N s γ f i g m ≡ holds N s δ f i g m
   unfolding holds free
   holds-within top w i g m mi v = refl
   holds-within (var x) w i g m mi v = refl
@@ -75,10 +75,10 @@ module _ (N : ℕ) (S : Circle) (γ δ : Record) (tw : Twin N S γ δ) where
       (holds-within h (w .1) i g m mi (λ x p. v x (or-right (free f x) (free h x) p)))
   holds-within (out l f) w i g m mi v = any-cong N (outward i l m mi _ _ (λ k ki. holds-within f w i g k ki v))
   holds-within (into l f) w i g m mi v = any-cong N (inward i l m mi _ _ (λ k ki. holds-within f w i g k ki v))
-  holds-within (prev t f) w i g m mi v = ap (λ x. ltb 0 i && x) (holds-within f w (i - 1) g m mi v)
+  holds-within (prev t f) w i g m mi v = ap (λ x. ltb (s t) i && x) (holds-within f w (i - 1) g m mi v)
   holds-within (since t f h) w i g m mi v =
-      any-cong (suc i) (λ j _. ap₂ _&&_ (holds-within h (w .1) j g m mi (λ x p. v x (or-right (free f x) (free h x) p)))
-      (all-cong i (λ k _. ap (λ x. leb (suc k) j || x) (holds-within f (w .0) (suc k) g m mi (λ x p. v x (or-left (free f x) (free h x) p))))))
+      any-cong (suc i) (λ j _. ap (λ x. leb (s t) j && x) (ap₂ _&&_ (holds-within h (w .1) j g m mi (λ x p. v x (or-right (free f x) (free h x) p)))
+      (all-cong i (λ k _. ap (λ x. leb (suc k) j || x) (holds-within f (w .0) (suc k) g m mi (λ x p. v x (or-left (free f x) (free h x) p)))))))
   holds-within (bind x f) w i g m mi v =
       holds-within f w i (assign g x m) m mi (λ y p. bound x m y g mi (λ e. v y (ap₂ _&&_ e p)))
   holds-within (at x f) w i g m mi v =

@@ -8,7 +8,7 @@ use lib.Dec.{eqb}
 use lib.ListN.{getD, replicate}
 use Rattle.theory.specs.Formula.{Entry}
 use Rattle.theory.specs.Formula.Formula.{top, var, neg, prev, since, bind, at}
-use Rattle.theory.specs.Meaning.{Record, Assignment, holds}
+use Rattle.theory.specs.Meaning.{Record, fromFirst, Assignment, holds}
 use Rattle.theory.specs.Terms.{Terms, Effect}
 use Rattle.theory.specs.Moment.{Relations}
 use Rattle.theory.specs.Keeper.{Call, Answer, keeper}
@@ -187,16 +187,16 @@ unfoldable pub expected : List Case → List (List Answer)
 expected [] = []
 expected (c ∷ cs) = c .answers ∷ expected cs
 
--- ---- always, and where: the same cases at any moment of any record, at any member, under any assignment
+-- ---- always, and where: the same cases at any moment of any record, at any member, under any assignment; each entry starts at moment 0
 
 pub record Anywhere (N : ℕ) (γ : Record) (i : ℕ) (g : Assignment) (m : ℕ) : Type 0 where
   -- prev of top: at each moment but the first
-  pub prev-top : (t : ℕ) → (holds N γ (prev t top) i g m ≡ true) ↔ (0 < i)
+  pub prev-top : (t : ℕ) → (holds N fromFirst γ (prev t top) i g m ≡ true) ↔ (0 < i)
   -- since(not top, top): at every moment
-  pub since-top : (t : ℕ) → holds N γ (since t (neg top) top) i g m ≡ true
+  pub since-top : (t : ℕ) → holds N fromFirst γ (since t (neg top) top) i g m ≡ true
   -- var 0: at the target, and nowhere else
-  pub var-target : (holds N γ (var 0) i g m ≡ true) ↔ (m ≡ g 0)
+  pub var-target : (holds N fromFirst γ (var 0) i g m ≡ true) ↔ (m ≡ g 0)
   -- bind 1 of var 1: always
-  pub bind-var : holds N γ (bind 1 (var 1)) i g m ≡ true
+  pub bind-var : holds N fromFirst γ (bind 1 (var 1)) i g m ≡ true
   -- bind 1, at 0, bind 1, at 1, var 0: always
-  pub bind-again : holds N γ (bind 1 (at 0 (bind 1 (at 1 (var 0))))) i g m ≡ true
+  pub bind-again : holds N fromFirst γ (bind 1 (at 0 (bind 1 (at 1 (var 0))))) i g m ≡ true

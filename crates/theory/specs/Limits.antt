@@ -1,4 +1,4 @@
--- The most that there may be (docs/SCOPE.md, The terms file), and the least scratch that a call is lent (docs/SCOPE.md, Memory).
+-- The most that there may be (docs/SCOPE.md, The terms file), and the least memory that is lent (docs/SCOPE.md, Memory).
 use Prim.Native.Nat.{ℕ}
 
 abbrev pub maxMembers : ℕ
@@ -31,3 +31,10 @@ maxCount = 64
 
 abbrev pub scratchWords : ℕ
 scratchWords = 2048
+
+-- words of terms, and of a state
+abbrev pub leastTerms : ℕ
+leastTerms = 1252
+
+abbrev pub leastState : ℕ
+leastState = 3073

@@ -10,6 +10,7 @@ use Rattle.theory.specs.Limits.{scratchWords}
 use Rattle.theory.specs.Terms.{Terms}
 use Rattle.theory.specs.Moment.{Relations, Moment}
 use Rattle.theory.specs.Keeper.{Call, recordOf, judge, keep}
+use Rattle.theory.specs.Meaning.{fromFirst}
 
 -- A set of members. What it says of numbers from N on makes no difference: a call that names one is refused.
 abbrev pub Circle : Type 0
@@ -60,7 +61,7 @@ pub record SameWithin (S : Circle) (c d : Call) : Type 0 where
 
 -- After the record Ms the call makes a moment.
 abbrev pub makes : Terms → List Moment → Call → Bool
-makes T Ms c = ltb 0 (length (judge T Ms c .1))
+makes T Ms c = ltb 0 (length (judge T fromFirst Ms c .1))
 
 -- The calls have both ends outside S in each run, and make a moment in both or in neither.
 pub record BothOutside (T : Terms) (S : Circle) (Ms Ns : List Moment) (c d : Call) : Type 0 where
@@ -74,4 +75,4 @@ Paired T S Ms Ns [] [] = Unit {0}
 Paired T S Ms Ns [] (d ∷ ds) = ⊥
 Paired T S Ms Ns (c ∷ cs) [] = ⊥
 Paired T S Ms Ns (c ∷ cs) (d ∷ ds) =
-    Enough c × Enough d × (SameWithin S c d ⊎ BothOutside T S Ms Ns c d) × Paired T S (keep T Ms c .1) (keep T Ns d .1) cs ds
+    Enough c × Enough d × (SameWithin S c d ⊎ BothOutside T S Ms Ns c d) × Paired T S (keep T fromFirst Ms c .1) (keep T fromFirst Ns d .1) cs ds

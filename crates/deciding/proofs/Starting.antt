@@ -1,0 +1,266 @@
+-- New terms begin: relations and event word carried over, and each turn of the sweep that fills in the tables.
+use Prim.Native.Nat.{ℕ, zero, suc, _+_, _*_, _/_, _≤_, _<_}
+use native.Mathlib.Omega.{arith}
+use native.Mathlib.Numerals.{add-one}
+use mathlib.Core.Path.{_≡_, refl, sym, ap, ap₂, subst, _∙_}
+use mathlib.Core.Logic.{_⊎_, inl, inr}
+use mathlib.Core.Bool.{Bool, true, false, cond, not, _&&_, _||_}
+use mathlib.Core.List.{List, _++_}
+use lib.Dec.{eqb, ltb}
+use lib.ListN.{length, getD, take, drop, set, length-set, length-drop, List·getD-eq-default}
+use lib.Seq.{getD-take, getD-drop, getD-set-same, getD-set-other, drop-set-lt, length-take-le}
+use borrow.Author.Tests.{eqb-true, ne-eqb, lt-ltb, le-ltb, ltb-true, ltb-false}
+use Rattle.sets.specs.Sets.{bit, pack}
+use Rattle.sets.proofs.Finite.{and-left, and-right, last-or-below}
+use Rattle.sets.proofs.Bits.{bit-zero}
+use Rattle.sets.proofs.Pack.{pack-none}
+use Rattle.theory.specs.Formula.{number, isPast, bare}
+use Rattle.theory.specs.Terms.{Terms, formula, tables, sameSize, firstSame}
+use Rattle.theory.specs.Moment.{Event, Moment, graph}
+use Rattle.theory.specs.Moment.Event.{none as eventless, happened, tried}
+use Rattle.theory.specs.Tables.{Tables, State, store, operandNow, sinceBits, sinceStep, named, taken, startBits, startStep, startTables, revised}
+use Rattle.theory.specs.Classes.{Classed}
+use Rattle.memory.specs.Layout.{stateWords, relationAt, tableAt, eventAt, eventWord, row, termsOf, stateOf, wordsOf}
+use Rattle.memory.specs.Checks.{goodState}
+use Rattle.memory.specs.Plan.{Planned}
+use Rattle.deciding.specs.Rows.{Table}
+use Rattle.deciding.specs.Moving.{known, HasState, Movable, Becomes, put, tabled, sinceAt}
+use Rattle.deciding.specs.Memo.{MemoOf, Fresh}
+use Rattle.deciding.specs.Starting.{carriedWord, Carried, Revising, startBelow, Begun, Taken}
+use Rattle.theory.proofs.Spelled.{number-lt}
+use Rattle.theory.proofs.Good.{Good}
+use Rattle.theory.proofs.Renumbered.{past-same}
+use Rattle.theory.proofs.Size.{same-members, same-relations, same-events}
+use Rattle.theory.proofs.Taken.{first-has}
+use Rattle.theory.proofs.Revised.{start-untouched, start-since}
+use Rattle.theory.proofs.Now.{Same}
+use Rattle.memory.proofs.Accepted.{good}
+use Rattle.memory.proofs.Row.{bit-row, row-cong}
+use Rattle.memory.proofs.Words.{words-by}
+use Rattle.deciding.proofs.Seen.{has-long, has-relation, has-table, has-event}
+use Rattle.deciding.proofs.Stored.{table-stored, has-rest}
+use Rattle.deciding.proofs.Moves.{held}
+use Rattle.deciding.proofs.Steps.{memo-step-all}
+
+-- ---- carried over
+
+pub carried-none : (state m₀ : List ℕ) → Carried state m₀ 0 m₀
+carried-none state m₀ = record { long = refl; words = λ i l. absurd (omega arith); further = refl }
+
+pub carried-more : (state m₀ m : List ℕ) (n w : ℕ) → Carried state m₀ n m → n < stateWords → stateWords ≤ length m₀ → w ≡ carriedWord state n → Carried state m₀ (n + 1) (set m n w)
+carried-more state m₀ m n w c l long e = record {
+  long = length-set m n w ∙ c .long;
+  words = λ i il. go i (last-or-below i n (omega arith));
+  further = drop-set-lt stateWords m n w l ∙ c .further;
+}
+  where
+    go : (i : ℕ) → (i < n) ⊎ (i ≡ n) → getD (set m n w) i 0 ≡ carriedWord state i
+    go i (inl il) = getD-set-other m n i w 0 (λ z. omega arith) ∙ c .words i il
+    go i (inr z) = rw z (getD-set-same m n w 0 (omega (arith, c .long)) ∙ e)
+
+-- ---- sizes
+
+module _ (T U : Terms) (z : sameSize T U ≡ true) where
+  same-named : (j u v : ℕ) → named T j u v ≡ named U j u v
+  same-named j u v = λ d. ltb j (same-events T U z d) && (ltb u (same-members T U z d) && ltb v (same-members T U z d))
+
+  same-known : (e : Event) → known T e ≡ known U e
+  same-known eventless = refl
+  same-known (happened j u v) = same-named j u v
+  same-known (tried j u v) = same-named j u v
+
+-- ---- memory that has a state has one with the same bits between members
+
+has-same : (U : Terms) → Good U → (M : State) {X : Tables} {rest m : List ℕ} (Y : Tables) → HasState U (tabled M X) rest m →
+    ((t a b : ℕ) → t < tables U → a < U .members → b < U .members → X t a b ≡ Y t a b) → HasState U (tabled M Y) rest m
+has-same U fine M {X} {rest} {m} Y has e = record {
+  words = words-by U (tabled M Y) m (has-long has) (has-relation has)
+      (λ t a tl al. has-table has t a tl al ∙ go t a (ltb t (tables U)) refl) (has-event has)
+      ∙ ap (λ r. wordsOf U (tabled M Y) ++ r) (has-rest U fine has);
+  event = has .event;
+}
+  where
+    go : (t a : ℕ) (c : Bool) → ltb t (tables U) ≡ c → cond c (row (U .members) (X t) a) 0 ≡ cond c (row (U .members) (Y t) a) 0
+    go t a true z = row-cong (U .members) (X t) (Y t) (λ x y xl yl. e t x y (ltb-true t (tables U) z) xl yl) a
+    go t a false z = refl
+
+module _ {old before state new plan : List ℕ} (r : Revising old before state new plan) where
+  abbrev T : Terms
+  T = termsOf old
+
+  abbrev U : Terms
+  U = termsOf new
+
+  abbrev S : State
+  S = stateOf state
+
+  old-fine : Good T
+  old-fine = good old (r .good-old)
+
+  new-fine : Good U
+  new-fine = good new (r .good-new)
+
+  old-has : HasState T S (drop stateWords state) state
+  old-has = held T state (r .long-state) (r .good-state)
+
+  -- the words that carry over, and empty tables
+  pub begun-none : (m₀ m : List ℕ) → stateWords ≤ length m₀ → Carried state m₀ stateWords m → Begun old state new 0 (drop stateWords m₀) m
+  unfolding startTables
+  begun-none m₀ m long c = record {
+    words = words-by U (startBelow old state 0 U) m (omega (arith, c .long)) relation table event
+        ∙ ap (λ z. wordsOf U (startBelow old state 0 U) ++ z) (c .further);
+    event = sym (same-known T U (r .same) (S .now .event)) ∙ old-has .event;
+  }
+    where
+      relation : (k a : ℕ) → k < 16 → a < 64 → getD m (relationAt k a) 0 ≡ cond (ltb k (U .relations)) (row (U .members) (S .now .edge k) a) 0
+      relation k a kl al =
+          c .words (relationAt k a) (omega arith)
+          ∙ ap (λ (b : Bool). cond (b || eqb (relationAt k a) eventAt) (getD state (relationAt k a) 0) 0) (lt-ltb (relationAt k a) 1024 (omega arith))
+          ∙ has-relation old-has k a kl al
+          ∙ ap₂ (λ (n N : ℕ). cond (ltb k n) (row N (S .now .edge k) a) 0) (same-relations T U (r .same)) (same-members T U (r .same))
+
+      table : (t a : ℕ) → t < 32 → a < 64 → getD m (tableAt t a) 0 ≡ cond (ltb t (tables U)) (row (U .members) (λ a b. false) a) 0
+      table t a tl al =
+          c .words (tableAt t a) (omega arith)
+          ∙ ap₂ (λ (x y : Bool). cond (x || y) (getD state (tableAt t a) 0) 0) (le-ltb (tableAt t a) 1024 (omega arith)) (ne-eqb (tableAt t a) eventAt (λ z. omega arith))
+          ∙ sym (empty (ltb t (tables U)) (ltb a (U .members)))
+        where
+          empty : (x y : Bool) → cond x (cond y (pack (U .members) (λ b. false)) 0) 0 ≡ 0
+          empty true true = pack-none (U .members)
+          empty true false = refl
+          empty false y = refl
+
+      event : getD m eventAt 0 ≡ eventWord (S .now .event)
+      event = c .words eventAt (omega arith) ∙ has-event old-has
+
+  -- all tables are filled in
+  pub begun-all : (m₀ m : List ℕ) (n : ℕ) → n ≡ U .entries → Begun old state new n (drop stateWords m₀) m →
+      m ≡ wordsOf U (revised T S U) ++ drop stateWords m₀
+  unfolding revised
+  begun-all m₀ m n e has = subst (λ (k : ℕ). m ≡ wordsOf U (startBelow old state k U) ++ drop stateWords m₀) e (has .words)
+
+  pub begun-movable : (n : ℕ) {rest m : List ℕ} → Begun old state new n rest m → Movable new plan m
+  begun-movable n {rest} has = record {
+    long-terms = r .long-new;
+    good = r .good-new;
+    planned = r .planned-new;
+    state = startBelow old state n U;
+    rest = rest;
+    has = has;
+  }
+
+  pub begun-again : (n : ℕ) {rest m : List ℕ} → Begun old state new n rest m → Begun old state new n (drop stateWords m) m
+  begun-again n {rest} {m} has = subst (λ (z : List ℕ). Begun old state new n z m) (sym (has-rest U new-fine has)) has
+
+  -- ---- one turn
+
+  module _ (n : ℕ) (nl : n < U .entries) where
+    abbrev k : ℕ
+    k = taken T S U n
+
+    abbrev X : Tables
+    X = startTables T S U n (λ t a b. false)
+
+    abbrev t : ℕ
+    t = number (U .entry) n
+
+    -- its own table is still empty
+    own-empty : (a b : ℕ) → X t a b ≡ false
+    own-empty a b = start-untouched T S U n (λ t a b. false) t (omega arith) a b
+
+    step-is : startTables T S U (n + 1) (λ t a b. false) ≡ startStep T S U n X
+    unfolding startTables
+    step-is = rw (add-one n)
+
+    begin-with : {rest m : List ℕ} → HasState U (tabled S (startStep T S U n X)) rest m → Begun old state new (n + 1) rest m
+    begin-with {rest} {m} has = subst (λ (Z : Tables). HasState U (tabled S Z) rest m) (sym step-is) has
+
+    -- an entry that is not past-time has no table
+    pub start-none : {rest m : List ℕ} → isPast (U .entry n .op) ≡ false → Begun old state new n rest m → Begun old state new (n + 1) rest m
+    start-none {rest} {m} e has = begin-with (subst (λ (c : Bool). HasState U (tabled S (cond c (store t (startBits T S U n X) X) X)) rest m) (sym e) has)
+
+    -- the table of the old entry
+    module _ (p : isPast (U .entry n .op) ≡ true) (kl : k < T .entries) where
+      old-past : isPast (T .entry k .op) ≡ true
+      old-past = past-same (T .entry) (U .entry) k n (first-has T (formula U n) kl) ∙ p
+
+      old-table : number (T .entry) k < tables T
+      old-table = number-lt (T .entry) k (T .entries) kl old-past
+
+      new-table : t < tables U
+      new-table = number-lt (U .entry) n (U .entries) nl p
+
+      abbrev oldPlace : ℕ
+      oldPlace = 1024 + 64 * (getD before k 0 / 16)
+
+      abbrev newPlace : ℕ
+      newPlace = 1024 + 64 * (getD plan n 0 / 16)
+
+      pub old-fits : oldPlace + 64 ≤ length state
+      old-fits = rw (r .planned-old .table k kl old-past .0) (omega (arith, old-table, old-fine .few-tables, r .long-state))
+
+      abbrev words : List ℕ
+      words = take 64 (drop oldPlace state)
+
+      taken-table : Table (U .members) (S .table (number (T .entry) k)) words
+      taken-table = record {
+        long = length-take-le 64 (drop oldPlace state) (rw (length-drop oldPlace state) (omega (arith, old-fits)));
+        bits = λ a b. bits a b (ltb a 64) refl;
+      }
+        where
+          bits : (a b : ℕ) (c : Bool) → ltb a 64 ≡ c → bit (getD words a 0) b ≡ (ltb a (U .members) && (ltb b (U .members) && S .table (number (T .entry) k) a b))
+          bits a b true e =
+              let al : a < 64 = ltb-true a 64 e in
+              ap (λ (w : ℕ). bit w b) (getD-take 64 (drop oldPlace state) a 0 al ∙ getD-drop oldPlace state a 0
+              ∙ ap (λ (x : ℕ). getD state (1024 + 64 * x + a) 0) (r .planned-old .table k kl old-past .0)
+              ∙ has-table old-has (number (T .entry) k) a (omega (arith, old-table, old-fine .few-tables)) al
+              ∙ ap (λ (c : Bool). cond c (row (T .members) (S .table (number (T .entry) k)) a) 0) (lt-ltb (number (T .entry) k) (tables T) old-table))
+              ∙ bit-row (T .members) (S .table (number (T .entry) k)) a b
+              ∙ ap (λ (N : ℕ). ltb a N && (ltb b N && S .table (number (T .entry) k) a b)) (same-members T U (r .same))
+          bits a b false e =
+              let far : 64 ≤ a = ltb-false a 64 e in
+              ap (λ (w : ℕ). bit w b) (List·getD-eq-default words 0 {n = a} (omega (arith, length-take-le 64 (drop oldPlace state) (rw (length-drop oldPlace state) (omega (arith, old-fits))))))
+              ∙ bit-zero b
+              ∙ ap (λ (c : Bool). c && (ltb b (U .members) && S .table (number (T .entry) k) a b)) (sym (le-ltb a (U .members) (omega (arith, new-fine .few-members))))
+
+      pub start-taken : {rest m m' : List ℕ} → Begun old state new n rest m → m' ≡ put newPlace words m → Begun old state new (n + 1) rest m'
+      start-taken {rest} {m} {m'} has e =
+          begin-with (subst (λ (c : Bool). HasState U (tabled S (cond c (store t (startBits T S U n X) X) X)) rest m') (sym p)
+          (subst (HasState U (tabled S (store t (startBits T S U n X) X)) rest) placed
+          (table-stored U new-fine has t new-table (S .table (number (T .entry) k)) (startBits T S U n X)
+          (λ a b _ _. sym (ap (λ (c : Bool). cond c (S .table (number (T .entry) k) a b) (eqb (U .entry n .op) 7 && operandNow U (graph U (S .now)) n (U .entry n .b) X a b)) (lt-ltb k (T .entries) kl)))
+          words taken-table)))
+        where
+          placed : put (1024 + 64 * t) words m ≡ m'
+          placed = ap (λ (x : ℕ). put (1024 + 64 * x) words m) (sym (r .planned-new .table n nl p .0)) ∙ sym e
+
+    -- a new table: what the since sweep makes of an empty one
+    pub start-anew : {rest m m' : List ℕ} → T .entries ≤ k → Begun old state new n rest m → Becomes new (sinceAt n) m m' → Begun old state new (n + 1) rest m'
+    start-anew {rest} {m} {m'} le has b =
+        begin-with (has-same U new-fine S (startStep T S U n X) (b .each (startBelow old state n U) rest has) same)
+      where
+        other : (a b : ℕ) → startBits T S U n X a b ≡ (eqb (U .entry n .op) 7 && operandNow U (graph U (S .now)) n (U .entry n .b) X a b)
+        other a b = ap (λ (c : Bool). cond c (S .table (number (T .entry) k) a b) (eqb (U .entry n .op) 7 && operandNow U (graph U (S .now)) n (U .entry n .b) X a b)) (le-ltb k (T .entries) le)
+
+        -- the bits stored, by the operator
+        bits : (s a b : ℕ) (c d : Bool) → eqb (U .entry n .op) 6 ≡ c → eqb (U .entry n .op) 7 ≡ d → (q : Bool) → eqb s t ≡ q →
+            cond d (store t (sinceBits U (graph U (S .now)) n X) X) X s a b ≡ cond (c || d) (store t (startBits T S U n X) X) X s a b
+        bits s a b false false ce de q qe = refl
+        bits s a b true true ce de q qe = absurd (omega (arith, eqb-true (U .entry n .op) 6 ce, eqb-true (U .entry n .op) 7 de))
+        bits s a b false true ce de true qe =
+            rw qe (start-since U (graph U (S .now)) n X a b (own-empty a b)
+            ∙ sym (other a b ∙ ap (λ (z : Bool). z && operandNow U (graph U (S .now)) n (U .entry n .b) X a b) de))
+        bits s a b false true ce de false qe = rw qe
+        bits s a b true false ce de true qe =
+            rw (qe, eqb-true s t qe) (own-empty a b ∙ sym (other a b ∙ ap (λ (z : Bool). z && operandNow U (graph U (S .now)) n (U .entry n .b) X a b) de))
+        bits s a b true false ce de false qe = rw qe
+
+        same : (s a b : ℕ) → s < tables U → a < U .members → b < U .members → sinceStep U (graph U (S .now)) n X s a b ≡ startStep T S U n X s a b
+        same s a b _ _ _ = bits s a b (eqb (U .entry n .op) 6) (eqb (U .entry n .op) 7) refl refl (eqb s t) refl
+
+    -- the memo after a turn
+    pub start-memo : {rest m m' w : List ℕ} → Begun old state new n rest m → Begun old state new (n + 1) rest m' → MemoOf U m (U .entries) w → Fresh (U .entries) n w →
+        MemoOf U m' (U .entries) w
+    start-memo {rest} {m} {m'} {w} has has' memo fresh =
+        memo-step-all U new-fine n (omega arith) (startBits T S U n X) (isPast (U .entry n .op)) has
+        (subst (λ (Z : Tables). HasState U (tabled S Z) rest m') step-is has') memo fresh

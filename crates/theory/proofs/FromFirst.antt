@@ -1,0 +1,55 @@
+-- Where each entry starts at moment 0, as from an old file on while the terms are not revised, a formula means what the table of docs/SCOPE.md, Meaning, says of the whole record.
+use Prim.Native.Nat.{ℕ, suc, _-_}
+use native.Mathlib.Omega.{arith}
+use mathlib.Core.Path.{_≡_, refl, ap, ap₂, _∙_}
+use mathlib.Core.Bool.{Bool, true, false, cond, not, _&&_, _||_}
+use lib.Dec.{eqb, ltb, leb}
+use borrow.Author.Tests.{le-leb}
+use Rattle.sets.specs.Sets.{anyBelow, allBelow, countBelow}
+use Rattle.sets.proofs.Finite.{any-cong, all-cong, count-cong}
+use Rattle.theory.specs.Formula.{Formula}
+use Rattle.theory.specs.Formula.Formula.{top, var, neg, or, out, into, prev, since, bind, at, reach, many}
+use Rattle.theory.specs.Meaning.{Record, Assignment, assign, alone, fromFirst, holds}
+use Rattle.theory.proofs.Record.{prev-start, since-start}
+
+-- The table without starts, line by line.
+module _ (members : ℕ) (γ : Record) where
+  unfoldable pub holdsThroughout : Formula → (i : ℕ) → Assignment → (m : ℕ) → Bool
+  holdsThroughout top i g m = true
+  holdsThroughout (var x) i g m = eqb m (g x)
+  holdsThroughout (neg f) i g m = not (holdsThroughout f i g m)
+  holdsThroughout (or f h) i g m = holdsThroughout f i g m || holdsThroughout h i g m
+  holdsThroughout (out l f) i g m = anyBelow members (λ m'. γ i l m m' && holdsThroughout f i g m')
+  holdsThroughout (into l f) i g m = anyBelow members (λ m'. γ i l m' m && holdsThroughout f i g m')
+  holdsThroughout (prev t f) i g m = ltb 0 i && holdsThroughout f (i - 1) g m
+  holdsThroughout (since t f h) i g m =
+      anyBelow (suc i) (λ j. holdsThroughout h j g m && allBelow i (λ k. leb (suc k) j || holdsThroughout f (suc k) g m))
+  holdsThroughout (bind x f) i g m = holdsThroughout f i (assign g x m) m
+  holdsThroughout (at x f) i g m = holdsThroughout f i g (g x)
+  holdsThroughout (reach x f h) i g m = anyBelow members (λ m'. holdsThroughout f i (alone x m') m && holdsThroughout h i g m')
+  holdsThroughout (many l f k) i g m = leb k (countBelow members (λ m'. γ i l m m' && holdsThroughout f i g m'))
+
+module _ (N : ℕ) (γ : Record) where
+  pub from-first : (f : Formula) (i : ℕ) (g : Assignment) (m : ℕ) → holds N fromFirst γ f i g m ≡ holdsThroughout N γ f i g m
+  unfolding holds holdsThroughout
+  from-first top i g m = refl
+  from-first (var x) i g m = refl
+  from-first (neg f) i g m = ap not (from-first f i g m)
+  from-first (or f h) i g m = ap₂ _||_ (from-first f i g m) (from-first h i g m)
+  from-first (out l f) i g m = any-cong N (λ k _. ap (λ x. γ i l m k && x) (from-first f i g k))
+  from-first (into l f) i g m = any-cong N (λ k _. ap (λ x. γ i l k m && x) (from-first f i g k))
+  from-first (prev t f) i g m = ap (λ x. ltb 0 i && x) (from-first f (i - 1) g m)
+  from-first (since t f h) i g m =
+      any-cong (suc i) (λ j _. ap₂ _&&_ (le-leb 0 j (omega arith)) (ap₂ _&&_ (from-first h j g m)
+      (all-cong i (λ k _. ap (λ x. leb (suc k) j || x) (from-first f (suc k) g m)))))
+  from-first (bind x f) i g m = from-first f i (assign g x m) m
+  from-first (at x f) i g m = from-first f i g (g x)
+  from-first (reach x f h) i g m = any-cong N (λ k _. ap₂ _&&_ (from-first f i (alone x k) m) (from-first h i g k))
+  from-first (many l f n) i g m = ap (leb n) (count-cong N (λ k _. ap (λ x. γ i l m k && x) (from-first f i g k)))
+
+  -- the expansion laws at moment 0
+  pub prev-first : (t : ℕ) (f : Formula) (g : Assignment) (m : ℕ) → holds N fromFirst γ (prev t f) 0 g m ≡ false
+  prev-first t f g m = prev-start N fromFirst γ t f g m 0 (omega arith)
+
+  pub since-first : (t : ℕ) (f h : Formula) (g : Assignment) (m : ℕ) → holds N fromFirst γ (since t f h) 0 g m ≡ holds N fromFirst γ h 0 g m
+  since-first t f h g m = since-start N fromFirst γ t f h g m 0 refl
