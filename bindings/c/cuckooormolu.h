@@ -5,10 +5,10 @@
  * RAM       terms 2,504 bytes, state 24,584 bytes, scratch 16,384 bytes. The
  *           library allocates nothing and has no state of its own.
  * Stack     measured, not proved: reading takes 198 KiB, writing a terms text
- *           or asking for its size 193 KiB, an opening, look, request or set
- *           list 169 KiB, and each 1.16 KiB more for every level by which
- *           entries nest, at most 492 KiB; storing and the other calls take
- *           4 KiB. Provide CUCKOOORMOLU_STACK_BYTES.
+ *           or asking for its size 193 KiB, an opening, revision, look, request
+ *           or set list 169 KiB, and each 1.16 KiB more for every level by
+ *           which entries nest, at most 492 KiB; storing and the other calls
+ *           take 4 KiB. Provide CUCKOOORMOLU_STACK_BYTES.
  * Time      measured, not proved. Entries that share others take no more than
  *           a memo's time; what can still take long is nested binds over
  *           entries that read their variables: about N to the depth of such
@@ -78,7 +78,7 @@ extern "C" {
  * denied differ in five bits. Refusals leave all memory as lent. Where several
  * fit, reading gives 6, then the first faulty line and in it the lowest
  * number, and 11 only where no line is faulty; the other calls give 6 (terms,
- * state, scratch), 7, 8, 9 or 12, and last 6 for the output.
+ * state, scratch), 7, 8, 9, 12 or 13, and last 6 for the output.
  */
 typedef enum cuckooormolu_code {
     /* The form of a line, its place, or a text that ends too soon. */
@@ -107,7 +107,9 @@ typedef enum cuckooormolu_code {
     CUCKOOORMOLU_REFUSED_TABLE = 11,
     /* The old form is to be written of a state that is no fresh start. */
     CUCKOOORMOLU_REFUSED_FRESH = 12,
-    /* A reading, writing, check, opening or set list that is done. */
+    /* New terms with another number of members, relations or events. */
+    CUCKOOORMOLU_REFUSED_SIZE = 13,
+    /* A reading, writing, check, opening, revision or set list that is done. */
     CUCKOOORMOLU_DONE = 100,
     /* A look or request whose policy does not hold. */
     CUCKOOORMOLU_DENIED = 200,
@@ -168,7 +170,7 @@ CUCKOOORMOLU_ASSERT(sizeof(size_t) == 8, "lengths and codes have 64 bits");
 CUCKOOORMOLU_ASSERT(sizeof(struct cuckooormolu) == 2504 + 24584 + 16384,
                     "no padding between the memories");
 CUCKOOORMOLU_ASSERT(CUCKOOORMOLU_REFUSED_FORM > 0, "no code is 0");
-CUCKOOORMOLU_ASSERT(CUCKOOORMOLU_REFUSED_FRESH < 100,
+CUCKOOORMOLU_ASSERT(CUCKOOORMOLU_REFUSED_SIZE < 100,
                     "refusals are below 100");
 CUCKOOORMOLU_ASSERT(CUCKOOORMOLU_DONE >= 100, "done is no refusal");
 CUCKOOORMOLU_ASSERT(CUCKOOORMOLU_DENIED > CUCKOOORMOLU_DONE,
@@ -225,6 +227,8 @@ static inline const char *cuckooormolu_words(size_t code)
     case CUCKOOORMOLU_REFUSED_FRESH:
         return "state that is no fresh start, of which the old form would "
                "lose the past";
+    case CUCKOOORMOLU_REFUSED_SIZE:
+        return "new terms with another number of members, relations or events";
     case CUCKOOORMOLU_DONE:
         return "done";
     case CUCKOOORMOLU_DENIED:
@@ -263,6 +267,13 @@ size_t cuckooormolu_raw_check(const uint16_t *terms, size_t terms_length,
                               const uint64_t *state, size_t state_length);
 size_t cuckooormolu_raw_open(const uint16_t *terms, size_t terms_length,
                              uint64_t *state, size_t state_length);
+size_t cuckooormolu_raw_revise(const uint16_t *old_terms,
+                               size_t old_terms_length,
+                               const uint64_t *old_state,
+                               size_t old_state_length,
+                               const uint16_t *new_terms,
+                               size_t new_terms_length,
+                               uint64_t *state, size_t state_length);
 size_t cuckooormolu_raw_look(const uint16_t *terms, size_t terms_length,
                              const uint64_t *state, size_t state_length,
                              const uint64_t *scratch, size_t scratch_length,
@@ -418,6 +429,31 @@ cuckooormolu_open(const uint16_t *terms, size_t terms_length,
 }
 
 /*
+ * Revises the terms while playing: from old terms, the state under them and new
+ * terms with as many members, relations and events, fills in the state with
+ * which the new terms go on. Relations and event edge are carried over, and a
+ * prev or since takes the table of the first old entry with the same formula,
+ * spelled out; any other starts now. What `state` held does not count. Done:
+ * from then on the new terms are lent with that state. Refused with 6, 7 (either
+ * terms), 8 (the old state) or 13: all memory is as lent.
+ */
+CUCKOOORMOLU_USED static inline struct cuckooormolu_result
+cuckooormolu_revise(const uint16_t *old_terms, size_t old_terms_length,
+                    const uint64_t *old_state, size_t old_state_length,
+                    const uint16_t *new_terms, size_t new_terms_length,
+                    uint64_t *state, size_t state_length)
+{
+    CUCKOOORMOLU_LENT(uint16_t, old_terms, old_terms_length)
+    CUCKOOORMOLU_LENT(uint64_t, old_state, old_state_length)
+    CUCKOOORMOLU_LENT(uint16_t, new_terms, new_terms_length)
+    CUCKOOORMOLU_LENT(uint64_t, state, state_length)
+    return cuckooormolu_result_of(
+        cuckooormolu_raw_revise(old_terms, old_terms_length, old_state,
+                                old_state_length, new_terms, new_terms_length,
+                                state, state_length));
+}
+
+/*
  * What a request by an event, from its initiator to its target, would be
  * answered; makes no moment and writes nothing. Granted, denied, 6, 7, 8 or 9.
  */
@@ -549,6 +585,22 @@ CUCKOOORMOLU_USED static inline struct cuckooormolu_result
 cuckooormolu_monitor_open(struct cuckooormolu *m)
 {
     return cuckooormolu_open(CUCKOOORMOLU_TERMS(m), CUCKOOORMOLU_STATE(m));
+}
+
+/*
+ * The new terms are those that were read into `next`, another monitor. Done: its
+ * state is the one with which they go on, and it is used in the place of `m`,
+ * which is as lent. Where both are one monitor, it is refused with 6.
+ */
+CUCKOOORMOLU_USED static inline struct cuckooormolu_result
+cuckooormolu_monitor_revise(const struct cuckooormolu *m,
+                            struct cuckooormolu *next)
+{
+    if (next == m)
+        next = NULL;
+    return cuckooormolu_revise(CUCKOOORMOLU_TERMS(m), CUCKOOORMOLU_STATE(m),
+                               CUCKOOORMOLU_TERMS(next),
+                               CUCKOOORMOLU_STATE(next));
 }
 
 CUCKOOORMOLU_USED static inline struct cuckooormolu_result

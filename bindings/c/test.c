@@ -3,20 +3,11 @@
  * as C and as C++, and prints nothing where all of it holds.
  */
 #include "cuckooormolu.h"
+#include "expect.h"
 
 #include <stdio.h>
 #include <stdlib.h>
 #include <string.h>
-
-static int failed;
-
-#define EXPECT(fact)                                              \
-    do {                                                          \
-        if (!(fact)) {                                            \
-            printf("test.c:%d: not so: %s\n", __LINE__, #fact);   \
-            failed = 1;                                           \
-        }                                                         \
-    } while (0)
 
 /* Event 0 makes an edge from initiator to target, event 1 asks for one. */
 static const char text[] = "M\t3\nL\t1\t2\nF\t0\tvar\t0\t0\nF\t1\tout\t0\t0\n"
@@ -36,7 +27,7 @@ static void codes(void)
         EXPECT(cuckooormolu_granted(code) == (code == 300));
         EXPECT(cuckooormolu_denied(code) == (code == 200));
         EXPECT(cuckooormolu_done(code) == (code == 100));
-        bool known = (code >= 1 && code <= 12) || code == 100 || code == 200 ||
+        bool known = (code >= 1 && code <= 13) || code == 100 || code == 200 ||
                      code == 300;
         EXPECT((strcmp(cuckooormolu_words(code),
                        "not a code of the monitor") != 0) == known);

@@ -1,8 +1,8 @@
 #!/bin/sh
-# test.sh ARCHIVE: builds test.c and the example host over the archive, runs
-# them and compares what is printed; a second time with the sanitizers, where
-# the compiler has them; test.c also as C++, where there is a compiler of it
-# (CXX, else c++). Needs a C compiler (CC, else cc).
+# test.sh ARCHIVE: builds test.c, test_revise.c and the example host over the
+# archive, runs them and compares what is printed; a second time with the
+# sanitizers, where the compiler has them; the tests also as C++, where there is
+# a compiler of it (CXX, else c++). Needs a C compiler (CC, else cc).
 set -eu
 
 if [ $# -ne 1 ] || [ ! -f "$1" ]; then
@@ -59,11 +59,21 @@ judge() {
     fi
 }
 
-# silent PROGRAM NAME: the program holds, and prints nothing.
+# silent FILE NAME COMPILER...: a test that is compiled so holds, and prints
+# nothing.
 silent() {
+    file=$1 name=$2
+    shift 2
+    "$@" -o "$work/test" "$here/$file" -x none "$archive"
     : >"$work/wanted"
-    "$work/$1" >"$work/got" 2>&1 || echo "status $?" >>"$work/got"
-    judge "$2"
+    "$work/test" >"$work/got" 2>&1 || echo "status $?" >>"$work/got"
+    judge "$name"
+}
+
+# run_tests COMPILER...: the tests, compiled so.
+run_tests() {
+    silent test.c "codes, lengths and null pointers" "$@"
+    silent test_revise.c "new terms while playing" "$@"
 }
 
 # compiling WANTED NAME STATEMENT: whether the compiler takes a statement over
@@ -179,8 +189,7 @@ V 0 0 1
 build=plain
 "$CC" $strict -O2 -o "$work/$build" "$here/example.c" "$archive"
 run_all
-"$CC" $strict -O2 -o "$work/test" "$here/test.c" "$archive"
-silent test "codes, lengths and null pointers"
+run_tests "$CC" $strict -O2
 call='cuckooormolu_monitor_request(m, 0, 0, 0)'
 compiling ok "a grant that is asked for compiles" \
     "if (cuckooormolu_granted($call.code)) m->state[0] = 0;"
@@ -189,8 +198,7 @@ compiling not "a result that is not looked at does not compile" "$call;"
 
 if command -v "$CXX" >/dev/null; then
     build=c++
-    "$CXX" -x c++ -std=c++11 $warnings -O2 -o "$work/test" "$here/test.c" -x none "$archive"
-    silent test "codes, lengths and null pointers"
+    run_tests "$CXX" -x c++ -std=c++11 $warnings -O2
 else
     echo "skip c++: no compiler"
 fi
@@ -201,8 +209,7 @@ if "$CC" $sanitize -o "$work/probe" "$work/probe.c" 2>/dev/null && "$work/probe"
     build=sanitized
     "$CC" $strict -g $sanitize -o "$work/$build" "$here/example.c" "$archive"
     run_all
-    "$CC" $strict -g $sanitize -o "$work/test" "$here/test.c" "$archive"
-    silent test "codes, lengths and null pointers"
+    run_tests "$CC" $strict -g $sanitize
 else
     echo "skip sanitized: the compiler has no sanitizers"
 fi

@@ -91,6 +91,35 @@ impl Monitor {
         raw::set_list(self.terms.words(), state, scratch, Record::plain(records)).expect(CHECKED)
     }
 
+    /// Goes on under new terms, with as many members, relations and events.
+    /// Relations and event edge are carried over, and a prev or since takes the
+    /// table of the first old entry with the same formula, spelled out; any
+    /// other starts now. Refused with [`Refusal::OtherSize`], the monitor is
+    /// exactly as it was.
+    ///
+    /// ```
+    /// use cuckooormolu::{Answer, Event, Member, Monitor, Request};
+    ///
+    /// let read = |text: &str| Monitor::read(text.replace(' ', "\t").as_bytes());
+    /// let mut monitor = read("M 2\nL 0 1\nF 0 top 0 0\nP 0 0\n")?;
+    /// let request = Request { event: Event(0), from: Member(0), to: Member(1) };
+    /// assert_eq!(monitor.request(request)?, Answer::Grant);
+    ///
+    /// // For whoever has been granted it: from now on, the last grant included.
+    /// let once = read("M 2\nL 0 1\nF 0 top 0 0\nF 1 out 0 0\nF 2 since 0 1\nP 0 2\n")?;
+    /// monitor.revise(once.terms())?;
+    /// assert_eq!(monitor.request(request)?, Answer::Grant);
+    /// assert_eq!(monitor.look(Request { from: Member(1), ..request })?, Answer::Deny);
+    /// # Ok::<(), Box<dyn std::error::Error>>(())
+    /// ```
+    pub fn revise(&mut self, new: &Terms) -> Result<(), Refusal> {
+        let mut state = State::blank();
+        let (old, present) = (self.terms.words(), self.state.words());
+        raw::revise(old, present, new.words(), &mut state.0[..])?;
+        (self.terms, self.state) = (new.clone(), state);
+        Ok(())
+    }
+
     /// The old form: the terms with the present relations, numbers without
     /// leading zeros. Reading it gives the same monitor. Where this one is no
     /// fresh start, that would lose the past: [`Refusal::NotFresh`].

@@ -64,6 +64,17 @@ mod library {
             state_length: usize,
         ) -> usize;
 
+        pub fn cuckooormolu_raw_revise(
+            old_terms: *const u16,
+            old_terms_length: usize,
+            old_state: *const u64,
+            old_state_length: usize,
+            new_terms: *const u16,
+            new_terms_length: usize,
+            state: *mut u64,
+            state_length: usize,
+        ) -> usize;
+
         pub fn cuckooormolu_raw_look(
             terms: *const u16,
             terms_length: usize,
@@ -186,6 +197,29 @@ pub fn check(terms: &[u16], state: &[u64]) -> Result<(), Refusal> {
 pub fn open(terms: &[u16], state: &mut [u64]) -> Result<(), Refusal> {
     done(unsafe {
         library::cuckooormolu_raw_open(terms.as_ptr(), terms.len(), state.as_mut_ptr(), state.len())
+    })
+}
+
+/// From old terms, the state under them and new terms, fills in the state with
+/// which the new terms go on, as [`crate::Monitor::revise`] says; whatever that
+/// held is lost. Refused with 6, 7 (either terms), 8 (the old state) or 13.
+pub fn revise(
+    old_terms: &[u16],
+    old_state: &[u64],
+    new_terms: &[u16],
+    state: &mut [u64],
+) -> Result<(), Refusal> {
+    done(unsafe {
+        library::cuckooormolu_raw_revise(
+            old_terms.as_ptr(),
+            old_terms.len(),
+            old_state.as_ptr(),
+            old_state.len(),
+            new_terms.as_ptr(),
+            new_terms.len(),
+            state.as_mut_ptr(),
+            state.len(),
+        )
     })
 }
 

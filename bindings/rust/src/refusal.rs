@@ -40,10 +40,12 @@ pub enum Refusal {
     PartlyFilled,
     /// 12: the old form of a state that is no fresh start of its relations.
     NotFresh,
+    /// 13: new terms with another number of members, relations or events.
+    OtherSize,
 }
 
 impl Refusal {
-    pub const ALL: [Refusal; 12] = [
+    pub const ALL: [Refusal; 13] = [
         Refusal::Form,
         Refusal::Range,
         Refusal::Operand,
@@ -56,9 +58,10 @@ impl Refusal {
         Refusal::ReachVariables,
         Refusal::PartlyFilled,
         Refusal::NotFresh,
+        Refusal::OtherSize,
     ];
 
-    /// The refusal's number, 1 to 12.
+    /// The refusal's number, 1 to 13.
     pub fn number(self) -> usize {
         self as usize + 1
     }
@@ -94,6 +97,7 @@ impl Refusal {
             Refusal::NotFresh => {
                 "state that is no fresh start, of which the old form would lose the past"
             }
+            Refusal::OtherSize => "new terms with another number of members, relations or events",
         }
     }
 }

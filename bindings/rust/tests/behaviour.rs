@@ -350,7 +350,7 @@ fn refusals_have_numbers_and_words() {
         assert_eq!(Refusal::of_number(index + 1), Some(refusal));
         assert!(refusal.to_string().ends_with(&format!("(refusal {})", index + 1)));
     }
-    assert_eq!((Refusal::of_number(0), Refusal::of_number(13)), (None, None));
+    assert_eq!((Refusal::of_number(0), Refusal::of_number(14)), (None, None));
 }
 
 #[test]
@@ -485,7 +485,7 @@ fn the_c_header_has_the_same_numbers() {
     assert_eq!(defined("CUCKOOORMOLU_SCRATCH_WORDS"), SCRATCH_WORDS);
     let refusals = [
         "FORM", "RANGE", "OPERAND", "PAST", "POLICY", "SHORT", "TERMS", "STATE", "NAME", "REACH",
-        "TABLE", "FRESH",
+        "TABLE", "FRESH", "SIZE",
     ];
     for (name, refusal) in refusals.into_iter().zip(Refusal::ALL) {
         assert_eq!(defined(&format!("CUCKOOORMOLU_REFUSED_{name}")), refusal.number());
