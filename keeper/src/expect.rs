@@ -100,6 +100,27 @@ pub fn listing(
     lent(terms, state)
 }
 
+/// A revision over lent memory: the record that goes on under the new terms, or
+/// the refusal. Its state is what the second state has to hold.
+pub fn revising(
+    old_terms: &[u16],
+    old_state: &[u64],
+    new_terms: &[u16],
+    second_words: usize,
+) -> Result<Record, Refusal> {
+    let short = old_terms.len().min(new_terms.len()) < TERMS_WORDS
+        || old_state.len().min(second_words) < STATE_WORDS;
+    if short {
+        return Err(Refusal::plain(6));
+    }
+    let old = memory::terms_of_words(old_terms).ok_or(Refusal::plain(7))?;
+    let new = memory::terms_of_words(new_terms).ok_or(Refusal::plain(7))?;
+    let state = memory::state_of_words(&old, old_state).ok_or(Refusal::plain(8))?;
+    let mut record = going_on(&old, &state);
+    record.revise(&new)?;
+    Ok(record)
+}
+
 /// A request or look over lent memory: the terms and state it is decided by,
 /// or the refusal. The decision itself is the record's.
 pub fn calling(terms: &[u16], state: &[u64], call: &Call) -> Result<(Terms, State), Refusal> {

@@ -5,7 +5,8 @@
 //! stored file's tables stand for the moments before it, which nobody knows.
 //!
 //! * `terms`: files of both forms and the lent memory, read and written
-//! * `record`: the list of graphs, and the meaning of a formula over it
+//! * `record`: the list of graphs, from where on each past-time entry is judged,
+//!   and the meaning of a formula over it; new terms while it goes on
 //! * `set_list`: many requests in one call
 //! * `expect`: what each call over lent memory must give
 //! * `program`: what the program must print

@@ -1,6 +1,10 @@
-//! The keeper of the whole record: one graph for each moment.
+//! The keeper of the whole record: one graph for each moment, and from where on
+//! each past-time entry is judged.
 
 pub mod meaning;
+mod start;
+
+pub use start::Start;
 
 use crate::terms::memory::{self, State, SCRATCH_WORDS};
 use crate::terms::{Edge, EventEdge, File, Past, Refusal, Tables, Terms, Variables};
@@ -42,30 +46,32 @@ pub enum Answer {
     Refused(Refusal),
 }
 
-/// The accepted terms and the list of graphs.
+/// The accepted terms, the start of each past-time entry and the list of graphs.
 #[derive(Clone)]
 pub struct Record {
     terms: Terms,
     free: Vec<Variables>,
     graphs: Vec<Graph>,
-    /// Where the moments before the first graph are not known: what its
-    /// past-time entries are said to be there. Nothing is carried along; it
-    /// stands for what came before.
-    before: Option<Tables>,
+    /// One for each past-time entry.
+    starts: Vec<Start>,
+    /// Whether there are moments before the first graph that are not known.
+    is_loaded: bool,
 }
 
 impl Record {
     /// The record at moment 0: the first edges, no event edge.
     pub fn new(terms: Terms) -> Record {
+        let starts = vec![Start::Moment(0); terms.past().len()];
         let first = Graph { edges: terms.edges.clone(), event: None };
-        Record { free: terms.free(), graphs: vec![first], terms, before: None }
+        Record { free: terms.free(), graphs: vec![first], terms, starts, is_loaded: false }
     }
 
     /// A record that begins with the moment of a stored file: its graph, and
     /// what the tables say of the past.
     pub fn loaded(terms: Terms, past: Past) -> Record {
+        let starts = past.tables.into_iter().map(Start::Unknown).collect();
         let first = Graph { edges: terms.edges.clone(), event: past.event };
-        Record { free: terms.free(), graphs: vec![first], terms, before: Some(past.tables) }
+        Record { free: terms.free(), graphs: vec![first], terms, starts, is_loaded: true }
     }
 
     /// The record of a file: at moment 0 in the old form, loaded in the stored.
@@ -137,14 +143,24 @@ impl Record {
         self.meaning().holds(entry, moment, member, assigned)
     }
 
-    /// What the past-time entries are said to be at the first graph, where the
-    /// moments before it are not known.
-    pub fn before(&self) -> Option<&Tables> {
-        self.before.as_ref()
+    /// From where on each past-time entry is judged.
+    pub fn starts(&self) -> &[Start] {
+        &self.starts
     }
 
-    fn meaning(&self) -> Meaning<'_> {
-        Meaning::new(&self.terms, &self.free, &self.graphs, self.before())
+    /// What the past-time entries are said to be at the first graph, where the
+    /// moments before it are not known; nothing of those that started later.
+    pub fn before(&self) -> Option<Tables> {
+        let said = |start: &Start| match start {
+            Start::Moment(_) => BTreeSet::new(),
+            Start::Unknown(table) => table.clone(),
+        };
+        self.is_loaded.then(|| self.starts.iter().map(said).collect())
+    }
+
+    /// The meaning of the entries over this record.
+    pub fn meaning(&self) -> Meaning<'_> {
+        Meaning::new(&self.terms, &self.free, &self.graphs, &self.starts)
     }
 
     /// The state after the calls so far, worked out from the record.

@@ -2,6 +2,7 @@
 
 pub mod event;
 pub mod file;
+pub mod formula;
 pub mod memory;
 pub mod normal;
 pub mod read;
@@ -221,6 +222,12 @@ impl Terms {
     /// Whether there are such an event and two such members.
     pub fn has(&self, event: usize, from: usize, to: usize) -> bool {
         event < self.events && from.max(to) < self.members
+    }
+
+    /// Whether other terms have as many members, relations and events.
+    pub fn is_same_size(&self, other: &Terms) -> bool {
+        let size = |terms: &Terms| [terms.members, terms.relations, terms.events];
+        size(self) == size(other)
     }
 
     /// How many labels there are: the relations, the events, and the events

@@ -30,8 +30,7 @@ struct Rebuilt<'a> {
 
 impl<'a> Rebuilt<'a> {
     fn new(record: &'a Record) -> Rebuilt<'a> {
-        let free = record.terms().free();
-        let meaning = Meaning::new(record.terms(), &free, record.graphs(), record.before());
+        let meaning = record.meaning();
         Rebuilt { reasons: Reasons::new(record), meaning, known: HashMap::new() }
     }
 

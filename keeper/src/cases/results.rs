@@ -67,6 +67,37 @@ pub fn result(case: &Case) -> Option<String> {
             lent.ask(&request(case, 0)?)?;
             asked(&lent.write(Form::Stored).ok()?, &[request(case, 3)?])
         }
+        ("revises", 5) => {
+            let lent = Lent::read(head);
+            let new = Lent::read(&case.text(4)?);
+            let (old, state) = (lent.terms.get(..size(0)?)?, lent.state.get(..size(1)?)?);
+            Some(revised(old, state, new.terms.get(..size(2)?)?, size(3)?))
+        }
+        ("revises_damaged_old", 3) => damaged_terms(case)?.revised(&case.text(2)?),
+        ("revises_damaged_state", 3) => damaged_state(case)?.revised(&case.text(2)?),
+        ("revises_damaged_new", 3) => {
+            let (lent, mut new) = (Lent::read(head), Lent::read(&case.text(2)?));
+            *new.terms[..TERMS_WORDS].get_mut(size(0)?)? = u16::try_from(case.number(1)?).ok()?;
+            Some(revised(&lent.terms, &lent.state, &new.terms, STATE_WORDS))
+        }
+        ("asks_revised", 7) => {
+            let mut lent = Lent::read(head);
+            lent.ask(&request(case, 0)?)?;
+            lent.revise(&case.text(3)?)?.ask(&request(case, 4)?)
+        }
+        ("asks_revised_after", 10) => {
+            let mut lent = Lent::read(head);
+            lent.ask(&request(case, 0)?)?;
+            let mut lent = lent.revise(&case.text(3)?)?;
+            lent.ask(&request(case, 4)?)?;
+            lent.ask(&request(case, 7)?)
+        }
+        ("asks_revised_twice", 8) => {
+            let mut lent = Lent::read(head);
+            lent.ask(&request(case, 0)?)?;
+            let lent = lent.revise(&case.text(3)?)?;
+            lent.revise(&case.text(4)?)?.ask(&request(case, 5)?)
+        }
         _ => None,
     }
 }
@@ -101,6 +132,14 @@ fn refused(refusal: &Refusal) -> String {
 
 fn reading(text: &[u8], terms_words: usize, state_words: usize) -> String {
     match expect::reading(text, terms_words, state_words) {
+        Ok(_) => "accepted".into(),
+        Err(refusal) => refused(&refusal),
+    }
+}
+
+/// What new terms give, with so many words of a second state.
+fn revised(old: &[u16], state: &[u64], new: &[u16], second_words: usize) -> String {
+    match expect::revising(old, state, new, second_words) {
         Ok(_) => "accepted".into(),
         Err(refusal) => refused(&refusal),
     }
@@ -186,6 +225,21 @@ impl Lent {
     /// The same with the named words, as it is shown.
     fn ask(&mut self, call: &Call) -> Option<String> {
         self.call(TERMS_WORDS, STATE_WORDS, call).map(answer)
+    }
+
+    /// What the terms of a text give when they take the place of these.
+    fn revised(&self, text: &[u8]) -> Option<String> {
+        Some(revised(&self.terms, &self.state, &Lent::read(text).terms, STATE_WORDS))
+    }
+
+    /// The memory in use once the terms of a text have taken the place of these.
+    /// None if they are refused, or if there is no record to go on with.
+    fn revise(&self, text: &[u8]) -> Option<Lent> {
+        let mut record = self.record.clone()?;
+        record.revise(&terms::read(text).ok()?.terms).ok()?;
+        let (terms, mut state) = (Lent::read(text).terms, self.state.clone());
+        state[..STATE_WORDS].copy_from_slice(&record.state_words());
+        Some(Lent { terms, state, record: Some(record) })
     }
 
     fn write(&self, form: Form) -> Result<Vec<u8>, Refusal> {

@@ -1,8 +1,9 @@
-//! The meaning of a formula over a list of graphs.
+//! The meaning of a formula over a list of graphs, each past-time entry judged
+//! from its own start.
 
-use super::Graph;
-use crate::terms::{Entry, Pair, Tables, Terms, Variables, VARIABLES};
-use std::collections::{BTreeSet, HashMap};
+use super::{Graph, Start};
+use crate::terms::{Entry, Terms, Variables, VARIABLES};
+use std::collections::HashMap;
 use std::hash::{BuildHasherDefault, Hasher};
 
 /// The members variables 0 to 15 stand for, six bits each. A variable not
@@ -28,9 +29,8 @@ pub struct Meaning<'a> {
     graphs: &'a [Graph],
     /// For each entry, the bits of an assignment that its free variables take.
     relevant: Vec<u128>,
-    /// For each past-time entry, what is said of the first graph, where the
-    /// moments before it are not known, and its free variable, if any.
-    said: HashMap<usize, (&'a BTreeSet<Pair>, Option<usize>)>,
+    /// For each past-time entry, its start and its free variable, if any.
+    past: HashMap<usize, (&'a Start, Option<usize>)>,
     known: Vec<HashMap<u128, bool, BuildHasherDefault<Mix>>>,
 }
 
@@ -39,20 +39,19 @@ impl<'a> Meaning<'a> {
         terms: &'a Terms,
         free: &[Variables],
         graphs: &'a [Graph],
-        before: Option<&'a Tables>,
+        starts: &'a [Start],
     ) -> Meaning<'a> {
         let bits = |&set: &Variables| {
             let chosen = (0..VARIABLES).filter(|x| set >> x & 1 == 1);
             chosen.fold(0, |bits, x| bits | 63 << (6 * x))
         };
         let variable = |entry: usize| (0..VARIABLES).find(|x| free[entry] >> x & 1 == 1);
-        let entries = terms.past().into_iter().map(|entry| (entry, variable(entry)));
-        let said = entries.zip(before.into_iter().flatten());
+        let past = terms.past().into_iter().zip(starts);
         Meaning {
             terms,
             graphs,
             relevant: free.iter().map(bits).collect(),
-            said: said.map(|((entry, x), table)| (entry, (table, x))).collect(),
+            past: past.map(|(entry, start)| (entry, (start, variable(entry)))).collect(),
             known: vec![HashMap::default(); terms.entries.len()],
         }
     }
@@ -92,9 +91,11 @@ impl<'a> Meaning<'a> {
                 });
                 near.count() >= k
             }
-            Entry::Prev(f) if i > 0 => self.holds(f, i - 1, m, assigned),
-            Entry::Prev(_) => self.said(entry, m, assigned).unwrap_or(false),
-            Entry::Since(_, _) => self.since(entry, i, m, assigned),
+            Entry::Prev(f) => match self.start(entry, m, assigned) {
+                (0, Some(said)) if i == 0 => said,
+                (first, _) => i > first && self.holds(f, i - 1, m, assigned),
+            },
+            Entry::Since(f, g) => self.since(entry, (f, g), i, m, assigned),
             Entry::Bind(x, f) => self.holds(f, i, m, assigned.with(x, m)),
             Entry::At(x, f) => self.holds(f, i, assigned.member(x), assigned),
             Entry::Reach(x, f, g) => members.into_iter().any(|other| {
@@ -104,13 +105,20 @@ impl<'a> Meaning<'a> {
         }
     }
 
-    /// For some j up to i, g holds at j and f holds at every moment after j up
-    /// to i. Going back from i: once f fails at j, no earlier moment will do,
-    /// and at the first graph it may be said whether one does.
-    fn since(&mut self, entry: usize, i: usize, m: usize, assigned: Assigned) -> bool {
-        let Entry::Since(f, g) = self.terms.entries[entry] else { return false };
-        for j in (0..=i).rev() {
-            if let (0, Some(said)) = (j, self.said(entry, m, assigned)) {
+    /// For some j from the start up to i, g holds at j and f holds at every moment
+    /// after j up to i. Going back from i: once f fails at j, no earlier moment
+    /// will do, and at the first graph it may be said whether one does.
+    fn since(
+        &mut self,
+        entry: usize,
+        (f, g): (usize, usize),
+        i: usize,
+        m: usize,
+        assigned: Assigned,
+    ) -> bool {
+        let (first, said) = self.start(entry, m, assigned);
+        for j in (first..=i).rev() {
+            if let (0, Some(said)) = (j, said) {
                 return said;
             }
             if self.holds(g, j, m, assigned) {
@@ -123,10 +131,16 @@ impl<'a> Meaning<'a> {
         false
     }
 
-    /// What is said of a past-time entry at the first graph.
-    fn said(&self, entry: usize, m: usize, assigned: Assigned) -> Option<bool> {
-        let (table, variable) = self.said.get(&entry)?;
-        Some(table.contains(&(m, variable.map_or(0, |x| assigned.member(x)))))
+    /// The first moment that counts for a past-time entry; where earlier ones
+    /// count too and are not known, also what the entry is said to be there.
+    fn start(&self, entry: usize, m: usize, assigned: Assigned) -> (usize, Option<bool>) {
+        match self.past[&entry] {
+            (Start::Moment(first), _) => (*first, None),
+            (Start::Unknown(table), variable) => {
+                let other = variable.map_or(0, |x| assigned.member(x));
+                (0, Some(table.contains(&(m, other))))
+            }
+        }
     }
 
     /// Whether the graph of moment i has an edge under a label.

@@ -14,6 +14,7 @@ mod mutants;
 mod page;
 mod program;
 mod refusals;
+mod revised;
 mod set_lists;
 mod shrinking;
 mod speed;

@@ -124,7 +124,7 @@ impl<'a> Reasons<'a> {
     pub fn new(record: &'a Record) -> Reasons<'a> {
         let (terms, graphs) = (record.terms(), record.graphs());
         let free = terms.free();
-        let meaning = Meaning::new(terms, &free, graphs, record.before());
+        let meaning = record.meaning();
         Reasons { terms, graphs, free, meaning, stored: record.before().is_some() }
     }
 
