@@ -42,6 +42,16 @@ type SetList = unsafe extern "C" fn(
     usize,
     *mut usize,
 ) -> usize;
+type Revise = unsafe extern "C" fn(
+    *const u16,
+    usize,
+    *const u64,
+    usize,
+    *const u16,
+    usize,
+    *mut u64,
+    usize,
+) -> usize;
 type Read =
     unsafe extern "C" fn(*const u8, usize, *mut u16, usize, *mut u64, usize, *mut usize) -> usize;
 type Write =
@@ -84,6 +94,8 @@ pub struct Archive {
     write: Write,
     /// None in an archive before 0.6.
     store: Option<Write>,
+    /// None in an archive before 0.10.
+    revise: Option<Revise>,
 }
 
 impl Archive {
@@ -134,6 +146,7 @@ impl Archive {
                 read: transmute::<*mut c_void, Read>(symbol("read")),
                 write: transmute::<*mut c_void, Write>(symbol("write")),
                 store: found("store").map(|store| transmute::<*mut c_void, Write>(store)),
+                revise: found("revise").map(|revise| transmute::<*mut c_void, Revise>(revise)),
             }
         }
     }
@@ -203,5 +216,19 @@ impl Archive {
         let (bytes, room) = (output.as_mut_ptr(), output.len());
         let store = self.store?;
         Some(unsafe { store(words, count, state.as_ptr(), state.len(), bytes, room, &mut 0) })
+    }
+
+    /// Revises terms to others, where the archive can.
+    pub fn revise(
+        &self,
+        (old, state): (&[u16], &[u64]),
+        (new, second): (&[u16], &mut [u64]),
+    ) -> Option<usize> {
+        let (words, count) = (old.as_ptr(), old.len());
+        let (bits, length) = (state.as_ptr(), state.len());
+        let (others, number) = (new.as_ptr(), new.len());
+        let (filled, room) = (second.as_mut_ptr(), second.len());
+        self.revise
+            .map(|call| unsafe { call(words, count, bits, length, others, number, filled, room) })
     }
 }

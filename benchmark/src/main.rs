@@ -10,11 +10,12 @@
 //! * `lists`: set lists beside single requests
 //! * `texts`: reading and writing
 //! * `counts`: at least so many, counted and spelled out
+//! * `revisions`: new terms beside an opening
 //! * `stack`: the stack that one call takes
 //! * `archives`, `compare`: archives beside each other
 //!
-//! `benchmark pieces`, `lists`, `texts`, `counts` and `stack` measure that only,
-//! `benchmark compare ARCHIVE...` times the calls of those archives and of the
+//! `benchmark pieces`, `lists`, `texts`, `counts`, `revisions` and `stack` measure
+//! that only, `benchmark compare ARCHIVE...` times the calls of those archives and of the
 //! one that is built in turn, `benchmark loop` makes many requests for a
 //! profiler.
 
@@ -28,6 +29,7 @@ mod log;
 mod matrices;
 mod measure;
 mod pieces;
+mod revisions;
 mod rows;
 mod stack;
 mod texts;
@@ -48,6 +50,7 @@ fn main() {
             lists::print();
             texts::print();
             counts::print();
+            revisions::print();
             println!();
             stack::print(&Archive::open(&archives::built())[0]);
         }
@@ -55,12 +58,14 @@ fn main() {
         Some("lists") => lists::print(),
         Some("texts") => texts::print(),
         Some("counts") => counts::print(),
+        Some("revisions") => revisions::print(),
         Some("stack") => stack::print(&Archive::open(&archives::built())[0]),
         Some("compare") => compare::print(&words[1..]),
         Some("loop") => repeat(),
         Some(other) => {
             eprintln!(
-                "{other}: not known; pieces, lists, texts, counts, stack, compare, loop or nothing"
+                "{other}: not known; pieces, lists, texts, counts, revisions, stack, compare, loop \
+                 or nothing"
             )
         }
     }

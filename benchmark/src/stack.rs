@@ -58,13 +58,25 @@ fn touched(mut work: Work) -> usize {
     STACK - bytes.take_while(|&&byte| byte == PAINT).count()
 }
 
+/// Terms of the same size with one entry, top, which is every event's policy.
+fn without_past(text: &[u8]) -> Vec<u8> {
+    let text = std::str::from_utf8(text).expect("a text");
+    let kept = text.lines().filter_map(|line| match line.split('\t').collect::<Vec<_>>()[..] {
+        ["M" | "L", ..] => Some(format!("{line}\n")),
+        ["F", "0", ..] => Some("F\t0\ttop\t0\t0\n".into()),
+        ["P", event, _] => Some(format!("P\t{event}\t0\n")),
+        _ => None,
+    });
+    kept.collect::<String>().into_bytes()
+}
+
 /// Prints the stack of each call of an archive under the deepest terms of each kind.
 pub fn print(archive: &Archive) {
     let bare = touched(Box::new(|| ()));
     println!("stack under 256 entries nested 255 deep, in KiB:");
     println!(
-        "{:<14} {:>8} {:>8} {:>8} {:>8} {:>8}",
-        "", "request", "set list", "read", "write", "store"
+        "{:<14} {:>8} {:>8} {:>8} {:>8} {:>8} {:>8}",
+        "", "request", "set list", "revise", "read", "write", "store"
     );
     let mut most = 0;
     for (name, text) in deep() {
@@ -94,9 +106,18 @@ pub fn print(archive: &Archive) {
             let code = archive.set_list(&terms, &mut state, &mut scratch, &mut records);
             assert!(code.is_none_or(is_done));
         }));
-        let bytes = [request, list, read, write, store].map(|bytes| bytes.saturating_sub(bare));
-        let [request, list, read, write, store] = bytes.map(|bytes| bytes as f64 / 1024.0);
-        println!("{name:<14} {request:>8.1} {list:>8.1} {read:>8.1} {write:>8.1} {store:>8.1}");
+        // From terms of the same size in which nothing speaks of the past, so that every since starts.
+        let (mut plain, mut before) = (vec![0; TERMS_WORDS], vec![0; STATE_WORDS]);
+        assert!(is_done(archive.read(&without_past(&text), &mut plain, &mut before)));
+        let mut second = vec![0; STATE_WORDS];
+        let revise = touched(Box::new(|| {
+            let code = archive.revise((&plain, &before), (&terms, &mut second));
+            assert!(code.is_none_or(is_done));
+        }));
+        let bytes = [request, list, revise, read, write, store];
+        let bytes = bytes.map(|bytes| bytes.saturating_sub(bare));
+        let columns = bytes.map(|bytes| format!(" {:>8.1}", bytes as f64 / 1024.0));
+        println!("{name:<14}{}", columns.concat());
         most = bytes.into_iter().fold(most, usize::max);
     }
     let verdict = if most <= MOST { "met   " } else { "MISSED" };
