@@ -280,7 +280,7 @@ mod tests {
             counting += usize::from(terms.entries.iter().any(|e| matches!(e, Entry::Many(..))));
             let mut record = Record::of(file);
             let mut matrices = Matrices::resume(&terms, &record.state_words());
-            for call in &case.calls {
+            for call in case.calls() {
                 let right = call.event < terms.events && call.from.max(call.to) < terms.members;
                 if right {
                     let permits = record.permits(call.event, call.from, call.to);

@@ -1,17 +1,21 @@
 //! Holds another implementation against the record, call by call.
 
 mod lists;
+mod revisions;
 mod written;
 
 pub use lists::{lists, set_list};
+pub use revisions::revise;
 pub use written::write;
 
 use crate::expect::{self, Form};
 use crate::generate::{Case, Rng};
 use crate::record::{Answer, Call, Record};
 use crate::set_list::Item;
+use crate::step::Step;
 use crate::terms::memory::{SCRATCH_WORDS, STATE_WORDS, TERMS_WORDS};
 use crate::terms::{self, memory, Refusal};
+use revisions::record_revision;
 use written::written_back;
 
 /// Another implementation, spoken to by slices and numbers.
@@ -36,6 +40,15 @@ pub trait Other {
         scratch: &mut [u64],
         items: &mut [Item],
     ) -> Result<usize, Refusal>;
+
+    /// Fills a second state in under other terms.
+    fn revise(
+        &mut self,
+        old_terms: &mut [u16],
+        old_state: &mut [u64],
+        new_terms: &mut [u16],
+        second: &mut [u64],
+    ) -> Result<(), Refusal>;
 
     /// Writes a text of the old form and gives the count of its bytes.
     fn write(&mut self, terms: &[u16], state: &[u64], output: &mut [u8]) -> Result<usize, Refusal>;
@@ -118,8 +131,8 @@ fn read_into(other: &mut impl Other, text: &[u8], lent: &mut Lent) -> Result<(),
     Ok(())
 }
 
-/// Reads a case's text, which comes back in its normal form, and makes its
-/// calls; after each, the answer and every word lent is compared, and the text
+/// Reads a case's text, which comes back in its normal form, and takes its
+/// steps; after each, the answer and every word lent is compared, and the text
 /// is written out in both forms. Now and then all is stored, loaded into other
 /// memory, and goes on from there.
 pub fn case(other: &mut impl Other, case: &Case) -> Result<(), Difference> {
@@ -133,9 +146,15 @@ pub fn case(other: &mut impl Other, case: &Case) -> Result<(), Difference> {
     let mut record = Record::of(file);
     write(other, &lent.terms, &lent.state)?;
     written_back(other, form, &case.text, &lent)?;
-    for (index, call) in case.calls.iter().enumerate() {
-        let named = |difference| format!("call {index}: {difference}");
-        record_call(other, call, &mut record, &mut lent, &mut rng).map_err(named)?;
+    for (index, step) in case.steps.iter().enumerate() {
+        let named = |difference| format!("step {index}: {difference}");
+        let taken = match step {
+            Step::Call(call) => record_call(other, call, &mut record, &mut lent, &mut rng),
+            Step::Revision(revision) => {
+                record_revision(other, revision, &mut record, &mut lent, &mut rng)
+            }
+        };
+        taken.map_err(named)?;
         write(other, &lent.terms, &lent.state).map_err(named)?;
         if rng.percent(25) {
             lent = carried_over(other, &record, &lent, &mut rng).map_err(named)?;

@@ -5,6 +5,7 @@ pub mod formulas;
 pub mod kept;
 pub mod lines;
 mod patterns;
+pub mod revised;
 pub mod size;
 pub mod stored;
 pub mod strangers;
@@ -12,6 +13,7 @@ pub mod words;
 
 use crate::record::{Call, Record};
 use crate::set_list::Item;
+use crate::step::Step;
 use crate::terms::memory::{self, SCRATCH_WORDS};
 use crate::terms::{self, Terms};
 use size::Size;
@@ -54,12 +56,22 @@ impl Rng {
     }
 }
 
-/// A text and the calls made after reading it.
+/// A text and what is done after reading it.
 #[derive(Clone, Debug, PartialEq, Eq)]
 pub struct Case {
     pub seed: u64,
     pub text: Vec<u8>,
-    pub calls: Vec<Call>,
+    pub steps: Vec<Step>,
+}
+
+impl Case {
+    /// Its calls, without the new terms among them.
+    pub fn calls(&self) -> impl Iterator<Item = &Call> {
+        self.steps.iter().filter_map(|step| match step {
+            Step::Call(call) => Some(call),
+            Step::Revision(_) => None,
+        })
+    }
 }
 
 impl fmt::Display for Case {
@@ -68,17 +80,12 @@ impl fmt::Display for Case {
         for line in self.text.split_inclusive(|&byte| byte == b'\n') {
             writeln!(out, "  {}", line.escape_ascii())?;
         }
-        for call in &self.calls {
-            let kind = if call.look { "look" } else { "request" };
-            let Call { event, from, to, scratch_words, .. } = call;
-            writeln!(out, "  {kind} {event} {from} {to} with {scratch_words} words of scratch")?;
-        }
-        Ok(())
+        self.steps.iter().try_for_each(|step| write!(out, "{step}"))
     }
 }
 
-/// An accepted text with calls, now and then of the stored form or with padded
-/// numbers. No number of a call is above `largest`.
+/// An accepted text with calls and new terms among them, now and then of the
+/// stored form or with padded numbers. No number of a call is above `largest`.
 pub fn case(seed: u64, largest: usize) -> Case {
     let mut rng = Rng::new(seed);
     let size = Size::random(&mut rng);
@@ -94,7 +101,8 @@ pub fn case(seed: u64, largest: usize) -> Case {
     if padded {
         lines::pad(&mut rng, &mut text);
     }
-    Case { seed, text, calls }
+    let steps = revised::steps(&mut rng, &terms, calls);
+    Case { seed, text, steps }
 }
 
 /// A text that was damaged; it may by chance still be accepted.
@@ -123,6 +131,19 @@ pub fn damaged_memory(seed: u64) -> (Vec<u16>, Vec<u64>) {
         words::damage_state(&mut rng, record.terms(), &mut state_words);
     }
     (terms_words, state_words)
+}
+
+/// Words of sound terms and of a state whose tables are drawn, mostly true of no
+/// record.
+pub fn drawn_memory(seed: u64) -> (Vec<u16>, Vec<u64>) {
+    let mut rng = Rng::new(seed);
+    let size = Size::small(&mut rng);
+    let mut terms = formulas::terms(&mut rng, &size);
+    if rng.percent(70) {
+        revised::repeat(&mut rng, &mut terms);
+    }
+    let record = Record::loaded(terms.clone(), stored::drawn(&mut rng, &terms));
+    (memory::terms_words(&terms), record.state_words())
 }
 
 /// Requests and looks, now and then with numbers out of range or short scratch.

@@ -8,6 +8,7 @@
 //! * `record`: the list of graphs, from where on each past-time entry is judged,
 //!   and the meaning of a formula over it; new terms while it goes on
 //! * `set_list`: many requests in one call
+//! * `step`: calls, and new terms among them
 //! * `expect`: what each call over lent memory must give
 //! * `program`: what the program must print
 //! * `cases`: what the program of cases must print
@@ -23,4 +24,5 @@ pub mod program;
 pub mod record;
 pub mod set_list;
 pub mod shrink;
+pub mod step;
 pub mod terms;

@@ -1,5 +1,6 @@
 //! Terms as plain values.
 
+mod edit;
 pub mod event;
 pub mod file;
 pub mod formula;
@@ -222,6 +223,11 @@ impl Terms {
     /// Whether there are such an event and two such members.
     pub fn has(&self, event: usize, from: usize, to: usize) -> bool {
         event < self.events && from.max(to) < self.members
+    }
+
+    /// Whether a file of these terms is accepted.
+    pub fn is_sound(&self) -> bool {
+        read(&write(self, &self.edges)).is_ok()
     }
 
     /// Whether other terms have as many members, relations and events.

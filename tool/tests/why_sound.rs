@@ -247,7 +247,7 @@ fn truth_is_rebuilt_from_reasons() {
         let case = generate::case(seed, 99_999);
         let mut record = Record::of(terms::read(&case.text).unwrap());
         let mut asked = Vec::new();
-        for call in &case.calls {
+        for call in case.calls() {
             let moment = record.graphs().len() - 1;
             match record.call(call.look, call.event, call.from, call.to, call.scratch_words) {
                 Answer::Refused(_) => {}

@@ -4,6 +4,7 @@
 //! call is made of a `Monitor`, which has to agree in answer and state. A set
 //! list is made besides by single requests.
 
+use crate::revise;
 use crate::shown;
 use crate::tally::Tally;
 use cuckooormolu::{raw, Event, Member, Monitor, Record, Request};
@@ -58,6 +59,17 @@ impl Library<'_> {
         let size = size.map_err(plain);
         let told = size.and_then(|n| if n <= output.len() { Ok(n) } else { Err(short) });
         self.same("size", told, got);
+    }
+
+    /// A monitor with these words, by the text that is stored of them.
+    fn reload(&mut self, terms: &[u16], state: &[u64]) {
+        let size = raw::store_size(terms, state).unwrap_or_default();
+        let mut text = vec![0; size];
+        let stored = raw::store(terms, state, &mut text);
+        self.same("storing what was revised", stored.is_ok(), true);
+        self.monitor = Monitor::read(&text).ok();
+        self.same("loading what was revised", self.monitor.is_some(), true);
+        self.same_words(terms, state);
     }
 
     fn same_words(&mut self, terms: &[u16], state: &[u64]) {
@@ -207,6 +219,21 @@ impl Other for Library<'_> {
             *item = Item { event, from, to, answer };
         }
         self.tally.set_list(&got, items);
+        got
+    }
+
+    fn revise(
+        &mut self,
+        old_terms: &mut [u16],
+        old_state: &mut [u64],
+        new_terms: &mut [u16],
+        second: &mut [u64],
+    ) -> Result<(), Refusal> {
+        let got = revise::revise(old_terms, old_state, new_terms, second);
+        self.tally.revise(old_terms, new_terms, &got);
+        if got.is_ok() && self.monitor.is_some() {
+            self.reload(new_terms, second);
+        }
         got
     }
 

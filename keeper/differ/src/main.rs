@@ -5,6 +5,7 @@
 
 mod library;
 mod options;
+mod revise;
 mod rounds;
 mod shown;
 mod tally;

@@ -6,10 +6,11 @@ use crate::options::Options;
 use crate::tally::Tally;
 use keeper::compare;
 use keeper::expect;
-use keeper::generate::{self, Case, Rng};
+use keeper::generate::{self, revised, Case, Rng};
 use keeper::record::Call;
 use keeper::set_list::Item;
 use keeper::shrink::shrink;
+use keeper::step::Step;
 use keeper::terms::memory::{SCRATCH_WORDS, STATE_WORDS, TERMS_WORDS};
 
 /// What differed, with its seed and the case made small.
@@ -28,8 +29,9 @@ pub fn all(options: &Options, tally: &mut Tally) -> Result<(), Report> {
     }
     for seed in (options.seed..).take(options.files) {
         let text = generate::damaged_text(seed);
-        shrunk(&Case { seed, text, calls: Vec::new() }, tally, one_text)?;
+        shrunk(&Case { seed, text, steps: Vec::new() }, tally, one_text)?;
         one_memory(seed, tally).map_err(|wrong| format!("damaged memory, seed {seed}: {wrong}"))?;
+        one_revision(seed, tally).map_err(|wrong| format!("revision, seed {seed}: {wrong}"))?;
     }
     Ok(())
 }
@@ -44,19 +46,19 @@ fn shrunk(
         return Ok(());
     };
     tally.stop();
-    let with = |text: &[u8], calls: &[Call]| Case {
+    let with = |text: &[u8], steps: &[Step]| Case {
         seed: case.seed,
         text: text.to_vec(),
-        calls: calls.to_vec(),
+        steps: steps.to_vec(),
     };
-    let (text, calls) =
-        shrink(&case.text, &case.calls, |text, calls| compared(&with(text, calls), tally).is_err());
-    let small = with(&text, &calls);
+    let (text, steps) =
+        shrink(&case.text, &case.steps, |text, steps| compared(&with(text, steps), tally).is_err());
+    let small = with(&text, &steps);
     let small_wrong = compared(&small, tally).unwrap_err();
     Err(format!("seed {}: {wrong}\nmade small: {small_wrong}\n{small}", case.seed))
 }
 
-/// An accepted text and its calls, answer and every word after each, one by
+/// An accepted text and its steps, answer and every word after each, calls one by
 /// one and as set lists; then what the library stored last is read back.
 fn one_case(case: &Case, tally: &mut Tally) -> Result<(), String> {
     let mut library = Library::new(tally);
@@ -124,6 +126,17 @@ fn one_memory(seed: u64, tally: &mut Tally) -> Result<(), String> {
     compare::write(&mut Library::new(tally), &terms, &state)?;
     checked(&terms, &state)?;
     opened(&terms, &state)
+}
+
+/// New terms for memory that was damaged, or whose tables are drawn.
+fn one_revision(seed: u64, tally: &mut Tally) -> Result<(), String> {
+    for (terms, state) in [generate::damaged_memory(seed), generate::drawn_memory(seed)] {
+        let revision = revised::of_words(&mut Rng::new(seed), &terms);
+        let mut library = Library::new(tally);
+        compare::revise(&mut library, &revision, &terms, &state)?;
+        library.agrees()?;
+    }
+    Ok(())
 }
 
 /// A short set list, or none, most of it of small numbers.

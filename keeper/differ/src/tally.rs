@@ -2,7 +2,8 @@
 
 use keeper::record::{Answer, Call};
 use keeper::set_list::Item;
-use keeper::terms::{self, Refusal};
+use keeper::terms::formula::first_same;
+use keeper::terms::{self, memory, Refusal};
 use std::collections::BTreeMap;
 use std::fmt;
 
@@ -41,6 +42,9 @@ impl Tally {
         wanted.extend([6, 7, 8].map(|number| ("set list", format!("refuse {number}"))));
         wanted.extend(["answered", "empty"].map(|outcome| ("set list", outcome.into())));
         wanted.extend(["grant", "deny", "refuse 9"].map(|outcome| ("in a list", outcome.into())));
+        wanted.extend([6, 7, 8, 13].map(|number| ("revise", format!("refuse {number}"))));
+        wanted.push(("revise", "done".into()));
+        wanted.extend(["carried", "begun"].map(|outcome| ("past-time", outcome.into())));
         wanted.retain(|outcome| !self.counts.contains_key(outcome));
         wanted.into_iter().map(|(kind, outcome)| format!("{kind} {outcome}")).collect()
     }
@@ -85,6 +89,20 @@ impl Tally {
                 number => format!("refuse {number}"),
             };
             self.count("in a list", outcome);
+        }
+    }
+
+    /// A revision, and how many past-time entries were carried over and begun.
+    pub fn revise(&mut self, old: &[u16], new: &[u16], got: &Result<(), Refusal>) {
+        self.count("revise", got.map_or_else(refused, |()| "done".into()));
+        if got.is_err() || self.shrinking {
+            return;
+        }
+        let [old, new] = [old, new].map(|words| memory::terms_of_words(words).unwrap_or_default());
+        let same = first_same(&old, &new);
+        for entry in new.past() {
+            let outcome = if same[entry].is_some() { "carried" } else { "begun" };
+            self.count("past-time", outcome.into());
         }
     }
 

@@ -1,15 +1,18 @@
 //! Set lists, held against the record.
 
+use super::revisions::record_revision;
 use super::{equal, noise, over, read_into, same, Difference, Lent, Other, BEYOND};
 use crate::expect;
 use crate::generate::{self, Case, Rng};
 use crate::record::Record;
 use crate::set_list::{self, Item};
+use crate::step::Step;
 use crate::terms;
 use crate::terms::memory::{SCRATCH_WORDS, STATE_WORDS, TERMS_WORDS};
 
-/// Reads a case's text and makes its calls as set lists, looks as requests.
-/// After each list its answers, its count and every word lent are compared.
+/// Reads a case's text and makes its calls as set lists, looks as requests; none
+/// reaches over new terms. After each list its answers, its count and every word
+/// lent are compared.
 pub fn lists(other: &mut impl Other, case: &Case) -> Result<(), Difference> {
     let mut rng = Rng::new(!case.seed);
     let mut lent = Lent::noise(&mut rng, TERMS_WORDS + BEYOND, STATE_WORDS + BEYOND);
@@ -18,14 +21,31 @@ pub fn lists(other: &mut impl Other, case: &Case) -> Result<(), Difference> {
         return Ok(());
     };
     let mut record = Record::of(file);
-    let mut left = &case.calls[..];
+    let mut left = &case.steps[..];
     while let Some(first) = left.first() {
-        let length = generate::list_length(&mut rng).min(left.len());
-        let items: Vec<Item> =
-            left[..length].iter().map(|call| generate::item(&mut rng, call)).collect();
-        let scratch = noise(&mut rng, first.scratch_words);
-        let made = case.calls.len() - left.len();
-        let named = |difference| format!("set list of {length} from call {made}: {difference}");
+        let made = case.steps.len() - left.len();
+        let call = match first {
+            Step::Call(call) => call,
+            Step::Revision(revision) => {
+                let named = |difference| format!("step {made}: {difference}");
+                record_revision(other, revision, &mut record, &mut lent, &mut rng)
+                    .map_err(named)?;
+                left = &left[1..];
+                continue;
+            }
+        };
+        let most = generate::list_length(&mut rng);
+        let items: Vec<Item> = left
+            .iter()
+            .take(most)
+            .map_while(|step| match step {
+                Step::Call(call) => Some(generate::item(&mut rng, call)),
+                Step::Revision(_) => None,
+            })
+            .collect();
+        let scratch = noise(&mut rng, call.scratch_words);
+        let length = items.len();
+        let named = |difference| format!("set list of {length} from step {made}: {difference}");
         record_list(other, &items, &scratch, &mut record, &mut lent).map_err(named)?;
         left = &left[length..];
     }

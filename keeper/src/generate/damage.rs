@@ -34,18 +34,6 @@ pub fn text(rng: &mut Rng) -> Vec<u8> {
     text
 }
 
-/// Puts new entries in before a place; what stood there moves on.
-pub(super) fn put_in(terms: &mut Terms, place: usize, new: &[Entry]) {
-    let moved = |entry: usize| if entry >= place { entry + new.len() } else { entry };
-    for entry in &mut terms.entries {
-        *entry = entry.with_operands(moved);
-    }
-    for policy in &mut terms.policies {
-        *policy = moved(*policy);
-    }
-    terms.entries.splice(place..place, new.iter().copied());
-}
-
 /// Breaks a rule of the terms themselves.
 fn damage_terms(rng: &mut Rng, terms: &mut Terms) {
     let place = rng.below(terms.entries.len() + 1);
@@ -82,7 +70,7 @@ fn operand_not_lower(rng: &mut Rng, terms: &mut Terms, place: usize) {
         9 => Entry::Reach(rng.below(16), high, low),
         _ => Entry::At(rng.below(16), high),
     };
-    put_in(terms, place, &[entry]);
+    terms.put_in(place, &[entry]);
 }
 
 fn two_free_variables(rng: &mut Rng, terms: &mut Terms, place: usize) {
@@ -101,7 +89,7 @@ fn two_free_variables(rng: &mut Rng, terms: &mut Terms, place: usize) {
             vec![first, second, or, Entry::Bind(z, place + 2), Entry::Since(place, place + 3)]
         }
     };
-    put_in(terms, place, &new);
+    terms.put_in(place, &new);
 }
 
 fn free_policy(rng: &mut Rng, terms: &mut Terms, place: usize) {
@@ -112,7 +100,7 @@ fn free_policy(rng: &mut Rng, terms: &mut Terms, place: usize) {
         2 => vec![Entry::Var(x), Entry::Prev(place)],
         _ => vec![Entry::Var(x), Entry::Bind(rng.between(1, 15), place)],
     };
-    put_in(terms, place, &new);
+    terms.put_in(place, &new);
     let event = rng.below(terms.policies.len());
     terms.policies[event] = place + new.len() - 1;
 }
@@ -135,7 +123,7 @@ fn bad_reach(rng: &mut Rng, terms: &mut Terms, place: usize) {
             vec![first, second, or, Entry::Since(place, place + 2), Entry::Reach(x, place, place)]
         }
     };
-    put_in(terms, place, &new);
+    terms.put_in(place, &new);
 }
 
 /// A many that asks for too few or too many, or for just as many as may be.
@@ -143,7 +131,7 @@ fn bad_count(rng: &mut Rng, terms: &mut Terms, place: usize) {
     let labels = terms.labels();
     let label = if rng.percent(80) { rng.below(labels) } else { labels };
     let count = rng.pick(&[0, 0, 1, 63, 64, 65, 65, 66, 256, 65_536, 99_999]);
-    put_in(terms, place, &[Entry::Top, Entry::Many(label, place, count)]);
+    terms.put_in(place, &[Entry::Top, Entry::Many(label, place, count)]);
 }
 
 fn too_many_past(rng: &mut Rng, terms: &mut Terms) {
@@ -204,7 +192,7 @@ fn bad_number(rng: &mut Rng, terms: &mut Terms, place: usize) {
         3 => Entry::Out(label, f),
         _ => Entry::In(label, f),
     };
-    put_in(terms, place, &[Entry::Top, entry]);
+    terms.put_in(place, &[Entry::Top, entry]);
 }
 
 /// A policy, effect or edge that names what does not exist.

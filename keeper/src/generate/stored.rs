@@ -1,6 +1,5 @@
 //! Stored files, and damage to the lines that only the stored form has.
 
-use super::damage::put_in;
 use super::lines::{join, line, places, some, split};
 use super::{calls, Rng};
 use crate::record::Record;
@@ -19,8 +18,12 @@ pub fn file(rng: &mut Rng, terms: &Terms) -> File {
         }
         return File::stored(terms, &record.state());
     }
-    let past = Past { tables: drawn_tables(rng, terms), event: drawn_event(rng, terms) };
-    File { terms: terms.clone(), past: Some(past) }
+    File { terms: terms.clone(), past: Some(drawn(rng, terms)) }
+}
+
+/// What had passed, drawn within the layout.
+pub fn drawn(rng: &mut Rng, terms: &Terms) -> Past {
+    Past { tables: drawn_tables(rng, terms), event: drawn_event(rng, terms) }
 }
 
 /// Tables within the layout: without a free variable a word is full or empty.
@@ -62,7 +65,7 @@ pub fn partly_fill(rng: &mut Rng, file: &mut File) {
         [] if past.len() == MOST_PAST => return,
         [] => {
             let place = terms.entries.len();
-            put_in(terms, place, &[Entry::Top, Entry::Prev(place)]);
+            terms.put_in(place, &[Entry::Top, Entry::Prev(place)]);
             tables.push(BTreeSet::new());
             past.len()
         }

@@ -1,202 +1,12 @@
 //! The comparison accepts a faithful implementation and catches impostors.
 
-use keeper::compare::{self, Other};
-use keeper::expect;
-use keeper::generate;
-use keeper::record::{Answer, Call, Record};
-use keeper::set_list::{self, Item};
+use crate::mirror::{Fault, Mirror};
+use keeper::compare;
+use keeper::generate::{self, revised, Rng};
+use keeper::record::Call;
+use keeper::set_list::Item;
 use keeper::shrink::shrink;
-use keeper::terms::{self, Refusal};
-
-#[derive(Clone, Copy, PartialEq, Debug)]
-enum Fault {
-    None,
-    RefusesAll,
-    DeniesAll,
-    GrantsAll,
-    MovesNoTable,
-    MovesTablesOnce,
-    FixedLine,
-    KeepsScratch,
-    TouchesBeyond,
-    LookMakesMoment,
-    WritesTooMuch,
-    AnswersLate,
-    StopsAtRefusal,
-    CountsRefusals,
-    KeepsDenials,
-    WritesUnchecked,
-    TrustsEmptyLists,
-    WritesThePast,
-    StoresNoEvent,
-    StoresOneBitLess,
-    LoadsAsFresh,
-    ForgetsDenials,
-    KeepsAllDenials,
-    LookIsKept,
-    DenialKeepsScratch,
-}
-
-/// An implementation that has the record itself, and perhaps a fault.
-struct Mirror {
-    fault: Fault,
-    record: Option<Record>,
-}
-
-impl Mirror {
-    fn new(fault: Fault) -> Mirror {
-        Mirror { fault, record: None }
-    }
-
-    fn put(&self, text: Vec<u8>, output: &mut [u8]) -> Result<usize, Refusal> {
-        if text.len() > output.len() {
-            return Err(Refusal::plain(6));
-        }
-        if self.fault == Fault::WritesTooMuch {
-            output.fill(0);
-        }
-        output[..text.len()].copy_from_slice(&text);
-        Ok(text.len())
-    }
-}
-
-impl Other for Mirror {
-    fn read(&mut self, text: &[u8], terms: &mut [u16], state: &mut [u64]) -> Result<(), Refusal> {
-        if self.fault == Fault::RefusesAll {
-            return Err(Refusal::plain(6));
-        }
-        let line = |refusal: Refusal| match self.fault {
-            Fault::FixedLine => Refusal { line: 1, ..refusal },
-            _ => refusal,
-        };
-        let (front_terms, mut front_state) =
-            expect::reading(text, terms.len(), state.len()).map_err(line)?;
-        self.record = terms::read(text).ok().map(|mut file| {
-            match self.fault {
-                Fault::LoadsAsFresh => file.past = None,
-                Fault::ForgetsDenials => file.terms.kept.clear(),
-                Fault::KeepsAllDenials => file.terms.kept = (0..file.terms.events).collect(),
-                _ => {}
-            }
-            Record::of(file)
-        });
-        if let (Fault::LoadsAsFresh, Some(record)) = (self.fault, &self.record) {
-            front_state = record.state_words();
-        }
-        terms[..front_terms.len()].copy_from_slice(&front_terms);
-        state[..front_state.len()].copy_from_slice(&front_state);
-        Ok(())
-    }
-
-    fn call(
-        &mut self,
-        call: &Call,
-        terms: &mut [u16],
-        state: &mut [u64],
-        scratch: &mut [u64],
-    ) -> Answer {
-        if let Err(refusal) = expect::calling(terms, state, call) {
-            return Answer::Refused(refusal);
-        }
-        match self.fault {
-            Fault::DeniesAll => return Answer::Deny,
-            Fault::GrantsAll => return Answer::Grant,
-            _ => {}
-        }
-        // Over memory that was not read, the tables stand for the record.
-        let record = self.record.get_or_insert_with(|| {
-            let (terms, state) = expect::lent(terms, state).expect("nothing was refused");
-            expect::going_on(&terms, &state)
-        });
-        let denied = !record.permits(call.event, call.from, call.to);
-        let look = match self.fault {
-            Fault::LookMakesMoment => call.look && denied,
-            Fault::LookIsKept => call.look && !denied,
-            _ => call.look,
-        };
-        let before = record.graphs().len();
-        let answer = record.answer(&Call { look, ..*call });
-        if record.graphs().len() > before {
-            let words = record.state_words();
-            let tables = match self.fault {
-                Fault::MovesNoTable => false,
-                Fault::MovesTablesOnce => record.graphs().len() < 3,
-                _ => true,
-            };
-            state[..1_024].copy_from_slice(&words[..1_024]);
-            state[3_072] = words[3_072];
-            if tables {
-                state[1_024..3_072].copy_from_slice(&words[1_024..3_072]);
-            }
-            let kept = self.fault == Fault::DenialKeepsScratch && denied;
-            if self.fault != Fault::KeepsScratch && !kept {
-                scratch[..2_048].fill(0);
-            }
-            if self.fault == Fault::TouchesBeyond {
-                state[3_073] = 0;
-            }
-        }
-        answer
-    }
-
-    fn set_list(
-        &mut self,
-        terms: &mut [u16],
-        state: &mut [u64],
-        scratch: &mut [u64],
-        items: &mut [Item],
-    ) -> Result<usize, Refusal> {
-        let fault = self.fault;
-        if let Err(refusal) = expect::listing(terms, state, scratch.len()) {
-            if fault == Fault::WritesUnchecked {
-                items.iter_mut().for_each(|item| item.answer = 0);
-            }
-            let trusted = fault == Fault::TrustsEmptyLists && items.is_empty();
-            return if trusted { Ok(0) } else { Err(refusal) };
-        }
-        let mut count = 0;
-        for place in 0..items.len() {
-            let Item { event, from, to, .. } = items[place];
-            let call = Call::request(event as usize, from as usize, to as usize);
-            let number = set_list::number(self.call(&call, terms, state, scratch));
-            let late = usize::from(fault == Fault::AnswersLate);
-            if let Some(item) = items.get_mut(place + late) {
-                if number > 0 || fault != Fault::KeepsDenials {
-                    item.answer = number;
-                }
-            }
-            count += usize::from(number == 1 || number == 9 && fault == Fault::CountsRefusals);
-            if number == 9 && fault == Fault::StopsAtRefusal {
-                break;
-            }
-        }
-        Ok(count)
-    }
-
-    fn write(&mut self, terms: &[u16], state: &[u64], output: &mut [u8]) -> Result<usize, Refusal> {
-        let mut text = expect::writing(terms, state, output.len());
-        if self.fault == Fault::WritesThePast {
-            let (terms, state) = expect::lent(terms, state)?;
-            text = Ok(terms::write(&terms, &state.edges));
-        }
-        self.put(text?, output)
-    }
-
-    fn store(&mut self, terms: &[u16], state: &[u64], output: &mut [u8]) -> Result<usize, Refusal> {
-        let mut text = expect::storing(terms, state, output.len())?;
-        let last = match self.fault {
-            Fault::StoresNoEvent => b"V\t",
-            Fault::StoresOneBitLess => b"T\t",
-            _ => return self.put(text, output),
-        };
-        let mut lines: Vec<&[u8]> = text.split_inclusive(|&byte| byte == b'\n').collect();
-        if let Some(place) = lines.iter().rposition(|line| line.starts_with(last)) {
-            lines.remove(place);
-        }
-        text = lines.concat();
-        self.put(text, output)
-    }
-}
+use keeper::step::Step;
 
 fn differs(fault: Fault, case: &generate::Case) -> bool {
     compare::case(&mut Mirror::new(fault), case).is_err()
@@ -256,6 +66,27 @@ fn impostors_are_caught() {
 }
 
 #[test]
+fn impostors_are_caught_by_revisions() {
+    use Fault::*;
+    let cases: Vec<_> = (0..120).map(|seed| generate::case(seed, 99_999)).collect();
+    let revised = |case: &&generate::Case| case.calls().count() < case.steps.len();
+    let cases: Vec<_> = cases.iter().filter(revised).collect();
+    let faults = [
+        SinceStartsEmpty,
+        TablesByNumber,
+        EventLeftBehind,
+        RevisesAnySize,
+        WritesRefusedSecond,
+        StaysWithOldTerms,
+    ];
+    for fault in faults {
+        let caught = cases.iter().filter(|case| differs(fault, case)).count();
+        println!("{fault:?}: {caught} of {}", cases.len());
+        assert!(caught > 3, "{fault:?}: {caught}");
+    }
+}
+
+#[test]
 fn impostors_are_caught_by_set_lists() {
     use Fault::*;
     let faults = [
@@ -285,13 +116,13 @@ fn a_difference_shrinks() {
     let fault = Fault::MovesTablesOnce;
     let found = (0..).map(|seed| generate::case(seed, 99_999)).find(|case| differs(fault, case));
     let case = found.unwrap();
-    let fails = |text: &[u8], calls: &[Call]| {
-        let (text, calls) = (text.to_vec(), calls.to_vec());
-        differs(fault, &generate::Case { seed: case.seed, text, calls })
+    let fails = |text: &[u8], steps: &[Step]| {
+        let (text, steps) = (text.to_vec(), steps.to_vec());
+        differs(fault, &generate::Case { seed: case.seed, text, steps })
     };
-    let (text, calls) = shrink(&case.text, &case.calls, fails);
-    assert!(fails(&text, &calls));
-    assert!(calls.len() <= 3, "{}", generate::Case { seed: case.seed, text, calls });
+    let (text, steps) = shrink(&case.text, &case.steps, fails);
+    assert!(fails(&text, &steps));
+    assert!(steps.len() <= 3, "{}", generate::Case { seed: case.seed, text, steps });
 }
 
 #[test]
@@ -328,4 +159,37 @@ fn set_lists_over_damaged_memory_are_compared() {
     };
     assert_eq!(caught(Fault::None), 0);
     assert!(caught(Fault::WritesUnchecked) > 10 && caught(Fault::TrustsEmptyLists) > 10);
+}
+
+/// Revisions of memory after some calls, sound or damaged, and of states that
+/// are true of no record.
+fn revision_differs(fault: Fault, seed: u64) -> bool {
+    let mut rng = Rng::new(seed);
+    let (terms, state) = match seed % 2 {
+        0 => generate::damaged_memory(seed),
+        _ => generate::drawn_memory(seed),
+    };
+    let revision = revised::of_words(&mut rng, &terms);
+    compare::revise(&mut Mirror::new(fault), &revision, &terms, &state).is_err()
+}
+
+#[test]
+fn revisions_of_any_memory_are_compared() {
+    use Fault::*;
+    let caught = |fault| (0..600).filter(|&seed| revision_differs(fault, seed)).count();
+    assert_eq!(caught(None), 0);
+    let faults = [
+        SinceStartsEmpty,
+        TakesLast,
+        TablesByNumber,
+        EventLeftBehind,
+        RevisesAnySize,
+        WritesRefusedSecond,
+        TouchesBeyond,
+    ];
+    for fault in faults {
+        let count = caught(fault);
+        println!("{fault:?}: {count}");
+        assert!(count > 3, "{fault:?}: {count}");
+    }
 }

@@ -66,7 +66,7 @@ fn laws() {
         let many = (0..terms.entries.len()).find_map(|entry| Some((entry, beside(&terms, entry)?)));
         let Some((entry, (terms, [fewer, one, out]))) = many else { continue };
         let mut record = Record::new(terms);
-        for call in case.calls.iter().take(6) {
+        for call in case.calls().take(6) {
             record.answer(call);
         }
         let now = record.graphs().len() - 1;

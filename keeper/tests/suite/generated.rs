@@ -93,7 +93,7 @@ fn calls_are_mixed() {
     for seed in 0..600 {
         let case = generate::case(seed, 99_999);
         let mut record = opened(&case.text);
-        for call in &case.calls {
+        for call in case.calls() {
             let before = record.graphs().len();
             looks += usize::from(call.look);
             match record.answer(call) {
@@ -116,6 +116,6 @@ fn calls_are_mixed() {
 fn numbers_stay_within_the_largest() {
     for seed in 0..300 {
         let case = generate::case(seed, 300);
-        assert!(case.calls.iter().all(|call| call.event.max(call.from).max(call.to) <= 300));
+        assert!(case.calls().all(|call| call.event.max(call.from).max(call.to) <= 300));
     }
 }

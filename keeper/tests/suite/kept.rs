@@ -177,7 +177,7 @@ fn unkept_denials_leave_no_trace() {
             continue;
         }
         let mut record = Record::of(file);
-        for call in &case.calls {
+        for call in case.calls() {
             let before = record.graphs().len();
             if record.answer(call) == Deny {
                 denied += 1;

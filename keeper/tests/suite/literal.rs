@@ -3,7 +3,8 @@
 use crate::help::file;
 use keeper::generate;
 use keeper::record::meaning::Assigned;
-use keeper::record::{Graph, Record};
+use keeper::record::{Graph, Record, Start};
+use keeper::step::Step;
 use keeper::terms::memory::pairs;
 use keeper::terms::{Entry, EventEdge, Terms};
 
@@ -12,6 +13,21 @@ type Members = [usize; 16];
 struct Literal<'a> {
     terms: &'a Terms,
     graphs: &'a [Graph],
+    /// The first moment that counts for each entry.
+    starts: Vec<usize>,
+}
+
+/// The start of each past-time entry of a record that began at moment 0, in the
+/// place of the entry.
+pub fn starts(record: &Record) -> Vec<usize> {
+    let mut starts = vec![0; record.terms().entries.len()];
+    for (entry, start) in record.terms().past().into_iter().zip(record.starts()) {
+        match start {
+            Start::Moment(first) => starts[entry] = *first,
+            Start::Unknown(_) => panic!("it began with a stored file"),
+        }
+    }
+    starts
 }
 
 impl Literal<'_> {
@@ -38,8 +54,8 @@ impl Literal<'_> {
             Entry::Or(f, g) => self.holds(f, i, m, s) || self.holds(g, i, m, s),
             Entry::Out(l, f) => (0..n).any(|o| self.edge(i, l, m, o) && self.holds(f, i, o, s)),
             Entry::In(l, f) => (0..n).any(|o| self.edge(i, l, o, m) && self.holds(f, i, o, s)),
-            Entry::Prev(f) => i > 0 && self.holds(f, i - 1, m, s),
-            Entry::Since(f, g) => (0..=i)
+            Entry::Prev(f) => i > self.starts[entry] && self.holds(f, i - 1, m, s),
+            Entry::Since(f, g) => (self.starts[entry]..=i)
                 .any(|j| self.holds(g, j, m, s) && (j + 1..=i).all(|k| self.holds(f, k, m, s))),
             Entry::Bind(x, f) => {
                 let mut bound = s;
@@ -62,7 +78,7 @@ impl Literal<'_> {
 
 #[test]
 fn remembering_changes_nothing() {
-    let mut compared = 0;
+    let (mut compared, mut later) = (0, 0);
     for seed in 0..1_500 {
         let case = generate::case(seed, 99_999);
         let file = file(&case.text);
@@ -72,13 +88,20 @@ fn remembering_changes_nothing() {
             continue;
         }
         let mut record = Record::of(file);
-        for call in &case.calls {
-            if record.graphs().len() < 8 {
-                record.answer(call);
+        for step in &case.steps {
+            match step {
+                Step::Call(call) if record.graphs().len() < 8 => drop(record.answer(call)),
+                Step::Call(_) => {}
+                Step::Revision(revision) => drop(revision.answer(&mut record)),
             }
         }
+        if record.terms().entries.len() > 20 || record.terms().past().len() > 5 {
+            continue;
+        }
         let now = record.graphs().len() - 1;
-        let literal = Literal { terms: record.terms(), graphs: record.graphs() };
+        let starts = starts(&record);
+        later += usize::from(starts.iter().any(|&start| start > 0));
+        let literal = Literal { terms: record.terms(), graphs: record.graphs(), starts };
         for entry in 0..record.terms().entries.len() {
             for (m, b) in pairs(record.terms().members) {
                 let mut members = [0; 16];
@@ -93,5 +116,6 @@ fn remembering_changes_nothing() {
             }
         }
     }
-    assert!(compared > 20_000, "{compared}");
+    println!("{compared} compared, {later} with an entry that started later");
+    assert!(compared > 20_000 && later > 50, "{compared} {later}");
 }

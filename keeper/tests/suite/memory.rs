@@ -70,7 +70,7 @@ fn state_goes_to_words_and_back() {
     for seed in 0..150 {
         let case = generate::case(seed, 99_999);
         let mut record = opened(&case.text);
-        case.calls.iter().for_each(|call| {
+        case.calls().for_each(|call| {
             record.answer(call);
         });
         let state = record.state();

@@ -48,7 +48,7 @@ fn padded_requests() {
     for seed in 0..200 {
         let mut rng = Rng::new(seed);
         let case = generate::case(seed, 99_999);
-        let asked = case.calls.iter().filter(|call| !call.look);
+        let asked = case.calls().filter(|call| !call.look);
         let lines = asked.map(|call| format!("R {} {} {}\n", call.event, call.from, call.to));
         let requests = tabs(&lines.collect::<String>());
         let (mut padded_terms, mut padded) = (case.text.clone(), requests.clone());

@@ -52,10 +52,10 @@ fn lists_are_single_requests_one_after_another() {
         let (mut listed, mut single) = (Record::of(file.clone()), Record::of(file));
         let mut rng = Rng::new(seed);
         let mut items: Vec<Item> =
-            case.calls.iter().map(|call| generate::item(&mut rng, call)).collect();
+            case.calls().map(|call| generate::item(&mut rng, call)).collect();
         let granted = answer(&mut listed, &mut items, 2_048);
         let mut grants = 0;
-        for (call, item) in case.calls.iter().zip(&items) {
+        for (call, item) in case.calls().zip(&items) {
             let Call { event, from, to, .. } = *call;
             let answer = request(&mut single, event, from, to);
             grants += usize::from(answer == Answer::Grant);

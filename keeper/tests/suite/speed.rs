@@ -40,7 +40,7 @@ fn cases_of_every_size() {
         let case_begin = Instant::now();
         let case = generate::case(seed, 99_999);
         let mut record = opened(&case.text);
-        for call in &case.calls {
+        for call in case.calls() {
             record.answer(call);
             record.state_words();
         }

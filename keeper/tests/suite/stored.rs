@@ -3,9 +3,10 @@
 
 use crate::help::*;
 use keeper::expect;
-use keeper::generate::{self, formulas, size::Size, Rng};
+use keeper::generate::{self, formulas, revised, size::Size, Rng};
 use keeper::record::Answer::{Deny, Grant};
 use keeper::record::Record;
+use keeper::step::Step;
 use keeper::terms::memory::*;
 use keeper::terms::{normal, store, Refusal};
 
@@ -223,22 +224,32 @@ fn generated_files_of_the_stored_form() {
     assert!(stored > 200 && bits > 100 && events > 100 && denied > 60 && strange > 30);
 }
 
-/// Run, store, load, go on, any number of times: answers and words are those
+/// Run, revise, store, load, go on, any number of times: answers and words are those
 /// of a panel that never stopped.
 #[test]
 fn a_panel_that_stopped_answers_as_one_that_did_not() {
-    let (mut loads, mut grants) = (0, 0);
+    let (mut loads, mut grants, mut revisions) = (0, 0, 0);
     for seed in 0..400 {
         let mut rng = Rng::new(seed);
         let size = if seed % 4 == 0 { Size::middle(&mut rng) } else { Size::small(&mut rng) };
         let terms = formulas::terms(&mut rng, &size);
         let calls = generate::calls(&mut rng, &terms, 24, 99_999);
+        let steps = revised::steps(&mut rng, &terms, calls);
         let mut going = Record::new(terms);
         let mut stopped = going.clone();
-        for call in &calls {
-            let answer = going.answer(call);
-            grants += usize::from(answer == Grant);
-            assert_eq!(stopped.answer(call), answer, "seed {seed}");
+        for step in &steps {
+            match step {
+                Step::Call(call) => {
+                    let answer = going.answer(call);
+                    grants += usize::from(answer == Grant);
+                    assert_eq!(stopped.answer(call), answer, "seed {seed}");
+                }
+                Step::Revision(revision) => {
+                    let answer = revision.answer(&mut going);
+                    revisions += usize::from(answer.is_ok());
+                    assert_eq!(revision.answer(&mut stopped), answer, "seed {seed}");
+                }
+            }
             if rng.percent(40) {
                 let text = store(stopped.terms(), &stopped.state());
                 assert_eq!(text, store(going.terms(), &going.state()), "seed {seed}");
@@ -249,6 +260,6 @@ fn a_panel_that_stopped_answers_as_one_that_did_not() {
             assert_eq!(stopped.state_words(), going.state_words(), "seed {seed}");
         }
     }
-    println!("{loads} loadings, {grants} grants");
-    assert!(loads > 3_000 && grants > 3_000);
+    println!("{loads} loadings, {grants} grants, {revisions} revisions");
+    assert!(loads > 3_000 && grants > 3_000 && revisions > 400);
 }
