@@ -25,9 +25,9 @@
  *
  *     static struct cuckooormolu m;
  *     size_t line;
- *     if (!cuckooormolu_done(cuckooormolu_monitor_read(&m, text, length, &line).code))
+ *     if (!cuckooormolu_done(cuckooormolu_monitor_read(&m, text, length, &line)))
  *         complain(line);
- *     if (cuckooormolu_granted(cuckooormolu_monitor_request(&m, event, from, to).code))
+ *     if (cuckooormolu_granted(cuckooormolu_monitor_request(&m, event, from, to)))
  *         load();
  */
 #ifndef CUCKOOORMOLU_H
@@ -74,7 +74,7 @@ extern "C" {
 #define CUCKOOORMOLU_STACK_BYTES (512 * 1024)
 
 /*
- * The code of a call. No code is 0, and a refusal's is below 100; granted and
+ * The codes of calls. No code is 0, and a refusal's is below 100; granted and
  * denied differ in five bits. Refusals leave all memory as lent. Where several
  * fit, reading gives 6, then the first faulty line and in it the lowest
  * number, and 11 only where no line is faulty; the other calls give 6 (terms,
@@ -118,11 +118,13 @@ typedef enum cuckooormolu_code {
 } cuckooormolu_code;
 
 /* What a call returns: its code in a struct, so that no call can be tested as
- * a truth value by mistake. */
+ * a truth value by mistake. Hosts look at it by the functions below, and do not
+ * name its field. */
 struct cuckooormolu_result {
-    size_t code;
+    size_t cuckooormolu_private;
 };
 
+/* The result that a code of the archive's own functions stands for. */
 static inline struct cuckooormolu_result cuckooormolu_result_of(size_t code)
 {
     struct cuckooormolu_result result = {code};
@@ -137,6 +139,24 @@ struct cuckooormolu {
     uint64_t scratch[CUCKOOORMOLU_SCRATCH_WORDS];
 };
 
+/* The number that a set list writes as the answer of a record. It is no code of
+ * a call. */
+enum cuckooormolu_answer_number {
+    CUCKOOORMOLU_ANSWER_DENY = 0,
+    CUCKOOORMOLU_ANSWER_GRANT = 1,
+    /* An event or a member that does not exist. */
+    CUCKOOORMOLU_ANSWER_REFUSED = 9
+};
+
+/* The number of no answer. */
+#define CUCKOOORMOLU_UNANSWERED UINT32_MAX
+
+/* The answer of a record, in a struct as a result is: a refusal's number would
+ * be true, too. */
+struct cuckooormolu_answer {
+    uint32_t cuckooormolu_private;
+};
+
 /*
  * A record of a set list: a request, and its answer, which the call fills in,
  * whatever it was.
@@ -145,16 +165,17 @@ struct cuckooormolu_record {
     uint32_t event;
     uint32_t from;
     uint32_t to;
-    uint32_t answer;
+    struct cuckooormolu_answer answer;
 };
 
-/* The answer of a record. It is no code of a call. */
-typedef enum cuckooormolu_answer {
-    CUCKOOORMOLU_ANSWER_DENY = 0,
-    CUCKOOORMOLU_ANSWER_GRANT = 1,
-    /* An event or a member that does not exist. */
-    CUCKOOORMOLU_ANSWER_REFUSED = 9
-} cuckooormolu_answer;
+/* A record that is not answered yet. */
+static inline struct cuckooormolu_record
+cuckooormolu_record_of(uint32_t event, uint32_t from, uint32_t to)
+{
+    struct cuckooormolu_record record = {
+        event, from, to, {CUCKOOORMOLU_UNANSWERED}};
+    return record;
+}
 
 CUCKOOORMOLU_ASSERT(sizeof(struct cuckooormolu_record) == 16,
                     "a record has 16 bytes");
@@ -178,25 +199,33 @@ CUCKOOORMOLU_ASSERT(CUCKOOORMOLU_DENIED > CUCKOOORMOLU_DONE,
 CUCKOOORMOLU_ASSERT(CUCKOOORMOLU_GRANTED > CUCKOOORMOLU_DENIED,
                     "granted is no other code");
 
-static inline bool cuckooormolu_granted(size_t code)
+static inline bool cuckooormolu_granted(struct cuckooormolu_result result)
 {
-    return code == CUCKOOORMOLU_GRANTED;
+    return result.cuckooormolu_private == CUCKOOORMOLU_GRANTED;
 }
 
-static inline bool cuckooormolu_denied(size_t code)
+static inline bool cuckooormolu_denied(struct cuckooormolu_result result)
 {
-    return code == CUCKOOORMOLU_DENIED;
+    return result.cuckooormolu_private == CUCKOOORMOLU_DENIED;
 }
 
-static inline bool cuckooormolu_done(size_t code)
+static inline bool cuckooormolu_done(struct cuckooormolu_result result)
 {
-    return code == CUCKOOORMOLU_DONE;
+    return result.cuckooormolu_private == CUCKOOORMOLU_DONE;
 }
 
-/* A code in words. */
-static inline const char *cuckooormolu_words(size_t code)
+/* The number by which a call was refused; 0 where it was not, which does not
+ * say that it was granted. */
+static inline size_t cuckooormolu_refusal(struct cuckooormolu_result result)
 {
-    switch (code) {
+    size_t code = result.cuckooormolu_private;
+    return code < CUCKOOORMOLU_DONE ? code : 0;
+}
+
+/* A result in words. */
+static inline const char *cuckooormolu_words(struct cuckooormolu_result result)
+{
+    switch (result.cuckooormolu_private) {
     case CUCKOOORMOLU_REFUSED_FORM:
         return "unknown kind or word, line out of its order, wrong count of "
                "fields, ill-formed number, no last line feed, or the text "
@@ -237,6 +266,37 @@ static inline const char *cuckooormolu_words(size_t code)
         return "granted";
     default:
         return "not a code of the monitor";
+    }
+}
+
+static inline bool cuckooormolu_answer_granted(struct cuckooormolu_answer answer)
+{
+    return answer.cuckooormolu_private == CUCKOOORMOLU_ANSWER_GRANT;
+}
+
+static inline bool cuckooormolu_answer_denied(struct cuckooormolu_answer answer)
+{
+    return answer.cuckooormolu_private == CUCKOOORMOLU_ANSWER_DENY;
+}
+
+static inline bool cuckooormolu_answer_refused(struct cuckooormolu_answer answer)
+{
+    return answer.cuckooormolu_private == CUCKOOORMOLU_ANSWER_REFUSED;
+}
+
+/* The answer of a record in words. */
+static inline const char *
+cuckooormolu_answer_words(struct cuckooormolu_answer answer)
+{
+    switch (answer.cuckooormolu_private) {
+    case CUCKOOORMOLU_ANSWER_DENY:
+        return "denied";
+    case CUCKOOORMOLU_ANSWER_GRANT:
+        return "granted";
+    case CUCKOOORMOLU_ANSWER_REFUSED:
+        return "no such event or member";
+    default:
+        return "not answered";
     }
 }
 
@@ -510,7 +570,7 @@ cuckooormolu_set_list(const uint16_t *terms, size_t terms_length,
     CUCKOOORMOLU_LENT(uint64_t, state, state_length)
     CUCKOOORMOLU_LENT(uint64_t, scratch, scratch_length)
     CUCKOOORMOLU_WANTED(count)
-    struct cuckooormolu_record no_records = {0, 0, 0, 0};
+    struct cuckooormolu_record no_records = cuckooormolu_record_of(0, 0, 0);
     if (records == NULL) {
         records = &no_records;
         records_length = 0;

@@ -11,7 +11,6 @@
  */
 #include "cuckooormolu.h"
 
-#include <inttypes.h>
 #include <stdio.h>
 #include <stdlib.h>
 #include <string.h>
@@ -68,9 +67,8 @@ static bool take(const uint8_t *line, const uint8_t *stop,
         at = number(at, stop, '\n', &to);
     if (at != stop)
         return false;
-    record->event = (uint32_t)event;
-    record->from = (uint32_t)from;
-    record->to = (uint32_t)to;
+    *record = cuckooormolu_record_of((uint32_t)event, (uint32_t)from,
+                                     (uint32_t)to);
     return true;
 }
 
@@ -97,12 +95,12 @@ static void print_answers(size_t lines)
     for (size_t line = 0; line < lines; line++) {
         if (!formed[line])
             printf("%zu\trefuse\t%d\n", line + 1, CUCKOOORMOLU_REFUSED_FORM);
-        else if (record->answer == CUCKOOORMOLU_ANSWER_GRANT)
+        else if (cuckooormolu_answer_granted(record->answer))
             printf("%zu\tgrant\n", line + 1);
-        else if (record->answer == CUCKOOORMOLU_ANSWER_DENY)
+        else if (cuckooormolu_answer_denied(record->answer))
             printf("%zu\tdeny\n", line + 1);
         else
-            printf("%zu\trefuse\t%" PRIu32 "\n", line + 1, record->answer);
+            printf("%zu\trefuse\t%d\n", line + 1, CUCKOOORMOLU_REFUSED_NAME);
         record += formed[line];
     }
 }
@@ -111,14 +109,13 @@ static void print_answers(size_t lines)
 static int store_to(const char *name)
 {
     size_t size;
-    if (!cuckooormolu_done(
-            cuckooormolu_monitor_store_size(&monitor, &size).code))
+    if (!cuckooormolu_done(cuckooormolu_monitor_store_size(&monitor, &size)))
         return 1;
     uint8_t *text = malloc(size);
     FILE *file = fopen(name, "wb");
     bool done = text != NULL && file != NULL &&
-                cuckooormolu_done(cuckooormolu_monitor_store(
-                    &monitor, text, size, NULL).code) &&
+                cuckooormolu_done(cuckooormolu_monitor_store(&monitor, text,
+                                                             size, NULL)) &&
                 fwrite(text, 1, size, file) == size;
     free(text);
     if (file != NULL && fclose(file) != 0)
@@ -139,11 +136,11 @@ int main(int argc, char **argv)
         return 0;
     }
     size_t line;
-    size_t code = cuckooormolu_monitor_read(&monitor, terms_text, terms_bytes,
-                                            &line).code;
-    if (!cuckooormolu_done(code)) {
-        printf("terms\t%zu\t%zu\n", code, line);
-        fprintf(stderr, "line %zu: %s\n", line, cuckooormolu_words(code));
+    struct cuckooormolu_result result =
+        cuckooormolu_monitor_read(&monitor, terms_text, terms_bytes, &line);
+    if (!cuckooormolu_done(result)) {
+        printf("terms\t%zu\t%zu\n", cuckooormolu_refusal(result), line);
+        fprintf(stderr, "line %zu: %s\n", line, cuckooormolu_words(result));
         return 0;
     }
     if (requests_bytes > MOST_BYTES) {
@@ -152,9 +149,9 @@ int main(int argc, char **argv)
     }
     size_t count;
     size_t lines = take_all(requests_text, requests_bytes, &count);
-    code = cuckooormolu_monitor_set_list(&monitor, records, count, NULL).code;
-    if (!cuckooormolu_done(code)) {
-        fprintf(stderr, "%s\n", cuckooormolu_words(code));
+    result = cuckooormolu_monitor_set_list(&monitor, records, count, NULL);
+    if (!cuckooormolu_done(result)) {
+        fprintf(stderr, "%s\n", cuckooormolu_words(result));
         return 1;
     }
     print_answers(lines);

@@ -3,6 +3,8 @@
 #ifndef EXPECT_H
 #define EXPECT_H
 
+#include "cuckooormolu.h"
+
 #include <stdio.h>
 
 static int failed;
@@ -14,5 +16,9 @@ static int failed;
             failed = 1;                                             \
         }                                                           \
     } while (0)
+
+/* The call was refused by the number of that name. */
+#define EXPECT_REFUSED(name, call) \
+    EXPECT(cuckooormolu_refusal(call) == CUCKOOORMOLU_REFUSED_##name)
 
 #endif

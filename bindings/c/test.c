@@ -17,25 +17,52 @@ static const size_t length = sizeof text - 1;
 
 static struct cuckooormolu m;
 
+static bool unanswered(struct cuckooormolu_record record)
+{
+    return !cuckooormolu_answer_granted(record.answer) &&
+           !cuckooormolu_answer_denied(record.answer) &&
+           !cuckooormolu_answer_refused(record.answer) &&
+           strcmp(cuckooormolu_answer_words(record.answer), "not answered") ==
+               0;
+}
+
 static void codes(void)
 {
-    size_t zeroed;
+    struct cuckooormolu_result zeroed;
     memset(&zeroed, 0, sizeof zeroed);
     EXPECT(!cuckooormolu_granted(zeroed) && !cuckooormolu_denied(zeroed));
     EXPECT(!cuckooormolu_done(zeroed));
     for (size_t code = 0; code < 1000; code++) {
-        EXPECT(cuckooormolu_granted(code) == (code == 300));
-        EXPECT(cuckooormolu_denied(code) == (code == 200));
-        EXPECT(cuckooormolu_done(code) == (code == 100));
+        struct cuckooormolu_result result = cuckooormolu_result_of(code);
+        EXPECT(cuckooormolu_granted(result) == (code == 300));
+        EXPECT(cuckooormolu_denied(result) == (code == 200));
+        EXPECT(cuckooormolu_done(result) == (code == 100));
+        EXPECT(cuckooormolu_refusal(result) == (code < 100 ? code : 0));
         bool known = (code >= 1 && code <= 13) || code == 100 || code == 200 ||
                      code == 300;
-        EXPECT((strcmp(cuckooormolu_words(code),
+        EXPECT((strcmp(cuckooormolu_words(result),
                        "not a code of the monitor") != 0) == known);
     }
-    EXPECT(strcmp(cuckooormolu_words(CUCKOOORMOLU_REFUSED_NAME),
+    EXPECT(strcmp(cuckooormolu_words(cuckooormolu_result_of(9)),
                   "no such event or member") == 0);
-    EXPECT(strncmp(cuckooormolu_words(CUCKOOORMOLU_REFUSED_REACH),
+    EXPECT(strncmp(cuckooormolu_words(cuckooormolu_result_of(10)),
                    "reach whose variable is 0", 25) == 0);
+}
+
+/* An answer is what its number says, and nothing where it is no answer's. */
+static void answers(void)
+{
+    for (uint32_t number = 0; number < 1000; number++) {
+        const struct cuckooormolu_answer answer = {number};
+        EXPECT(cuckooormolu_answer_granted(answer) == (number == 1));
+        EXPECT(cuckooormolu_answer_denied(answer) == (number == 0));
+        EXPECT(cuckooormolu_answer_refused(answer) == (number == 9));
+        EXPECT((strcmp(cuckooormolu_answer_words(answer), "not answered") !=
+                0) == (number == 0 || number == 1 || number == 9));
+    }
+    const struct cuckooormolu_record record = cuckooormolu_record_of(1, 2, 3);
+    EXPECT(record.event == 1 && record.from == 2 && record.to == 3);
+    EXPECT(unanswered(record));
 }
 
 static void version(void)
@@ -50,11 +77,9 @@ static void version(void)
 static void zeroed(void)
 {
     memset(&m, 0, sizeof m);
-    EXPECT(cuckooormolu_monitor_check(&m).code == CUCKOOORMOLU_REFUSED_TERMS);
-    EXPECT(cuckooormolu_monitor_request(&m, 0, 0, 0).code ==
-           CUCKOOORMOLU_REFUSED_TERMS);
-    EXPECT(cuckooormolu_monitor_set_list(&m, NULL, 0, NULL).code ==
-           CUCKOOORMOLU_REFUSED_TERMS);
+    EXPECT_REFUSED(TERMS, cuckooormolu_monitor_check(&m));
+    EXPECT_REFUSED(TERMS, cuckooormolu_monitor_request(&m, 0, 0, 0));
+    EXPECT_REFUSED(TERMS, cuckooormolu_monitor_set_list(&m, NULL, 0, NULL));
 }
 
 static void calls(void)
@@ -62,29 +87,24 @@ static void calls(void)
     size_t line = 77;
     size_t count = 77;
     char output[sizeof text + 1];
-    EXPECT(cuckooormolu_done(
-        cuckooormolu_monitor_read(&m, text, length, &line).code));
+    EXPECT(
+        cuckooormolu_done(cuckooormolu_monitor_read(&m, text, length, &line)));
     EXPECT(line == 0);
-    EXPECT(cuckooormolu_done(cuckooormolu_monitor_check(&m).code));
-    EXPECT(cuckooormolu_denied(cuckooormolu_monitor_look(&m, 1, 0, 2).code));
-    EXPECT(
-        cuckooormolu_denied(cuckooormolu_monitor_request(&m, 1, 0, 2).code));
-    EXPECT(
-        cuckooormolu_granted(cuckooormolu_monitor_request(&m, 0, 0, 2).code));
-    EXPECT(cuckooormolu_granted(cuckooormolu_monitor_look(&m, 1, 0, 2).code));
-    EXPECT(cuckooormolu_monitor_look(&m, 2, 0, 2).code ==
-           CUCKOOORMOLU_REFUSED_NAME);
-    EXPECT(cuckooormolu_monitor_size(&m, &count).code ==
-           CUCKOOORMOLU_REFUSED_FRESH);
+    EXPECT(cuckooormolu_done(cuckooormolu_monitor_check(&m)));
+    EXPECT(cuckooormolu_denied(cuckooormolu_monitor_look(&m, 1, 0, 2)));
+    EXPECT(cuckooormolu_denied(cuckooormolu_monitor_request(&m, 1, 0, 2)));
+    EXPECT(cuckooormolu_granted(cuckooormolu_monitor_request(&m, 0, 0, 2)));
+    EXPECT(cuckooormolu_granted(cuckooormolu_monitor_look(&m, 1, 0, 2)));
+    EXPECT_REFUSED(NAME, cuckooormolu_monitor_look(&m, 2, 0, 2));
+    EXPECT_REFUSED(FRESH, cuckooormolu_monitor_size(&m, &count));
     EXPECT(count == 0);
     count = 77;
-    EXPECT(cuckooormolu_monitor_write(&m, output, sizeof output, &count)
-               .code == CUCKOOORMOLU_REFUSED_FRESH);
+    EXPECT_REFUSED(
+        FRESH, cuckooormolu_monitor_write(&m, output, sizeof output, &count));
     EXPECT(count == 0);
-    EXPECT(cuckooormolu_monitor_read(&m, "M\t3\nL\t", 6, &line).code ==
-           CUCKOOORMOLU_REFUSED_FORM);
+    EXPECT_REFUSED(FORM, cuckooormolu_monitor_read(&m, "M\t3\nL\t", 6, &line));
     EXPECT(line == 2);
-    EXPECT(cuckooormolu_granted(cuckooormolu_monitor_look(&m, 1, 0, 2).code));
+    EXPECT(cuckooormolu_granted(cuckooormolu_monitor_look(&m, 1, 0, 2)));
 }
 
 /* Event 0 is always granted; event 1 is for whoever once did it to somebody
@@ -99,17 +119,15 @@ static void reaching(void)
     size_t line = 77;
     char faulty[sizeof reach];
     EXPECT(cuckooormolu_done(
-        cuckooormolu_monitor_read(&m, reach, sizeof reach - 1, NULL).code));
-    EXPECT(
-        cuckooormolu_granted(cuckooormolu_monitor_request(&m, 0, 0, 1).code));
-    EXPECT(
-        cuckooormolu_granted(cuckooormolu_monitor_request(&m, 0, 2, 0).code));
-    EXPECT(cuckooormolu_granted(cuckooormolu_monitor_look(&m, 1, 0, 1).code));
-    EXPECT(cuckooormolu_denied(cuckooormolu_monitor_look(&m, 1, 1, 0).code));
+        cuckooormolu_monitor_read(&m, reach, sizeof reach - 1, NULL)));
+    EXPECT(cuckooormolu_granted(cuckooormolu_monitor_request(&m, 0, 0, 1)));
+    EXPECT(cuckooormolu_granted(cuckooormolu_monitor_request(&m, 0, 2, 0)));
+    EXPECT(cuckooormolu_granted(cuckooormolu_monitor_look(&m, 1, 0, 1)));
+    EXPECT(cuckooormolu_denied(cuckooormolu_monitor_look(&m, 1, 1, 0)));
     memcpy(faulty, reach, sizeof reach);
     *strstr(faulty, "1\t3\t4") = '0';
-    EXPECT(cuckooormolu_monitor_read(&m, faulty, sizeof reach - 1, &line)
-               .code == CUCKOOORMOLU_REFUSED_REACH);
+    EXPECT_REFUSED(
+        REACH, cuckooormolu_monitor_read(&m, faulty, sizeof reach - 1, &line));
     EXPECT(line == 8);
 }
 
@@ -123,17 +141,17 @@ static void counting(void)
     size_t line = 77;
     char faulty[sizeof many];
     EXPECT(cuckooormolu_done(
-        cuckooormolu_monitor_read(&m, many, sizeof many - 1, NULL).code));
-    EXPECT(cuckooormolu_granted(cuckooormolu_monitor_look(&m, 0, 0, 1).code));
-    EXPECT(cuckooormolu_denied(cuckooormolu_monitor_look(&m, 0, 1, 0).code));
+        cuckooormolu_monitor_read(&m, many, sizeof many - 1, NULL)));
+    EXPECT(cuckooormolu_granted(cuckooormolu_monitor_look(&m, 0, 0, 1)));
+    EXPECT(cuckooormolu_denied(cuckooormolu_monitor_look(&m, 0, 1, 0)));
     memcpy(faulty, many, sizeof many);
     memcpy(strstr(faulty, "02"), "65", 2);
-    EXPECT(cuckooormolu_monitor_read(&m, faulty, sizeof many - 1, &line)
-               .code == CUCKOOORMOLU_REFUSED_RANGE);
+    EXPECT_REFUSED(
+        RANGE, cuckooormolu_monitor_read(&m, faulty, sizeof many - 1, &line));
     EXPECT(line == 4);
     memcpy(strstr(faulty, "65"), "00", 2);
-    EXPECT(cuckooormolu_monitor_read(&m, faulty, sizeof many - 1, &line)
-               .code == CUCKOOORMOLU_REFUSED_RANGE);
+    EXPECT_REFUSED(
+        RANGE, cuckooormolu_monitor_read(&m, faulty, sizeof many - 1, &line));
     EXPECT(line == 4);
 }
 
@@ -151,72 +169,70 @@ static void kept_denials(void)
     size_t line = 77;
     char faulty[sizeof tries];
     EXPECT(cuckooormolu_done(
-        cuckooormolu_monitor_read(&m, tries, sizeof tries - 1, NULL).code));
+        cuckooormolu_monitor_read(&m, tries, sizeof tries - 1, NULL)));
     memset(m.scratch, 5, sizeof m.scratch);
     struct cuckooormolu before = m;
-    EXPECT(cuckooormolu_denied(cuckooormolu_monitor_look(&m, 0, 0, 1).code));
-    EXPECT(
-        cuckooormolu_denied(cuckooormolu_monitor_request(&m, 1, 0, 1).code));
-    EXPECT(cuckooormolu_monitor_request(&m, 0, 0, 3).code ==
-           CUCKOOORMOLU_REFUSED_NAME);
+    EXPECT(cuckooormolu_denied(cuckooormolu_monitor_look(&m, 0, 0, 1)));
+    EXPECT(cuckooormolu_denied(cuckooormolu_monitor_request(&m, 1, 0, 1)));
+    EXPECT_REFUSED(NAME, cuckooormolu_monitor_request(&m, 0, 0, 3));
     EXPECT(memcmp(&before, &m, sizeof m) == 0);
-    EXPECT(
-        cuckooormolu_denied(cuckooormolu_monitor_request(&m, 0, 0, 1).code));
+    EXPECT(cuckooormolu_denied(cuckooormolu_monitor_request(&m, 0, 0, 1)));
     EXPECT(m.state[event_word] == 1 + 16 * 4096 + 1);
     EXPECT(m.state[0] == 0);
     EXPECT(m.scratch[0] == 0);
     EXPECT(m.scratch[CUCKOOORMOLU_SCRATCH_WORDS - 1] == 0);
-    EXPECT(cuckooormolu_granted(cuckooormolu_monitor_look(&m, 1, 0, 2).code));
-    EXPECT(cuckooormolu_denied(cuckooormolu_monitor_look(&m, 1, 2, 0).code));
-    EXPECT(cuckooormolu_monitor_size(&m, NULL).code ==
-           CUCKOOORMOLU_REFUSED_FRESH);
+    EXPECT(cuckooormolu_granted(cuckooormolu_monitor_look(&m, 1, 0, 2)));
+    EXPECT(cuckooormolu_denied(cuckooormolu_monitor_look(&m, 1, 2, 0)));
+    EXPECT_REFUSED(FRESH, cuckooormolu_monitor_size(&m, NULL));
     m.state[event_word] = 1 + 18 * 4096;
-    EXPECT(cuckooormolu_monitor_check(&m).code == CUCKOOORMOLU_REFUSED_STATE);
+    EXPECT_REFUSED(STATE, cuckooormolu_monitor_check(&m));
     m.terms[CUCKOOORMOLU_TERMS_WORDS - 16] = 2;
-    EXPECT(cuckooormolu_monitor_check(&m).code == CUCKOOORMOLU_REFUSED_TERMS);
+    EXPECT_REFUSED(TERMS, cuckooormolu_monitor_check(&m));
     memcpy(faulty, tries, sizeof tries);
     memcpy(strstr(faulty, "K\t0"), "K\t2", 3);
-    EXPECT(cuckooormolu_monitor_read(&m, faulty, sizeof tries - 1, &line)
-               .code == CUCKOOORMOLU_REFUSED_RANGE);
+    EXPECT_REFUSED(
+        RANGE, cuckooormolu_monitor_read(&m, faulty, sizeof tries - 1, &line));
     EXPECT(line == 9);
-}
-
-static struct cuckooormolu_record record(uint32_t event, uint32_t from,
-                                         uint32_t to)
-{
-    struct cuckooormolu_record made = {event, from, to, 77};
-    return made;
 }
 
 /* A set list answers as single requests one after another, and leaves the
  * same memory. */
 static void set_list(void)
 {
-    const uint32_t wanted[] = {0, 1, 9, 1, 9, 9, 0};
     struct cuckooormolu_record records[] = {
-        record(1, 0, 2), record(0, 0, 2), record(2, 0, 2), record(1, 0, 2),
-        record(0, 3, 0), record(0, 0, UINT32_MAX), record(1, 2, 0)};
+        cuckooormolu_record_of(1, 0, 2),
+        cuckooormolu_record_of(0, 0, 2),
+        cuckooormolu_record_of(2, 0, 2),
+        cuckooormolu_record_of(1, 0, 2),
+        cuckooormolu_record_of(0, 3, 0),
+        cuckooormolu_record_of(0, 0, UINT32_MAX),
+        cuckooormolu_record_of(1, 2, 0)};
+    const char *const wanted[] = {"denied",
+                                  "granted",
+                                  "no such event or member",
+                                  "granted",
+                                  "no such event or member",
+                                  "no such event or member",
+                                  "denied"};
     const size_t length_of_list = sizeof records / sizeof *records;
     size_t count = 77;
-    EXPECT(cuckooormolu_done(
-        cuckooormolu_monitor_read(&m, text, length, NULL).code));
+    EXPECT(
+        cuckooormolu_done(cuckooormolu_monitor_read(&m, text, length, NULL)));
     struct cuckooormolu single = m;
     EXPECT(cuckooormolu_done(
-        cuckooormolu_monitor_set_list(&m, records, length_of_list, &count)
-            .code));
+        cuckooormolu_monitor_set_list(&m, records, length_of_list, &count)));
     EXPECT(count == 2);
     for (size_t i = 0; i < length_of_list; i++) {
         const struct cuckooormolu_record *r = &records[i];
-        size_t code =
-            cuckooormolu_monitor_request(&single, r->event, r->from, r->to)
-                .code;
-        EXPECT(r->answer == wanted[i]);
-        EXPECT(cuckooormolu_granted(code) ==
-               (r->answer == CUCKOOORMOLU_ANSWER_GRANT));
-        EXPECT(cuckooormolu_denied(code) ==
-               (r->answer == CUCKOOORMOLU_ANSWER_DENY));
-        EXPECT((code == CUCKOOORMOLU_REFUSED_NAME) ==
-               (r->answer == CUCKOOORMOLU_ANSWER_REFUSED));
+        struct cuckooormolu_result alone =
+            cuckooormolu_monitor_request(&single, r->event, r->from, r->to);
+        EXPECT(strcmp(cuckooormolu_answer_words(r->answer), wanted[i]) == 0);
+        EXPECT(cuckooormolu_granted(alone) ==
+               cuckooormolu_answer_granted(r->answer));
+        EXPECT(cuckooormolu_denied(alone) ==
+               cuckooormolu_answer_denied(r->answer));
+        EXPECT((cuckooormolu_refusal(alone) == CUCKOOORMOLU_REFUSED_NAME) ==
+               cuckooormolu_answer_refused(r->answer));
     }
     EXPECT(records[5].event == 0 && records[5].from == 0);
     EXPECT(records[5].to == UINT32_MAX);
@@ -226,34 +242,30 @@ static void set_list(void)
 /* A list whose checks fail is not written, and an empty one is checked too. */
 static void refused_list(void)
 {
-    struct cuckooormolu_record one = record(0, 0, 1);
+    struct cuckooormolu_record one = cuckooormolu_record_of(0, 0, 1);
     size_t count = 77;
-    EXPECT(cuckooormolu_done(
-        cuckooormolu_monitor_set_list(&m, NULL, 0, &count).code));
+    EXPECT(
+        cuckooormolu_done(cuckooormolu_monitor_set_list(&m, NULL, 0, &count)));
     EXPECT(count == 0);
-    EXPECT(cuckooormolu_done(
-        cuckooormolu_monitor_set_list(&m, NULL, 9, NULL).code));
+    EXPECT(
+        cuckooormolu_done(cuckooormolu_monitor_set_list(&m, NULL, 9, NULL)));
     struct cuckooormolu before = m;
     count = 77;
-    EXPECT(cuckooormolu_set_list(m.terms, CUCKOOORMOLU_TERMS_WORDS,
-                                 m.state, CUCKOOORMOLU_STATE_WORDS,
-                                 m.scratch, CUCKOOORMOLU_SCRATCH_WORDS - 1,
-                                 &one, 1, &count).code ==
-           CUCKOOORMOLU_REFUSED_SHORT);
-    EXPECT(count == 0 && one.answer == 77);
-    EXPECT(cuckooormolu_monitor_set_list(NULL, &one, 1, NULL).code ==
-           CUCKOOORMOLU_REFUSED_SHORT);
-    EXPECT(one.answer == 77);
+    EXPECT_REFUSED(
+        SHORT, cuckooormolu_set_list(m.terms, CUCKOOORMOLU_TERMS_WORDS,
+                                     m.state, CUCKOOORMOLU_STATE_WORDS,
+                                     m.scratch, CUCKOOORMOLU_SCRATCH_WORDS - 1,
+                                     &one, 1, &count));
+    EXPECT(count == 0 && unanswered(one));
+    EXPECT_REFUSED(SHORT, cuckooormolu_monitor_set_list(NULL, &one, 1, NULL));
+    EXPECT(unanswered(one));
     EXPECT(memcmp(&before, &m, sizeof m) == 0);
     m.state[CUCKOOORMOLU_STATE_WORDS - 1] = UINT64_MAX;
-    EXPECT(cuckooormolu_monitor_set_list(&m, &one, 1, &count).code ==
-           CUCKOOORMOLU_REFUSED_STATE);
-    EXPECT(cuckooormolu_monitor_set_list(&m, &one, 0, &count).code ==
-           CUCKOOORMOLU_REFUSED_STATE);
+    EXPECT_REFUSED(STATE, cuckooormolu_monitor_set_list(&m, &one, 1, &count));
+    EXPECT_REFUSED(STATE, cuckooormolu_monitor_set_list(&m, &one, 0, &count));
     m.terms[0] = 0;
-    EXPECT(cuckooormolu_monitor_set_list(&m, &one, 1, &count).code ==
-           CUCKOOORMOLU_REFUSED_TERMS);
-    EXPECT(count == 0 && one.answer == 77);
+    EXPECT_REFUSED(TERMS, cuckooormolu_monitor_set_list(&m, &one, 1, &count));
+    EXPECT(count == 0 && unanswered(one));
 }
 
 /* What is stored is read into other memory, where it goes on. */
@@ -264,29 +276,26 @@ static void storing(void)
     size_t stored = 77;
     size_t line = 77;
     EXPECT(cuckooormolu_done(
-        cuckooormolu_monitor_read(&m, reach, sizeof reach - 1, NULL).code));
-    EXPECT(
-        cuckooormolu_granted(cuckooormolu_monitor_request(&m, 0, 0, 1).code));
-    EXPECT(cuckooormolu_done(
-        cuckooormolu_monitor_store_size(&m, &count).code));
+        cuckooormolu_monitor_read(&m, reach, sizeof reach - 1, NULL)));
+    EXPECT(cuckooormolu_granted(cuckooormolu_monitor_request(&m, 0, 0, 1)));
+    EXPECT(cuckooormolu_done(cuckooormolu_monitor_store_size(&m, &count)));
     EXPECT(count == sizeof reach - 1 + strlen("S\t2\n") +
                         strlen("T\t0\t0\t1\n") + strlen("V\t0\t0\t1\n"));
     char *output = (char *)malloc(count);
-    EXPECT(cuckooormolu_monitor_store(&m, output, count - 1, &stored).code ==
-           CUCKOOORMOLU_REFUSED_SHORT);
+    EXPECT_REFUSED(SHORT,
+                   cuckooormolu_monitor_store(&m, output, count - 1, &stored));
     EXPECT(stored == 0);
     EXPECT(cuckooormolu_done(
-        cuckooormolu_monitor_store(&m, output, count, &stored).code));
+        cuckooormolu_monitor_store(&m, output, count, &stored)));
     EXPECT(stored == count && memcmp(output, "S\t2\nM\t3\n", 8) == 0);
     EXPECT(cuckooormolu_done(
-        cuckooormolu_monitor_read(&other, output, count, &line).code));
+        cuckooormolu_monitor_read(&other, output, count, &line)));
     EXPECT(memcmp(m.terms, other.terms, sizeof m.terms) == 0);
     EXPECT(memcmp(m.state, other.state, sizeof m.state) == 0);
-    EXPECT(
-        cuckooormolu_granted(cuckooormolu_monitor_look(&other, 1, 0, 1).code));
+    EXPECT(cuckooormolu_granted(cuckooormolu_monitor_look(&other, 1, 0, 1)));
     output[2] = '1';
-    EXPECT(cuckooormolu_monitor_read(&other, output, count, &line).code ==
-           CUCKOOORMOLU_REFUSED_RANGE);
+    EXPECT_REFUSED(RANGE,
+                   cuckooormolu_monitor_read(&other, output, count, &line));
     EXPECT(line == 1);
     free(output);
 }
@@ -298,8 +307,8 @@ static void partly_filled(void)
         "S\t2\nM\t2\nL\t0\t1\nF\t0\ttop\t0\t0\nF\t1\tprev\t0\t0\nP\t0\t1\n"
         "T\t0\t0\t0\nT\t0\t0\t1\nT\t0\t1\t1\n";
     size_t line = 77;
-    EXPECT(cuckooormolu_monitor_read(&m, partly, sizeof partly - 1, &line)
-               .code == CUCKOOORMOLU_REFUSED_TABLE);
+    EXPECT_REFUSED(TABLE, cuckooormolu_monitor_read(&m, partly,
+                                                    sizeof partly - 1, &line));
     EXPECT(line == 9);
 }
 
@@ -309,16 +318,16 @@ static void size(void)
 {
     size_t count = 0;
     size_t written = 77;
-    EXPECT(cuckooormolu_done(
-        cuckooormolu_monitor_read(&m, text, length, NULL).code));
-    EXPECT(cuckooormolu_done(cuckooormolu_monitor_size(&m, &count).code));
+    EXPECT(
+        cuckooormolu_done(cuckooormolu_monitor_read(&m, text, length, NULL)));
+    EXPECT(cuckooormolu_done(cuckooormolu_monitor_size(&m, &count)));
     EXPECT(count == length);
     char *output = (char *)malloc(count);
-    EXPECT(cuckooormolu_monitor_write(&m, output, count - 1, &written).code ==
-           CUCKOOORMOLU_REFUSED_SHORT);
+    EXPECT_REFUSED(
+        SHORT, cuckooormolu_monitor_write(&m, output, count - 1, &written));
     EXPECT(written == 0);
     EXPECT(cuckooormolu_done(
-        cuckooormolu_monitor_write(&m, output, count, &written).code));
+        cuckooormolu_monitor_write(&m, output, count, &written)));
     EXPECT(written == count && memcmp(output, text, count) == 0);
     free(output);
 }
@@ -326,64 +335,64 @@ static void size(void)
 /* A null pointer is an empty memory or a number that nobody wants. */
 static void nulls(void)
 {
-    const size_t six = CUCKOOORMOLU_REFUSED_SHORT;
     size_t line = 77;
     size_t count = 77;
     char output[sizeof text];
-    EXPECT(cuckooormolu_monitor_read(NULL, text, length, &line).code == six);
+    EXPECT_REFUSED(SHORT,
+                   cuckooormolu_monitor_read(NULL, text, length, &line));
     EXPECT(line == 0);
-    EXPECT(cuckooormolu_monitor_size(NULL, &count).code == six && count == 0);
-    EXPECT(cuckooormolu_monitor_write(NULL, output, 1, NULL).code == six);
-    EXPECT(cuckooormolu_monitor_store_size(NULL, &count).code == six);
-    EXPECT(cuckooormolu_monitor_store(NULL, output, 1, NULL).code == six);
-    EXPECT(cuckooormolu_monitor_check(NULL).code == six);
-    EXPECT(cuckooormolu_monitor_open(NULL).code == six);
-    EXPECT(cuckooormolu_monitor_look(NULL, 0, 0, 0).code == six);
-    EXPECT(cuckooormolu_monitor_request(NULL, 0, 0, 0).code == six);
+    EXPECT_REFUSED(SHORT, cuckooormolu_monitor_size(NULL, &count));
+    EXPECT(count == 0);
+    EXPECT_REFUSED(SHORT, cuckooormolu_monitor_write(NULL, output, 1, NULL));
+    EXPECT_REFUSED(SHORT, cuckooormolu_monitor_store_size(NULL, &count));
+    EXPECT_REFUSED(SHORT, cuckooormolu_monitor_store(NULL, output, 1, NULL));
+    EXPECT_REFUSED(SHORT, cuckooormolu_monitor_check(NULL));
+    EXPECT_REFUSED(SHORT, cuckooormolu_monitor_open(NULL));
+    EXPECT_REFUSED(SHORT, cuckooormolu_monitor_look(NULL, 0, 0, 0));
+    EXPECT_REFUSED(SHORT, cuckooormolu_monitor_request(NULL, 0, 0, 0));
 
-    EXPECT(cuckooormolu_monitor_read(&m, NULL, 0, &line).code ==
-           CUCKOOORMOLU_REFUSED_FORM);
+    EXPECT_REFUSED(FORM, cuckooormolu_monitor_read(&m, NULL, 0, &line));
     EXPECT(line == 1);
-    EXPECT(cuckooormolu_monitor_read(&m, NULL, 9, NULL).code ==
-           CUCKOOORMOLU_REFUSED_FORM);
+    EXPECT_REFUSED(FORM, cuckooormolu_monitor_read(&m, NULL, 9, NULL));
+    EXPECT(
+        cuckooormolu_done(cuckooormolu_monitor_read(&m, text, length, NULL)));
+    EXPECT(cuckooormolu_done(cuckooormolu_monitor_size(&m, NULL)));
+    EXPECT_REFUSED(SHORT, cuckooormolu_monitor_write(&m, NULL, 0, NULL));
+    EXPECT_REFUSED(SHORT, cuckooormolu_monitor_write(&m, NULL, 99, &count));
+    EXPECT(cuckooormolu_done(cuckooormolu_monitor_store_size(&m, NULL)));
+    EXPECT_REFUSED(SHORT, cuckooormolu_monitor_store(&m, NULL, 999, &count));
     EXPECT(cuckooormolu_done(
-        cuckooormolu_monitor_read(&m, text, length, NULL).code));
-    EXPECT(cuckooormolu_done(cuckooormolu_monitor_size(&m, NULL).code));
-    EXPECT(cuckooormolu_monitor_write(&m, NULL, 0, NULL).code == six);
-    EXPECT(cuckooormolu_monitor_write(&m, NULL, 99, &count).code == six);
-    EXPECT(cuckooormolu_done(cuckooormolu_monitor_store_size(&m, NULL).code));
-    EXPECT(cuckooormolu_monitor_store(&m, NULL, 999, &count).code == six);
-    EXPECT(cuckooormolu_done(
-        cuckooormolu_monitor_write(&m, output, sizeof output, NULL).code));
+        cuckooormolu_monitor_write(&m, output, sizeof output, NULL)));
 
-    EXPECT(cuckooormolu_request(m.terms, CUCKOOORMOLU_TERMS_WORDS,
-                                m.state, CUCKOOORMOLU_STATE_WORDS,
-                                NULL, 0, 0, 0, 0).code == six);
-    EXPECT(cuckooormolu_look(m.terms, CUCKOOORMOLU_TERMS_WORDS,
-                             NULL, CUCKOOORMOLU_STATE_WORDS,
-                             m.scratch, CUCKOOORMOLU_SCRATCH_WORDS,
-                             0, 0, 0).code == six);
-    EXPECT(cuckooormolu_open(NULL, 0, m.state,
-                             CUCKOOORMOLU_STATE_WORDS).code == six);
+    EXPECT_REFUSED(SHORT, cuckooormolu_request(
+                              m.terms, CUCKOOORMOLU_TERMS_WORDS, m.state,
+                              CUCKOOORMOLU_STATE_WORDS, NULL, 0, 0, 0, 0));
+    EXPECT_REFUSED(SHORT,
+                   cuckooormolu_look(m.terms, CUCKOOORMOLU_TERMS_WORDS, NULL,
+                                     CUCKOOORMOLU_STATE_WORDS, m.scratch,
+                                     CUCKOOORMOLU_SCRATCH_WORDS, 0, 0, 0));
+    EXPECT_REFUSED(
+        SHORT, cuckooormolu_open(NULL, 0, m.state, CUCKOOORMOLU_STATE_WORDS));
 }
 
 /* Lengths that are not the named ones. */
 static void lengths(void)
 {
     struct cuckooormolu before = m;
-    EXPECT(cuckooormolu_check(m.terms, CUCKOOORMOLU_TERMS_WORDS - 1,
-                              m.state, CUCKOOORMOLU_STATE_WORDS).code ==
-           CUCKOOORMOLU_REFUSED_SHORT);
-    EXPECT(cuckooormolu_request(m.terms, CUCKOOORMOLU_TERMS_WORDS,
-                                m.state, CUCKOOORMOLU_STATE_WORDS,
-                                m.scratch, CUCKOOORMOLU_SCRATCH_WORDS - 1,
-                                0, 0, 0).code == CUCKOOORMOLU_REFUSED_SHORT);
+    EXPECT_REFUSED(SHORT,
+                   cuckooormolu_check(m.terms, CUCKOOORMOLU_TERMS_WORDS - 1,
+                                      m.state, CUCKOOORMOLU_STATE_WORDS));
+    EXPECT_REFUSED(
+        SHORT, cuckooormolu_request(m.terms, CUCKOOORMOLU_TERMS_WORDS, m.state,
+                                    CUCKOOORMOLU_STATE_WORDS, m.scratch,
+                                    CUCKOOORMOLU_SCRATCH_WORDS - 1, 0, 0, 0));
     EXPECT(memcmp(&before, &m, sizeof m) == 0);
 }
 
 int main(void)
 {
     codes();
+    answers();
     version();
     zeroed();
     calls();

@@ -1,8 +1,9 @@
 #!/bin/sh
-# test.sh ARCHIVE: builds test.c, test_revise.c and the example host over the
-# archive, runs them and compares what is printed; a second time with the
-# sanitizers, where the compiler has them; the tests also as C++, where there is
-# a compiler of it (CXX, else c++). Needs a C compiler (CC, else cc).
+# test.sh ARCHIVE: builds the tests and the example host over the archive, runs
+# them and compares what is printed; a second time with the sanitizers, where the
+# compiler has them; the tests also as C++, where there is a compiler of it (CXX,
+# else c++). With each, traps.sh tries what must not compile. Needs a C compiler
+# (CC, else cc).
 set -eu
 
 if [ $# -ne 1 ] || [ ! -f "$1" ]; then
@@ -74,23 +75,6 @@ silent() {
 run_tests() {
     silent test.c "codes, lengths and null pointers" "$@"
     silent test_revise.c "new terms while playing" "$@"
-}
-
-# compiling WANTED NAME STATEMENT: whether the compiler takes a statement over
-# a monitor m: ok or not.
-compiling() {
-    echo "$1" >"$work/wanted"
-    {
-        echo '#include "cuckooormolu.h"'
-        echo 'void host(struct cuckooormolu *m);'
-        echo "void host(struct cuckooormolu *m) { $3 }"
-    } >"$work/host.c"
-    if "$CC" $strict -I "$here" -c -o "$work/host.o" "$work/host.c" 2>/dev/null; then
-        echo ok >"$work/got"
-    else
-        echo not >"$work/got"
-    fi
-    judge "$2"
 }
 
 run_all() {
@@ -190,15 +174,12 @@ build=plain
 "$CC" $strict -O2 -o "$work/$build" "$here/example.c" "$archive"
 run_all
 run_tests "$CC" $strict -O2
-call='cuckooormolu_monitor_request(m, 0, 0, 0)'
-compiling ok "a grant that is asked for compiles" \
-    "if (cuckooormolu_granted($call.code)) m->state[0] = 0;"
-compiling not "a call as a truth value does not compile" "if ($call) m->state[0] = 0;"
-compiling not "a result that is not looked at does not compile" "$call;"
+sh "$here/traps.sh" "$CC" $strict || failed=1
 
 if command -v "$CXX" >/dev/null; then
     build=c++
     run_tests "$CXX" -x c++ -std=c++11 $warnings -O2
+    sh "$here/traps.sh" "$CXX" -x c++ -std=c++11 $warnings || failed=1
 else
     echo "skip c++: no compiler"
 fi

@@ -39,19 +39,19 @@ static void read_into(struct cuckooormolu *into, const char *text)
     for (size_t i = 0; i < length; i++)
         tabs[i] = text[i] == ' ' ? '\t' : text[i];
     EXPECT(cuckooormolu_done(
-        cuckooormolu_monitor_read(into, tabs, length, NULL).code));
+        cuckooormolu_monitor_read(into, tabs, length, NULL)));
 }
 
 static bool granted(size_t event, size_t from, size_t to)
 {
     return cuckooormolu_granted(
-        cuckooormolu_monitor_request(&m, event, from, to).code);
+        cuckooormolu_monitor_request(&m, event, from, to));
 }
 
 static bool would_grant(size_t event, size_t from, size_t to)
 {
     return cuckooormolu_granted(
-        cuckooormolu_monitor_look(&next, event, from, to).code);
+        cuckooormolu_monitor_look(&next, event, from, to));
 }
 
 /* Revises m to terms in next, and looks at what every revision leaves. */
@@ -61,13 +61,13 @@ static void revised(const char *text)
     read_into(&next, text);
     memset(next.scratch, 5, sizeof next.scratch);
     const struct cuckooormolu before = m, read = next;
-    EXPECT(cuckooormolu_done(cuckooormolu_monitor_revise(&m, &next).code));
+    EXPECT(cuckooormolu_done(cuckooormolu_monitor_revise(&m, &next)));
     EXPECT(memcmp(&before, &m, sizeof m) == 0);
     EXPECT(memcmp(read.terms, next.terms, sizeof next.terms) == 0);
     EXPECT(memcmp(read.scratch, next.scratch, sizeof next.scratch) == 0);
     EXPECT(memcmp(m.state, next.state, relations) == 0);
     EXPECT(m.state[STATE - 1] == next.state[STATE - 1]);
-    EXPECT(cuckooormolu_done(cuckooormolu_monitor_check(&next).code));
+    EXPECT(cuckooormolu_done(cuckooormolu_monitor_check(&next)));
 }
 
 /* An entry at another place takes its table along; a since starts with what its
@@ -85,8 +85,7 @@ static void carried_and_started(void)
     EXPECT(!would_grant(1, 2, 0));
     for (size_t a = 0; a < 64; a++)
         EXPECT(next.state[1024 + a] == 0);
-    EXPECT(cuckooormolu_granted(
-        cuckooormolu_monitor_request(&next, 0, 2, 0).code));
+    EXPECT(cuckooormolu_granted(cuckooormolu_monitor_request(&next, 0, 2, 0)));
     EXPECT(next.state[1024] == 7 && next.state[1024 + 3] == 0);
 }
 
@@ -131,26 +130,26 @@ static void further_words(void)
     memset(state[1], 3, sizeof m.state);
     EXPECT(cuckooormolu_done(
         cuckooormolu_revise(terms[0], TERMS + 1, state[0], STATE + 1, terms[1],
-                            TERMS + 1, state[1], STATE + 1).code));
+                            TERMS + 1, state[1], STATE + 1)));
     EXPECT(memcmp(state[1], m.state, sizeof m.state) == 0);
     EXPECT(state[0][STATE] == 88 && state[1][STATE] == 89);
     EXPECT(terms[0][TERMS] == 77 && terms[1][TERMS] == 77);
 }
 
 /* A revision from m to next over memory that is so many words shorter. */
-static size_t refused(size_t old_terms_less, size_t old_state_less,
-                      size_t new_terms_less, size_t state_less)
+static struct cuckooormolu_result refused(size_t old_terms_less,
+                                          size_t old_state_less,
+                                          size_t new_terms_less,
+                                          size_t state_less)
 {
     const struct cuckooormolu before = m, other = next;
-    size_t code =
-        cuckooormolu_revise(m.terms, TERMS - old_terms_less, m.state,
-                            STATE - old_state_less, next.terms,
-                            TERMS - new_terms_less, next.state,
-                            STATE - state_less).code;
-    EXPECT(!cuckooormolu_done(code));
+    struct cuckooormolu_result result = cuckooormolu_revise(
+        m.terms, TERMS - old_terms_less, m.state, STATE - old_state_less,
+        next.terms, TERMS - new_terms_less, next.state, STATE - state_less);
+    EXPECT(!cuckooormolu_done(result));
     EXPECT(memcmp(&before, &m, sizeof m) == 0);
     EXPECT(memcmp(&other, &next, sizeof next) == 0);
-    return code;
+    return result;
 }
 
 /* Every check hides those after it, and what is refused changes nothing. */
@@ -164,42 +163,43 @@ static void refusals(void)
     EXPECT(granted(0, 0, 1));
     for (size_t i = 0; i < sizeof sizes / sizeof *sizes; i++) {
         read_into(&next, sizes[i]);
-        EXPECT(refused(0, 0, 0, 0) == CUCKOOORMOLU_REFUSED_SIZE);
+        EXPECT_REFUSED(SIZE, refused(0, 0, 0, 0));
     }
     m.state[STATE - 1] = UINT64_MAX;
-    EXPECT(refused(0, 0, 0, 0) == CUCKOOORMOLU_REFUSED_STATE);
+    EXPECT_REFUSED(STATE, refused(0, 0, 0, 0));
     next.terms[0] = 65;
-    EXPECT(refused(0, 0, 0, 0) == CUCKOOORMOLU_REFUSED_TERMS);
-    EXPECT(refused(1, 0, 0, 0) == CUCKOOORMOLU_REFUSED_SHORT);
-    EXPECT(refused(0, 1, 0, 0) == CUCKOOORMOLU_REFUSED_SHORT);
-    EXPECT(refused(0, 0, 1, 0) == CUCKOOORMOLU_REFUSED_SHORT);
-    EXPECT(refused(0, 0, 0, 1) == CUCKOOORMOLU_REFUSED_SHORT);
-    EXPECT(refused(0, 0, 0, STATE) == CUCKOOORMOLU_REFUSED_SHORT);
+    EXPECT_REFUSED(TERMS, refused(0, 0, 0, 0));
+    EXPECT_REFUSED(SHORT, refused(1, 0, 0, 0));
+    EXPECT_REFUSED(SHORT, refused(0, 1, 0, 0));
+    EXPECT_REFUSED(SHORT, refused(0, 0, 1, 0));
+    EXPECT_REFUSED(SHORT, refused(0, 0, 0, 1));
+    EXPECT_REFUSED(SHORT, refused(0, 0, 0, STATE));
     read_into(&next, new_terms);
-    EXPECT(refused(0, 0, 0, 0) == CUCKOOORMOLU_REFUSED_STATE);
+    EXPECT_REFUSED(STATE, refused(0, 0, 0, 0));
     m.terms[0] = 0;
-    EXPECT(refused(0, 0, 0, 0) == CUCKOOORMOLU_REFUSED_TERMS);
+    EXPECT_REFUSED(TERMS, refused(0, 0, 0, 0));
 }
 
 /* A null pointer is an empty memory, and one monitor is not revised to itself. */
 static void nulls(void)
 {
-    const size_t six = CUCKOOORMOLU_REFUSED_SHORT;
     read_into(&m, old_terms);
     read_into(&next, new_terms);
     const struct cuckooormolu before = m, other = next;
-    EXPECT(cuckooormolu_monitor_revise(&m, &m).code == six);
-    EXPECT(cuckooormolu_monitor_revise(&m, NULL).code == six);
-    EXPECT(cuckooormolu_monitor_revise(NULL, &next).code == six);
-    EXPECT(cuckooormolu_monitor_revise(NULL, NULL).code == six);
-    EXPECT(cuckooormolu_revise(NULL, TERMS, m.state, STATE, next.terms, TERMS,
-                               next.state, STATE).code == six);
-    EXPECT(cuckooormolu_revise(m.terms, TERMS, NULL, STATE, next.terms, TERMS,
-                               next.state, STATE).code == six);
-    EXPECT(cuckooormolu_revise(m.terms, TERMS, m.state, STATE, NULL, TERMS,
-                               next.state, STATE).code == six);
-    EXPECT(cuckooormolu_revise(m.terms, TERMS, m.state, STATE, next.terms,
-                               TERMS, NULL, STATE).code == six);
+    EXPECT_REFUSED(SHORT, cuckooormolu_monitor_revise(&m, &m));
+    EXPECT_REFUSED(SHORT, cuckooormolu_monitor_revise(&m, NULL));
+    EXPECT_REFUSED(SHORT, cuckooormolu_monitor_revise(NULL, &next));
+    EXPECT_REFUSED(SHORT, cuckooormolu_monitor_revise(NULL, NULL));
+    EXPECT_REFUSED(SHORT,
+                   cuckooormolu_revise(NULL, TERMS, m.state, STATE, next.terms,
+                                       TERMS, next.state, STATE));
+    EXPECT_REFUSED(SHORT,
+                   cuckooormolu_revise(m.terms, TERMS, NULL, STATE, next.terms,
+                                       TERMS, next.state, STATE));
+    EXPECT_REFUSED(SHORT, cuckooormolu_revise(m.terms, TERMS, m.state, STATE,
+                                              NULL, TERMS, next.state, STATE));
+    EXPECT_REFUSED(SHORT, cuckooormolu_revise(m.terms, TERMS, m.state, STATE,
+                                              next.terms, TERMS, NULL, STATE));
     EXPECT(memcmp(&before, &m, sizeof m) == 0);
     EXPECT(memcmp(&other, &next, sizeof next) == 0);
 }

@@ -1,0 +1,84 @@
+#!/bin/sh
+# traps.sh COMPILER...: mistakes that would let everything through do not compile,
+# and what the README and the header show does. The compiler is named with its
+# options, and must take a warning for an error.
+set -eu
+here=$(cd "$(dirname "$0")" && pwd)
+work=$(mktemp -d)
+trap 'rm -rf "$work"' EXIT
+failed=0
+
+# judge WANTED NAME FILE COMPILER...: whether the compiler takes the file: ok or not.
+judge() {
+    wanted=$1 name=$2 file=$3
+    shift 3
+    got=ok
+    "$@" -I "$here" -c -o "$work/host.o" "$file" 2>"$work/said" || got=not
+    if [ "$got" = "$wanted" ]; then
+        echo "ok   traps of $1: $name"
+    else
+        echo "FAIL traps of $1: $name"
+        cat "$work/said"
+        failed=1
+    fi
+}
+
+# compiling WANTED NAME STATEMENT COMPILER...: so of a statement over a monitor m
+# and a record r.
+compiling() {
+    {
+        echo '#include "cuckooormolu.h"'
+        echo 'void host(struct cuckooormolu *m, struct cuckooormolu_record *r);'
+        echo 'void host(struct cuckooormolu *m, struct cuckooormolu_record *r)'
+        echo "{ m->state[0] = r->event; $3 }"
+    } >"$work/host.c"
+    wanted=$1 name=$2
+    shift 3
+    judge "$wanted" "$name" "$work/host.c" "$@"
+}
+
+call='cuckooormolu_monitor_request(m, 0, 0, 0)'
+then='m->state[1] = 0;'
+compiling ok "a grant that is asked for compiles" "if (cuckooormolu_granted($call)) $then" "$@"
+compiling not "a call as a truth value does not" "if ($call) $then" "$@"
+compiling not "nor does its negation" "if (!$call) $then" "$@"
+compiling not "nor a field of it by habit" "if ($call.code) $then" "$@"
+compiling not "nor a predicate of that field" "if (cuckooormolu_granted($call.code)) $then" "$@"
+compiling not "nor a comparison with a code" "if ($call == CUCKOOORMOLU_GRANTED) $then" "$@"
+compiling not "nor a number that keeps it" "size_t code = $call; if (code) $then" "$@"
+compiling not "nor a predicate of a number" "if (cuckooormolu_granted(CUCKOOORMOLU_GRANTED)) $then" "$@"
+compiling not "nor a result that is not looked at" "$call;" "$@"
+compiling ok "an answer that is asked for compiles" "if (cuckooormolu_answer_granted(r->answer)) $then" "$@"
+compiling not "an answer as a truth value does not" "if (r->answer) $then" "$@"
+compiling not "nor a comparison with its number" "if (r->answer == CUCKOOORMOLU_ANSWER_GRANT) $then" "$@"
+compiling not "nor a call's predicate of it" "if (cuckooormolu_granted(r->answer)) $then" "$@"
+compiling not "nor a call's words of it" "if (*cuckooormolu_words(r->answer)) $then" "$@"
+compiling not "nor an answer's predicate of a call" "if (cuckooormolu_answer_granted($call)) $then" "$@"
+
+# body NAME: the standard input as the body of a host.
+body() {
+    heading="void $1(const char *text, size_t length, const char *new_text,
+                     size_t new_length, size_t event, size_t from, size_t to)"
+    printf '%s;\n%s\n{\n(void)new_text;\n(void)new_length;\n' "$heading" "$heading"
+    cat
+    echo '}'
+}
+{
+    echo '#include "cuckooormolu.h"'
+    echo '#include <stdio.h>'
+    echo '#include <stdlib.h>'
+    echo 'enum { SHARE, WITHDRAW, LOAD };'
+    echo 'void load(void);'
+    echo 'void complain(size_t line);'
+    echo 'void keep(const void *text, size_t length);'
+    awk '/^```/ { inside = $0 == "```c"; next } inside' "$here/../README.md" | body readme
+    # The code in the header's first comment stands five columns in.
+    sed -n '/^#ifndef/q; s/^ \*     \(    \)\{0,1\}\([^ ]\)/\1\2/p' "$here/cuckooormolu.h" | body header
+} >"$work/shown.c"
+judge ok "what the README and the header show compiles" "$work/shown.c" "$@"
+
+if grep -l cuckooormolu_private "$here"/*.c "$here/../README.md"; then
+    echo "FAIL only the header names what is private"
+    failed=1
+fi
+exit $failed
