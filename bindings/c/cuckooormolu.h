@@ -18,7 +18,9 @@
  *           little-endian. Scratch need not be kept. A stored text keeps the
  *           same for any machine, and for people.
  * Threads   calls over distinct memory may run at the same time; calls over
- *           the same memory must not, unless none of them may write it.
+ *           the same memory must not, unless none of them may write it. Each
+ *           struct cuckooormolu has a scratch of its own, so that two of them
+ *           share nothing.
  *
  * Link target/staticlib/libcuckooormolu.a, which `rt staticlib cuckooormolu`
  * writes. It needs nothing but memcpy and memset.
@@ -75,10 +77,11 @@ extern "C" {
 
 /*
  * The codes of calls. No code is 0, and a refusal's is below 100; granted and
- * denied differ in five bits. Refusals leave all memory as lent. Where several
- * fit, reading gives 6, then the first faulty line and in it the lowest
- * number, and 11 only where no line is faulty; the other calls give 6 (terms,
- * state, scratch), 7, 8, 9, 12 or 13, and last 6 for the output.
+ * denied differ in five bits. Refusals leave all memory as lent, but that the
+ * records of a set list have no answers then. Where several fit, reading gives
+ * 6, then the first faulty line and in it the lowest number, and 11 only where
+ * no line is faulty; the other calls give 6 (terms, state, scratch), 7, 8, 9, 12
+ * or 13, and last 6 for the output.
  */
 typedef enum cuckooormolu_code {
     /* The form of a line, its place, or a text that ends too soon. */
@@ -301,9 +304,13 @@ cuckooormolu_answer_words(struct cuckooormolu_answer answer)
 }
 
 /*
+ * Two threads must not share a scratch, nor any memory that a call may write:
+ * nothing notices, and the state is silently wrong.
+ *
  * The archive's own functions, for other languages. They return a code. What
  * they do stands at the functions of the same names below; but here no pointer
- * may be null, not even where its length is 0.
+ * may be null, not even where its length is 0, and memory that a call may write,
+ * the number behind the last pointer too, must not overlap any other.
  */
 size_t cuckooormolu_raw_read(const uint8_t *text, size_t text_length,
                              uint16_t *terms, size_t terms_length,
@@ -349,12 +356,15 @@ size_t cuckooormolu_raw_set_list(const uint16_t *terms, size_t terms_length,
                                  size_t records_length, size_t *count);
 
 /*
- * The calls. A memory is lent as a pointer and a count of words (of bytes for
- * a text, of records for a list). The pointer must be aligned and good for that
- * many; memory that a call may write must not overlap any other that is lent
- * to it. A null pointer lends an empty memory, whatever its length. Nothing
- * else is asked of the caller: every content and every length is answered.
- * Memory longer than named is accepted and its further words are not touched.
+ * Two threads must not share a scratch here either. The calls over struct
+ * cuckooormolu, which has its own, are below.
+ *
+ * A memory is lent as a pointer and a count of words (of bytes for a text, of
+ * records for a list). The pointer must be aligned and good for that many. A
+ * null pointer lends an empty memory, whatever its length. Where memory that the
+ * call may write overlaps another, the call is refused with 6. Nothing else is
+ * asked of the caller: every content and every length is answered. Memory longer
+ * than named is accepted and its further words are not touched.
  */
 
 /* A null pointer stands for an empty memory. */
@@ -365,11 +375,37 @@ size_t cuckooormolu_raw_set_list(const uint16_t *terms, size_t terms_length,
         length = 0;                             \
     }
 
-/* A null pointer stands for a number that nobody wants. */
-#define CUCKOOORMOLU_WANTED(number) \
-    size_t no_##number;             \
-    if (number == NULL)             \
-        number = &no_##number;
+/* Whether two memories have no byte in common. */
+static inline bool cuckooormolu_apart(const void *a, size_t a_bytes,
+                                      const void *b, size_t b_bytes)
+{
+    uintptr_t first = (uintptr_t)a;
+    uintptr_t second = (uintptr_t)b;
+    if (a_bytes == 0 || b_bytes == 0)
+        return true;
+    return first < second ? second - first >= a_bytes
+                          : first - second >= b_bytes;
+}
+
+#define CUCKOOORMOLU_APART(a, b)                             \
+    cuckooormolu_apart((a), a##_length * sizeof *(a), (b),   \
+                       b##_length * sizeof *(b))
+#define CUCKOOORMOLU_ALL_APART(a, b, c)                      \
+    (CUCKOOORMOLU_APART(a, b) && CUCKOOORMOLU_APART(a, c) && \
+     CUCKOOORMOLU_APART(b, c))
+#define CUCKOOORMOLU_APART_FROM(a, b, c, d)                  \
+    (CUCKOOORMOLU_APART(a, b) && CUCKOOORMOLU_APART(a, c) && \
+     CUCKOOORMOLU_APART(a, d))
+
+/* A result with its number, where that is wanted. The library is never lent
+ * the host's own place for it, which could lie in another memory. */
+static inline struct cuckooormolu_result
+cuckooormolu_told(size_t code, size_t number, size_t *wanted)
+{
+    if (wanted != NULL)
+        *wanted = number;
+    return cuckooormolu_result_of(code);
+}
 
 /*
  * Reads a text of the old or of the stored form. Done: the named words of terms
@@ -386,10 +422,12 @@ cuckooormolu_read(const uint8_t *text, size_t text_length,
     CUCKOOORMOLU_LENT(uint8_t, text, text_length)
     CUCKOOORMOLU_LENT(uint16_t, terms, terms_length)
     CUCKOOORMOLU_LENT(uint64_t, state, state_length)
-    CUCKOOORMOLU_WANTED(line)
-    return cuckooormolu_result_of(
-        cuckooormolu_raw_read(text, text_length, terms, terms_length, state,
-                              state_length, line));
+    size_t number = 0;
+    size_t code = CUCKOOORMOLU_REFUSED_SHORT;
+    if (CUCKOOORMOLU_ALL_APART(text, terms, state))
+        code = cuckooormolu_raw_read(text, text_length, terms, terms_length,
+                                     state, state_length, &number);
+    return cuckooormolu_told(code, number, line);
 }
 
 /*
@@ -402,10 +440,10 @@ cuckooormolu_size(const uint16_t *terms, size_t terms_length,
 {
     CUCKOOORMOLU_LENT(uint16_t, terms, terms_length)
     CUCKOOORMOLU_LENT(uint64_t, state, state_length)
-    CUCKOOORMOLU_WANTED(count)
-    return cuckooormolu_result_of(
-        cuckooormolu_raw_size(terms, terms_length, state, state_length,
-                              count));
+    size_t number = 0;
+    size_t code = cuckooormolu_raw_size(terms, terms_length, state,
+                                        state_length, &number);
+    return cuckooormolu_told(code, number, count);
 }
 
 /*
@@ -423,10 +461,12 @@ cuckooormolu_write(const uint16_t *terms, size_t terms_length,
     CUCKOOORMOLU_LENT(uint16_t, terms, terms_length)
     CUCKOOORMOLU_LENT(uint64_t, state, state_length)
     CUCKOOORMOLU_LENT(uint8_t, output, output_length)
-    CUCKOOORMOLU_WANTED(count)
-    return cuckooormolu_result_of(
-        cuckooormolu_raw_write(terms, terms_length, state, state_length,
-                               output, output_length, count));
+    size_t number = 0;
+    size_t code = CUCKOOORMOLU_REFUSED_SHORT;
+    if (CUCKOOORMOLU_APART(output, terms) && CUCKOOORMOLU_APART(output, state))
+        code = cuckooormolu_raw_write(terms, terms_length, state, state_length,
+                                      output, output_length, &number);
+    return cuckooormolu_told(code, number, count);
 }
 
 /* How many bytes storing takes: as cuckooormolu_size, and never 12. */
@@ -437,10 +477,10 @@ cuckooormolu_store_size(const uint16_t *terms, size_t terms_length,
 {
     CUCKOOORMOLU_LENT(uint16_t, terms, terms_length)
     CUCKOOORMOLU_LENT(uint64_t, state, state_length)
-    CUCKOOORMOLU_WANTED(count)
-    return cuckooormolu_result_of(
-        cuckooormolu_raw_store_size(terms, terms_length, state, state_length,
-                                    count));
+    size_t number = 0;
+    size_t code = cuckooormolu_raw_store_size(terms, terms_length, state,
+                                              state_length, &number);
+    return cuckooormolu_told(code, number, count);
 }
 
 /*
@@ -457,10 +497,12 @@ cuckooormolu_store(const uint16_t *terms, size_t terms_length,
     CUCKOOORMOLU_LENT(uint16_t, terms, terms_length)
     CUCKOOORMOLU_LENT(uint64_t, state, state_length)
     CUCKOOORMOLU_LENT(uint8_t, output, output_length)
-    CUCKOOORMOLU_WANTED(count)
-    return cuckooormolu_result_of(
-        cuckooormolu_raw_store(terms, terms_length, state, state_length,
-                               output, output_length, count));
+    size_t number = 0;
+    size_t code = CUCKOOORMOLU_REFUSED_SHORT;
+    if (CUCKOOORMOLU_APART(output, terms) && CUCKOOORMOLU_APART(output, state))
+        code = cuckooormolu_raw_store(terms, terms_length, state, state_length,
+                                      output, output_length, &number);
+    return cuckooormolu_told(code, number, count);
 }
 
 /* Whether terms and state are ones that a call accepts: done, 6, 7 or 8. */
@@ -484,8 +526,10 @@ cuckooormolu_open(const uint16_t *terms, size_t terms_length,
 {
     CUCKOOORMOLU_LENT(uint16_t, terms, terms_length)
     CUCKOOORMOLU_LENT(uint64_t, state, state_length)
-    return cuckooormolu_result_of(
-        cuckooormolu_raw_open(terms, terms_length, state, state_length));
+    size_t code = CUCKOOORMOLU_REFUSED_SHORT;
+    if (CUCKOOORMOLU_APART(terms, state))
+        code = cuckooormolu_raw_open(terms, terms_length, state, state_length);
+    return cuckooormolu_result_of(code);
 }
 
 /*
@@ -507,10 +551,12 @@ cuckooormolu_revise(const uint16_t *old_terms, size_t old_terms_length,
     CUCKOOORMOLU_LENT(uint64_t, old_state, old_state_length)
     CUCKOOORMOLU_LENT(uint16_t, new_terms, new_terms_length)
     CUCKOOORMOLU_LENT(uint64_t, state, state_length)
-    return cuckooormolu_result_of(
-        cuckooormolu_raw_revise(old_terms, old_terms_length, old_state,
-                                old_state_length, new_terms, new_terms_length,
-                                state, state_length));
+    size_t code = CUCKOOORMOLU_REFUSED_SHORT;
+    if (CUCKOOORMOLU_APART_FROM(state, old_terms, old_state, new_terms))
+        code = cuckooormolu_raw_revise(old_terms, old_terms_length, old_state,
+                                       old_state_length, new_terms,
+                                       new_terms_length, state, state_length);
+    return cuckooormolu_result_of(code);
 }
 
 /*
@@ -546,18 +592,31 @@ cuckooormolu_request(const uint16_t *terms, size_t terms_length,
     CUCKOOORMOLU_LENT(uint16_t, terms, terms_length)
     CUCKOOORMOLU_LENT(uint64_t, state, state_length)
     CUCKOOORMOLU_LENT(uint64_t, scratch, scratch_length)
-    return cuckooormolu_result_of(
-        cuckooormolu_raw_request(terms, terms_length, state, state_length,
-                                 scratch, scratch_length, event, from, to));
+    size_t code = CUCKOOORMOLU_REFUSED_SHORT;
+    if (CUCKOOORMOLU_ALL_APART(terms, state, scratch))
+        code = cuckooormolu_raw_request(terms, terms_length, state,
+                                        state_length, scratch, scratch_length,
+                                        event, from, to);
+    return cuckooormolu_result_of(code);
+}
+
+/* Takes the answers of records away, so that an old one is not read as that of
+ * a list that is refused. cuckooormolu_set_list does so by itself. */
+static inline void cuckooormolu_unanswer(struct cuckooormolu_record *records,
+                                         size_t length)
+{
+    for (size_t i = 0; i < length; i++)
+        records[i].answer.cuckooormolu_private = CUCKOOORMOLU_UNANSWERED;
 }
 
 /*
  * Answers a list of records in order, each as a single request would be, but
  * checks terms, state and scratch once. Done: every answer is filled in and
  * *count is the number of grants; a record that is refused does not stop the
- * list. Refused with 6, 7 or 8, an empty list too: no record is written, all
- * memory is as lent, and *count is 0. `count` may be null, and so may the
- * records, which are then an empty list.
+ * list. Refused with 6, 7 or 8, an empty list too: no record is answered,
+ * whatever its answer was before, all other memory is as lent, and *count is 0.
+ * Only records that overlap another memory are as lent then. `count` may be
+ * null, and so may the records, which are then an empty list.
  */
 CUCKOOORMOLU_USED static inline struct cuckooormolu_result
 cuckooormolu_set_list(const uint16_t *terms, size_t terms_length,
@@ -569,20 +628,27 @@ cuckooormolu_set_list(const uint16_t *terms, size_t terms_length,
     CUCKOOORMOLU_LENT(uint16_t, terms, terms_length)
     CUCKOOORMOLU_LENT(uint64_t, state, state_length)
     CUCKOOORMOLU_LENT(uint64_t, scratch, scratch_length)
-    CUCKOOORMOLU_WANTED(count)
     struct cuckooormolu_record no_records = cuckooormolu_record_of(0, 0, 0);
     if (records == NULL) {
         records = &no_records;
         records_length = 0;
     }
-    return cuckooormolu_result_of(
-        cuckooormolu_raw_set_list(terms, terms_length, state, state_length,
-                                  scratch, scratch_length, records,
-                                  records_length, count));
+    size_t number = 0;
+    size_t code = CUCKOOORMOLU_REFUSED_SHORT;
+    if (CUCKOOORMOLU_APART_FROM(records, terms, state, scratch)) {
+        cuckooormolu_unanswer(records, records_length);
+        if (CUCKOOORMOLU_ALL_APART(terms, state, scratch))
+            code = cuckooormolu_raw_set_list(
+                terms, terms_length, state, state_length, scratch,
+                scratch_length, records, records_length, &number);
+    }
+    return cuckooormolu_told(code, number, count);
 }
 
 #undef CUCKOOORMOLU_LENT
-#undef CUCKOOORMOLU_WANTED
+#undef CUCKOOORMOLU_APART
+#undef CUCKOOORMOLU_ALL_APART
+#undef CUCKOOORMOLU_APART_FROM
 
 /*
  * The same over a monitor's memory, so that no length is typed. A null monitor
@@ -656,8 +722,6 @@ CUCKOOORMOLU_USED static inline struct cuckooormolu_result
 cuckooormolu_monitor_revise(const struct cuckooormolu *m,
                             struct cuckooormolu *next)
 {
-    if (next == m)
-        next = NULL;
     return cuckooormolu_revise(CUCKOOORMOLU_TERMS(m), CUCKOOORMOLU_STATE(m),
                                CUCKOOORMOLU_TERMS(next),
                                CUCKOOORMOLU_STATE(next));

@@ -17,15 +17,6 @@ static const size_t length = sizeof text - 1;
 
 static struct cuckooormolu m;
 
-static bool unanswered(struct cuckooormolu_record record)
-{
-    return !cuckooormolu_answer_granted(record.answer) &&
-           !cuckooormolu_answer_denied(record.answer) &&
-           !cuckooormolu_answer_refused(record.answer) &&
-           strcmp(cuckooormolu_answer_words(record.answer), "not answered") ==
-               0;
-}
-
 static void codes(void)
 {
     struct cuckooormolu_result zeroed;
@@ -47,22 +38,6 @@ static void codes(void)
                   "no such event or member") == 0);
     EXPECT(strncmp(cuckooormolu_words(cuckooormolu_result_of(10)),
                    "reach whose variable is 0", 25) == 0);
-}
-
-/* An answer is what its number says, and nothing where it is no answer's. */
-static void answers(void)
-{
-    for (uint32_t number = 0; number < 1000; number++) {
-        const struct cuckooormolu_answer answer = {number};
-        EXPECT(cuckooormolu_answer_granted(answer) == (number == 1));
-        EXPECT(cuckooormolu_answer_denied(answer) == (number == 0));
-        EXPECT(cuckooormolu_answer_refused(answer) == (number == 9));
-        EXPECT((strcmp(cuckooormolu_answer_words(answer), "not answered") !=
-                0) == (number == 0 || number == 1 || number == 9));
-    }
-    const struct cuckooormolu_record record = cuckooormolu_record_of(1, 2, 3);
-    EXPECT(record.event == 1 && record.from == 2 && record.to == 3);
-    EXPECT(unanswered(record));
 }
 
 static void version(void)
@@ -195,79 +170,6 @@ static void kept_denials(void)
     EXPECT(line == 9);
 }
 
-/* A set list answers as single requests one after another, and leaves the
- * same memory. */
-static void set_list(void)
-{
-    struct cuckooormolu_record records[] = {
-        cuckooormolu_record_of(1, 0, 2),
-        cuckooormolu_record_of(0, 0, 2),
-        cuckooormolu_record_of(2, 0, 2),
-        cuckooormolu_record_of(1, 0, 2),
-        cuckooormolu_record_of(0, 3, 0),
-        cuckooormolu_record_of(0, 0, UINT32_MAX),
-        cuckooormolu_record_of(1, 2, 0)};
-    const char *const wanted[] = {"denied",
-                                  "granted",
-                                  "no such event or member",
-                                  "granted",
-                                  "no such event or member",
-                                  "no such event or member",
-                                  "denied"};
-    const size_t length_of_list = sizeof records / sizeof *records;
-    size_t count = 77;
-    EXPECT(
-        cuckooormolu_done(cuckooormolu_monitor_read(&m, text, length, NULL)));
-    struct cuckooormolu single = m;
-    EXPECT(cuckooormolu_done(
-        cuckooormolu_monitor_set_list(&m, records, length_of_list, &count)));
-    EXPECT(count == 2);
-    for (size_t i = 0; i < length_of_list; i++) {
-        const struct cuckooormolu_record *r = &records[i];
-        struct cuckooormolu_result alone =
-            cuckooormolu_monitor_request(&single, r->event, r->from, r->to);
-        EXPECT(strcmp(cuckooormolu_answer_words(r->answer), wanted[i]) == 0);
-        EXPECT(cuckooormolu_granted(alone) ==
-               cuckooormolu_answer_granted(r->answer));
-        EXPECT(cuckooormolu_denied(alone) ==
-               cuckooormolu_answer_denied(r->answer));
-        EXPECT((cuckooormolu_refusal(alone) == CUCKOOORMOLU_REFUSED_NAME) ==
-               cuckooormolu_answer_refused(r->answer));
-    }
-    EXPECT(records[5].event == 0 && records[5].from == 0);
-    EXPECT(records[5].to == UINT32_MAX);
-    EXPECT(memcmp(&single, &m, sizeof m) == 0);
-}
-
-/* A list whose checks fail is not written, and an empty one is checked too. */
-static void refused_list(void)
-{
-    struct cuckooormolu_record one = cuckooormolu_record_of(0, 0, 1);
-    size_t count = 77;
-    EXPECT(
-        cuckooormolu_done(cuckooormolu_monitor_set_list(&m, NULL, 0, &count)));
-    EXPECT(count == 0);
-    EXPECT(
-        cuckooormolu_done(cuckooormolu_monitor_set_list(&m, NULL, 9, NULL)));
-    struct cuckooormolu before = m;
-    count = 77;
-    EXPECT_REFUSED(
-        SHORT, cuckooormolu_set_list(m.terms, CUCKOOORMOLU_TERMS_WORDS,
-                                     m.state, CUCKOOORMOLU_STATE_WORDS,
-                                     m.scratch, CUCKOOORMOLU_SCRATCH_WORDS - 1,
-                                     &one, 1, &count));
-    EXPECT(count == 0 && unanswered(one));
-    EXPECT_REFUSED(SHORT, cuckooormolu_monitor_set_list(NULL, &one, 1, NULL));
-    EXPECT(unanswered(one));
-    EXPECT(memcmp(&before, &m, sizeof m) == 0);
-    m.state[CUCKOOORMOLU_STATE_WORDS - 1] = UINT64_MAX;
-    EXPECT_REFUSED(STATE, cuckooormolu_monitor_set_list(&m, &one, 1, &count));
-    EXPECT_REFUSED(STATE, cuckooormolu_monitor_set_list(&m, &one, 0, &count));
-    m.terms[0] = 0;
-    EXPECT_REFUSED(TERMS, cuckooormolu_monitor_set_list(&m, &one, 1, &count));
-    EXPECT(count == 0 && unanswered(one));
-}
-
 /* What is stored is read into other memory, where it goes on. */
 static void storing(void)
 {
@@ -392,15 +294,12 @@ static void lengths(void)
 int main(void)
 {
     codes();
-    answers();
     version();
     zeroed();
     calls();
     reaching();
     counting();
     kept_denials();
-    set_list();
-    refused_list();
     storing();
     partly_filled();
     size();

@@ -74,6 +74,8 @@ silent() {
 # run_tests COMPILER...: the tests, compiled so.
 run_tests() {
     silent test.c "codes, lengths and null pointers" "$@"
+    silent test_lists.c "set lists" "$@"
+    silent test_overlap.c "overlapping memory" "$@"
     silent test_revise.c "new terms while playing" "$@"
 }
 
