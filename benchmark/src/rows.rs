@@ -5,7 +5,7 @@ use crate::log::Log;
 use crate::matrices::Matrices;
 use crate::measure::{in_turn, timed, Batch, Time};
 use crate::workload::{named, Request, Workload};
-use cuckooormolu::{raw, Monitor, SCRATCH_WORDS};
+use cuckooormolu::{raw, Monitor, State, SCRATCH_WORDS};
 use keeper::record::{Answer, Call, Record};
 use keeper::terms::Terms;
 use std::fmt;
@@ -150,8 +150,8 @@ fn history(workload: &Workload) -> impl Iterator<Item = Request> + '_ {
 /// The number of grants. All ways have to give the same answers.
 fn agreed(workload: &Workload, kept: &mut Kept, calls: &[Request]) -> usize {
     let terms = workload.monitor().terms().clone();
-    let state = cuckooormolu::State::from_words(&kept.state).expect("the state is whole");
-    let mut monitor = Monitor::resume(terms, state).expect("the state keeps the layout");
+    let state = State::from_words(&terms, &kept.state).expect("the state keeps the layout");
+    let mut monitor = Monitor::resume(terms, state).expect("the state is one of the terms");
     assert!(floor::passes(monitor.terms().words(), monitor.state().words()));
     let mut matrices = kept.matrices.clone();
     let mut grants = 0;

@@ -7,6 +7,20 @@ use core::fmt;
 /// ```
 /// assert_eq!(cuckooormolu::Answer::Grant.to_string(), "grant");
 /// ```
+///
+/// An answer that is not looked at is a mistake, and the compiler says so:
+///
+/// ```compile_fail
+/// #![deny(unused_must_use)]
+/// # use cuckooormolu::{Monitor, Refusal, Request};
+/// # fn load() {}
+/// fn host(monitor: &mut Monitor, request: Request) -> Result<(), Refusal> {
+///     monitor.request(request)?;
+///     load();
+///     Ok(())
+/// }
+/// ```
+#[must_use = "a request that is decided may be denied"]
 #[derive(Clone, Copy, Debug, PartialEq, Eq, Hash)]
 pub enum Answer {
     /// The policy of the event holds.
@@ -16,6 +30,7 @@ pub enum Answer {
 }
 
 impl Answer {
+    /// Whether the policy holds.
     pub fn is_grant(self) -> bool {
         self == Answer::Grant
     }

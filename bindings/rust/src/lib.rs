@@ -40,25 +40,54 @@
 //!
 //! Member, relation, event and entry numbers, and the order of the words, are
 //! those of the terms file and of the memory layout.
+//!
+//! The feature `alloc`, on by default, has what owns memory: [`Monitor`],
+//! [`Terms`], [`State`], [`Record`] and [`TextError`]. Without it there is
+//! [`raw`], over memory that the host has.
 #![no_std]
+#![deny(missing_docs, clippy::missing_errors_doc, clippy::missing_panics_doc)]
 
+#[cfg(feature = "alloc")]
 extern crate alloc;
 
 mod answer;
 mod layout;
-mod monitor;
+mod library;
 mod names;
 pub mod raw;
-mod record;
 mod refusal;
+
+#[cfg(feature = "alloc")]
+mod entry;
+#[cfg(feature = "alloc")]
+mod monitor;
+#[cfg(feature = "alloc")]
+mod places;
+#[cfg(feature = "alloc")]
+mod record;
+#[cfg(feature = "alloc")]
 mod state;
+#[cfg(feature = "alloc")]
 mod terms;
+#[cfg(feature = "alloc")]
+mod text_error;
 
 pub use answer::Answer;
 pub use layout::{SCRATCH_WORDS, STATE_WORDS, TERMS_WORDS};
-pub use monitor::Monitor;
 pub use names::{Edge, Event, EventEdge, Member, Relation, Request, Variable};
-pub use record::Record;
-pub use refusal::{Refusal, TextError};
-pub use state::State;
-pub use terms::{Action, Direction, Effect, Entry, Label, Terms};
+pub use refusal::Refusal;
+
+#[cfg(feature = "alloc")]
+pub use {
+    entry::{Entry, Label},
+    monitor::Monitor,
+    record::Record,
+    state::State,
+    terms::{Action, Direction, Effect, Terms},
+    text_error::TextError,
+};
+
+/// What the README shows, compiled.
+#[cfg(all(doctest, feature = "alloc"))]
+#[doc = include_str!("../../README.md")]
+struct Readme;

@@ -1,7 +1,6 @@
 //! The monitor: terms, the present state, and scratch for its calls.
 
-use crate::layout::*;
-use crate::{raw, Answer, Record, Refusal, Request, State, Terms, TextError};
+use crate::{raw, Answer, Record, Refusal, Request, State, Terms, TextError, SCRATCH_WORDS};
 use alloc::boxed::Box;
 use alloc::vec;
 use alloc::vec::Vec;
@@ -21,6 +20,10 @@ pub struct Monitor {
 impl Monitor {
     /// Reads a text: the old form stands at its moment 0, the stored form goes
     /// on from where it was stored.
+    ///
+    /// # Errors
+    ///
+    /// The refusal of the first faulty line, and which line that is.
     pub fn read(text: &[u8]) -> Result<Monitor, TextError> {
         let (mut terms, mut state) = (Terms::blank(), State::blank());
         raw::read(text, &mut terms.0[..], &mut state.0[..])
@@ -31,20 +34,22 @@ impl Monitor {
     /// Goes on from terms and a state kept earlier, once they are checked.
     ///
     /// ```
-    /// use cuckooormolu::{Event, Member, Monitor, Refusal, Request, State};
+    /// use cuckooormolu::{Answer, Event, Member, Monitor, Refusal, Request, State};
     ///
     /// let text = b"M\t2\nL\t0\t1\nF\t0\ttop\t0\t0\nP\t0\t0\n";
     /// let mut monitor = Monitor::read(text)?;
     /// let request = Request { event: Event(0), from: Member(0), to: Member(1) };
-    /// monitor.request(request)?;
+    /// assert_eq!(monitor.request(request)?, Answer::Grant);
     /// let (terms, state) = monitor.into_parts();
-    /// let later = Monitor::resume(terms.clone(), state)?;
+    /// assert_eq!(State::from_words(&terms, &[9; 3_073]), Err(Refusal::BadState));
+    /// let later = Monitor::resume(terms, state)?;
     /// assert_eq!(later.state().event().map(|edge| edge.request), Some(request));
-    ///
-    /// let broken = State::from_words(&[9; 3_073])?;
-    /// assert_eq!(Monitor::resume(terms, broken).unwrap_err(), Refusal::BadState);
     /// # Ok::<(), Box<dyn std::error::Error>>(())
     /// ```
+    ///
+    /// # Errors
+    ///
+    /// [`Refusal::BadState`] where the state is not one of these terms.
     pub fn resume(terms: Terms, state: State) -> Result<Monitor, Refusal> {
         raw::check(terms.words(), state.words())?;
         Ok(Monitor::with(terms, state))
@@ -52,13 +57,20 @@ impl Monitor {
 
     /// Stands at moment 0 of the relations of a state; its tables and event
     /// edge don't count.
+    ///
+    /// # Errors
+    ///
+    /// [`Refusal::BadState`] where the relations are not those of these terms.
     pub fn open(terms: Terms, mut relations: State) -> Result<Monitor, Refusal> {
         raw::open(terms.words(), &mut relations.0[..])?;
         Ok(Monitor::with(terms, relations))
     }
 
     /// Answers a request; a grant makes the next moment, and so does a denial
-    /// of an event whose denials are kept. Refused with
+    /// of an event whose denials are kept.
+    ///
+    /// # Errors
+    ///
     /// [`Refusal::NoSuchName`] where an event or member doesn't exist.
     pub fn request(&mut self, request: Request) -> Result<Answer, Refusal> {
         let (state, scratch) = (&mut self.state.0[..], &mut self.scratch[..]);
@@ -66,6 +78,10 @@ impl Monitor {
     }
 
     /// What [`Monitor::request`] would answer; it makes no moment.
+    ///
+    /// # Errors
+    ///
+    /// Those of [`Monitor::request`].
     pub fn look(&self, request: Request) -> Result<Answer, Refusal> {
         raw::look(self.terms.words(), self.state.words(), &self.scratch[..], request.into())
     }
@@ -86,6 +102,20 @@ impl Monitor {
     /// assert_eq!(records[3].answer(), Some(Ok(Answer::Grant)));
     /// # Ok::<(), cuckooormolu::TextError>(())
     /// ```
+    ///
+    /// A list whose outcome is not looked at is a mistake:
+    ///
+    /// ```compile_fail
+    /// #![deny(unused_must_use)]
+    /// fn host(monitor: &mut cuckooormolu::Monitor, records: &mut [cuckooormolu::Record]) {
+    ///     monitor.set_list(records);
+    /// }
+    /// ```
+    ///
+    /// # Panics
+    ///
+    /// Never: a monitor's terms and state have passed the checks.
+    #[must_use = "requests of a list may be denied"]
     pub fn set_list(&mut self, records: &mut [Record]) -> usize {
         let (state, scratch) = (&mut self.state.0[..], &mut self.scratch[..]);
         raw::set_list(self.terms.words(), state, scratch, Record::plain(records)).expect(CHECKED)
@@ -94,8 +124,7 @@ impl Monitor {
     /// Goes on under new terms, with as many members, relations and events.
     /// Relations and event edge are carried over, and a prev or since takes the
     /// table of the first old entry with the same formula, spelled out; any
-    /// other starts now. Refused with [`Refusal::OtherSize`], the monitor is
-    /// exactly as it was.
+    /// other starts now.
     ///
     /// ```
     /// use cuckooormolu::{Answer, Event, Member, Monitor, Request};
@@ -112,6 +141,10 @@ impl Monitor {
     /// assert_eq!(monitor.look(Request { from: Member(1), ..request })?, Answer::Deny);
     /// # Ok::<(), Box<dyn std::error::Error>>(())
     /// ```
+    ///
+    /// # Errors
+    ///
+    /// [`Refusal::OtherSize`], and then the monitor is exactly as it was.
     pub fn revise(&mut self, new: &Terms) -> Result<(), Refusal> {
         let mut state = State::blank();
         let (old, present) = (self.terms.words(), self.state.words());
@@ -121,14 +154,18 @@ impl Monitor {
     }
 
     /// The old form: the terms with the present relations, numbers without
-    /// leading zeros. Reading it gives the same monitor. Where this one is no
-    /// fresh start, that would lose the past: [`Refusal::NotFresh`].
+    /// leading zeros. Reading it gives the same monitor.
     ///
     /// ```
     /// let text = b"M\t2\nL\t1\t1\nF\t0\ttop\t0\t0\nP\t0\t0\nG\t0\t0\t1\n";
     /// assert_eq!(cuckooormolu::Monitor::read(text)?.write()?, text);
     /// # Ok::<(), Box<dyn std::error::Error>>(())
     /// ```
+    ///
+    /// # Errors
+    ///
+    /// [`Refusal::NotFresh`] where this is no fresh start, since that would lose
+    /// the past.
     pub fn write(&self) -> Result<Vec<u8>, Refusal> {
         let (terms, state) = (self.terms.words(), self.state.words());
         let mut output = vec![0; raw::size(terms, state)?];
@@ -140,16 +177,20 @@ impl Monitor {
     /// and the event edge. Reading it gives the same monitor, anywhere.
     ///
     /// ```
-    /// use cuckooormolu::{Event, Member, Monitor, Refusal, Request};
+    /// use cuckooormolu::{Answer, Event, Member, Monitor, Refusal, Request};
     ///
     /// let mut monitor = Monitor::read(b"M\t2\nL\t0\t1\nF\t0\ttop\t0\t0\nP\t0\t0\n")?;
     /// let request = Request { event: Event(0), from: Member(0), to: Member(1) };
-    /// monitor.request(request)?;
+    /// assert_eq!(monitor.request(request)?, Answer::Grant);
     /// assert_eq!(monitor.write(), Err(Refusal::NotFresh));
     /// let later = Monitor::read(&monitor.store())?;
     /// assert_eq!(later.state(), monitor.state());
     /// # Ok::<(), Box<dyn std::error::Error>>(())
     /// ```
+    ///
+    /// # Panics
+    ///
+    /// Never: a monitor's terms and state have passed the checks.
     pub fn store(&self) -> Vec<u8> {
         let (terms, state) = (self.terms.words(), self.state.words());
         let mut output = vec![0; raw::store_size(terms, state).expect(CHECKED)];
@@ -157,10 +198,12 @@ impl Monitor {
         output
     }
 
+    /// The terms by which it answers.
     pub fn terms(&self) -> &Terms {
         &self.terms
     }
 
+    /// The present moment.
     pub fn state(&self) -> &State {
         &self.state
     }

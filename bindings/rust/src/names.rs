@@ -8,7 +8,10 @@ macro_rules! number {
     ($name:ident, $says:literal) => {
         #[doc = $says]
         #[derive(Clone, Copy, Debug, PartialEq, Eq, PartialOrd, Ord, Hash)]
-        pub struct $name(pub u8);
+        pub struct $name(
+            /// The number.
+            pub u8,
+        );
 
         impl From<u8> for $name {
             fn from(number: u8) -> $name {
@@ -47,8 +50,11 @@ number!(Variable, "A variable's number; 0 stands for the target.");
 /// A request: an event, from its initiator to its target.
 #[derive(Clone, Copy, Debug, PartialEq, Eq, Hash)]
 pub struct Request {
+    /// What is asked for.
     pub event: Event,
+    /// Its initiator.
     pub from: Member,
+    /// Its target.
     pub to: Member,
 }
 
@@ -56,14 +62,19 @@ pub struct Request {
 /// denied one is of an event whose denials are kept.
 #[derive(Clone, Copy, Debug, PartialEq, Eq, Hash)]
 pub struct EventEdge {
+    /// What was asked for.
     pub request: Request,
+    /// What it was answered.
     pub answer: Answer,
 }
 
 /// An edge of a relation. Edges are ordered as in a terms file.
 #[derive(Clone, Copy, Debug, PartialEq, Eq, PartialOrd, Ord, Hash)]
 pub struct Edge {
+    /// The relation that it belongs to.
     pub relation: Relation,
+    /// Where it begins.
     pub from: Member,
+    /// Where it ends.
     pub to: Member,
 }

@@ -1,17 +1,47 @@
-//! The library's functions over slices and numbers.
+//! The library's functions over slices and numbers. Two threads cannot share a
+//! scratch, since a call borrows it alone.
 //!
 //! Each accepts every input: memory of any length with anything in it, and
 //! any numbers. So all of them are safe to call. A refusal leaves every
 //! memory as lent, and words beyond the named ones are never touched.
+//!
+//! Nothing here allocates: without the feature `alloc` this module is what the
+//! crate has.
+//!
+//! ```
+//! use cuckooormolu::{raw, Answer, SCRATCH_WORDS, STATE_WORDS, TERMS_WORDS};
+//!
+//! let (mut terms, mut state) = ([0; TERMS_WORDS], [0; STATE_WORDS]);
+//! let mut scratch = [0; SCRATCH_WORDS];
+//! let text = b"M\t2\nL\t0\t1\nF\t0\ttop\t0\t0\nP\t0\t0\n";
+//! assert_eq!(raw::read(text, &mut terms, &mut state), Ok(()));
+//! let request = raw::Request { event: 0, from: 0, to: 1 };
+//! assert_eq!(raw::request(&terms, &mut state, &mut scratch, request), Ok(Answer::Grant));
+//! ```
+//!
+//! A scratch that two threads share does not compile:
+//!
+//! ```compile_fail,E0499
+//! # use cuckooormolu::raw;
+//! fn host(terms: &[u16], a: &mut [u64], b: &mut [u64], scratch: &mut [u64], asked: raw::Request) {
+//!     std::thread::scope(|scope| {
+//!         scope.spawn(|| raw::request(terms, a, scratch, asked));
+//!         scope.spawn(|| raw::request(terms, b, scratch, asked));
+//!     });
+//! }
+//! ```
 
-use crate::{Answer, Refusal};
+use crate::{library, Answer, Refusal};
 
 /// A request by any numbers, whether or not there are such an event and
 /// members.
 #[derive(Clone, Copy, Debug, PartialEq, Eq, Hash)]
 pub struct Request {
+    /// What is asked for.
     pub event: usize,
+    /// Its initiator.
     pub from: usize,
+    /// Its target.
     pub to: usize,
 }
 
@@ -28,14 +58,19 @@ impl From<crate::Request> for Request {
 #[derive(Clone, Copy, Debug, PartialEq, Eq, Hash)]
 #[repr(C)]
 pub struct Record {
+    /// What is asked for.
     pub event: u32,
+    /// Its initiator.
     pub from: u32,
+    /// Its target.
     pub to: u32,
+    /// The number of the answer. [`Record::answered`] says what it means.
     pub answer: u32,
 }
 
 impl Record {
     /// The answer; none where the number is no answer's.
+    #[must_use = "a request that is decided may be denied"]
     pub fn answered(&self) -> Option<Result<Answer, Refusal>> {
         match self.answer {
             0 => Some(Ok(Answer::Deny)),
@@ -43,119 +78,6 @@ impl Record {
             9 => Some(Err(Refusal::NoSuchName)),
             _ => None,
         }
-    }
-}
-
-mod library {
-    use super::Record;
-
-    extern "C" {
-        pub fn cuckooormolu_raw_check(
-            terms: *const u16,
-            terms_length: usize,
-            state: *const u64,
-            state_length: usize,
-        ) -> usize;
-
-        pub fn cuckooormolu_raw_open(
-            terms: *const u16,
-            terms_length: usize,
-            state: *mut u64,
-            state_length: usize,
-        ) -> usize;
-
-        pub fn cuckooormolu_raw_revise(
-            old_terms: *const u16,
-            old_terms_length: usize,
-            old_state: *const u64,
-            old_state_length: usize,
-            new_terms: *const u16,
-            new_terms_length: usize,
-            state: *mut u64,
-            state_length: usize,
-        ) -> usize;
-
-        pub fn cuckooormolu_raw_look(
-            terms: *const u16,
-            terms_length: usize,
-            state: *const u64,
-            state_length: usize,
-            scratch: *const u64,
-            scratch_length: usize,
-            event: usize,
-            from: usize,
-            to: usize,
-        ) -> usize;
-
-        pub fn cuckooormolu_raw_request(
-            terms: *const u16,
-            terms_length: usize,
-            state: *mut u64,
-            state_length: usize,
-            scratch: *mut u64,
-            scratch_length: usize,
-            event: usize,
-            from: usize,
-            to: usize,
-        ) -> usize;
-
-        pub fn cuckooormolu_raw_set_list(
-            terms: *const u16,
-            terms_length: usize,
-            state: *mut u64,
-            state_length: usize,
-            scratch: *mut u64,
-            scratch_length: usize,
-            records: *mut Record,
-            records_length: usize,
-            count: *mut usize,
-        ) -> usize;
-
-        pub fn cuckooormolu_raw_read(
-            text: *const u8,
-            text_length: usize,
-            terms: *mut u16,
-            terms_length: usize,
-            state: *mut u64,
-            state_length: usize,
-            line: *mut usize,
-        ) -> usize;
-
-        pub fn cuckooormolu_raw_size(
-            terms: *const u16,
-            terms_length: usize,
-            state: *const u64,
-            state_length: usize,
-            count: *mut usize,
-        ) -> usize;
-
-        pub fn cuckooormolu_raw_write(
-            terms: *const u16,
-            terms_length: usize,
-            state: *const u64,
-            state_length: usize,
-            output: *mut u8,
-            output_length: usize,
-            count: *mut usize,
-        ) -> usize;
-
-        pub fn cuckooormolu_raw_store_size(
-            terms: *const u16,
-            terms_length: usize,
-            state: *const u64,
-            state_length: usize,
-            count: *mut usize,
-        ) -> usize;
-
-        pub fn cuckooormolu_raw_store(
-            terms: *const u16,
-            terms_length: usize,
-            state: *const u64,
-            state_length: usize,
-            output: *mut u8,
-            output_length: usize,
-            count: *mut usize,
-        ) -> usize;
     }
 }
 
@@ -185,7 +107,11 @@ fn decided(code: usize) -> Result<Answer, Refusal> {
 // Safety, here and below: a slice is valid for its length, a mutable one is
 // no other's, and the library keeps within the lengths it is given.
 
-/// Whether terms and state are ones that a call accepts: 6, 7 or 8 if not.
+/// Whether terms and state are ones that a call accepts.
+///
+/// # Errors
+///
+/// 6, 7 or 8.
 pub fn check(terms: &[u16], state: &[u64]) -> Result<(), Refusal> {
     done(unsafe {
         library::cuckooormolu_raw_check(terms.as_ptr(), terms.len(), state.as_ptr(), state.len())
@@ -193,16 +119,26 @@ pub fn check(terms: &[u16], state: &[u64]) -> Result<(), Refusal> {
 }
 
 /// Makes the state of moment 0 of the relations that stand in it; whatever
-/// its other words held is lost. Refused with 6, 7 or 8.
+/// its other words held is lost.
+///
+/// # Errors
+///
+/// 6, 7 or 8.
 pub fn open(terms: &[u16], state: &mut [u64]) -> Result<(), Refusal> {
     done(unsafe {
         library::cuckooormolu_raw_open(terms.as_ptr(), terms.len(), state.as_mut_ptr(), state.len())
     })
 }
 
-/// From old terms, the state under them and new terms, fills in the state with
-/// which the new terms go on, as [`crate::Monitor::revise`] says; whatever that
-/// held is lost. Refused with 6, 7 (either terms), 8 (the old state) or 13.
+/// From old terms, the state under them and new terms with as many members,
+/// relations and events, fills in the state with which the new terms go on;
+/// whatever that held is lost. Relations and event edge are carried over, and a
+/// prev or since takes the table of the first old entry with the same formula,
+/// spelled out; any other starts now.
+///
+/// # Errors
+///
+/// 6, 7 (either terms), 8 (the old state) or 13.
 pub fn revise(
     old_terms: &[u16],
     old_state: &[u64],
@@ -224,6 +160,10 @@ pub fn revise(
 }
 
 /// What a request would be answered now. It makes no moment.
+///
+/// # Errors
+///
+/// 6, 7, 8 or 9.
 pub fn look(
     terms: &[u16],
     state: &[u64],
@@ -248,6 +188,10 @@ pub fn look(
 /// Answers a request. A grant, or a denial of an event whose denials are kept,
 /// makes the next moment and leaves the named words of scratch 0; anything else
 /// leaves state and scratch as lent.
+///
+/// # Errors
+///
+/// 6, 7, 8 or 9.
 pub fn request(
     terms: &[u16],
     state: &mut [u64],
@@ -271,8 +215,12 @@ pub fn request(
 
 /// Answers a list of records in order, each as [`request`] would, but checks
 /// terms, state and scratch once; gives the count of grants. A record that is
-/// refused does not stop the list. Refused with 6, 7 or 8, an empty list too:
-/// then no record is written.
+/// refused does not stop the list.
+///
+/// # Errors
+///
+/// 6, 7 or 8, an empty list too. Then no record is written, and an answer that
+/// stands in one is an old one.
 pub fn set_list(
     terms: &[u16],
     state: &mut [u64],
@@ -297,8 +245,11 @@ pub fn set_list(
 }
 
 /// Reads a text of the old or the stored form and fills the named words of terms
-/// and state; or the refusal with the first faulty line, 0 where none is at
-/// fault.
+/// and state.
+///
+/// # Errors
+///
+/// 1 to 6, 10 or 11, with the first faulty line, 0 where none is at fault.
 pub fn read(text: &[u8], terms: &mut [u16], state: &mut [u64]) -> Result<(), (Refusal, usize)> {
     let mut line = 0;
     let code = unsafe {
@@ -315,7 +266,11 @@ pub fn read(text: &[u8], terms: &mut [u16], state: &mut [u64]) -> Result<(), (Re
     done(code).map_err(|refusal| (refusal, line))
 }
 
-/// How many bytes [`write`] would write. Refused with 6, 7, 8 or 12.
+/// How many bytes [`write()`] would write.
+///
+/// # Errors
+///
+/// 6, 7, 8 or 12.
 pub fn size(terms: &[u16], state: &[u64]) -> Result<usize, Refusal> {
     let mut count = 0;
     let code = unsafe {
@@ -332,7 +287,10 @@ pub fn size(terms: &[u16], state: &[u64]) -> Result<usize, Refusal> {
 
 /// Writes the old form, the terms with the present relations, from the output's
 /// first byte on, numbers without leading zeros, and gives the count of bytes.
-/// Refused with 12 where the state is no fresh start.
+///
+/// # Errors
+///
+/// 6, 7, 8, or 12 where the state is no fresh start.
 pub fn write(terms: &[u16], state: &[u64], output: &mut [u8]) -> Result<usize, Refusal> {
     let mut count = 0;
     let code = unsafe {
@@ -349,7 +307,11 @@ pub fn write(terms: &[u16], state: &[u64], output: &mut [u8]) -> Result<usize, R
     done(code).map(|()| count)
 }
 
-/// How many bytes [`store`] would write. Refused with 6, 7 or 8.
+/// How many bytes [`store`] would write.
+///
+/// # Errors
+///
+/// 6, 7 or 8.
 pub fn store_size(terms: &[u16], state: &[u64]) -> Result<usize, Refusal> {
     let mut count = 0;
     let code = unsafe {
@@ -366,6 +328,10 @@ pub fn store_size(terms: &[u16], state: &[u64]) -> Result<usize, Refusal> {
 
 /// Writes the stored form, terms and the whole state, from the output's first
 /// byte on and gives the count of bytes. Reading it gives the same named words.
+///
+/// # Errors
+///
+/// 6, 7 or 8.
 pub fn store(terms: &[u16], state: &[u64], output: &mut [u8]) -> Result<usize, Refusal> {
     let mut count = 0;
     let code = unsafe {

@@ -19,6 +19,7 @@ impl Record {
         Record(raw::Record { event, from, to, answer: UNANSWERED })
     }
 
+    /// What is asked for.
     pub fn request(&self) -> Request {
         let raw::Record { event, from, to, .. } = self.0;
         Request { event: Event(event as u8), from: Member(from as u8), to: Member(to as u8) }
@@ -26,6 +27,7 @@ impl Record {
 
     /// What [`crate::Monitor::request`] would have answered at the record's
     /// place in the list; none as long as no set list has answered.
+    #[must_use = "a request that is decided may be denied"]
     pub fn answer(&self) -> Option<Result<Answer, Refusal>> {
         self.0.answered()
     }

@@ -1,7 +1,5 @@
 //! Why nothing was decided.
 
-use alloc::format;
-use alloc::string::String;
 use core::error::Error;
 use core::fmt;
 
@@ -12,6 +10,21 @@ use core::fmt;
 /// assert_eq!(Refusal::of_number(9), Some(Refusal::NoSuchName));
 /// assert_eq!(Refusal::NoSuchName.to_string(), "no such event or member (refusal 9)");
 /// ```
+///
+/// There may be further refusals, so a match on one has an arm for them:
+///
+/// ```compile_fail,E0004
+/// # use cuckooormolu::Refusal;
+/// fn is_of_a_text(refusal: Refusal) -> bool {
+///     use Refusal::*;
+///     match refusal {
+///         Form | Range | Operand | PastVariables | PolicyVariables | ReachVariables => true,
+///         PartlyFilled => true,
+///         TooShort | BadTerms | BadState | NoSuchName | NotFresh | OtherSize => false,
+///     }
+/// }
+/// ```
+#[non_exhaustive]
 #[derive(Clone, Copy, Debug, PartialEq, Eq, Hash)]
 pub enum Refusal {
     /// 1: the form of a line or its place, or the text ends too soon.
@@ -45,7 +58,8 @@ pub enum Refusal {
 }
 
 impl Refusal {
-    pub const ALL: [Refusal; 13] = [
+    /// All refusals, by their numbers.
+    pub const ALL: &'static [Refusal] = &[
         Refusal::Form,
         Refusal::Range,
         Refusal::Operand,
@@ -61,7 +75,7 @@ impl Refusal {
         Refusal::OtherSize,
     ];
 
-    /// The refusal's number, 1 to 13.
+    /// The refusal's number, from 1.
     pub fn number(self) -> usize {
         self as usize + 1
     }
@@ -109,65 +123,3 @@ impl fmt::Display for Refusal {
 }
 
 impl Error for Refusal {}
-
-/// A refused terms text: why, and the first faulty line.
-///
-/// ```
-/// let error = cuckooormolu::Monitor::read(b"M\t3\nL\t0\t1\nF\t0\tnot\t0\t0\n").unwrap_err();
-/// assert_eq!(error.refusal().number(), 3);
-/// assert_eq!(error.line(), 3);
-/// assert_eq!(
-///     error.to_string(),
-///     "line 3: operand not lower than its entry (refusal 3)\n  3 | F\\t0\\tnot\\t0\\t0"
-/// );
-/// ```
-#[derive(Clone, Debug, PartialEq, Eq)]
-pub struct TextError {
-    refusal: Refusal,
-    line: usize,
-    shown: Option<String>,
-}
-
-impl TextError {
-    pub(crate) fn new(refusal: Refusal, line: usize, text: &[u8]) -> TextError {
-        let found = text.split_inclusive(|&byte| byte == b'\n').nth(line.wrapping_sub(1));
-        let shown = found.map(|line| {
-            let body = line.strip_suffix(b"\n").unwrap_or(line);
-            let ending = if body.len() == line.len() { " (no line feed)" } else { "" };
-            format!("{}{ending}", body.escape_ascii())
-        });
-        TextError { refusal, line, shown }
-    }
-
-    pub fn refusal(&self) -> Refusal {
-        self.refusal
-    }
-
-    /// The number of the first faulty line, from 1. Where the text ends too
-    /// soon it is that of the line after the last.
-    pub fn line(&self) -> usize {
-        self.line
-    }
-
-    /// The faulty line, its tabs and other unprintable bytes escaped; none
-    /// where the text ends too soon.
-    pub fn shown(&self) -> Option<&str> {
-        self.shown.as_deref()
-    }
-}
-
-impl fmt::Display for TextError {
-    fn fmt(&self, out: &mut fmt::Formatter<'_>) -> fmt::Result {
-        write!(out, "line {}: {}", self.line, self.refusal)?;
-        match &self.shown {
-            Some(shown) => write!(out, "\n  {} | {shown}", self.line),
-            None => write!(out, "\n  {} | (the end of the text)", self.line),
-        }
-    }
-}
-
-impl Error for TextError {
-    fn source(&self) -> Option<&(dyn Error + 'static)> {
-        Some(&self.refusal)
-    }
-}

@@ -1,7 +1,8 @@
 //! A state: the present moment, and what the policies need of the past.
 
-use crate::layout::*;
-use crate::{Answer, Edge, Event, EventEdge, Member, Refusal, Relation, Request};
+use crate::places::*;
+use crate::{raw, Answer, Edge, Event, EventEdge, Member, Refusal, Relation, Request};
+use crate::{Terms, STATE_WORDS};
 use alloc::boxed::Box;
 
 /// The present moment: relations, past-time tables and the event edge.
@@ -9,11 +10,15 @@ use alloc::boxed::Box;
 pub struct State(pub(crate) Box<[u64; STATE_WORDS]>);
 
 impl State {
-    /// A state from its words. Whether they keep the layout depends on the
-    /// terms and is checked where both come together. Further words are left
-    /// out.
-    pub fn from_words(words: &[u64]) -> Result<State, Refusal> {
-        front(words).map(State)
+    /// A state from its words, checked by the terms that it belongs to. Further
+    /// words are left out.
+    ///
+    /// # Errors
+    ///
+    /// [`Refusal::TooShort`] and [`Refusal::BadState`].
+    pub fn from_words(terms: &Terms, words: &[u64]) -> Result<State, Refusal> {
+        let state = State(front(words)?);
+        raw::check(terms.words(), state.words()).map(|()| state)
     }
 
     /// The words of the memory layout.
@@ -30,6 +35,7 @@ impl State {
         })
     }
 
+    /// Whether [`State::edges`] has an edge.
     pub fn has_edge(&self, edge: Edge) -> bool {
         let relation = usize::from(edge.relation);
         relation < RELATIONS && self.bit(ROWS * relation, edge.from, edge.to)

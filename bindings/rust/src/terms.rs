@@ -1,83 +1,36 @@
 //! Terms: what a terms file says, without its edges.
 
-use crate::layout::*;
-use crate::{raw, Event, Member, Refusal, Relation, State, Variable};
+use crate::places::*;
+use crate::{raw, Entry, Event, Label, Member, Refusal, Relation, State, Variable, TERMS_WORDS};
 use alloc::boxed::Box;
-
-/// An entry of the formula list, by its operator. A `usize` is the number of
-/// a lower entry.
-#[derive(Clone, Copy, Debug, PartialEq, Eq, Hash)]
-pub enum Entry {
-    Top,
-    Var(Variable),
-    Not(usize),
-    Or(usize, usize),
-    Out(Label, usize),
-    In(Label, usize),
-    Prev(usize),
-    Since(usize, usize),
-    Bind(Variable, usize),
-    At(Variable, usize),
-    Reach(Variable, usize, usize),
-    /// The label, the entry, and how many members it asks for at least.
-    Many(Label, usize, u8),
-}
-
-/// The label of an edge that an entry looks along.
-#[derive(Clone, Copy, Debug, PartialEq, Eq, Hash)]
-pub enum Label {
-    Relation(Relation),
-    /// A granted request of the event.
-    Event(Event),
-    /// A denied request of the event, where its denials are kept.
-    Denied(Event),
-}
 
 /// What a granted event does to a relation.
 #[derive(Clone, Copy, Debug, PartialEq, Eq, Hash)]
 pub struct Effect {
+    /// What is done.
     pub action: Action,
+    /// The relation whose edge it is done to.
     pub relation: Relation,
+    /// Which way the edge leads.
     pub direction: Direction,
 }
 
+/// What an effect does to an edge.
 #[derive(Clone, Copy, Debug, PartialEq, Eq, Hash)]
 pub enum Action {
+    /// Afterwards it is there.
     Add,
+    /// Afterwards it is not.
     Del,
 }
 
+/// Which way the edge of an effect leads.
 #[derive(Clone, Copy, Debug, PartialEq, Eq, Hash)]
 pub enum Direction {
     /// From initiator to target.
     Fwd,
     /// From target to initiator.
     Back,
-}
-
-impl Entry {
-    /// The operator's word in a terms file.
-    pub fn word(self) -> &'static str {
-        match self {
-            Entry::Top => "top",
-            Entry::Var(..) => "var",
-            Entry::Not(..) => "not",
-            Entry::Or(..) => "or",
-            Entry::Out(..) => "out",
-            Entry::In(..) => "in",
-            Entry::Prev(..) => "prev",
-            Entry::Since(..) => "since",
-            Entry::Bind(..) => "bind",
-            Entry::At(..) => "at",
-            Entry::Reach(..) => "reach",
-            Entry::Many(..) => "many",
-        }
-    }
-
-    /// Whether the state keeps a table for the entry.
-    pub fn is_past(self) -> bool {
-        matches!(self, Entry::Prev(..) | Entry::Since(..))
-    }
 }
 
 /// Accepted terms: members, labels, formulas, policies, effects and which
@@ -102,6 +55,10 @@ pub struct Terms(pub(crate) Box<[u16; TERMS_WORDS]>);
 
 impl Terms {
     /// Terms from their words, checked. Further words are left out.
+    ///
+    /// # Errors
+    ///
+    /// [`Refusal::TooShort`] and [`Refusal::BadTerms`].
     pub fn from_words(words: &[u16]) -> Result<Terms, Refusal> {
         let terms = Terms(front(words)?);
         raw::check(terms.words(), State::blank().words()).map(|()| terms)
@@ -112,14 +69,17 @@ impl Terms {
         &self.0
     }
 
+    /// The members, rising.
     pub fn members(&self) -> impl ExactSizeIterator<Item = Member> {
         (0..self.0[0] as u8).map(Member)
     }
 
+    /// The relations, rising.
     pub fn relations(&self) -> impl ExactSizeIterator<Item = Relation> {
         (0..self.0[1] as u8).map(Relation)
     }
 
+    /// The events, rising.
     pub fn events(&self) -> impl ExactSizeIterator<Item = Event> {
         (0..self.0[2] as u8).map(Event)
     }

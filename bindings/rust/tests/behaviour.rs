@@ -1,4 +1,5 @@
 //! One test for each behaviour of the binding.
+#![cfg(feature = "alloc")]
 
 use cuckooormolu::{raw, Answer, Monitor, Refusal, State, Terms};
 use cuckooormolu::{Action, Direction, Effect, Entry, Label};
@@ -63,7 +64,7 @@ fn the_preset_answers_as_written() {
 #[test]
 fn a_share_by_somebody_who_owns_nothing_does_not_count() {
     let mut monitor = preset();
-    monitor.request(asked(SHARE, 2, 1)).unwrap();
+    assert_eq!(monitor.request(asked(SHARE, 2, 1)), Ok(Answer::Grant));
     assert_eq!(monitor.look(asked(LOAD, 1, 2)), Ok(Answer::Deny));
 }
 
@@ -137,7 +138,7 @@ fn a_state_is_shown() {
     assert!(!state.has_edge(edge(16, 0, 0)));
     assert!(!state.has_edge(edge(0, 64, 0)) && !state.has_edge(edge(0, 0, 64)));
     assert_eq!((state.event(), state.table(0).count()), (None, 0));
-    monitor.request(asked(SHARE, 0, 1)).unwrap();
+    assert_eq!(monitor.request(asked(SHARE, 0, 1)), Ok(Answer::Grant));
     let state = monitor.state();
     assert!(state.table(0).eq([(Member(0), Member(1))]));
     assert!(state.table_holds(0, Member(0), Member(1)));
@@ -235,7 +236,7 @@ fn the_longest_texts_are_worked_out() {
 fn a_stored_text_keeps_the_past() {
     let mut monitor = preset();
     assert_eq!(monitor.store(), tabs(&format!("S 2\n{PRESET}")));
-    monitor.request(asked(SHARE, 0, 1)).unwrap();
+    assert_eq!(monitor.request(asked(SHARE, 0, 1)), Ok(Answer::Grant));
     let text = monitor.store();
     assert_eq!(text, tabs(&format!("S 2\n{PRESET}T 0 0 1\nV 0 0 1\n")));
     let mut later = Monitor::read(&text).unwrap();
@@ -251,7 +252,7 @@ fn the_old_form_is_written_of_a_fresh_start_only() {
     let mut monitor = preset();
     assert_eq!(monitor.request(asked(LOAD, 1, 2)), Ok(Answer::Deny));
     assert_eq!(monitor.write(), Ok(tabs(PRESET)));
-    monitor.request(asked(SHARE, 0, 1)).unwrap();
+    assert_eq!(monitor.request(asked(SHARE, 0, 1)), Ok(Answer::Grant));
     assert_eq!(monitor.write(), Err(Refusal::NotFresh));
     let (terms, state) = monitor.into_parts();
     assert_eq!(raw::size(terms.words(), state.words()), Err(Refusal::NotFresh));
@@ -275,9 +276,9 @@ fn stored_texts_are_refused_by_line() {
 #[test]
 fn kept_words_are_resumed() {
     let mut monitor = preset();
-    monitor.request(asked(SHARE, 0, 1)).unwrap();
+    assert_eq!(monitor.request(asked(SHARE, 0, 1)), Ok(Answer::Grant));
     let terms = Terms::from_words(monitor.terms().words()).unwrap();
-    let state = State::from_words(monitor.state().words()).unwrap();
+    let state = State::from_words(&terms, monitor.state().words()).unwrap();
     let later = Monitor::resume(terms, state).unwrap();
     assert_eq!(later.look(asked(LOAD, 1, 2)), Ok(Answer::Grant));
 }
@@ -285,7 +286,7 @@ fn kept_words_are_resumed() {
 #[test]
 fn opening_keeps_the_relations_only() {
     let mut monitor = preset();
-    monitor.request(asked(SHARE, 0, 1)).unwrap();
+    assert_eq!(monitor.request(asked(SHARE, 0, 1)), Ok(Answer::Grant));
     let (terms, state) = monitor.into_parts();
     let fresh = Monitor::open(terms, state).unwrap();
     assert_eq!(fresh.state(), preset().state());
@@ -296,7 +297,9 @@ fn a_state_that_breaks_the_layout_is_not_resumed() {
     let (terms, state) = preset().into_parts();
     let mut words = *state.words();
     words[3] = 1;
-    let state = State::from_words(&words).unwrap();
+    assert_eq!(State::from_words(&terms, &words), Err(Refusal::BadState));
+    let larger = Terms::from_words(&[&[4], &terms.words()[1..]].concat()).unwrap();
+    let state = State::from_words(&larger, &words).unwrap();
     assert_eq!(Monitor::resume(terms.clone(), state.clone()).unwrap_err(), Refusal::BadState);
     assert_eq!(Monitor::open(terms, state).unwrap_err(), Refusal::BadState);
 }
@@ -310,7 +313,9 @@ fn terms_that_no_text_yields_are_refused() {
 fn short_words_are_refused_and_longer_ones_cut() {
     let (terms, state) = preset().into_parts();
     assert_eq!(Terms::from_words(&terms.words()[1..]), Err(Refusal::TooShort));
-    assert_eq!(State::from_words(&state.words()[1..]), Err(Refusal::TooShort));
+    assert_eq!(State::from_words(&terms, &state.words()[1..]), Err(Refusal::TooShort));
+    let longer = [&state.words()[..], &[7; 3]].concat();
+    assert_eq!(State::from_words(&terms, &longer), Ok(state));
     let longer = [&terms.words()[..], &[7; 3]].concat();
     assert_eq!(Terms::from_words(&longer), Ok(terms));
 }
@@ -345,7 +350,7 @@ fn an_error_shows_the_offending_line() {
 
 #[test]
 fn refusals_have_numbers_and_words() {
-    for (index, refusal) in Refusal::ALL.into_iter().enumerate() {
+    for (index, refusal) in Refusal::ALL.iter().copied().enumerate() {
         assert_eq!(refusal.number(), index + 1);
         assert_eq!(Refusal::of_number(index + 1), Some(refusal));
         assert!(refusal.to_string().ends_with(&format!("(refusal {})", index + 1)));
@@ -437,8 +442,8 @@ fn a_step_goes_along_the_past() {
     assert_eq!(entry, Some(Entry::Reach(Variable(1), 3, 4)));
     assert_eq!(entry.map(Entry::word), Some("reach"));
     assert_eq!(monitor.look(asked(Event(1), 0, 1)), Ok(Answer::Deny));
-    monitor.request(asked(Event(0), 0, 1)).unwrap();
-    monitor.request(asked(Event(0), 2, 0)).unwrap();
+    assert_eq!(monitor.request(asked(Event(0), 0, 1)), Ok(Answer::Grant));
+    assert_eq!(monitor.request(asked(Event(0), 2, 0)), Ok(Answer::Grant));
     assert_eq!(monitor.look(asked(Event(1), 0, 1)), Ok(Answer::Grant));
     assert_eq!(monitor.look(asked(Event(1), 1, 0)), Ok(Answer::Deny));
     let tables = "T 0 0 1\nT 0 2 0\nV 0 2 0\n";
@@ -460,7 +465,7 @@ fn different_members_are_counted() {
     assert_eq!(monitor.look(asked(Event(1), 0, 1)), Ok(Answer::Deny));
     assert_eq!(monitor.look(asked(Event(1), 1, 3)), Ok(Answer::Deny));
     assert_eq!(monitor.write(), Ok(tabs(FRIENDS)));
-    monitor.request(asked(Event(0), 0, 3)).unwrap();
+    assert_eq!(monitor.request(asked(Event(0), 0, 3)), Ok(Answer::Grant));
     assert_eq!(monitor.look(asked(Event(1), 0, 1)), Ok(Answer::Grant));
     assert_eq!(refused(&FRIENDS.replace("many 0 2 2", "many 0 2 65")), (2, 6));
     assert_eq!(refused(&FRIENDS.replace("many 0 2 2", "many 0 2 0")), (2, 6));

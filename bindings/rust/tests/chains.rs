@@ -5,6 +5,7 @@
 //!
 //! The program is named by the environment variable CUCKOOORMOLU_EXCHANGE;
 //! where that is not set, its test does nothing.
+#![cfg(feature = "alloc")]
 
 use cuckooormolu::{Answer, Event, Member, Monitor, Request};
 use std::fs;

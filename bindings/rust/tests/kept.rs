@@ -1,4 +1,5 @@
 //! Kept denials: what they leave in the state, and how terms and states show them.
+#![cfg(feature = "alloc")]
 
 use cuckooormolu::{raw, Answer, Monitor, Record, Refusal, State, Terms};
 use cuckooormolu::{Entry, Event, EventEdge, Label, Member, Request};
@@ -91,7 +92,7 @@ fn in_a_set_list_the_state_moves_on() {
 fn a_kept_denial_is_stored() {
     let mut monitor = tries();
     assert_eq!(monitor.write(), Ok(tabs(TRIES)));
-    monitor.request(asked(0, 2, 1)).unwrap();
+    assert_eq!(monitor.request(asked(0, 2, 1)), Ok(Answer::Deny));
     assert_eq!(monitor.write(), Err(Refusal::NotFresh));
     let text = monitor.store();
     let lines = "T 0 2 0\nT 0 2 1\nT 0 2 2\nV 16 2 1\n";
@@ -108,7 +109,7 @@ fn a_state_may_hold_any_denied_event() {
     let resumed = |number: u64| {
         let mut words = *state.words();
         words[STATE_WORDS - 1] = 1 + number * 4_096 + 64 + 2;
-        let monitor = Monitor::resume(terms.clone(), State::from_words(&words)?)?;
+        let monitor = Monitor::resume(terms.clone(), State::from_words(&terms, &words)?)?;
         Ok(monitor.state().event().unwrap())
     };
     let request = asked(1, 1, 2);

@@ -1,5 +1,6 @@
 //! New terms while playing: what is carried over, what starts, what is refused
 //! and what is left alone.
+#![cfg(feature = "alloc")]
 
 use cuckooormolu::{raw, Answer, Event, EventEdge, Member, Monitor, Refusal, Request, Terms};
 use cuckooormolu::{STATE_WORDS, TERMS_WORDS};

@@ -1,4 +1,5 @@
 //! Set lists by the binding: answers, count and memory of single requests.
+#![cfg(feature = "alloc")]
 
 use cuckooormolu::{raw, Answer, Monitor, Record, Refusal};
 use cuckooormolu::{Event, Member, Request};

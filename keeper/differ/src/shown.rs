@@ -35,6 +35,7 @@ fn plain(entry: Entry, relations: usize, events: usize) -> terms::Entry {
         Label::Relation(relation) => usize::from(relation),
         Label::Event(event) => relations + usize::from(event),
         Label::Denied(event) => relations + events + usize::from(event),
+        other => unreachable!("the keeper has no label {other:?}"),
     };
     match entry {
         Entry::Top => terms::Entry::Top,
@@ -49,6 +50,7 @@ fn plain(entry: Entry, relations: usize, events: usize) -> terms::Entry {
         Entry::At(x, f) => terms::Entry::At(x.into(), f),
         Entry::Reach(x, f, g) => terms::Entry::Reach(x.into(), f, g),
         Entry::Many(l, f, k) => terms::Entry::Many(number(l), f, k.into()),
+        other => unreachable!("the keeper has no entry {other:?}"),
     }
 }
 

@@ -1,0 +1,113 @@
+//! The archive's functions. Each takes a slice as a pointer and a count, and
+//! returns a code; [`crate::raw`] has them over slices.
+
+use crate::raw::Record;
+
+extern "C" {
+    pub fn cuckooormolu_raw_check(
+        terms: *const u16,
+        terms_length: usize,
+        state: *const u64,
+        state_length: usize,
+    ) -> usize;
+
+    pub fn cuckooormolu_raw_open(
+        terms: *const u16,
+        terms_length: usize,
+        state: *mut u64,
+        state_length: usize,
+    ) -> usize;
+
+    pub fn cuckooormolu_raw_revise(
+        old_terms: *const u16,
+        old_terms_length: usize,
+        old_state: *const u64,
+        old_state_length: usize,
+        new_terms: *const u16,
+        new_terms_length: usize,
+        state: *mut u64,
+        state_length: usize,
+    ) -> usize;
+
+    pub fn cuckooormolu_raw_look(
+        terms: *const u16,
+        terms_length: usize,
+        state: *const u64,
+        state_length: usize,
+        scratch: *const u64,
+        scratch_length: usize,
+        event: usize,
+        from: usize,
+        to: usize,
+    ) -> usize;
+
+    pub fn cuckooormolu_raw_request(
+        terms: *const u16,
+        terms_length: usize,
+        state: *mut u64,
+        state_length: usize,
+        scratch: *mut u64,
+        scratch_length: usize,
+        event: usize,
+        from: usize,
+        to: usize,
+    ) -> usize;
+
+    pub fn cuckooormolu_raw_set_list(
+        terms: *const u16,
+        terms_length: usize,
+        state: *mut u64,
+        state_length: usize,
+        scratch: *mut u64,
+        scratch_length: usize,
+        records: *mut Record,
+        records_length: usize,
+        count: *mut usize,
+    ) -> usize;
+
+    pub fn cuckooormolu_raw_read(
+        text: *const u8,
+        text_length: usize,
+        terms: *mut u16,
+        terms_length: usize,
+        state: *mut u64,
+        state_length: usize,
+        line: *mut usize,
+    ) -> usize;
+
+    pub fn cuckooormolu_raw_size(
+        terms: *const u16,
+        terms_length: usize,
+        state: *const u64,
+        state_length: usize,
+        count: *mut usize,
+    ) -> usize;
+
+    pub fn cuckooormolu_raw_write(
+        terms: *const u16,
+        terms_length: usize,
+        state: *const u64,
+        state_length: usize,
+        output: *mut u8,
+        output_length: usize,
+        count: *mut usize,
+    ) -> usize;
+
+    pub fn cuckooormolu_raw_store_size(
+        terms: *const u16,
+        terms_length: usize,
+        state: *const u64,
+        state_length: usize,
+        count: *mut usize,
+    ) -> usize;
+
+    pub fn cuckooormolu_raw_store(
+        terms: *const u16,
+        terms_length: usize,
+        state: *const u64,
+        state_length: usize,
+        output: *mut u8,
+        output_length: usize,
+        count: *mut usize,
+    ) -> usize;
+}

@@ -1,0 +1,67 @@
+//! A host without a heap: `raw` over arrays, and what it needs of the rest. It is
+//! tested with the feature `alloc` and without it.
+
+use cuckooormolu::{raw, Answer, Event, Member, Refusal, Request};
+use cuckooormolu::{SCRATCH_WORDS, STATE_WORDS, TERMS_WORDS};
+
+/// Event 0 makes an edge from initiator to target, event 1 asks for one.
+const TEXT: &[u8] = b"M\t3\nL\t1\t2\nF\t0\tvar\t0\t0\nF\t1\tout\t0\t0\nF\t2\ttop\t0\t0\n\
+                      P\t0\t2\nP\t1\t1\nE\t0\tadd\t0\tfwd\n";
+
+struct Host {
+    terms: [u16; TERMS_WORDS],
+    state: [u64; STATE_WORDS],
+    scratch: [u64; SCRATCH_WORDS],
+}
+
+impl Host {
+    fn read(text: &[u8]) -> Result<Host, (Refusal, usize)> {
+        let (mut terms, mut state) = ([0; TERMS_WORDS], [0; STATE_WORDS]);
+        raw::read(text, &mut terms, &mut state)?;
+        Ok(Host { terms, state, scratch: [0; SCRATCH_WORDS] })
+    }
+
+    fn request(&mut self, event: u8, from: u8, to: u8) -> Result<Answer, Refusal> {
+        let named = Request { event: Event(event), from: Member(from), to: Member(to) };
+        raw::request(&self.terms, &mut self.state, &mut self.scratch, named.into())
+    }
+}
+
+#[test]
+fn requests_are_answered() {
+    let mut host = Host::read(TEXT).unwrap();
+    assert_eq!(host.request(1, 0, 2), Ok(Answer::Deny));
+    assert_eq!(host.request(0, 0, 2), Ok(Answer::Grant));
+    assert_eq!(host.request(1, 0, 2), Ok(Answer::Grant));
+    assert_eq!(host.request(2, 0, 2), Err(Refusal::NoSuchName));
+}
+
+#[test]
+fn set_lists_are_answered() {
+    let mut host = Host::read(TEXT).unwrap();
+    let record = |event, from, to| raw::Record { event, from, to, answer: u32::MAX };
+    let mut records = [record(1, 0, 1), record(0, 0, 1), record(1, 0, 1), record(9, 0, 1)];
+    let Host { terms, state, scratch } = &mut host;
+    assert_eq!(raw::set_list(terms, state, scratch, &mut records), Ok(2));
+    let answers = records.map(|record| record.answered().unwrap());
+    let granted = Ok(Answer::Grant);
+    assert_eq!(answers, [Ok(Answer::Deny), granted, granted, Err(Refusal::NoSuchName)]);
+}
+
+#[test]
+fn a_state_is_stored_and_read() {
+    let mut host = Host::read(TEXT).unwrap();
+    assert_eq!(host.request(0, 1, 2), Ok(Answer::Grant));
+    let mut output = [0; 256];
+    let size = raw::store_size(&host.terms, &host.state).unwrap();
+    assert_eq!(raw::store(&host.terms, &host.state, &mut output), Ok(size));
+    let later = Host::read(&output[..size]).unwrap();
+    assert!(later.terms == host.terms && later.state == host.state);
+}
+
+#[test]
+fn what_is_refused_has_a_number_and_words() {
+    let (refusal, line) = Host::read(&TEXT[1..]).err().unwrap();
+    assert_eq!((refusal.number(), line), (1, 1));
+    assert!(refusal.words().starts_with("unknown kind or word"));
+}
