@@ -1,7 +1,8 @@
 #!/bin/sh
 # examples.sh PROGRAM KEEPER: every example as it stands, and with each change that its README tells of under "Change one thing". The first column there is `line 4 to R 1 2 1`, of
 # the requests, or `without G 0 0 2`, of the terms; the second lists the answers that differ, `5, 6 deny; 7 grant`. All others must stay. Where an example has a folder `later`, its terms
-# are what is stored after the example's requests. Where it has a folder `strangers`, that has the same terms but for first edges, and what both ask alike both answer alike.
+# are what is stored after the example's requests; where it has a folder `new` too, after a revision to the terms there.
+# Where it has a folder `strangers`, that has the same terms but for first edges, and what both ask alike both answer alike.
 here=$(cd "$(dirname "$0")" && pwd)
 # shellcheck source=tests/hold.sh
 . "$here/hold.sh"
@@ -46,10 +47,12 @@ differ() {
         END { exit left != 0 }' "$dir/expected.tsv" >"$work/wanted"
 }
 
-for dir in "$here"/../examples/*/ "$here"/../examples/*/later/ "$here"/../examples/*/strangers/; do
+for dir in "$here"/../examples/*/ "$here"/../examples/*/new/ "$here"/../examples/*/later/ \
+    "$here"/../examples/*/strangers/; do
     example=${dir#"$here"/../examples/} example=${example%/}
     if [ -d "$dir/later" ]; then
-        "$work/keeper" store "$dir" | cmp -s - "$dir/later/terms.tsv" || { echo "FAIL $example: later/terms.tsv is not what is stored" && failed=$((failed + 1)); }
+        if [ -d "$dir/new" ]; then set -- revise "$dir" "$dir/new"; else set -- store "$dir"; fi
+        "$work/keeper" "$@" | cmp -s - "$dir/later/terms.tsv" || { echo "FAIL $example: later/terms.tsv is not what is stored" && failed=$((failed + 1)); }
     fi
     cp "$dir/terms.tsv" "$dir/requests.tsv" "$work/case"
     cp "$dir/expected.tsv" "$work/wanted"

@@ -20,13 +20,26 @@ pub fn run(directory: &Path) -> String {
 /// What is stored after the requests of a directory; the refusal where its
 /// terms are refused.
 pub fn stored(directory: &Path) -> Result<Vec<u8>, Refusal> {
+    played(directory).map(|record| terms::store(record.terms(), &record.state()))
+}
+
+/// What is stored after the requests of a directory and a revision to the terms
+/// of another; the refusal where terms are refused or the sizes differ.
+pub fn revised(directory: &Path, new: &Path) -> Result<Vec<u8>, Refusal> {
+    let mut record = played(directory)?;
+    record.revise(&terms::read(&contents(&new.join("terms.tsv")))?.terms)?;
+    Ok(terms::store(record.terms(), &record.state()))
+}
+
+/// The record after the requests of a directory.
+fn played(directory: &Path) -> Result<Record, Refusal> {
     let mut record = Record::of(terms::read(&contents(&directory.join("terms.tsv")))?);
     for line in contents(&directory.join("requests.tsv")).split_inclusive(|&byte| byte == b'\n') {
         if let Some([event, from, to]) = request(line) {
             record.call(false, event, from, to, SCRATCH_WORDS);
         }
     }
-    Ok(terms::store(record.terms(), &record.state()))
+    Ok(record)
 }
 
 /// A file's bytes, one more than allowed at most. A file that can't be opened

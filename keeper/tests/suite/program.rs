@@ -2,9 +2,10 @@
 
 use crate::help::*;
 use keeper::generate::{self, lines, Rng};
-use keeper::program::{output, run, stored, MOST_BYTES};
-use keeper::terms::normal;
+use keeper::program::{output, revised, run, stored, MOST_BYTES};
+use keeper::terms::{normal, Refusal};
 use std::fs;
+use std::path::Path;
 
 const REQUESTS: &str = "R 2 1 2\nR 0 0 1\nR 2 1 2\nR 1 0 1\nR 2 1 2\nR 9 0 0\n";
 const PRINTED: &str = "1\tdeny\n2\tgrant\n3\tgrant\n4\tgrant\n5\tdeny\n6\trefuse\t9\n";
@@ -77,4 +78,15 @@ fn long_files() {
     assert_eq!(output(&tabs(PRESET), &long), "requests\t6\t0\n");
     let printed = output(&tabs(PRESET), &full);
     assert!(printed.ends_with("65536\trefuse\t1\n"));
+}
+
+#[test]
+fn what_is_stored_after_a_revision() {
+    let examples = Path::new(env!("CARGO_MANIFEST_DIR")).join("../examples");
+    let folder = examples.join("revised");
+    let later = fs::read(folder.join("later/terms.tsv")).unwrap();
+    assert_eq!(revised(&folder, &folder.join("new")), Ok(later));
+    assert_eq!(revised(&folder, &folder), stored(&folder));
+    let other = revised(&folder, &examples.join("preset"));
+    assert_eq!(other, Err(Refusal::plain(13)));
 }

@@ -3,13 +3,15 @@
 use cuckooormolu_tool::commands::aloud;
 use cuckooormolu_tool::stop::{FAILING, WELL};
 use std::fs;
+use std::path::PathBuf;
 
 #[test]
 fn examples_quote_what_is_read_aloud() {
     let examples = concat!(env!("CARGO_MANIFEST_DIR"), "/../examples");
     let folders = fs::read_dir(examples).unwrap().map(|entry| entry.unwrap().path());
     let mut quoted = 0;
-    for folder in folders.flat_map(|folder| [folder.join("later"), folder]) {
+    let all = |folder: PathBuf| [folder.join("later"), folder.join("new"), folder];
+    for folder in folders.flat_map(all) {
         let document = folder.join("README.md");
         if !document.is_file() {
             continue;

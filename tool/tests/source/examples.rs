@@ -12,8 +12,8 @@ use std::fs;
 use std::path::{Path, PathBuf};
 
 /// Examples whose terms are the compiled file itself.
-const COMPILED: [&str; 6] =
-    ["chinese-wall", "circle", "cliques", "consent", "policy-20-many", "saved"];
+const COMPILED: [&str; 7] =
+    ["chinese-wall", "circle", "cliques", "consent", "policy-20-many", "revised", "saved"];
 
 /// Examples that spell out what the source counts.
 const SPELLED_OUT: [&str; 3] = ["charities", "friends", "policy-20"];
