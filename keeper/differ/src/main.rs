@@ -1,6 +1,7 @@
 //! `differ [--calls N] [--files N] [--seed S]` holds the static library
-//! against the keeper: N calls over accepted terms, N damaged texts and as
-//! many damaged memories. The first difference is printed with its seed,
+//! against the keeper: N calls over accepted terms, new terms among them, N
+//! damaged texts and as many damaged memories, with calls and with new terms,
+//! and memories whose tables are drawn, with new terms. The first difference is printed with its seed,
 //! made small, and the exit status is 1.
 
 mod library;

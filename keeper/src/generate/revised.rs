@@ -4,7 +4,7 @@ use super::{formulas, words, Rng, Size};
 use crate::record::Call;
 use crate::step::{Revision, Step};
 use crate::terms::memory::{self, STATE_WORDS, TERMS_WORDS};
-use crate::terms::{Effect, Entry, Field, Terms, MOST_COUNTED, MOST_EFFECTS, OPERATORS};
+use crate::terms::{Effect, Entry, Field, Terms, MOST_EFFECTS, OPERATORS};
 
 /// Above so many members no formula is made that was not there, since it might
 /// take the keeper too long.
@@ -186,7 +186,7 @@ fn change_inside(rng: &mut Rng, terms: &mut Terms, entry: usize) {
         Field::BoundVariable => rng.between(1, 2),
         Field::Label => rng.below(terms.labels()),
         Field::Entry => rng.below(entry),
-        Field::Count => rng.between(1, 4).min(MOST_COUNTED),
+        Field::Count => rng.between(1, 4),
     };
     terms.entries[entry] = match (old, rng.below(3)) {
         (Entry::Prev(f), 0) => Entry::Since(f, f),

@@ -30,6 +30,7 @@ fn equal_seeds_give_equal_cases() {
         assert_eq!(generate::case(seed, 99_999), generate::case(seed, 99_999));
         assert_eq!(generate::damaged_text(seed), generate::damaged_text(seed));
         assert_eq!(generate::damaged_memory(seed), generate::damaged_memory(seed));
+        assert_eq!(generate::drawn_memory(seed), generate::drawn_memory(seed));
     }
 }
 
