@@ -1,8 +1,8 @@
 //! `differ [--calls N] [--files N] [--seed S]` holds the static library
 //! against the keeper: N calls over accepted terms, new terms among them, N
 //! damaged texts and as many damaged memories, with calls and with new terms,
-//! and memories whose tables are drawn, with new terms. The first difference is printed with its seed,
-//! made small, and the exit status is 1.
+//! and memories whose tables are drawn, with new terms. The first difference is
+//! printed with its seed, made small, and the exit status is 1.
 
 mod library;
 mod options;

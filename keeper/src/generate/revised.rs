@@ -19,15 +19,16 @@ pub fn steps(rng: &mut Rng, terms: &Terms, calls: Vec<Call>) -> Vec<Step> {
         steps.push(Step::Call(call));
         if rng.percent(share) {
             let revision = revision(rng, &terms);
-            terms = in_use(terms, &revision);
+            terms = next(terms, &revision);
             steps.push(Step::Revision(revision));
         }
     }
     steps
 }
 
-/// The terms in use after a revision: the new ones, unless it is refused.
-fn in_use(terms: Terms, revision: &Revision) -> Terms {
+/// The terms that are edited next: the new ones, if they are sound and of the same
+/// size. Where too few words are lent they are not in use, and are edited anyway.
+fn next(terms: Terms, revision: &Revision) -> Terms {
     match revision.said() {
         Some(new) if new.is_same_size(&terms) => new,
         _ => terms,
