@@ -1,1 +1,3 @@
+pub mod Comparing
+pub mod Marking
 pub mod Filling

@@ -2,35 +2,39 @@
 use Prim.Native.Nat.{ℕ, zero, suc}
 use mathlib.Core.Bool.{cond}
 use mathlib.Core.List.{List}
-use lib.Dec.{ltb}
+use lib.Dec.{eqb, ltb}
 use lib.ListN.{getD, set, replicate}
 use Rattle.theory.specs.Formula.{lowest}
 use Rattle.theory.specs.Limits.{maxEntries}
 use Rattle.theory.specs.Terms.{Terms}
-use Rattle.theory.specs.Classes.{sameEntry}
 use Rattle.memory.specs.Layout.{termsOf}
+use Rattle.classes.specs.Keys.{keyOf}
 
 -- The number of entries that the terms say, or the most that there may be.
 abbrev pub counted : List ℕ → ℕ
 counted terms = let n = termsOf terms .entries in cond (ltb maxEntries n) maxEntries n
 
--- The first entry of T below limit that is the same as entry n of U, by the classes of both, or limit.
-abbrev pub found : (T U : Terms) (olds classes : List ℕ) (limit n : ℕ) → ℕ
-found T U olds classes limit n =
-    lowest limit (λ k. sameEntry (λ x. getD olds x 0) (λ y. getD classes y 0) (T .entry k) (U .entry n))
+-- The first key below limit that is this one, or limit.
+abbrev pub found : (keys : List ℕ) (limit key : ℕ) → ℕ
+found keys limit key = lowest limit (λ j. eqb (getD keys j 0) key)
 
--- The classes of the first n entries of T among themselves, filled into w.
-unfoldable pub filledOwn : Terms → ℕ → List ℕ → List ℕ
-filledOwn T zero w = w
-filledOwn T (suc n) w = let v = filledOwn T n w in set v n (found T T v v (suc n) n)
+-- The key of entry n by classes in a list.
+abbrev pub keyBy : Terms → (classes : List ℕ) → ℕ → ℕ
+keyBy T w n = keyOf (λ x. getD w x 0) (T .entry n)
 
--- The classes of the first n entries of U among the first entries of T, of which olds are the classes, filled into w.
-unfoldable pub filled : (T U : Terms) (olds : List ℕ) (limit : ℕ) → ℕ → List ℕ → List ℕ
-filled T U olds limit zero w = w
-filled T U olds limit (suc n) w = let v = filled T U olds limit n w in set v n (found T U olds v limit n)
+-- Two lists after the classes and keys of the first n entries among themselves are filled in. An entry that is the same as none below it is the first of its class.
+unfoldable pub ownFilled : Terms → ℕ → (w ks : List ℕ) → List ℕ × List ℕ
+ownFilled T zero w ks = (w, ks)
+ownFilled T (suc n) w ks =
+    let p = ownFilled T n w ks in
+    let key = keyBy T (p .0) n in
+    (set (p .0) n (found (p .1) n key), set (p .1) n key)
 
-unfoldable pub ownClasses : (terms : List ℕ) → List ℕ
-ownClasses terms = filledOwn (termsOf terms) (counted terms) (replicate maxEntries 0)
+-- A list after the classes of the first n entries among those with the keys ks are filled in.
+unfoldable pub filled : Terms → (ks : List ℕ) (limit : ℕ) → ℕ → List ℕ → List ℕ
+filled U ks limit zero w = w
+filled U ks limit (suc n) w = let v = filled U ks limit n w in set v n (found ks limit (keyBy U v n))
 
 unfoldable pub classesOf : (old new : List ℕ) → (before : List ℕ) → List ℕ
-classesOf old new before = filled (termsOf old) (termsOf new) (ownClasses old) (counted old) (counted new) before
+classesOf old new before =
+    filled (termsOf new) (ownFilled (termsOf old) (counted old) (replicate maxEntries 0) (replicate maxEntries 0) .1) (counted old) (counted new) before

@@ -1,79 +1,104 @@
 // Which old entry has the same fully spelled-out formula as a new one (docs/SCOPE.md, New terms). It is found without spelling out, by classes: the class of an entry is the first old entry
-// with its formula, or the number of old entries.
+// with its formula, or the number of old entries. An entry's key is its operator and operands in one number, entries among these by their classes.
 use memory::layout;
 use memory::limits::ENTRIES;
 use memory::operands::Kind;
 use memory::operands::operands_of;
 ghost use mathlib.Core.Path.{_≡_};
-ghost use Prim.Native.Nat.{ℕ, _<_, _≤_};
-ghost use lib.ListN.{length, getD};
+ghost use mathlib.Core.Bool.{true};
+ghost use Prim.Native.Nat.{ℕ, _<_, _≤_, _+_, _%_, _/_};
+ghost use lib.ListN.{length, getD, set};
+ghost use Rattle.sets.specs.Sets.{bit};
 ghost use Rattle.theory.specs.Limits.{maxEntries};
-ghost use Rattle.theory.specs.Classes.{sameOperand, sameEntry};
 ghost use Rattle.memory.specs.Layout.{termsOf};
 ghost use Rattle.memory.specs.Operands.{kindOf};
-ghost use Rattle.classes.specs.Filled.{counted, found, filledOwn, filled, ownClasses, classesOf};
+ghost use Rattle.classes.specs.Keys.{normal, bucket, marked, Marked};
+ghost use Rattle.classes.specs.Filled.{counted, found, keyBy, ownFilled, filled, classesOf};
 
-// Whether operands x and y of one kind agree, where c and d are their classes if they are entries.
-fn same_operand(kind: Kind, x: usize, y: usize, c: usize, d: usize) -> bool
-    ensures { λ r. ⌜ ((f g : ℕ → ℕ) → c ≡ f x → d ≡ g y → r ≡ sameOperand (kindOf kind) f g x y) ⌝ }
+// Words of marks, and a prime below the number of their bits.
+const MARKS: usize = 64;
+
+const BUCKETS: u64 = 4093;
+
+// What an operand counts for: the class c where it is an entry.
+fn normal_of(kind: Kind, x: usize, c: usize) -> usize
+    ensures { λ r. ⌜ ((f : ℕ → ℕ) → c ≡ f x → r ≡ normal (kindOf kind) f x) ⌝ }
+    ensures { λ r. ⌜ (x < 65536 → c < 65536 → r < 65536) ⌝ }
 {
     match kind {
-        Kind::Unused => true,
-        Kind::Variable => x == y,
-        Kind::Binder => x == y,
-        Kind::Label => x == y,
-        Kind::Entry => c == d,
-        Kind::Count => x == y,
+        Kind::Unused => 0,
+        Kind::Variable => x,
+        Kind::Binder => x,
+        Kind::Label => x,
+        Kind::Entry => c,
+        Kind::Count => x,
     }
 }
 
-// Whether entry k of old and entry n of new have the same operator and operands, entries among these by their classes.
-fn same_entry(old: &[u16], new: &[u16], olds: &[u16], classes: &[u16], k: usize, n: usize) -> bool
-    ensures { λ r. ⌜ r ≡ sameEntry (λ x. getD (now (olds .entry)) x 0) (λ y. getD (now (classes .entry)) y 0) (termsOf (now (old .entry)) .entry k) (termsOf (now (new .entry)) .entry n) ⌝ }
+// The key of entry n by the classes of entries.
+fn key_of(terms: &[u16], classes: &[u16], n: usize) -> u64
+    ensures { λ r. ⌜ r ≡ keyBy (termsOf (now (terms .entry))) (now (classes .entry)) n ⌝ }
 {
-    let op = layout::op_of(new, n);
+    let op = layout::op_of(terms, n);
     let kinds = operands_of(op);
     let first = kinds.first;
     let second = kinds.second;
     let third = kinds.third;
-    let x = layout::first_of(old, k);
-    let y = layout::first_of(new, n);
-    let v = layout::second_of(old, k);
-    let w = layout::second_of(new, n);
-    let p = layout::third_of(old, k);
-    let q = layout::third_of(new, n);
-    (layout::op_of(old, k) == op)
-        & (same_operand(first, x, y, layout::word(olds, x), layout::word(classes, y))
-            & (same_operand(
-                second,
-                v,
-                w,
-                layout::word(olds, v),
-                layout::word(classes, w),
-            )
-                & same_operand(third, p, q, layout::word(olds, p), layout::word(classes, q))))
+    let x = layout::first_of(terms, n);
+    let y = layout::second_of(terms, n);
+    let z = layout::third_of(terms, n);
+    let a = normal_of(first, x, layout::word(classes, x));
+    let b = normal_of(second, y, layout::word(classes, y));
+    let c = normal_of(third, z, layout::word(classes, z));
+    (((op * 65536 + a) * 65536 + b) * 65536 + c) as u64
 }
 
-// The first entry of old below limit that is the same as entry n of new, or limit.
-fn first_same(
-    old: &[u16],
-    new: &[u16],
-    olds: &[u16],
-    classes: &[u16],
-    limit: usize,
-    n: usize,
-) -> usize
-    ensures { λ r. ⌜ r ≡ found (termsOf (now (old .entry))) (termsOf (now (new .entry))) (now (olds .entry)) (now (classes .entry)) limit n ⌝ }
-    ensures { λ r. ⌜ r ≤ limit ⌝ }
+// Whether a key is marked. One that is not is none of those that were.
+fn is_marked(marks: &[u64], key: u64) -> bool
+    requires { ⌜ length (now marks) ≡ 64 ⌝ }
+    ensures { λ r. ⌜ r ≡ marked (now (marks .entry)) key ⌝ }
+{
+    let b = (key % BUCKETS) as usize;
+    sets::has(marks[b / 64], b % 64)
+}
+
+// Marks a key.
+fn mark(marks: &mut [u64], key: u64)
+    requires { ⌜ length (now marks) ≡ 64 ⌝ }
+    ensures { λ _. ⌜ length (now (marks .exit)) ≡ 64 ⌝ }
+    ensures { λ _. ⌜ marked (now (marks .exit)) key ≡ true ⌝ }
+    ensures { λ _. ⌜ ((k : ℕ) → marked (now (marks .entry)) k ≡ true → marked (now (marks .exit)) k ≡ true) ⌝ }
+{
+    let b = (key % BUCKETS) as usize;
+    let w = b / 64;
+    marks[w] = sets::with(marks[w], b % 64);
+}
+
+// The first of the keys below limit that is this one, or limit.
+fn first_same(keys: &[u64], limit: usize, key: u64) -> usize
+    requires { ⌜ limit ≤ length (now keys) ⌝ }
+    ensures { λ r. ⌜ (r ≡ found (now (keys .entry)) limit key) × (r ≤ limit) ⌝ }
 {
     let mut k = 0;
     while k < limit {
-        if same_entry(old, new, olds, classes, k, n) {
+        if keys[k] == key {
             return k;
         }
         k += 1;
     }
     limit
+}
+
+// The same, where those keys are marked.
+fn lookup(keys: &[u64], marks: &[u64], limit: usize, key: u64) -> usize
+    requires { ⌜ (limit ≤ length (now keys)) × (length (now marks) ≡ 64) × Marked (now keys) (now marks) limit ⌝ }
+    ensures { λ r. ⌜ (r ≡ found (now (keys .entry)) limit key) × (r ≤ limit) ⌝ }
+{
+    if is_marked(marks, key) {
+        first_same(keys, limit, key)
+    } else {
+        limit
+    }
 }
 
 // The number of entries that the terms say, or the most that there may be.
@@ -84,34 +109,46 @@ fn count_of(terms: &[u16]) -> usize
     if ENTRIES < n { ENTRIES } else { n }
 }
 
-// Fills in the classes of the first count entries of terms among themselves. An entry finds itself at the latest, so no later one is looked at.
-fn old_classes(terms: &[u16], count: usize, classes: &mut [u16])
-    requires { ⌜ (count ≤ maxEntries) × (length (now classes) ≡ maxEntries) ⌝ }
-    ensures { λ _. ⌜ now (classes .exit) ≡ filledOwn (termsOf (now (terms .entry))) count (now (classes .entry)) ⌝ }
+// Fills in the classes and keys of the first count entries of terms among themselves, and marks the keys.
+fn old_classes(
+    terms: &[u16],
+    count: usize,
+    classes: &mut [u16],
+    keys: &mut [u64],
+    marks: &mut [u64],
+)
+    requires { ⌜ (count ≤ maxEntries) × (length (now classes) ≡ maxEntries) × (length (now keys) ≡ maxEntries) × (length (now marks) ≡ 64) ⌝ }
+    ensures { λ _. ⌜ now (keys .exit) ≡ ownFilled (termsOf (now (terms .entry))) count (now (classes .entry)) (now (keys .entry)) .1 ⌝ }
+    ensures { λ _. ⌜ (length (now (keys .exit)) ≡ maxEntries) × (length (now (marks .exit)) ≡ 64) × Marked (now (keys .exit)) (now (marks .exit)) count ⌝ }
 {
     let mut n = 0;
     while n < count {
-        let k = first_same(terms, terms, &classes[..], &classes[..], n + 1, n);
+        let key = key_of(terms, &classes[..], n);
+        let k = lookup(&keys[..], &marks[..], n, key);
         classes[n] = k as u16;
+        keys[n] = key;
+        mark(marks, key);
         n += 1;
     }
 }
 
-// Fills in the classes of the first count entries of new among the first limit of old, of which olds are the classes.
+// Fills in the classes of the first count entries of terms among those with the first limit keys, which are marked.
 fn new_classes(
-    old: &[u16],
-    new: &[u16],
-    olds: &[u16],
+    terms: &[u16],
+    keys: &[u64],
+    marks: &[u64],
     limit: usize,
     count: usize,
     classes: &mut [u16],
 )
     requires { ⌜ (limit ≤ maxEntries) × (count ≤ maxEntries) × (length (now classes) ≡ maxEntries) ⌝ }
-    ensures { λ _. ⌜ now (classes .exit) ≡ filled (termsOf (now (old .entry))) (termsOf (now (new .entry))) (now (olds .entry)) limit count (now (classes .entry)) ⌝ }
+    requires { ⌜ (length (now keys) ≡ maxEntries) × (length (now marks) ≡ 64) × Marked (now keys) (now marks) limit ⌝ }
+    ensures { λ _. ⌜ now (classes .exit) ≡ filled (termsOf (now (terms .entry))) (now (keys .entry)) limit count (now (classes .entry)) ⌝ }
 {
     let mut n = 0;
     while n < count {
-        let k = first_same(old, new, olds, &classes[..], limit, n);
+        let key = key_of(terms, &classes[..], n);
+        let k = lookup(keys, marks, limit, key);
         classes[n] = k as u16;
         n += 1;
     }
@@ -123,8 +160,10 @@ pub fn find_classes(old: &[u16], new: &[u16], classes: &mut [u16; ENTRIES])
     ensures { λ _. ⌜ length (now (classes .exit)) ≡ maxEntries ⌝ }
 {
     let mut olds = [0u16; ENTRIES];
+    let mut keys = [0u64; ENTRIES];
+    let mut marks = [0u64; MARKS];
     let limit = count_of(old);
     let count = count_of(new);
-    old_classes(old, limit, &mut olds);
-    new_classes(old, new, &olds, limit, count, classes);
+    old_classes(old, limit, &mut olds, &mut keys, &mut marks);
+    new_classes(new, &keys, &marks, limit, count, classes);
 }

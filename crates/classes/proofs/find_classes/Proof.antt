@@ -10,10 +10,10 @@ use Rattle.classes.proofs.find_classes.Tie as tie
 
 returns : tie.Need-returns
 returns c =
-    let lent : length (c .before .before .before .before .before .before .before .before .before .before .args .classes .now) ≡ maxEntries = search needs in (
-      all-filled _ _ _ _ _ _ _ (c .before .before .before .before .before .before .before .count-of .ensures .0) (c .before .before .before .before .before .before .count-of2 .ensures .0) (c .before .before .before .before .old-classes .ensures)
-          (c .new-classes .ensures),
-      ap (λ (w : List ℕ). length w) (c .new-classes .ensures) ∙ filled-length _ _ _ _ _ _ ∙ lent,
+    let lent : length (c .before .before .before .before .before .before .before .before .before .before .before .before .before .before .before .args .classes .now) ≡ maxEntries = search needs in (
+      all-filled _ _ _ _ _ _ _ (c .before .before .before .before .before .before .before .before .before .before .before .before .count-of .ensures .0) (c .before .before .before .before .before .before .before .before .before .before .before .count-of2 .ensures .0)
+          (c .before .before .before .before .before .before .before .old-classes .ensures .0) (c .new-classes .ensures),
+      ap (λ (w : List ℕ). length w) (c .new-classes .ensures) ∙ filled-length _ _ _ _ _ ∙ lent,
     )
 
 pub find-classes-spec : {M : Type 1} → statement M
@@ -23,7 +23,10 @@ find-classes-spec =
     (λ c κs. search needs)
     (λ c κs. search needs)
     (λ c. search needs)
+    (λ c. search needs)
+    (λ c. search needs)
     (λ c κs. search needs)
+    (λ c. search needs)
     (λ c. search needs)
     (λ c κs. search needs)
     returns)

@@ -12,42 +12,43 @@ use Rattle.classes.proofs.new_classes.Statement.{statement}
 use Rattle.classes.proofs.new_classes.Tie as tie
 
 abbrev Inv-loop : tie.InvT-loop
-Inv-loop old new olds limit count classes₀ n₀ classes n =
-    (classes ≡ filled (termsOf old) (termsOf new) olds limit n classes₀) × (length classes ≡ maxEntries) × (n ≤ count)
+Inv-loop terms keys marks limit count classes₀ n₀ classes n =
+    (classes ≡ filled (termsOf terms) keys limit n classes₀) × (length classes ≡ maxEntries) × (n ≤ count)
 
 abbrev μ-loop : tie.MeasureT-loop
-μ-loop old new olds limit count classes₀ n₀ classes n = count - n
+μ-loop terms keys marks limit count classes₀ n₀ classes n = count - n
 
 loop-holds : tie.Need-loop-holds Inv-loop μ-loop
 unfolding filled
-loop-holds c = (refl, c .before .before .before .before .pre .2, omega arith)
+loop-holds c = (refl, c .before .before .before .before .pre .0 .2, omega arith)
+
+lookup-requires : tie.Need-lookup-requires Inv-loop μ-loop
+lookup-requires c κs =
+    let x = c .before .before .before .before .before .before .before .before in
+    (omega (arith, x .pre .0 .0, x .pre .1 .0), x .pre .1 .1, x .pre .1 .2)
 
 cast-classes : tie.Need-cast-classes Inv-loop μ-loop
-cast-classes c =
-    omega (arith, c .first-same .ensures .1, c .before .before .before .before .before .before .before .before .pre .0)
+cast-classes c = omega (arith, c .lookup .ensures .1, c .before .before .before .before .before .before .before .before .before .pre .0 .0)
 
 slice-write-classes : tie.Need-slice-write-classes Inv-loop μ-loop
-slice-write-classes c =
-    let l = c .before .before .before .loop in
-    omega (arith, c .before .before .loop-test .taken, l .inv .1, c .before .before .before .before .before .before .before .before .pre .1)
+slice-write-classes c = omega (arith, c .before .before .before .loop-test .taken, c .before .before .before .before .loop .inv .1, c .before .before .before .before .before .before .before .before .before .pre .0 .1)
 
 loop-again : tie.Need-loop-again Inv-loop μ-loop
 loop-again c =
-    let l = c .before .before .before .loop in (
-      turn _ _ _ _ _ (l .n) (l .classes) _ (l .inv .0) (c .first-same .ensures .0),
+    let l = c .before .before .before .before .loop in (
+      turn _ _ _ _ (l .n) (l .classes) _ _ (l .inv .0) (c .before .key-of .ensures) (c .lookup .ensures .0),
       length-set (l .classes) (l .n) _ ∙ l .inv .1,
-      omega (arith, c .before .before .loop-test .taken),
+      omega (arith, c .before .before .before .loop-test .taken),
     )
 
 same-length : tie.Need-same-length Inv-loop μ-loop
-same-length c = c .before .loop .inv .1 ∙ sym (c .before .before .before .before .before .before .pre .2)
+same-length c = c .before .loop .inv .1 ∙ sym (c .before .before .before .before .before .before .pre .0 .2)
 
 returns : tie.Need-returns Inv-loop μ-loop
 returns c =
     let l = c .before .loop in
     let a = c .before .before .before .before .before .before .args in
-    subst (λ (n : ℕ). l .classes ≡ filled (termsOf (a .old .now)) (termsOf (a .new .now)) (a .olds .now) (a .limit) n (a .classes .now)) (omega (arith, l .inv .2, c .loop-test .left))
-    (l .inv .0)
+    subst (λ (n : ℕ). l .classes ≡ filled (termsOf (a .terms .now)) (a .keys .now) (a .limit) n (a .classes .now)) (omega (arith, l .inv .2, c .loop-test .left)) (l .inv .0)
 
 pub new-classes-spec : {M : Type 1} → statement M
 new-classes-spec =
@@ -57,6 +58,7 @@ new-classes-spec =
     μ-loop
     loop-holds
     (λ c κs. search needs)
+    lookup-requires
     cast-classes
     (λ c. omega arith)
     slice-write-classes
