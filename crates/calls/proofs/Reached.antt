@@ -1,5 +1,5 @@
 -- No `requires` of a private function is empty: terms in which all twelve operators, a prev, a since over a since and effects of both kinds and both
--- directions take part are opened, and requests of theirs are granted, and denied and kept; with no entry used twice, and with one.
+-- directions take part are opened, and requests of theirs are granted, and denied and kept; with no entry used twice, with one that is, and with binds nested so that a memo is taken.
 use Prim.Native.Nat.{ℕ, _≤_, _<_}
 use native.Mathlib.Omega.{arith}
 use mathlib.Core.Path.{_≡_, refl, sym, ap, _∙_, subst}
@@ -74,11 +74,11 @@ zeros-blank w from n rest e = all-true n (λ k l.
     ∙ List·getD-append (replicate n 0) rest 0 k (subst (λ (m : ℕ). k < m) (sym (length-replicate n 0)) l) ∙ getD-replicate n k 0 0 l))
 
 -- What the tests of these terms come to: the words after the entries, the policies and the effects, and the marks.
-blanks : (e : ℕ) → (blank (manyTerms e) (entryAt 17) 956 && (blank (manyTerms e) (policyAt 2) 14 && (blank (manyTerms e) (effectAt 2 0) 168
+blanks : (e : ℕ) → (blank (manyTerms e) (entryAt 20) 944 && (blank (manyTerms e) (policyAt 2) 14 && (blank (manyTerms e) (effectAt 2 0) 168
     && (allBelow 16 (λ j. ltb (getD (manyTerms e) (markAt j) 0) (cond (ltb j 2) 2 1)) && true)))) ≡ true
 unfolding manyTerms allBelow
 blanks e =
-    and-both _ _ (zeros-blank (manyTerms e) (entryAt 17) 956 (0 ∷ 16 ∷ (replicate 26 0 ++ effects)) refl)
+    and-both _ _ (zeros-blank (manyTerms e) (entryAt 20) 944 (0 ∷ 19 ∷ (replicate 26 0 ++ effects)) refl)
     (and-both _ _ (zeros-blank (manyTerms e) (policyAt 2) 14 (replicate 12 0 ++ effects) refl)
     (and-both _ _ (zeros-blank (manyTerms e) (effectAt 2 0) 168 marks refl) refl))
   where
@@ -88,7 +88,7 @@ blanks e =
     effects : List ℕ
     effects = 1 ∷ 0 ∷ 0 ∷ 2 ∷ 0 ∷ 1 ∷ 1 ∷ 0 ∷ 1 ∷ 2 ∷ 0 ∷ 0 ∷ (replicate 168 0 ++ marks)
 
--- With no entry used twice, and with one.
-pub reached : Reaches 1 × Reaches 14
+-- With no entry used twice, with one that is, and with a memo.
+pub reached : Reaches 1 × Reaches 14 × Reaches 16
 unfolding manyTerms goodMemory termsOf every allBelow anyBelow countBelow operandFits lone onlyFree reachFits node number below spelled free effectsFrom own judge keep keepAll holds affectAll
-reached = (reaches 1 (blanks 1) refl, reaches 14 (blanks 14) refl)
+reached = (reaches 1 (blanks 1) refl, reaches 14 (blanks 14) refl, reaches 16 (blanks 16) refl)

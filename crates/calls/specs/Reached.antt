@@ -15,10 +15,11 @@ use Rattle.calls.specs.Monitor.{openedState}
 use Rattle.calls.specs.Agreement.{LentCall, serveAll}
 
 -- Words of terms with three members, one relation and two events. Event 0 is always granted. Event 1 goes by the last entry, is kept and has
--- four effects: add and del, to the target and back. The second operand of entry 15 is e: with e = 1 nothing that is worked out is used twice, with e = 14 entry 14 is.
+-- four effects: add and del, to the target and back. e is the operand of entry 17 and the second one of entry 18: with e = 1 nothing that is worked out is used twice; with e = 14 entry 14 is;
+-- with e = 16 binds nest over members that are walked to, both where event 1 is decided and where the table of entry 17 is moved on, so that both take a memo.
 unfoldable pub manyTerms : (e : ℕ) → List ℕ
 manyTerms e =
-    3 ∷ 1 ∷ 2 ∷ 17
+    3 ∷ 1 ∷ 2 ∷ 20
     -- top; var 0; var 1
     ∷ 0 ∷ 0 ∷ 0 ∷ 0
     ∷ 1 ∷ 0 ∷ 0 ∷ 0
@@ -38,10 +39,15 @@ manyTerms e =
     ∷ 5 ∷ 1 ∷ 11 ∷ 0
     ∷ 9 ∷ 0 ∷ 12 ∷ 0
     ∷ 8 ∷ 1 ∷ 13 ∷ 0
+    -- 16: event 0 goes from here to where 14 holds
+    ∷ 4 ∷ 1 ∷ 14 ∷ 0
+    ∷ 8 ∷ 2 ∷ 15 ∷ 0
+    -- 17: prev of e; 18: 14 or e
+    ∷ 6 ∷ e ∷ 0 ∷ 0
     ∷ 3 ∷ 14 ∷ e ∷ 0
-    -- 16: reaches nobody but oneself, where 15 holds
-    ∷ 10 ∷ 1 ∷ 2 ∷ 15
-    ∷ (replicate 956 0 ++ (0 ∷ 16 ∷ (replicate 26 0 ++ (1 ∷ 0 ∷ 0 ∷ 2 ∷ 0 ∷ 1 ∷ 1 ∷ 0 ∷ 1 ∷ 2 ∷ 0 ∷ 0 ∷ (replicate 168 0 ++ (0 ∷ 1 ∷ replicate 14 0))))))
+    -- 19: reaches nobody but oneself, where 18 holds
+    ∷ 10 ∷ 1 ∷ 2 ∷ 18
+    ∷ (replicate 944 0 ++ (0 ∷ 19 ∷ (replicate 26 0 ++ (1 ∷ 0 ∷ 0 ∷ 2 ∷ 0 ∷ 1 ∷ 1 ∷ 0 ∷ 1 ∷ 2 ∷ 0 ∷ 0 ∷ (replicate 168 0 ++ (0 ∷ 1 ∷ replicate 14 0))))))
 
 -- A look or a request of event j from member 0 to member 1.
 abbrev pub lookAt : (j : ℕ) → List ℕ → LentCall
