@@ -3,7 +3,7 @@ use Prim.Native.Nat.{ℕ}
 use native.Mathlib.Omega.{arith}
 use mathlib.Core.Path.{_≡_, refl}
 use mathlib.Core.List.{List, [], _∷_}
-use mathlib.Core.Bool.{true, false, cond, not, _&&_, _||_}
+use mathlib.Core.Bool.{Bool, true, false, cond, not, _&&_, _||_}
 use lib.Dec.{eqb}
 use lib.ListN.{getD}
 use borrow.Author.Tests.{ltb-true, lt-ltb, eqb-true, eq-eqb}
@@ -12,12 +12,13 @@ use Rattle.sets.proofs.Finite.{and-left, and-both}
 use Rattle.theory.specs.Formula.{node, number, below, spelled, free, highest}
 use Rattle.theory.specs.Formula.Formula.{top, neg}
 use Rattle.theory.specs.Meaning.{Record, fromFirst, Assignment, holds}
-use Rattle.theory.specs.Terms.{Terms}
-use Rattle.theory.specs.Moment.{affectAll}
+use Rattle.theory.specs.Terms.{Effect, Terms}
+use Rattle.theory.specs.Moment.{Relations, affect, affectAll}
 use Rattle.theory.specs.Keeper.{Call, Answer, judge, keep, keepAll, keeper}
 use Rattle.theory.specs.Keeper.Answer.{refused}
 use Rattle.theory.specs.Tables.{State, holdsNow, prevTables, sinceTables, opening, decideNow, made, advance}
-use Rattle.theory.specs.Cases.{line, adds, requests, looks, yes, no, preset, circle, own, cases, keptAnswers, expected, Anywhere}
+use Rattle.theory.specs.Cases.{line, effect, adds, requests, looks, yes, no, preset, circle, own}
+use Rattle.theory.specs.Cases.{cases, keptAnswers, expected, Anywhere, AnyEnds}
 use Rattle.theory.proofs.Record.{since-unfolds}
 
 -- ---- the preset's requests
@@ -40,11 +41,32 @@ anywhere N γ i g m = record {
   bind-again = eq-eqb (g 0) (g 0) refl;
 }
 
--- The keeper answers every call of the table as it says; and what is marked as holding always, or with where it holds, does so for every
--- number of members, record, moment, assignment and member.
-pub marked-cases : (keptAnswers cases ≡ expected cases) × ((N : ℕ) (γ : Record) (i : ℕ) (g : Assignment) (m : ℕ) → Anywhere N γ i g m)
+-- An effect leaves its own edge as it says.
+affected : (u v : ℕ) (e : Effect) (R : Relations) →
+    affect u v e R (e .relation) (cond (e .back) v u) (cond (e .back) u v) ≡ e .adds
+affected u v e R =
+    rw (
+      eq-eqb (e .relation) (e .relation) refl,
+      eq-eqb (cond (e .back) v u) (cond (e .back) v u) refl,
+      eq-eqb (cond (e .back) u v) (cond (e .back) u v) refl,
+    )
+
+any-ends : (R : Relations) (k : ℕ) (back : Bool) (u v : ℕ) → AnyEnds R k back u v
+unfolding affectAll
+any-ends R k back u v = record {
+  add-del = affected u v (effect false k back) (affect u v (effect true k back) R);
+  del-add = affected u v (effect true k back) (affect u v (effect false k back) R);
+}
+
+-- The keeper answers every call of the table as it says; what is marked as holding always, or with where it holds, does
+-- so for every number of members, record, moment, assignment and member; and what is marked of effects, for every
+-- relation, direction and pair of ends.
+pub marked-cases :
+    (keptAnswers cases ≡ expected cases)
+    × ((N : ℕ) (γ : Record) (i : ℕ) (g : Assignment) (m : ℕ) → Anywhere N γ i g m)
+    × ((R : Relations) (k : ℕ) (back : Bool) (u v : ℕ) → AnyEnds R k back u v)
 unfolding cases keptAnswers expected preset circle own judge keep keepAll holds anyBelow allBelow countBelow node number below spelled affectAll
-marked-cases = (refl, anywhere)
+marked-cases = (refl, anywhere, any-ends)
 
 -- ---- nested past-time terms, by the keeper and by the tables
 

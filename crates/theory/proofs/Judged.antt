@@ -7,12 +7,13 @@ use lib.Dec.{ltb, leb}
 use lib.ListN.{length}
 use borrow.Author.Tests.{leb-false, le-ltb}
 use Rattle.theory.specs.Limits.{scratchWords}
-use Rattle.theory.specs.Meaning.{fromFirst}
+use Rattle.theory.specs.Meaning.{Starts, fromFirst}
 use Rattle.theory.specs.Terms.{Terms}
-use Rattle.theory.specs.Moment.{Moment, next, denied}
+use Rattle.theory.specs.Moment.{Moment}
 use Rattle.theory.specs.Keeper.{Call, Answer, target, lastMoment, keeperHolds, judge}
 use Rattle.theory.specs.Keeper.Answer.{decided, refused}
 use Rattle.theory.specs.Keeper.Verdict.{grant, deny}
+use Rattle.theory.specs.Tables.{made}
 use Rattle.theory.specs.Strangers.{makes}
 
 -- The call is lent too little scratch; it names no event or no member.
@@ -22,9 +23,12 @@ short c = ltb (c .scratch) scratchWords
 abbrev pub unnamed : Terms → Call → Bool
 unnamed T c = leb (T .events) (c .event) || leb (T .members) (c .from) || leb (T .members) (c .to)
 
--- The call names an event and members, and the policy of that event holds.
+-- The call names an event and members, and the policy of that event holds, each past-time entry from its start on.
+abbrev pub grantedFrom : Terms → Starts → List Moment → Call → Bool
+grantedFrom T s Ms c = not (unnamed T c) && keeperHolds T s Ms (T .policy (c .event)) (target (c .to)) (c .from)
+
 abbrev pub granted : Terms → List Moment → Call → Bool
-granted T Ms c = not (unnamed T c) && keeperHolds T fromFirst Ms (T .policy (c .event)) (target (c .to)) (c .from)
+granted T Ms c = grantedFrom T fromFirst Ms c
 
 -- The answer to a call that is granted or is not, and whether such a call makes a moment.
 abbrev pub answered : Terms → Call → (granted : Bool) → Answer
@@ -33,15 +37,18 @@ answered T c g = cond (short c) (refused 6 0) (cond (unnamed T c) (refused 9 0) 
 abbrev pub counted : Terms → Call → (granted : Bool) → Bool
 counted T c g = not (short c) && (not (unnamed T c) && (not (c .look) && (g || T .kept (c .event))))
 
--- The moment that it makes of M, if it makes one.
+-- The moment that it makes of M, if it makes one: `made`, the one to which the monitor moves its tables on.
 abbrev pub madeBy : Terms → Moment → Call → (granted : Bool) → Moment
-madeBy T M c g = cond g (next T M (c .event) (c .from) (c .to)) (denied M (c .event) (c .from) (c .to))
+madeBy T M c g = made T M g (c .event) (c .from) (c .to)
 
 -- A call goes by these.
-pub judged : (T : Terms) (Ms : List Moment) (c : Call) →
-    judge T fromFirst Ms c ≡ (answered T c (granted T Ms c), cond (counted T c (granted T Ms c)) (madeBy T (lastMoment Ms) c (granted T Ms c) ∷ []) [])
+pub judged-from : (T : Terms) (s : Starts) (Ms : List Moment) (c : Call) →
+    let g = grantedFrom T s Ms c in
+    judge T s Ms c ≡ (answered T c g, cond (counted T c g) (madeBy T (lastMoment Ms) c g ∷ []) [])
 unfolding judge
-judged T Ms c = go (short c) (unnamed T c) (keeperHolds T fromFirst Ms (T .policy (c .event)) (target (c .to)) (c .from)) (c .look) (T .kept (c .event))
+judged-from T s Ms c =
+    let h = keeperHolds T s Ms (T .policy (c .event)) (target (c .to)) (c .from) in
+    go (short c) (unnamed T c) h (c .look) (T .kept (c .event))
   where
     A : Moment
     A = madeBy T (lastMoment Ms) c false
@@ -62,6 +69,11 @@ judged T Ms c = go (short c) (unnamed T c) (keeperHolds T fromFirst Ms (T .polic
     go false false false true k = refl
     go false false false false true = refl
     go false false false false false = refl
+
+pub judged : (T : Terms) (Ms : List Moment) (c : Call) →
+    let g = granted T Ms c in
+    judge T fromFirst Ms c ≡ (answered T c g, cond (counted T c g) (madeBy T (lastMoment Ms) c g ∷ []) [])
+judged T Ms c = judged-from T fromFirst Ms c
 
 pub makes-counted : (T : Terms) (Ms : List Moment) (c : Call) → makes T Ms c ≡ counted T c (granted T Ms c)
 makes-counted T Ms c =

@@ -3,14 +3,14 @@ use Prim.Native.Nat.{ℕ, _-_, _<_}
 use mathlib.Core.Path.{_≡_}
 use mathlib.Core.Logic.{_↔_}
 use mathlib.Core.List.{List, [], _∷_}
-use mathlib.Core.Bool.{true, false, cond, _&&_}
+use mathlib.Core.Bool.{Bool, true, false, cond, _&&_}
 use lib.Dec.{eqb}
 use lib.ListN.{getD, replicate}
 use Rattle.theory.specs.Formula.{Entry}
 use Rattle.theory.specs.Formula.Formula.{top, var, neg, prev, since, bind, at}
 use Rattle.theory.specs.Meaning.{Record, fromFirst, Assignment, holds}
 use Rattle.theory.specs.Terms.{Terms, Effect}
-use Rattle.theory.specs.Moment.{Relations}
+use Rattle.theory.specs.Moment.{Relations, affectAll}
 use Rattle.theory.specs.Keeper.{Call, Answer, keeper}
 use Rattle.theory.specs.Limits.{scratchWords}
 use Rattle.theory.specs.Keeper.Verdict.{grant, deny}
@@ -110,11 +110,14 @@ keeping n es fs = record {
   kept = λ j. eqb j 1;
 }
 
+abbrev pub effect : (adds : Bool) → (relation : ℕ) → (back : Bool) → Effect
+effect adds k back = record { adds = adds; relation = k; back = back }
+
 abbrev pub adds : Effect
-adds = record { adds = true; relation = 0; back = false }
+adds = effect true 0 false
 
 abbrev pub dels : Effect
-dels = record { adds = false; relation = 0; back = false }
+dels = effect false 0 false
 
 -- event 1 looked at for all initiators and targets
 abbrev pub everywhere : List Call
@@ -200,3 +203,13 @@ pub record Anywhere (N : ℕ) (γ : Record) (i : ℕ) (g : Assignment) (m : ℕ)
   pub bind-var : holds N fromFirst γ (bind 1 (var 1)) i g m ≡ true
   -- bind 1, at 0, bind 1, at 1, var 0: always
   pub bind-again : holds N fromFirst γ (bind 1 (at 0 (bind 1 (at 1 (var 0))))) i g m ≡ true
+
+-- ---- effects: the same two cases for every relation, direction and pair of ends, whatever the relations were
+
+pub record AnyEnds (R : Relations) (k : ℕ) (back : Bool) (u v : ℕ) : Type 0 where
+  -- effects add then del leave the edge absent
+  pub add-del :
+      affectAll u v (effect true k back ∷ effect false k back ∷ []) R k (cond back v u) (cond back u v) ≡ false
+  -- del then add leave it present
+  pub del-add :
+      affectAll u v (effect false k back ∷ effect true k back ∷ []) R k (cond back v u) (cond back u v) ≡ true
