@@ -21,5 +21,6 @@ pub mod Grown
 pub mod Rewritten
 pub mod SaidState
 pub mod Said
+pub mod Preset
 pub mod Refused
 pub mod AlikeText

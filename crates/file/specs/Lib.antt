@@ -4,5 +4,6 @@ pub mod File
 pub mod Reading
 pub mod Refused
 pub mod Said
+pub mod Preset
 pub mod Writing
 pub mod Normal
