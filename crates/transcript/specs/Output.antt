@@ -1,5 +1,5 @@
--- What the program prints for a terms text and a requests text (docs/SCOPE.md, The program). For an old file that is made of the keeper's answers; a stored file has
--- no record to be held against, and the answers are those that its tables give.
+-- What the program prints for a terms text and a requests text (docs/SCOPE.md, The program). For an old file that is made of the keeper's answers, for a stored file of those that its
+-- tables give: of its text alone nobody can tell whether it has a record. Where it has one, these are the answers of the keeper who goes on with it (`output-recorded`).
 use Prim.Native.Nat.{ℕ}
 use mathlib.Core.Bool.{cond}
 use mathlib.Core.List.{List, _++_}

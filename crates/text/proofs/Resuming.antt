@@ -1,0 +1,115 @@
+-- A panel that stops and goes on: what it wrote is read, can be written at all, and, in the old form too, has it answer as if it had never stopped.
+use Prim.Native.Nat.{ℕ, _≤_, _<_}
+use native.Mathlib.Omega.{arith}
+use mathlib.Core.Path.{_≡_, refl, sym, ap, ap₂, subst, _∙_}
+use mathlib.Core.Bool.{Bool, true, false}
+use mathlib.Core.List.{List}
+use lib.Dec.{ltb}
+use lib.ListN.{length, take, drop}
+use lib.Seq.{take-at}
+use borrow.Author.Tests.{le-ltb}
+use Rattle.theory.specs.Keeper.{Book}
+use Rattle.memory.specs.Layout.{termsWords, stateWords}
+use Rattle.memory.specs.Outcome.{Outcome, checks}
+use Rattle.memory.specs.Outcome.Outcome.{passed, failed}
+use Rattle.memory.proofs.Outcomes.{Checked, passed-checked, check-passed}
+use Rattle.calls.specs.Agreement.{LentStep, Lent, serveSteps}
+use Rattle.calls.proofs.Demand.{run}
+use Rattle.file.specs.File.{File}
+use Rattle.file.specs.Reading.{reading}
+use Rattle.file.specs.Reading.Reading.{accepted}
+use Rattle.writer.specs.Write.{Writing, writtenText, sizeGives, writeGives, storedText, storeGives, fitted, filledOut}
+use Rattle.writer.specs.Write.Writing.{bytes, unwritten}
+use Rattle.writer.proofs.Sized.{size-enough, size-short, size-refused}
+use Rattle.text.specs.Text.{isFresh, ifFresh, oldSizeGives, oldWriteGives, oldWriteLeaves}
+use Rattle.text.specs.Recorded.{loaded, after, Recorded}
+use Rattle.text.specs.Recorded.Recorded.{old, written}
+use Rattle.text.proofs.Yields.{reread-fresh}
+use Rattle.text.proofs.Reloaded.{reloaded, reread-stored-memory}
+use Rattle.text.proofs.Loaded.{text-stored, loaded-twins}
+use Rattle.text.proofs.Demand.{playing, never-stopped}
+
+-- ---- the old form
+
+was-written : (o : Outcome) (b c : Bool) (k n : ℕ) → ifFresh b o (fitted c k o) ≡ bytes n → (passed ≡ o) × (b ≡ true) × (k ≡ n)
+was-written passed true true k n e = let z : _≡_ {A = ℕ} 0 1 = cc in absurd (omega arith)
+was-written passed true false k n e = (refl, refl, cc)
+was-written passed false c k n e = let z : _≡_ {A = ℕ} 0 1 = cc in absurd (omega arith)
+was-written (failed i j) b c k n e = let z : _≡_ {A = ℕ} 0 1 = cc in absurd (omega arith)
+
+module _ (L : Lent) (out : List ℕ) (n : ℕ) (g : oldWriteGives (L .terms) (L .state) out ≡ bytes n) where
+  was : (passed ≡ checks (L .terms) (L .state)) × (isFresh (L .terms) (L .state) ≡ true) × (length (writtenText (L .terms) (L .state)) ≡ n)
+  unfolding oldWriteGives writeGives
+  was =
+      was-written (checks (L .terms) (L .state)) (isFresh (L .terms) (L .state)) (ltb (length out) (length (writtenText (L .terms) (L .state))))
+      (length (writtenText (L .terms) (L .state))) n g
+
+  text-written : take n (oldWriteLeaves (L .terms) (L .state) out) ≡ writtenText (L .terms) (L .state)
+  unfolding oldWriteLeaves
+  text-written =
+      ap (λ w. take n (filledOut (writtenText (L .terms) (L .state)) out w)) g
+      ∙ take-at (writtenText (L .terms) (L .state)) (drop (length (writtenText (L .terms) (L .state))) out) n (was .2)
+
+  abbrev stored : List ℕ
+  stored = storedText (L .terms) (L .state)
+
+  stored-fits : storeGives (L .terms) (L .state) stored ≡ bytes (length stored)
+  unfolding storeGives
+  stored-fits = rw (← was .0, le-ltb (length stored) (length stored) (omega arith)) refl
+
+  -- After loading a file of the old form that a panel wrote, answers are those of that panel had it never stopped: of any panel, whether it has a record or not, and whatever memory is lent.
+  pub never-stopped-old : (text : List ℕ) → text ≡ take n (oldWriteLeaves (L .terms) (L .state) out) →
+      (terms' state' : List ℕ) → termsWords ≤ length terms' → stateWords ≤ length state' → (ss : List LentStep) →
+      serveSteps (loaded text terms' state') ss .0 ≡ serveSteps L ss .0
+  never-stopped-old text same terms' state' tl sl ss =
+      let c : Checked (L .terms) (L .state) = passed-checked (L .terms) (L .state) (was .0) in
+      let r = reread-fresh (L .terms) (L .state) (c .long-terms) (c .long-state) (c .good-terms) (c .good-state) (was .1) terms' state' tl sl in
+      let q = reread-stored-memory (L .terms) (L .state) (c .long-terms) (c .long-state) (c .good-terms) (c .good-state) terms' state' tl sl in
+      subst (λ t. serveSteps (loaded t terms' state') ss .0 ≡ serveSteps L ss .0) (sym (same ∙ text-written))
+      (ap₂ (λ m s. serveSteps (record { terms = m; state = s; before = state' }) ss .0) (r .0 ∙ sym (q .0)) (r .1 ∙ sym (q .1))
+      ∙ never-stopped L stored (length stored) stored-fits stored (sym (text-stored (L .terms) (L .state) stored (length stored) stored-fits)) terms' state' tl sl ss)
+
+-- The size that is told of the old form is enough; a shorter output is refused with 6; and what refuses the size, 12 among them, refuses the writing.
+module _ (terms state out : List ℕ) where
+  abbrev Told : Writing → Writing → Type 0
+  Told s w =
+      ((n : ℕ) → s ≡ bytes n → n ≤ length out → w ≡ bytes n)
+      × ((n : ℕ) → s ≡ bytes n → length out < n → w ≡ unwritten 6 0)
+      × ((k l : ℕ) → s ≡ unwritten k l → w ≡ unwritten k l)
+
+  pub old-size-told : Told (oldSizeGives terms state) (oldWriteGives terms state out)
+  unfolding oldSizeGives oldWriteGives
+  old-size-told = by (checks terms state) (isFresh terms state) (sizeGives terms state) (writeGives terms state out)
+      (size-enough terms state out, size-short terms state out, size-refused terms state out)
+    where
+      by : (o : Outcome) (b : Bool) (s w : Writing) → Told s w → Told (ifFresh b o s) (ifFresh b o w)
+      by (failed k l) b s w t = t
+      by passed true s w t = t
+      by passed false s w t = ((λ n e h. absurd-bytes n e), (λ n e h. absurd-bytes n e), (λ k l e. e))
+        where
+          absurd-bytes : {A : Type 0} (n : ℕ) → unwritten 12 0 ≡ bytes n → A
+          absurd-bytes n e = let z : _≡_ {A = ℕ} 0 1 = cc in absurd (omega arith)
+
+-- ---- files with a record
+
+-- A file with a record is accepted.
+pub recorded-accepted : {text : List ℕ} {B : Book} → Recorded text B → (f : File) × (reading text ≡ accepted f)
+recorded-accepted (old text f e form) = (f, e)
+recorded-accepted (written text B from terms state tl sl ss out n g) =
+    let L : Lent = after text terms state ss in
+    let c = loaded-twins (L .terms) (L .state) out n g terms state tl sl .checked in
+    let r = reloaded (L .terms) (L .state) (c .long-terms) (c .long-state) (c .good-terms) (c .good-state) in
+    (r .0, ap reading (text-stored (L .terms) (L .state) out n g) ∙ r .1 .accepts)
+
+-- A panel with a record can always be saved: after any list of steps terms and state pass the checks, so storing is refused for want of room only.
+pub recorded-checked : (text : List ℕ) (B : Book) → Recorded text B → (terms state : List ℕ) → termsWords ≤ length terms → stateWords ≤ length state →
+    (ss : List LentStep) → passed ≡ checks (after text terms state ss .terms) (after text terms state ss .state)
+recorded-checked text B has terms state tl sl ss =
+    let L : Lent = after text terms state ss in
+    let p = run ss B (loaded text terms state) (playing has terms state tl sl) .1 in
+    check-passed (L .terms) (L .state) (record {
+      long-terms = p .long;
+      long-state = omega (arith, p .room, p .held .long);
+      good-terms = p .good-memory;
+      good-state = p .held .good;
+    })
