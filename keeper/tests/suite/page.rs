@@ -5,7 +5,7 @@ use keeper::record::Answer::{Deny, Grant};
 use keeper::record::Record;
 use keeper::set_list::{self, Item};
 use keeper::terms::memory::{terms_words, SCRATCH_WORDS, STATE_WORDS, TERMS_WORDS};
-use keeper::terms::store;
+use keeper::terms::{store, Entry};
 
 const PAGE: &str = include_str!("../../../docs/MEMORY.md");
 
@@ -78,6 +78,23 @@ fn its_words_of_state() {
         said.split('`').skip(1).step_by(2).map(|line| format!("{line}\n")).collect();
     assert!(stored[2].ends_with(&[b"fwd\n", &tabs(&lines)[..]].concat()));
     assert!(PAGE.contains("`V 18 2 0`") && stored[3].ends_with(&tabs("V 18 2 0\n")));
+}
+
+#[test]
+fn its_second_state() {
+    let mut record = Record::new(accepted(&text()));
+    assert_eq!(request(&mut record, 0, 0, 1), Grant);
+    let old = record.state_words();
+    let mut terms = record.terms().clone();
+    terms.put_in(4, &[Entry::Prev(3)]);
+    assert_eq!(record.revise(&terms), Ok(()));
+    for (column, words) in [old, record.state_words()].into_iter().enumerate() {
+        let mut shown = vec![0; STATE_WORDS];
+        for row in table("| word | old state | second state |") {
+            shown[number(row[0]) as usize] = number(row[1 + column]);
+        }
+        assert_eq!(words, shown, "column {column}");
+    }
 }
 
 #[test]
