@@ -7,7 +7,7 @@
  * Stack     measured, not proved: reading takes 198 KiB, writing a terms text
  *           or asking for its size 193 KiB, an opening, revision, look, request
  *           or set list 169 KiB, and each 1.16 KiB more for every level by
- *           which entries nest, at most 492 KiB; storing and the other calls
+ *           which entries nest, at most 494 KiB; storing and the other calls
  *           take 4 KiB. Provide CUCKOOORMOLU_STACK_BYTES.
  * Time      measured, not proved. Entries that share others take no more than
  *           a memo's time; what can still take long is nested binds over
