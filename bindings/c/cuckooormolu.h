@@ -57,6 +57,16 @@ extern "C" {
 #define CUCKOOORMOLU_USED
 #endif
 
+/* Unused sections are left out of a program, but not this one. */
+#if defined(__has_attribute)
+#if __has_attribute(retain)
+#define CUCKOOORMOLU_RETAINED __attribute__((retain))
+#endif
+#endif
+#ifndef CUCKOOORMOLU_RETAINED
+#define CUCKOOORMOLU_RETAINED
+#endif
+
 #define CUCKOOORMOLU_VERSION_MAJOR 0
 #define CUCKOOORMOLU_VERSION_MINOR 9
 #define CUCKOOORMOLU_VERSION_PATCH 0
@@ -312,6 +322,7 @@ cuckooormolu_answer_words(struct cuckooormolu_answer answer)
  * may be null, not even where its length is 0, and memory that a call may write,
  * the number behind the last pointer too, must not overlap any other.
  */
+size_t cuckooormolu_raw_version_0_9_0(void);
 size_t cuckooormolu_raw_read(const uint8_t *text, size_t text_length,
                              uint16_t *terms, size_t terms_length,
                              uint64_t *state, size_t state_length,
@@ -354,6 +365,14 @@ size_t cuckooormolu_raw_set_list(const uint16_t *terms, size_t terms_length,
                                  uint64_t *scratch, size_t scratch_length,
                                  struct cuckooormolu_record *records,
                                  size_t records_length, size_t *count);
+
+/* Header and archive belong together: the version stands in a function's name,
+ * so that an archive of another version does not link. The function gives it as
+ * one number, 9000 for 0.9.0. */
+#ifdef __GNUC__
+__attribute__((used)) CUCKOOORMOLU_RETAINED static size_t (
+    *const cuckooormolu_archive)(void) = cuckooormolu_raw_version_0_9_0;
+#endif
 
 /*
  * Two threads must not share a scratch here either. The calls over struct
@@ -759,6 +778,7 @@ cuckooormolu_monitor_set_list(struct cuckooormolu *m,
 #undef CUCKOOORMOLU_SCRATCH
 #undef CUCKOOORMOLU_ASSERT
 #undef CUCKOOORMOLU_USED
+#undef CUCKOOORMOLU_RETAINED
 
 #ifdef __cplusplus
 }

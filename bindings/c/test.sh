@@ -71,6 +71,21 @@ silent() {
     judge "$name"
 }
 
+# another_version COMPILER...: a host with a header of another version is not
+# linked with the archive.
+another_version() {
+    mkdir -p "$work/other"
+    cp "$here/example.c" "$work/other"
+    sed 's/\(cuckooormolu_raw_version\)[0-9_]*/\1_0_0_0/' "$here/cuckooormolu.h" >"$work/other/cuckooormolu.h"
+    echo cuckooormolu_raw_version_0_0_0 >"$work/wanted"
+    if "$@" -o "$work/other/host" "$work/other/example.c" "$archive" 2>"$work/said"; then
+        echo linked >"$work/got"
+    else
+        grep -o 'cuckooormolu_raw_[a-z_0-9]*' "$work/said" | sort -u >"$work/got"
+    fi
+    judge "a header of another version does not link"
+}
+
 # run_tests COMPILER...: the tests, compiled so.
 run_tests() {
     silent test.c "codes, lengths and null pointers" "$@"
@@ -176,6 +191,8 @@ build=plain
 "$CC" $strict -O2 -o "$work/$build" "$here/example.c" "$archive"
 run_all
 run_tests "$CC" $strict -O2
+another_version "$CC" $strict -O2
+another_version "$CC" $strict -O2 -ffunction-sections -fdata-sections -Wl,--gc-sections
 sh "$here/traps.sh" "$CC" $strict || failed=1
 
 if command -v "$CXX" >/dev/null; then

@@ -1,10 +1,11 @@
 #!/bin/sh
 # test.sh: the Rust crate's tests, those of a host without a heap without the
 # feature that needs one, its pages, and that it is not built for a machine that
-# the archive is not for. The archive is that of CUCKOOORMOLU_LIB, as the build
-# script says.
+# the archive is not for, nor with an archive of another version. The archive is
+# that of CUCKOOORMOLU_LIB, as the build script says.
 set -eu
 cd "$(dirname "$0")"
+library=${CUCKOOORMOLU_LIB:-$PWD/../../target/staticlib}
 
 cargo test --release --quiet -p cuckooormolu
 cargo test --release --quiet -p cuckooormolu --no-default-features --test without_alloc
@@ -23,3 +24,20 @@ if CUCKOOORMOLU_ANY_TARGET=1 refused; then
     exit 1
 fi
 echo "ok   no crate for another machine"
+
+if ! command -v objcopy >/dev/null; then
+    echo "skip an archive of another version: no objcopy"
+    exit 0
+fi
+work=$(mktemp -d)
+trap 'rm -rf "$work"' EXIT
+version=$(nm "$library/libcuckooormolu.a" 2>/dev/null | sed -n 's/.* T \(cuckooormolu_raw_version_[0-9_]*\)$/\1/p')
+objcopy --redefine-sym "$version=cuckooormolu_raw_version_0_0_0" "$library/libcuckooormolu.a" "$work/libcuckooormolu.a"
+if CUCKOOORMOLU_LIB="$work" CARGO_TARGET_DIR="$work/target" \
+    cargo test --quiet -p cuckooormolu --no-run --test without_alloc >"$work/said" 2>&1 ||
+    ! grep -q "$version" "$work/said"; then
+    echo "FAIL the crate is linked with an archive of another version, or not for that reason"
+    cat "$work/said"
+    exit 1
+fi
+echo "ok   no crate with an archive of another version"

@@ -3,7 +3,23 @@
 
 use crate::raw::Record;
 
+/// Crate and archive belong together: an archive of another version has no
+/// function of that name, and does not link.
+#[used]
+static ARCHIVE: unsafe extern "C" fn() -> usize = cuckooormolu_raw_version;
+
 extern "C" {
+    /// The version stands in the name.
+    #[link_name = concat!(
+        "cuckooormolu_raw_version_",
+        env!("CARGO_PKG_VERSION_MAJOR"),
+        "_",
+        env!("CARGO_PKG_VERSION_MINOR"),
+        "_",
+        env!("CARGO_PKG_VERSION_PATCH")
+    )]
+    pub fn cuckooormolu_raw_version() -> usize;
+
     pub fn cuckooormolu_raw_check(
         terms: *const u16,
         terms_length: usize,

@@ -104,6 +104,13 @@ fn decided(code: usize) -> Result<Answer, Refusal> {
     }
 }
 
+/// The version of the archive as one number, 9,000 for 0.9.0. It is the crate's:
+/// an archive of another version does not link.
+pub fn version() -> usize {
+    // Safety: the function takes nothing and gives a number.
+    unsafe { library::cuckooormolu_raw_version() }
+}
+
 // Safety, here and below: a slice is valid for its length, a mutable one is
 // no other's, and the library keeps within the lengths it is given.
 

@@ -485,6 +485,8 @@ fn the_c_header_has_the_same_numbers() {
     let version = ["MAJOR", "MINOR", "PATCH"]
         .map(|part| defined(&format!("CUCKOOORMOLU_VERSION_{part}")).to_string());
     assert_eq!(version.join("."), env!("CARGO_PKG_VERSION"));
+    let [major, minor, patch] = version.map(|part| part.parse::<usize>().unwrap());
+    assert_eq!(raw::version(), 1_000_000 * major + 1_000 * minor + patch);
     assert_eq!(defined("CUCKOOORMOLU_TERMS_WORDS"), TERMS_WORDS);
     assert_eq!(defined("CUCKOOORMOLU_STATE_WORDS"), STATE_WORDS);
     assert_eq!(defined("CUCKOOORMOLU_SCRATCH_WORDS"), SCRATCH_WORDS);
