@@ -68,9 +68,9 @@ extern "C" {
 #endif
 
 #define CUCKOOORMOLU_VERSION_MAJOR 0
-#define CUCKOOORMOLU_VERSION_MINOR 9
+#define CUCKOOORMOLU_VERSION_MINOR 10
 #define CUCKOOORMOLU_VERSION_PATCH 0
-#define CUCKOOORMOLU_VERSION "0.9.0"
+#define CUCKOOORMOLU_VERSION "0.10.0"
 
 /* The named words of each memory. */
 #define CUCKOOORMOLU_TERMS_WORDS 1252
@@ -104,7 +104,8 @@ typedef enum cuckooormolu_code {
     CUCKOOORMOLU_REFUSED_PAST = 4,
     /* A policy with a free variable other than 0. */
     CUCKOOORMOLU_REFUSED_POLICY = 5,
-    /* A memory shorter than named, or an output too short for the text. */
+    /* A memory shorter than named, or an output too short for the text, or
+     * memory that overlaps other memory which the call may write. */
     CUCKOOORMOLU_REFUSED_SHORT = 6,
     /* Terms memory that no accepted text yields. */
     CUCKOOORMOLU_REFUSED_TERMS = 7,
@@ -254,7 +255,8 @@ static inline const char *cuckooormolu_words(struct cuckooormolu_result result)
     case CUCKOOORMOLU_REFUSED_POLICY:
         return "policy with a free variable other than 0";
     case CUCKOOORMOLU_REFUSED_SHORT:
-        return "memory shorter than its named words, or output too short";
+        return "memory shorter than its named words, or output too short, or "
+               "memory that overlaps other memory";
     case CUCKOOORMOLU_REFUSED_TERMS:
         return "terms that no accepted text yields";
     case CUCKOOORMOLU_REFUSED_STATE:
@@ -322,7 +324,7 @@ cuckooormolu_answer_words(struct cuckooormolu_answer answer)
  * may be null, not even where its length is 0, and memory that a call may write,
  * the number behind the last pointer too, must not overlap any other.
  */
-size_t cuckooormolu_raw_version_0_9_0(void);
+size_t cuckooormolu_raw_version_0_10_0(void);
 size_t cuckooormolu_raw_read(const uint8_t *text, size_t text_length,
                              uint16_t *terms, size_t terms_length,
                              uint64_t *state, size_t state_length,
@@ -368,10 +370,10 @@ size_t cuckooormolu_raw_set_list(const uint16_t *terms, size_t terms_length,
 
 /* Header and archive belong together: the version stands in a function's name,
  * so that an archive of another version does not link. The function gives it as
- * one number, 9000 for 0.9.0. */
+ * one number, 10000 for 0.10.0. */
 #ifdef __GNUC__
 __attribute__((used)) CUCKOOORMOLU_RETAINED static size_t (
-    *const cuckooormolu_archive)(void) = cuckooormolu_raw_version_0_9_0;
+    *const cuckooormolu_archive)(void) = cuckooormolu_raw_version_0_10_0;
 #endif
 
 /*

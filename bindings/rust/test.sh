@@ -14,12 +14,13 @@ RUSTDOCFLAGS='-D warnings' cargo doc --quiet --no-deps -p cuckooormolu
 # Whether or not the other target is installed, the build script comes first.
 other=aarch64-unknown-linux-gnu
 wanted="machine code for x86-64 Linux only"
-refused() { cargo check --quiet -p cuckooormolu --target "$other" 2>&1 | grep -q "$wanted"; }
+# refused [WORDS...]: whether the crate is, the command begun by the words.
+refused() { "$@" cargo check --quiet -p cuckooormolu --target "$other" 2>&1 | grep -q "$wanted"; }
 if ! refused; then
     echo "FAIL the crate is built for $other"
     exit 1
 fi
-if CUCKOOORMOLU_ANY_TARGET=1 refused; then
+if refused env CUCKOOORMOLU_ANY_TARGET=1; then
     echo "FAIL CUCKOOORMOLU_ANY_TARGET does not name another machine's archive"
     exit 1
 fi

@@ -104,7 +104,7 @@ fn decided(code: usize) -> Result<Answer, Refusal> {
     }
 }
 
-/// The version of the archive as one number, 9,000 for 0.9.0. It is the crate's:
+/// The version of the archive as one number, 10,000 for 0.10.0. It is the crate's:
 /// an archive of another version does not link.
 pub fn version() -> usize {
     // Safety: the function takes nothing and gives a number.
