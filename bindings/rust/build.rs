@@ -1,5 +1,8 @@
 //! Links the archive `libcuckooormolu.a`. Its folder is that of the environment
-//! variable CUCKOOORMOLU_LIB, or `target/staticlib` of the repository.
+//! variable CUCKOOORMOLU_LIB, or `target/staticlib` of the repository. Where no
+//! folder is named, the library may be compiled from its C file instead.
+
+mod build_from_c;
 
 use std::env;
 use std::path::{Path, PathBuf};
@@ -10,16 +13,26 @@ const ARCHIVE: &str = "libcuckooormolu.a";
 
 fn main() {
     println!("cargo::rerun-if-env-changed={VARIABLE}");
-    let folder = env::var_os(VARIABLE).map_or_else(default, PathBuf::from);
+    let named = env::var_os(VARIABLE).map(PathBuf::from);
+    if named.is_none() {
+        if let Some(folder) = build_from_c::compiled(&default().join(ARCHIVE)) {
+            return link(&folder);
+        }
+    }
+    let folder = named.unwrap_or_else(default);
     let archive = folder.join(ARCHIVE);
     println!("cargo::rerun-if-changed={}", archive.display());
     if archive.is_file() {
-        println!("cargo::rustc-link-search=native={}", folder.display());
-        println!("cargo::rustc-link-lib=static=cuckooormolu");
+        link(&folder);
     } else {
         let text = "build it with `rt staticlib cuckooormolu`, or name its folder in";
         println!("cargo::error=no {} here: {text} {VARIABLE}", archive.display());
     }
+}
+
+fn link(folder: &Path) {
+    println!("cargo::rustc-link-search=native={}", folder.display());
+    println!("cargo::rustc-link-lib=static=cuckooormolu");
 }
 
 fn default() -> PathBuf {
