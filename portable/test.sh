@@ -1,7 +1,7 @@
 #!/bin/sh
-# test.sh [--machines]: the tests of the library in C. Without words those that `./test` runs, of
+# test.sh [--machines | --fuzz [SECONDS]]: the tests of the library in C. Without words those that `./test` runs, of
 # about a minute. `--machines` takes all compilers, sanitizers and emulated machines that are installed, some ten
-# minutes.
+# minutes; `--fuzz` looks for a failing input, for a minute where nothing else is said.
 set -eu
 cd "$(dirname "$0")/.."
 if ! python3 -c 'import sys; sys.exit(sys.version_info < (3, 10))' 2>/dev/null; then
@@ -13,7 +13,8 @@ tests=quick
 case ${1:-} in
 '') ;;
 --machines) tests=machines ;;
-*) echo 'usage: test.sh [--machines]' >&2 && exit 2 ;;
+--fuzz) ./amalgamate && exec sh portable/tests/fuzz.sh "$folder" "${2:-60}" ;;
+*) echo 'usage: test.sh [--machines | --fuzz [SECONDS]]' >&2 && exit 2 ;;
 esac
 if [ -z "${CUCKOOORMOLU_LIB:-}" ]; then rt staticlib cuckooormolu; fi
 export CARGO_TARGET_DIR="$PWD/target/cargo" CARGO_NET_OFFLINE=true
