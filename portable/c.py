@@ -2,15 +2,15 @@
 
 The proofs exclude that a sum, a difference, a product or a shift leaves its type, so nothing wraps; operands of less
 than 32 bits are widened to uint32_t, where C would take int. Memory is accessed only as the type that it was lent or
-declared with.
+declared with; a struct that is lent is the host's, so it is accessed field by field and copied by memcpy.
 """
-from kinds import declared, identifier
+from kinds import LENT, declared, identifier
 from mir import Refused, show
 
 UNSIGNED = {"add": "+", "sub": "-", "mul": "*", "div": "/", "rem": "%", "shr": ">>", "lt": "<", "le": "<="}
 PLAIN = {"and": "&", "or": "|", "xor": "^", "shl": "<<", "eq": "==", "ne": "!="}
 COMPARISONS = {"<", "<=", "==", "!="}
-BYTE, HALF, WORD = ("tyInt", "8"), ("tyInt", "16"), ("tyInt", "64")
+U8, U16, U32, U64 = ("tyInt", "8"), ("tyInt", "16"), ("tyInt", "32"), ("tyInt", "64")
 
 
 class Body:
@@ -31,6 +31,10 @@ class Body:
         rest = list(projections)
         while rest:
             match rest.pop(0), kind:
+                case ("deref", ("tyNamed", _) as target), "tyPtr" | ("tyRef", *_) if rest:
+                    _, index = rest.pop(0)
+                    text, kind = f"(*(uint32_t *)((unsigned char *){text} + {4 * int(index)}))", U32
+                    self.check_lent(target)
                 case ("deref", target), "tyPtr":
                     text, kind = f"(*({declared(self.types.of(target), '*')}){text})", target
                 case ("deref", target), ("tyRef", _, _, pointed) if target == pointed:
@@ -38,17 +42,21 @@ class Body:
                 case ("deref", target), ("tyRef", _, _, ("tyArray", element, _)) if target == element:
                     text, kind = f"(*{text}->at)", target
                 case ("field", index), _:
-                    name, kind = self.types.parts(kind)[1][int(index)]
+                    name, kind = self.types.fields(kind)[int(index)]
                     text = f"{text}.{name}"
-                case ("variant", _), _ if rest[0] == ("field", "0") and self.types.parts(kind)[0] == "variants":
-                    del rest[0]
-                    text, kind = f"{text}.tag", BYTE
                 case ("variant", variant), _:
-                    name, kind = self.types.parts(kind)[1][int(variant)][int(rest.pop(0)[1]) - 1]
-                    text = f"{text}.of.v{variant}.{name}"
+                    _, index = rest.pop(0)
+                    fields = [("tag", U8)] + self.types.variants(kind)[int(variant)]
+                    name, kind = fields[int(index)]
+                    text = f"{text}.tag" if name == "tag" else f"{text}.of.v{variant}.{name}"
                 case other:
                     raise Refused(f"projection {show(other)}")
         return text, kind
+
+    def check_lent(self, kind):
+        """A lent struct is known, and all of its fields have 32 bits."""
+        if kind[1][1] not in LENT or any(inner != U32 for _, inner in self.types.fields(kind)):
+            raise Refused(f"{show(kind)} is lent")
 
     def operand(self, operand):
         """An operand as C, and its type."""
@@ -77,7 +85,7 @@ class Body:
     def binary(self, operator, left, right, wanted):
         text, kind = self.operand(left)
         if operator == "offset" and wanted == "tyPtr":
-            return f"(unsigned char *){text} + (size_t){self.given(right, WORD)}"
+            return f"(unsigned char *){text} + (size_t){self.given(right, U64)}"
         other = self.given(right, kind)
         match operator:
             case (name, "unsigned") if kind[0] == "tyInt":
@@ -88,7 +96,7 @@ class Body:
                 raise Refused(f"operator {show(operator)}")
         if wanted != ("tyBool" if symbol in COMPARISONS else kind):
             raise Refused(f"{show(wanted)} of {show(kind)}")
-        if wanted in (BYTE, HALF):
+        if wanted in (U8, U16):
             return f"({self.types.of(kind)})((uint32_t){text} {symbol} (uint32_t){other})"
         return f"{text} {symbol} {other}"
 
@@ -101,8 +109,8 @@ class Body:
                 return self.binary(operator, left, right, wanted)
             case ("op1", "not", operand) if wanted == "tyBool":
                 return f"!{self.given(operand, wanted)}"
-            case ("op1", "trailingZeros", operand) if wanted == ("tyInt", "32"):
-                return f"trailing_zeros({self.given(operand, WORD)})"
+            case ("op1", "trailingZeros", operand) if wanted == U32:
+                return f"trailing_zeros({self.given(operand, U64)})"
             case ("op1", ("cast", "unsigned", "unsigned", width), operand) if wanted == ("tyInt", width):
                 return f"({self.types.of(wanted)}){self.operand(operand)[0]}"
             case ("addrOf", place):
@@ -116,13 +124,11 @@ class Body:
     def initial(self, operands, wanted):
         if wanted[0] == "tyArray":
             return f"{{{self.all_given(operands, [wanted[1]] * int(wanted[2][1]))}}}"
-        match self.types.parts(wanted), operands:
-            case ("fields", fields), _:
-                return self.all_given(operands, [kind for _, kind in fields])
-            case (_, variants), [("int", "8", tag), *others]:
-                inner = self.all_given(others, [kind for _, kind in variants[int(tag)]])
-                return f".tag = {tag}" + (f", .of.v{tag} = {{{inner}}}" if inner else "")
-        raise Refused("aggregate")
+        if not self.types.has_variants(wanted):
+            return self.all_given(operands, [kind for _, kind in self.types.fields(wanted)])
+        (_, _, tag), *others = operands
+        inner = self.all_given(others, [kind for _, kind in self.types.variants(wanted)[int(tag)]])
+        return f".tag = {tag}" + (f", .of.v{tag} = {{{inner}}}" if inner else "")
 
     def statement(self, statement, depth, exits):
         """A statement. `exits` has the labels of the blocks and loops around it, the innermost first."""
@@ -206,6 +212,11 @@ class Body:
                 pass
             case ("repeat", ("int", _, "0"), count), ("tyArray", _, ("lenLit", length)) if count == length:
                 self.line(depth, f"memset(&{target}, 0, sizeof {target});")
+            case ("rvOpd", ("copy", ("place", _, [*_, ("deref", ("tyNamed", _) as lent)]) as source)), _:
+                self.check_lent(lent)
+                self.line(depth, f"memcpy(&{target}, &{self.place(source)[0]}, sizeof {target});")
+            case _, ("tyNamed", _) if place[2] and place[2][-1][0] == "deref":
+                raise Refused("a lent struct is written as a whole")
             case _:
                 self.line(depth, f"{target} = {self.value(value, kind)};")
 

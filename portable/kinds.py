@@ -9,9 +9,8 @@ from mir import Refused, show
 
 SIMPLE = {"tyUnit": "void", "tyBool": "bool", "tyPtr": "void *"}
 
-# The struct that the header declares, and its fields.
-RECORD = "calls::Record"
-RECORD_FIELDS = ("event", "from", "to", "answer")
+# The structs that a host lends, by the names that they have in the header.
+LENT = {"calls::Record": "cuckooormolu_record"}
 
 
 def identifier(name):
@@ -41,8 +40,6 @@ class Types:
             case ("tyStruct", "&[]", [("tyRef", _, _, target), ("tyInt", "64")]):
                 name, members = f"slice_{self.short(target)}", self.members(kind)
             case ("tyNamed", ("pair", name, [])):
-                if name == RECORD and self.named[name] == ("fields", [("tyInt", "32")] * len(RECORD_FIELDS)):
-                    return "struct cuckooormolu_record"
                 name, members = identifier(name), self.members(kind)
             case _:
                 raise Refused(f"type {show(kind)}")
@@ -55,26 +52,28 @@ class Types:
         return self.of(kind).removeprefix("struct ").removesuffix("_t")
 
     def members(self, kind):
-        match self.parts(kind):
-            case "fields", fields:
-                return [declared(self.of(inner), name) for name, inner in fields]
-            case _, variants:
-                structs = []
-                for v, fields in enumerate(variants):
-                    inner = " ".join(declared(self.of(inner), f"{name};") for name, inner in fields)
-                    structs += [f"struct {{ {inner} }} v{v};"] if inner else []
-                return ["uint8_t tag"] + ([f"union {{ {' '.join(structs)} }} of"] if structs else [])
+        if not self.has_variants(kind):
+            return [declared(self.of(inner), name) for name, inner in self.fields(kind)]
+        structs = []
+        for v, fields in enumerate(self.variants(kind)):
+            inner = " ".join(declared(self.of(inner), f"{name};") for name, inner in fields)
+            structs += [f"struct {{ {inner} }} v{v};"] if inner else []
+        return ["uint8_t tag"] + ([f"union {{ {' '.join(structs)} }} of"] if structs else [])
 
-    def parts(self, kind):
-        """The fields, with their names and types: of a struct, or of each variant in turn."""
+    def has_variants(self, kind):
+        return kind[0] == "tyNamed" and self.named[kind[1][1]][0] == "variants"
+
+    def fields(self, kind):
+        """The fields of a struct, each with its name and type."""
         match kind:
             case ("tyStruct", "&[]", [pointer, length]):
-                return "fields", [("at", pointer), ("length", length)]
+                return [("at", pointer), ("length", length)]
             case ("tyNamed", ("pair", name, [])) if self.named[name][0] == "fields":
-                kinds = self.named[name][1]
-                names = RECORD_FIELDS if name == RECORD else [f"f{i}" for i in range(len(kinds))]
-                return "fields", list(zip(names, kinds))
-            case ("tyNamed", ("pair", name, [])):
-                variants = self.named[name][1]
-                return "variants", [[(f"f{i}", inner) for i, inner in enumerate(kinds, 1)] for kinds in variants]
-        raise Refused(f"parts of {show(kind)}")
+                return [(f"f{i}", inner) for i, inner in enumerate(self.named[name][1])]
+        raise Refused(f"fields of {show(kind)}")
+
+    def variants(self, kind):
+        """The same of each variant in turn; the tag counts as field 0."""
+        if not self.has_variants(kind):
+            raise Refused(f"variants of {show(kind)}")
+        return [[(f"f{i}", inner) for i, inner in enumerate(kinds, 1)] for kinds in self.named[kind[1][1]][1]]

@@ -6,8 +6,8 @@ known is refused, with the function and the statement.
 import pathlib
 import sys
 
-from c import WORD, Body
-from kinds import Types, declared, identifier
+from c import U64, Body
+from kinds import LENT, Types, declared, identifier
 from mir import Program, Refused
 
 EXPORTS = "cuckooormolu::cuckooormolu_"
@@ -34,7 +34,8 @@ def exported(types, function):
         match function.kinds[i]:
             case ("tyStruct", "&[]", [("tyRef", _, mutable, target), _]) as kind:
                 pointer = declared(types.of(target), "*")
-                parameters += [("const " if mutable == "imm" else "") + f"{pointer}p{i}", f"size_t n{i}"]
+                outside = f"struct {LENT[target[1][1]]} *" if target[0] == "tyNamed" else pointer
+                parameters += [("const " if mutable == "imm" else "") + f"{outside}p{i}", f"size_t n{i}"]
                 given.append(f"({types.of(kind)}){{({pointer})p{i}, n{i}}}")
             case ("tyRef", _, "mut", ("tyInt", "64")):
                 parameters.append(f"size_t *p{i}")
@@ -46,7 +47,7 @@ def exported(types, function):
                 given.append(f"p{i}")
             case kind:
                 raise Refused(f"in {function.name}: argument {i} of type {types.of(kind)}")
-    if function.kinds[0] != WORD:
+    if function.kinds[0] != U64:
         raise Refused(f"in {function.name}: a result of type {types.of(function.kinds[0])}")
     head = f"size_t {function.name.split('::')[1]}({', '.join(parameters) or 'void'})"
     call = f"    size_t code = (size_t){identifier(function.name)}({', '.join(given)});"

@@ -72,33 +72,32 @@ static size_t request(struct memory m, const uint8_t *call)
     return code;
 }
 
-/* A set list answers as single requests, and leaves the same. */
+/* A set list answers as single requests, and leaves the same. A record is four
+ * words: event, initiator, target and answer. */
 static void set_list(struct memory m, const uint8_t *calls, size_t length)
 {
     struct memory single = copied(m);
-    struct cuckooormolu_record *records = (struct cuckooormolu_record *)lent(NULL, length * sizeof *records);
-    for (size_t i = 0; i < length; i++) {
-        const uint8_t *call = calls + 4 * i;
-        struct cuckooormolu_record record = {call[1], call[2], call[3], FILLED};
-        records[i] = record;
-    }
+    uint32_t *words = (uint32_t *)lent(NULL, length * 4 * sizeof *words);
+    for (size_t i = 0; i < length * 4; i++)
+        words[i] = i % 4 == 3 ? FILLED : calls[i + 1];
     size_t count = FILLED, grants = 0;
-    size_t code = cuckooormolu_raw_set_list(ALL_LENT(m), records, length, &count);
+    size_t code = cuckooormolu_raw_set_list(ALL_LENT(m), (struct cuckooormolu_record *)(void *)words, length, &count);
     HOLDS(code == check(single));
     for (size_t i = 0; i < length; i++) {
         const uint8_t *call = calls + 4 * i;
-        HOLDS(records[i].event == call[1] && records[i].from == call[2] && records[i].to == call[3]);
+        const uint32_t *record = words + 4 * i;
+        HOLDS(record[0] == call[1] && record[1] == call[2] && record[2] == call[3]);
         uint32_t wanted = FILLED;
         if (code == CUCKOOORMOLU_DONE) {
             size_t answer = request(single, call);
             wanted = answer == CUCKOOORMOLU_GRANTED ? 1 : answer == CUCKOOORMOLU_DENIED ? 0 : (uint32_t)answer;
             grants += answer == CUCKOOORMOLU_GRANTED;
         }
-        HOLDS(records[i].answer == wanted);
+        HOLDS(record[3] == wanted);
     }
     HOLDS(count == grants && same(single, m));
     tell(count);
-    free(records);
+    free(words);
     released(single);
 }
 

@@ -1,6 +1,6 @@
 #!/bin/sh
-# machines.sh FOLDER ARCHIVE KEEPER: the C file by several compilers, optimised and not, with sanitizers, and on machines
-# of 32 bits and of the other byte order, emulated. What is not installed is left out, and that is said.
+# machines.sh FOLDER ARCHIVE KEEPER: the C file by several compilers, optimised and not, with sanitizers, and on
+# machines of 32 bits and of the other byte order, emulated. What is not installed is left out, and that is said.
 # shellcheck source=portable/tests/common.sh
 . "$(dirname "$0")/common.sh"
 inputs=20000 calls=20000 files=5000
