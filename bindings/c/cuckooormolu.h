@@ -1,7 +1,8 @@
 /*
  * The sharing-terms reference monitor, over memory that the host lends.
  *
- * Machine   x86-64 Linux only: the archive is machine code for it.
+ * Machine   the archive is machine code for x86-64 Linux. cuckooormolu.c, which
+ *           `./amalgamate` writes with a header of its own, is for any machine.
  * RAM       terms 2,504 bytes, state 24,584 bytes, scratch 16,384 bytes. The
  *           library allocates nothing and has no state of its own.
  * Stack     measured, not proved: reading takes 198 KiB, writing a terms text
@@ -15,15 +16,15 @@
  *           binds, N the members.
  * Kept      terms and state are plain words: they may be copied, kept and
  *           lent again. In a file they have the machine's byte order,
- *           little-endian. Scratch need not be kept. A stored text keeps the
- *           same for any machine, and for people.
+ *           little-endian on x86-64. Scratch need not be kept. A stored text
+ *           keeps the same for any machine, and for people.
  * Threads   calls over distinct memory may run at the same time; calls over
  *           the same memory must not, unless none of them may write it. Each
  *           struct cuckooormolu has a scratch of its own, so that two of them
  *           share nothing.
  *
  * Link target/staticlib/libcuckooormolu.a, which `rt staticlib cuckooormolu`
- * writes. It needs nothing but memcpy and memset.
+ * writes, or compile cuckooormolu.c. They need nothing but memcpy and memset.
  *
  *     static struct cuckooormolu m;
  *     size_t line;
@@ -39,8 +40,8 @@
 #include <stddef.h>
 #include <stdint.h>
 
-#if !defined(__x86_64__)
-#error "the monitor's archive is for x86-64 only"
+#if !defined(__x86_64__) && !defined(CUCKOOORMOLU_AMALGAMATION)
+#error "the monitor's archive is for x86-64 only; ./amalgamate writes it in C"
 #endif
 
 #ifdef __cplusplus
@@ -201,7 +202,11 @@ CUCKOOORMOLU_ASSERT(offsetof(struct cuckooormolu_record, to) == 8,
                     "then its target");
 CUCKOOORMOLU_ASSERT(offsetof(struct cuckooormolu_record, answer) == 12,
                     "and last its answer");
+#ifdef CUCKOOORMOLU_AMALGAMATION
+CUCKOOORMOLU_ASSERT(sizeof(size_t) >= 4, "lengths have 32 bits or more");
+#else
 CUCKOOORMOLU_ASSERT(sizeof(size_t) == 8, "lengths and codes have 64 bits");
+#endif
 CUCKOOORMOLU_ASSERT(sizeof(struct cuckooormolu) == 2504 + 24584 + 16384,
                     "no padding between the memories");
 CUCKOOORMOLU_ASSERT(CUCKOOORMOLU_REFUSED_FORM > 0, "no code is 0");

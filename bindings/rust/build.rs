@@ -1,7 +1,10 @@
 //! Links the archive `libcuckooormolu.a`. Its folder is that of the environment
-//! variable CUCKOOORMOLU_LIB, or `target/staticlib` of the repository. The
-//! archive that is proved is machine code for x86-64 Linux; where another one is
-//! named for another target, CUCKOOORMOLU_ANY_TARGET says so.
+//! variable CUCKOOORMOLU_LIB, or `target/staticlib` of the repository. Where no
+//! folder is named, the library may be compiled from its C file instead, for any
+//! machine. The archive that is proved is machine code for x86-64 Linux; where
+//! another one is named for another target, CUCKOOORMOLU_ANY_TARGET says so.
+
+mod build_from_c;
 
 use std::env;
 use std::path::{Path, PathBuf};
@@ -14,25 +17,30 @@ const ARCHIVE: &str = "libcuckooormolu.a";
 fn main() {
     println!("cargo::rerun-if-env-changed={VARIABLE}");
     println!("cargo::rerun-if-env-changed={ANY_TARGET}");
-    if !is_target() && env::var_os(ANY_TARGET).is_none() {
-        println!("cargo::error=the monitor's archive is machine code for x86-64 Linux only");
+    let named = env::var_os(VARIABLE).map(PathBuf::from);
+    if named.is_none() {
+        if let Some(folder) = build_from_c::compiled(&default().join(ARCHIVE)) {
+            return link(&folder);
+        }
     }
-    let folder = env::var_os(VARIABLE).map_or_else(default, PathBuf::from);
+    if !build_from_c::is_its_machine() && env::var_os(ANY_TARGET).is_none() {
+        let text = "name the folder of the C file that `./amalgamate` writes in CUCKOOORMOLU_C";
+        println!("cargo::error=the monitor's archive is machine code for x86-64 Linux: {text}");
+    }
+    let folder = named.unwrap_or_else(default);
     let archive = folder.join(ARCHIVE);
     println!("cargo::rerun-if-changed={}", archive.display());
     if archive.is_file() {
-        println!("cargo::rustc-link-search=native={}", folder.display());
-        println!("cargo::rustc-link-lib=static=cuckooormolu");
+        link(&folder);
     } else {
         let text = "build it with `rt staticlib cuckooormolu`, or name its folder in";
         println!("cargo::error=no {} here: {text} {VARIABLE}", archive.display());
     }
 }
 
-/// Whether the crate is built for the machine that the archive is for.
-fn is_target() -> bool {
-    let is = |name: &str, value: &str| env::var(name).is_ok_and(|found| found == value);
-    is("CARGO_CFG_TARGET_ARCH", "x86_64") && is("CARGO_CFG_TARGET_OS", "linux")
+fn link(folder: &Path) {
+    println!("cargo::rustc-link-search=native={}", folder.display());
+    println!("cargo::rustc-link-lib=static=cuckooormolu");
 }
 
 fn default() -> PathBuf {

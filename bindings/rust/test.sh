@@ -13,7 +13,7 @@ RUSTDOCFLAGS='-D warnings' cargo doc --quiet --no-deps -p cuckooormolu
 
 # Whether or not the other target is installed, the build script comes first.
 other=aarch64-unknown-linux-gnu
-wanted="machine code for x86-64 Linux only"
+wanted="machine code for x86-64 Linux"
 # refused [WORDS...]: whether the crate is, the command begun by the words.
 refused() { "$@" cargo check --quiet -p cuckooormolu --target "$other" 2>&1 | grep -q "$wanted"; }
 if ! refused; then

@@ -1,0 +1,29 @@
+#!/bin/sh
+# quick.sh FOLDER ARCHIVE KEEPER: the C file by the machine's own compiler, the Rust crate over it, and clang's
+# sanitizers where there are any. Bounded to about a minute; machines.sh does more.
+# shellcheck source=portable/tests/common.sh
+. "$(dirname "$0")/common.sh"
+inputs=2000 calls=2000 files=500
+
+# What is not known is refused, with the function and the statement.
+rt mir cuckooormolu 2>/dev/null | sed 's/(add unsigned)/(add signed)/' >"$work/mir"
+export PYTHONDONTWRITEBYTECODE=1
+if python3 "$top/portable/translate.py" '' <"$work/mir" >/dev/null 2>"$work/said"; then exit 1; fi
+grep -q '^translate: in [a-z_:]*: (assign .*(add signed)' "$work/said" || { cat "$work/said" && exit 1; }
+echo 'ok   a sum of signed numbers is refused'
+
+wanted=$(reference "$inputs")
+build cc cc -O3
+others=$(nm -u "$work/cc/cuckooormolu.o" | awk '$2 != "memcpy" && $2 != "memset" { print $2 }')
+[ -z "$others" ] || { echo "FAIL cc: it needs $others" && exit 1; }
+hold cc "$inputs" "$wanted"
+quietly sh "$top/bindings/c/test.sh" "$work/cc/libcuckooormolu.a"
+echo 'ok   cc: bindings/c/test.sh'
+differ cc "$calls" "$files"
+quietly env -u CUCKOOORMOLU_LIB CUCKOOORMOLU_C="$folder" cargo test --release --quiet -p cuckooormolu
+echo 'ok   cc: the Rust crate, built from the C file'
+
+if has clang -fsanitize="$sanitizers"; then
+    build sanitized clang -O1 -g -fsanitize="$sanitizers" -fno-sanitize-recover=all
+    hold sanitized "$inputs" "$wanted"
+fi

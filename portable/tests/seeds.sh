@@ -1,0 +1,21 @@
+#!/bin/sh
+# seeds.sh FOLDER: the examples as inputs of the invariants, a file each: the terms, a byte 0, and for each request four
+# bytes. Every third time another call stands between: a set list of the requests after it, storing, damage, short
+# memory or a revision.
+set -eu
+top=$(cd "$(dirname "$0")/../.." && pwd)
+mkdir -p "$1"
+for terms in "$top"/examples/*/terms.tsv "$top"/examples/*/*/terms.tsv; do
+    folder=$(dirname "$terms")
+    name=$(echo "${folder#"$top"/examples/}" | tr '/' '-')
+    {
+        cat "$terms"
+        printf '\000'
+        # shellcheck disable=SC2059
+        printf "$(awk -F '\t' '
+            $1 == "R" && $2 < 256 && $3 < 256 && $4 < 256 {
+                if (NR % 3 == 0) printf "\\%03o\\%03o\\%03o\\%03o", 3 + NR / 3 % 5, NR % 4, NR % 7, NR * 11 % 256
+                printf "\\000\\%03o\\%03o\\%03o", $2, $3, $4
+            }' "$folder/requests.tsv")"
+    } >"$1/$name"
+done
