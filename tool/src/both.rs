@@ -221,7 +221,7 @@ mod tests {
     #[test]
     fn a_difference_stops_the_program() {
         let stop = agreed(Verdict::Grant, Verdict::Deny, 2, 0, 1).unwrap_err();
-        assert_eq!(stop.status(), crate::stop::FAILING);
+        assert_eq!(stop.status(), crate::stop::UNUSABLE);
         let said = "the proved library and the keeper differ, please report it: \
                     event 2 from 0 to 1: library grant, keeper deny";
         assert_eq!(stop.to_string(), said);

@@ -1,6 +1,8 @@
-//! The files of a folder: terms.tsv, requests.tsv, names.tsv.
+//! The files of a folder: terms.say or terms.tsv, requests.tsv, names.tsv.
 
 use crate::names::Names;
+use crate::source::mistake::{Mistake, Mistaken};
+use crate::source::{compile, Compiled};
 use crate::stop::Stop;
 use keeper::terms::read;
 use std::fs;
@@ -13,35 +15,80 @@ pub const NAMES: &str = "names.tsv";
 /// The readable source that the terms are compiled from.
 pub const SOURCE: &str = "terms.say";
 
-/// What a folder holds. A file that isn't there counts as empty.
+/// What a folder holds. Every sub-command gets its terms from here: of a folder
+/// with a terms.say they are what that compiles to, whatever terms.tsv has.
 #[derive(Clone, Debug, Default)]
 pub struct Folder {
     pub path: PathBuf,
+    /// The text that the terms come from: terms.say, or a terms file.
+    pub file: PathBuf,
+    /// What the terms were compiled from, and all that compiling told of it; none
+    /// for a terms file.
+    pub source: Option<Sourced>,
+    /// The text of the terms, of either form.
     pub terms: Vec<u8>,
     pub requests: Vec<u8>,
     pub names: Names,
 }
 
+/// A source and what it compiles to.
+#[derive(Clone, Debug)]
+pub struct Sourced {
+    pub text: String,
+    pub compiled: Compiled,
+}
+
 impl Folder {
-    /// Loads a folder, or a terms file with the files beside it.
+    /// Loads a folder, or a source or a terms file with the files beside it. A
+    /// file other than these two that isn't there counts as empty.
     pub fn load(path: &Path) -> Result<Folder, Stop> {
         if !path.exists() {
-            return Err(Stop::Failed(format!("no file or folder {}", path.display())));
+            return Err(Stop::Failed(format!("there is no file or folder {}", path.display())));
         }
         let folder = folder_of(path);
-        let terms = if path.is_dir() { folder.join(TERMS) } else { path.to_path_buf() };
-        if !terms.is_file() {
-            return Err(Stop::Failed(format!("no {TERMS} in {}", folder.display())));
+        let source = folder.join(SOURCE);
+        if path.is_dir() && source.is_file() {
+            return Folder::from_source(&source);
         }
-        let names = bytes(&folder.join(NAMES))?;
-        let names = String::from_utf8(names)
-            .map_err(|_| Stop::Failed(format!("{NAMES} is no UTF-8 text")))?;
+        if path.is_file() && path.extension().is_some_and(|ending| ending == "say") {
+            return Folder::from_source(path);
+        }
+        let file = if path.is_dir() { folder.join(TERMS) } else { path.to_path_buf() };
+        if !file.is_file() {
+            return Err(missing(&folder));
+        }
+        let terms = bytes(&file)?;
+        if file.file_name().is_some_and(|name| name == TERMS) && source.is_file() {
+            up_to_date(&terms, &file, &source)?;
+        }
+        let names = Names::read(&text(&folder.join(NAMES))?).map_err(Stop::Failed)?;
+        let requests = bytes(&folder.join(REQUESTS))?;
+        Ok(Folder { path: folder, file, source: None, terms, requests, names })
+    }
+
+    /// The same folder with another text of its source, which stands in no file.
+    pub fn with_source(&self, text: &str) -> Result<Folder, Vec<Mistake>> {
+        let compiled = compile(text)?;
         Ok(Folder {
-            terms: bytes(&terms)?,
-            requests: bytes(&folder.join(REQUESTS))?,
-            names: Names::read(&names).map_err(Stop::Failed)?,
-            path: folder,
+            path: self.path.clone(),
+            file: self.path.join(SOURCE),
+            terms: compiled.text(),
+            requests: self.requests.clone(),
+            names: compiled.names.clone(),
+            source: Some(Sourced { text: text.to_string(), compiled }),
         })
+    }
+
+    /// Compiles a source, whatever its name, in memory.
+    pub fn from_source(file: &Path) -> Result<Folder, Stop> {
+        let text = text(file)?;
+        let path = folder_of(file);
+        let requests = bytes(&path.join(REQUESTS))?;
+        let folder = Folder { path, requests, ..Folder::default() };
+        let folder = folder.with_source(&text).map_err(|mistakes| {
+            Stop::Mistaken(Mistaken { file: file.display().to_string(), text, mistakes })
+        })?;
+        Ok(Folder { file: file.to_path_buf(), ..folder })
     }
 
     /// The lines of requests.tsv.
@@ -59,6 +106,49 @@ pub fn folder_of(path: &Path) -> PathBuf {
         Some(parent) if !parent.as_os_str().is_empty() => parent.to_path_buf(),
         _ => PathBuf::from("."),
     }
+}
+
+/// Why a folder has no terms; a file with nearly the right name is pointed at.
+fn missing(folder: &Path) -> Stop {
+    let entries = fs::read_dir(folder).into_iter().flatten().flatten();
+    let names = entries.map(|file| file.file_name().to_string_lossy().into_owned());
+    let mut near: Vec<String> =
+        names.filter(|name| name.to_lowercase().starts_with("term")).collect();
+    near.sort();
+    let what = format!("there is no {SOURCE} and no {TERMS} in {}", folder.display());
+    Stop::Failed(match near.first() {
+        Some(near) => {
+            format!("{what}, but {near}; it has to be called {SOURCE} or {TERMS}, in these letters")
+        }
+        None => format!(
+            "{what}; `cuckooormolu new {}` writes a {SOURCE} to start from",
+            folder.display()
+        ),
+    })
+}
+
+/// Stops where a terms.tsv that was named is not what the source beside it
+/// compiles to: nobody is to be answered from old terms.
+fn up_to_date(terms: &[u8], file: &Path, source: &Path) -> Result<(), Stop> {
+    let folder = folder_of(file);
+    if Folder::from_source(source)?.terms == terms {
+        return Ok(());
+    }
+    Err(Stop::Failed(format!(
+        "{} is not what {} compiles to; name the folder, or run `cuckooormolu compile {}` first",
+        file.display(),
+        source.display(),
+        folder.display(),
+    )))
+}
+
+/// A file as a text; empty if there is no such file.
+fn text(path: &Path) -> Result<String, Stop> {
+    String::from_utf8(bytes(path)?).map_err(|error| {
+        let valid = &error.as_bytes()[..error.utf8_error().valid_up_to()];
+        let line = valid.iter().filter(|&&byte| byte == b'\n').count() + 1;
+        Stop::Failed(format!("{} is no UTF-8 text: line {line}; save it as UTF-8", path.display()))
+    })
 }
 
 /// A file's bytes; none if there is no such file.

@@ -5,15 +5,22 @@ use cuckooormolu_tool::names::did_you_mean;
 use cuckooormolu_tool::stop::{Stop, USAGE, WELL};
 use std::io::{self, Write};
 
+/// One rule for all sub-commands.
+const STATUSES: &str = "\
+Exit status: 0 done; 1 something was denied or failed, where that was asked for (`run --strict`,
+`aloud --verify`); 2 a wrong command line; 3 a file that cannot be read, written or compiled.
+";
+
 fn main() {
     let arguments: Vec<String> =
         std::env::args_os().skip(1).map(|word| word.to_string_lossy().into_owned()).collect();
     let mut out = io::BufWriter::new(io::stdout());
     let status = match dispatch(&arguments, &mut out) {
-        Ok(status) => out.flush().map_or_else(|error| report("", &error.into()), |()| status),
+        Ok(status) => {
+            out.flush().map_or_else(|error| report("", &error.into(), false, &mut out), |()| status)
+        }
         Err((name, stop)) => {
-            let _ = out.flush();
-            report(name, &stop)
+            report(name, &stop, arguments.iter().any(|word| word == "--json"), &mut out)
         }
     };
     std::process::exit(status);
@@ -59,16 +66,25 @@ fn overview() -> String {
         text.push_str(&format!("  {:9} {}\n", command.name, command.summary));
     }
     text.push_str("\n`cuckooormolu COMMAND --help` says more.\n");
-    text.push_str("Exit status: 0, or 1 where something is denied, refused or failing, or 2 for a wrong command line.\n");
+    text.push_str(STATUSES);
     text
 }
 
-/// Says on standard error why a sub-command stopped; gives the exit status.
-fn report(name: &str, stop: &Stop) -> i32 {
+/// Says why a sub-command stopped: on standard error, or as JSON after whatever
+/// was printed before. Gives the exit status.
+fn report(name: &str, stop: &Stop, json: bool, out: &mut dyn Write) -> i32 {
     let who = if name.is_empty() { "cuckooormolu".into() } else { format!("cuckooormolu {name}") };
+    if json {
+        for line in stop.json() {
+            let _ = writeln!(out, "{line}");
+        }
+    }
+    let _ = out.flush();
     match stop {
+        _ if json => {}
         Stop::Closed => {}
         Stop::Usage(_) => eprintln!("{who}: {stop}\n`{who} --help` says more."),
+        Stop::Mistaken(_) => eprintln!("{stop}"),
         Stop::Failed(_) | Stop::Differ(_) => eprintln!("{who}: {stop}"),
     }
     stop.status()

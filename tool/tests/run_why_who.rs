@@ -8,7 +8,8 @@ use run_support::{example, preset, run, Folder};
 fn run_says_what_the_proved_program_prints() {
     let folder = preset();
     let said = run(&["run", folder.path()]);
-    assert_eq!(said.status, 1);
+    assert_eq!(said.status, 0);
+    assert_eq!(run(&["run", folder.path(), "--strict"]).status, 1);
     assert_eq!(
         said.out,
         "1  load pete → saw       denied
@@ -54,15 +55,14 @@ fn run_answers_the_examples() {
 fn granted_requests_are_well() {
     let folder = preset();
     folder.write("requests.tsv", "R\t0\t0\t1\n");
-    assert_eq!(run(&["run", folder.path()]).status, 0);
-    assert_eq!(run(&["why", folder.path()]).status, 0);
+    assert_eq!(run(&["run", folder.path(), "--strict"]).status, 0);
 }
 
 #[test]
 fn why_names_the_moments_that_decide() {
     let folder = preset();
     let said = run(&["why", folder.path()]);
-    assert_eq!(said.status, 1);
+    assert_eq!(said.status, 0);
     assert_eq!(
         said.out,
         "1  load pete → saw       denied
@@ -162,9 +162,9 @@ fn mistakes_on_the_command_line() {
     assert!(said.err.contains("did you mean `load`?"), "{}", said.err);
     assert_eq!(run(&["run"]).status, 2);
     assert_eq!(run(&["run", folder.path(), "--jsn"]).status, 2);
-    assert_eq!(run(&["run", "no-such-folder"]).status, 1);
+    assert_eq!(run(&["run", "no-such-folder"]).status, 3);
     folder.write("terms.tsv", "M\t3\n");
     let said = run(&["why", folder.path()]);
-    assert_eq!(said.status, 1);
+    assert_eq!(said.status, 3);
     assert!(said.err.contains("refused with 1 at line 2"), "{}", said.err);
 }

@@ -131,7 +131,7 @@ fn terms_to_begin_with_are_written_before_anything_has_passed() {
     let written = folder.file("written.tsv");
     let arguments = ["run", folder.path(), "--write", written.to_str().unwrap()];
     let said = run(&arguments);
-    assert_eq!(said.status, 1);
+    assert_eq!(said.status, 3);
     assert!(said.err.contains("refused with 12: something has passed"), "{}", said.err);
     assert!(!written.exists());
     folder.write("requests.tsv", "R\t2\t1\t2\n");

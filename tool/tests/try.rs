@@ -44,7 +44,7 @@ took back share dora → pete, which was granted; moment 0
 no requests so far
 "
     );
-    assert_eq!(said.status, 1);
+    assert_eq!(said.status, 2);
 }
 
 #[test]
@@ -84,5 +84,5 @@ fn mistakes_are_answered() {
     ] {
         assert!(said.out.contains(wanted), "{wanted}: {}", said.out);
     }
-    assert_eq!(said.status, 1);
+    assert_eq!(said.status, 2);
 }

@@ -4,11 +4,10 @@
 use crate::arguments::Arguments;
 use crate::both::Both;
 use crate::check::{check, Checked, Fault, Warning};
-use crate::folder::{Folder, TERMS};
+use crate::folder::Folder;
 use crate::json::Json;
-use crate::stop::{Stop, FAILING, WELL};
+use crate::stop::{Stop, UNUSABLE, WELL};
 use std::collections::BTreeSet;
-use std::fs;
 use std::io::Write;
 use std::path::Path;
 
@@ -19,7 +18,7 @@ Says whether a terms file is accepted. If not: the refusal's number, the line
 with the place marked, what is wrong and what would be right. Tabs are shown as
 → and carriage returns as ↵. If it is: what may be a mistake all the same.
 
-Exit status: 0 if the file is accepted, with warnings or without; 1 if not.
+Exit status: 0 if the file is accepted, with warnings or without; 3 if not.
 
   --json  one line: accepted, and number, line, from, to, what, right of the
           fault; or counts. Then one for each warning: warning, line, what, right
@@ -28,9 +27,6 @@ Exit status: 0 if the file is accepted, with warnings or without; 1 if not.
 pub fn main(arguments: &[String], out: &mut dyn Write) -> Result<i32, Stop> {
     let arguments = Arguments::read(arguments, &["--json"], &[])?;
     let path = Path::new(arguments.one("a folder or a terms file")?);
-    if let Some(stop) = other_case(path) {
-        return Err(stop);
-    }
     let folder = Folder::load(path)?;
     let json = arguments.has("--json");
     match check(&folder)? {
@@ -48,24 +44,7 @@ pub fn main(arguments: &[String], out: &mut dyn Write) -> Result<i32, Stop> {
             return Ok(WELL);
         }
     }
-    Ok(FAILING)
-}
-
-/// A folder whose terms file is written with other letters.
-fn other_case(path: &Path) -> Option<Stop> {
-    if !path.is_dir() || path.join(TERMS).exists() {
-        return None;
-    }
-    let mut near: Vec<String> = fs::read_dir(path)
-        .ok()?
-        .flatten()
-        .map(|file| file.file_name().to_string_lossy().into_owned())
-        .filter(|name| name.to_lowercase().starts_with("term"))
-        .collect();
-    near.sort();
-    let near = near.first()?;
-    let what = format!("no {TERMS} in {}", path.display());
-    Some(Stop::Failed(format!("{what}, but {near}; the program opens {TERMS}, in these letters")))
+    Ok(UNUSABLE)
 }
 
 fn refused(out: &mut dyn Write, fault: &Fault, text: &[u8]) -> Result<(), Stop> {

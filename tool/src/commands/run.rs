@@ -12,23 +12,25 @@ use std::io::Write;
 use std::path::Path;
 
 pub const HELP: &str = "\
-usage: cuckooormolu run DIR [--json] [--store FILE] [--write FILE]
+usage: cuckooormolu run DIR [--strict] [--json] [--store FILE] [--write FILE]
 
-Makes the requests of DIR/requests.tsv under the terms of DIR/terms.tsv and
-prints each with its answer. Names come from DIR/names.tsv if it is there. Terms
-that were stored go on from there.
+Makes the requests of DIR/requests.tsv under the terms of DIR and prints each
+with its answer. The terms are what DIR/terms.say compiles to; where there is
+none, DIR/terms.tsv, with the names of DIR/names.tsv if it is there. Terms that
+were stored go on from there.
 
+  --strict       exit with 1 if a request is denied or refused
   --json         one JSON object a line
   --store FILE   then store terms and state, with what has passed, in FILE
   --write FILE   then write the terms and relations, as terms to begin with; no
                  such file is written where something has passed (refusal 12)
 
-Exit status: 0 if every request is granted, 1 if one is denied or refused, or if
-no file is written.
+Exit status: 0, with --strict 1 if a request is denied or refused; 3 if a file
+cannot be read, written or compiled.
 ";
 
 pub fn main(arguments: &[String], out: &mut dyn Write) -> Result<i32, Stop> {
-    let arguments = Arguments::read(arguments, &["--json"], &["--store", "--write"])?;
+    let arguments = Arguments::read(arguments, &["--json", "--strict"], &["--store", "--write"])?;
     let folder = Folder::load(Path::new(arguments.one("DIR")?))?;
     let replay = Replay::of(&folder)?;
     let words = Words::new(replay.both.terms(), &folder.names);
@@ -47,7 +49,7 @@ pub fn main(arguments: &[String], out: &mut dyn Write) -> Result<i32, Stop> {
         let text = replay.both.write()?.map_err(|refusal| Stop::Failed(no_fresh_start(refusal)))?;
         folder::write(Path::new(file), &text)?;
     }
-    Ok(status(&replay))
+    Ok(if arguments.has("--strict") && !replay.all_granted() { FAILING } else { WELL })
 }
 
 /// Why the old form is not written.
@@ -56,15 +58,6 @@ fn no_fresh_start(refusal: Refusal) -> String {
         "refused with {}: something has passed that terms to begin with cannot say; --store keeps it",
         refusal.number
     )
-}
-
-/// The exit status of answers.
-pub fn status(replay: &Replay) -> i32 {
-    if replay.all_granted() {
-        WELL
-    } else {
-        FAILING
-    }
 }
 
 /// How wide the columns of line numbers and requests are.

@@ -2,7 +2,7 @@
 
 use crate::arguments::Arguments;
 use crate::folder::Folder;
-use crate::stop::{Stop, FAILING, WELL};
+use crate::stop::{Stop, USAGE, WELL};
 use crate::trial::{Reply, Trial};
 use std::io::{self, BufRead, IsTerminal, Write};
 use std::path::Path;
@@ -27,7 +27,8 @@ put in double quotes.
 
   --first   begin at moment 0, before them
 
-Exit status: 0, or 1 if a line could not be understood or done.
+Exit status: 0; where the lines do not come from a terminal, 2 if one could not
+be understood or done.
 ";
 
 pub fn main(arguments: &[String], out: &mut dyn Write) -> Result<i32, Stop> {
@@ -63,7 +64,7 @@ pub fn converse(
             Reply::Said(text) if text.is_empty() => {}
             Reply::Said(text) => writeln!(out, "{text}")?,
             Reply::Wrong(text) => {
-                status = FAILING;
+                status = if prompt.is_empty() { USAGE } else { WELL };
                 writeln!(out, "? {text}")?;
             }
         }

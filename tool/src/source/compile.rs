@@ -28,8 +28,12 @@ impl Compiled {
     }
 }
 
-/// Compiles a source text.
-pub fn compile(text: &str) -> Result<Compiled, Mistake> {
+/// Compiles a source text, or tells all that is wrong with it.
+pub fn compile(text: &str) -> Result<Compiled, Vec<Mistake>> {
+    one_by_one(text).map_err(|mistake| vec![mistake])
+}
+
+fn one_by_one(text: &str) -> Result<Compiled, Mistake> {
     let source = parse(text)?;
     let names = declared(&source, text)?;
     let mut terms = Terms {

@@ -1,6 +1,8 @@
 //! What is wrong with a source, shown at its place.
 
 use super::ast::Span;
+use crate::json::Json;
+use std::fmt;
 
 /// A mistake: where it is and what it is.
 #[derive(Clone, Debug)]
@@ -29,6 +31,18 @@ impl Mistake {
         (line, column)
     }
 
+    /// What it is and where, as `--json` prints it; `key` says what sort it is.
+    pub fn json(&self, key: &'static str, file: &str, text: &str) -> Json {
+        let (line, column) = self.place(text);
+        Json::Object(vec![
+            (key, self.message.as_str().into()),
+            ("file", file.into()),
+            ("line", line.into()),
+            ("column", column.into()),
+            ("advice", self.advice.clone().into()),
+        ])
+    }
+
     /// File, line, column, the message, the line with a caret under the place,
     /// and the advice.
     pub fn render(&self, file: &str, text: &str) -> String {
@@ -50,6 +64,28 @@ impl Mistake {
             said.push_str(&format!(" {margin} = {advice}\n"));
         }
         said
+    }
+}
+
+/// A source that can't be compiled, with all that is wrong with it.
+#[derive(Clone, Debug)]
+pub struct Mistaken {
+    pub file: String,
+    pub text: String,
+    pub mistakes: Vec<Mistake>,
+}
+
+impl Mistaken {
+    /// One object for each mistake, as `--json` prints them.
+    pub fn json(&self) -> Vec<Json> {
+        self.mistakes.iter().map(|mistake| mistake.json("error", &self.file, &self.text)).collect()
+    }
+}
+
+impl fmt::Display for Mistaken {
+    fn fmt(&self, out: &mut fmt::Formatter<'_>) -> fmt::Result {
+        let shown = self.mistakes.iter().map(|mistake| mistake.render(&self.file, &self.text));
+        out.write_str(shown.collect::<Vec<_>>().join("\n").trim_end())
     }
 }
 

@@ -30,8 +30,7 @@ fn examples() -> Vec<(PathBuf, String, Compiled)> {
         let path = entry.unwrap().path();
         let Ok(text) = fs::read_to_string(path.join(SOURCE)) else { continue };
         let name = path.file_name().unwrap().to_string_lossy().into_owned();
-        let compiled =
-            compile(&text).unwrap_or_else(|mistake| panic!("{}", mistake.render(&name, &text)));
+        let compiled = compile(&text).unwrap_or_else(|mistakes| panic!("{name}: {mistakes:?}"));
         found.push((path, name, compiled));
     }
     assert!(found.len() >= COMPILED.len() + REORDERED.len());

@@ -78,7 +78,7 @@ fn the_definitions_and_effects_compile() {
     for heading in ["Definitions", "Effects"] {
         for block in blocks(&document(), heading) {
             let text = format!("{start}{block}");
-            compile(&text).unwrap_or_else(|mistake| panic!("{}", mistake.render("f", &text)));
+            compile(&text).unwrap_or_else(|mistake| panic!("{mistake:?}"));
         }
     }
 }
@@ -89,8 +89,7 @@ fn the_denied_tries_compile() {
     let twice = "me denied load someone and previously once me denied load someone";
     assert!(document().contains(&format!("`{twice}`")));
     let text = format!("{block}\nevent suspend when {twice}\n");
-    let compiled =
-        compile(&text).unwrap_or_else(|mistake| panic!("{}", mistake.render("f", &text)));
+    let compiled = compile(&text).unwrap_or_else(|mistake| panic!("{mistake:?}"));
     assert!(compiled.terms.kept.iter().eq([&0]));
     assert_eq!(compiled.terms.events, 3);
 }

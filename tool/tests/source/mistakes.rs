@@ -1,6 +1,7 @@
 //! What is said of sources with mistakes.
 
 use cuckooormolu_tool::source::compile;
+use cuckooormolu_tool::source::mistake::Mistake;
 
 const START: &str = "members dora, pete, saw\nrelation owns\nevent share, withdraw by anyone\n";
 
@@ -9,8 +10,13 @@ fn said(rest: &str) -> String {
     let text = format!("{START}{rest}\n");
     match compile(&text) {
         Ok(_) => panic!("accepted: {rest}"),
-        Err(mistake) => mistake.render("f", &text),
+        Err(mistakes) => shown(&mistakes, &text),
     }
+}
+
+/// Every mistake at its place.
+fn shown(mistakes: &[Mistake], text: &str) -> String {
+    mistakes.iter().map(|mistake| mistake.render("f", text)).collect()
 }
 
 /// What is said of a policy.
@@ -153,8 +159,8 @@ fn limits() {
     assert!(message.contains("entries") && message.contains("256 is the most"), "{message}");
     let deep = "(".repeat(500) + "true" + &")".repeat(500);
     assert!(policy(&deep).contains("more than 200 deep"));
-    let empty = compile("").unwrap_err().message;
-    assert_eq!(empty, "no member is declared; at least one is due");
+    let empty = compile("").unwrap_err();
+    assert_eq!(empty[0].message, "no member is declared; at least one is due");
 }
 
 /// Whatever is done to a source, it compiles or a place in it is shown.
@@ -192,7 +198,7 @@ fn damaged_sources_are_answered() {
             }
         }
         let damaged: String = damaged.into_iter().collect();
-        if let Err(mistake) = compile(&damaged) {
+        for mistake in compile(&damaged).err().unwrap_or_default() {
             let (line, column) = mistake.place(&damaged);
             let shown = mistake.render("f", &damaged);
             assert!(shown.starts_with(&format!("f:{line}:{column}: ")), "{shown}");
