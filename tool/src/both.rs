@@ -1,6 +1,8 @@
 //! Every acceptance and every verdict, twice: from the proved library and from
 //! the keeper of the whole record. Where they differ, it is an error.
 
+mod stored;
+
 use crate::stop::Stop;
 use keeper::expect;
 use keeper::record::{Graph, Record};
@@ -114,7 +116,7 @@ impl Both {
     /// The stored form: reading it goes on from here.
     pub fn store(&self) -> Result<Vec<u8>, Stop> {
         let text = self.monitor.store();
-        if text == terms::store(self.record.terms(), &self.record.state()) {
+        if stored::agrees(&text, &self.record) {
             Ok(text)
         } else {
             Err(differ("they store other texts"))
@@ -221,7 +223,7 @@ mod tests {
     #[test]
     fn a_difference_stops_the_program() {
         let stop = agreed(Verdict::Grant, Verdict::Deny, 2, 0, 1).unwrap_err();
-        assert_eq!(stop.status(), crate::stop::FAILING);
+        assert_eq!(stop.status(), crate::stop::UNUSABLE);
         let said = "the proved library and the keeper differ, please report it: \
                     event 2 from 0 to 1: library grant, keeper deny";
         assert_eq!(stop.to_string(), said);

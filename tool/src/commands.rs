@@ -3,6 +3,7 @@
 pub mod aloud;
 pub mod check;
 pub mod compile;
+pub mod new;
 pub mod report;
 pub mod run;
 pub mod source;
@@ -25,7 +26,13 @@ pub struct Command {
 }
 
 /// All sub-commands, in the order in which a user meets them.
-pub const COMMANDS: [Command; 9] = [
+pub const COMMANDS: [Command; 10] = [
+    Command {
+        name: "new",
+        summary: "make a folder with a source to start from",
+        help: new::HELP,
+        main: new::main,
+    },
     Command {
         name: "compile",
         summary: "compile a readable source to terms.tsv and names.tsv",

@@ -1,7 +1,12 @@
-//! The files of a folder: terms.tsv, requests.tsv, names.tsv.
+//! The files of a folder: terms.say or terms.tsv, requests.say or requests.tsv,
+//! names.tsv.
 
 use crate::names::Names;
+use crate::requests;
+use crate::source::mistake::{Mistake, Mistaken};
+use crate::source::{compile, Compiled};
 use crate::stop::Stop;
+use crate::storing::fits;
 use keeper::terms::read;
 use std::fs;
 use std::io::ErrorKind;
@@ -9,42 +14,102 @@ use std::path::{Path, PathBuf};
 
 pub const TERMS: &str = "terms.tsv";
 pub const REQUESTS: &str = "requests.tsv";
+/// The same by name; where it is there, it is what is asked.
+pub const SPOKEN: &str = "requests.say";
 pub const NAMES: &str = "names.tsv";
 /// The readable source that the terms are compiled from.
 pub const SOURCE: &str = "terms.say";
 
-/// What a folder holds. A file that isn't there counts as empty.
+/// What a folder holds. Every sub-command gets its terms from here: of a folder
+/// with a terms.say they are what that compiles to, whatever terms.tsv has.
 #[derive(Clone, Debug, Default)]
 pub struct Folder {
     pub path: PathBuf,
+    /// The text that the terms come from: terms.say, or a terms file.
+    pub file: PathBuf,
+    /// What the terms were compiled from, and all that compiling told of it; none
+    /// for a terms file.
+    pub source: Option<Sourced>,
+    /// The text of the terms, of either form.
     pub terms: Vec<u8>,
     pub requests: Vec<u8>,
     pub names: Names,
 }
 
+/// A source and what it compiles to.
+#[derive(Clone, Debug)]
+pub struct Sourced {
+    pub text: String,
+    pub compiled: Compiled,
+}
+
 impl Folder {
-    /// Loads a folder, or a terms file with the files beside it.
+    /// Loads a folder, or a source or a terms file with the files beside it. A
+    /// file other than these two that isn't there counts as empty.
     pub fn load(path: &Path) -> Result<Folder, Stop> {
         if !path.exists() {
-            return Err(Stop::Failed(format!("no file or folder {}", path.display())));
+            return Err(Stop::Failed(format!("there is no file or folder {}", path.display())));
         }
         let folder = folder_of(path);
-        let terms = if path.is_dir() { folder.join(TERMS) } else { path.to_path_buf() };
-        if !terms.is_file() {
-            return Err(Stop::Failed(format!("no {TERMS} in {}", folder.display())));
+        let source = folder.join(SOURCE);
+        if path.is_dir() && source.is_file() {
+            return Folder::from_source(&source);
         }
-        let names = bytes(&folder.join(NAMES))?;
-        let names = String::from_utf8(names)
-            .map_err(|_| Stop::Failed(format!("{NAMES} is no UTF-8 text")))?;
+        if path.is_file() && path.extension().is_some_and(|ending| ending == "say") {
+            return Folder::from_source(path);
+        }
+        let file = if path.is_dir() { folder.join(TERMS) } else { path.to_path_buf() };
+        if !file.is_file() {
+            return Err(missing(&folder));
+        }
+        let terms = opened(&file)?;
+        if file.file_name().is_some_and(|name| name == TERMS) && source.is_file() {
+            up_to_date(&terms, &file, &source)?;
+        }
+        let names = Names::read(&text(&folder.join(NAMES))?).map_err(Stop::Failed)?;
+        let requests = asked(&folder, &terms, &names)?;
+        Ok(Folder { path: folder, file, source: None, terms, requests, names })
+    }
+
+    /// The same folder with another text of its source, which stands in no file.
+    pub fn with_source(&self, text: &str) -> Result<Folder, Vec<Mistake>> {
+        let compiled = compile(text)?;
         Ok(Folder {
-            terms: bytes(&terms)?,
-            requests: bytes(&folder.join(REQUESTS))?,
-            names: Names::read(&names).map_err(Stop::Failed)?,
-            path: folder,
+            path: self.path.clone(),
+            file: self.path.join(SOURCE),
+            terms: compiled.text(),
+            requests: self.requests.clone(),
+            names: compiled.names.clone(),
+            source: Some(Sourced { text: text.to_string(), compiled }),
         })
     }
 
-    /// The lines of requests.tsv.
+    /// Compiles a source, whatever its name, in memory.
+    pub fn from_source(file: &Path) -> Result<Folder, Stop> {
+        let text = text(file)?;
+        let path = folder_of(file);
+        let folder = Folder { path, ..Folder::default() };
+        let folder = folder.with_source(&text).map_err(|mistakes| {
+            Stop::Mistaken(Mistaken { file: file.display().to_string(), text, mistakes })
+        })?;
+        let requests = asked(&folder.path, &folder.terms, &folder.names)?;
+        Ok(Folder { file: file.to_path_buf(), requests, ..folder })
+    }
+
+    /// What compiling warns of, at its place in the source.
+    pub fn warnings(&self) -> String {
+        let file = self.file.display().to_string();
+        let shown = |source: &Sourced| {
+            let told = source.compiled.warnings.iter().map(|warning| {
+                let message = format!("warning: {}", warning.message);
+                Mistake { message, ..warning.clone() }.render(&file, &source.text)
+            });
+            told.collect::<String>()
+        };
+        self.source.as_ref().map(shown).unwrap_or_default()
+    }
+
+    /// The requests, line by line.
     pub fn requests(&self) -> Vec<Request> {
         self.requests.split_inclusive(|&byte| byte == b'\n').map(Request::read).collect()
     }
@@ -59,6 +124,73 @@ pub fn folder_of(path: &Path) -> PathBuf {
         Some(parent) if !parent.as_os_str().is_empty() => parent.to_path_buf(),
         _ => PathBuf::from("."),
     }
+}
+
+/// The requests of a folder: those of requests.say, or else of requests.tsv.
+fn asked(folder: &Path, terms: &[u8], names: &Names) -> Result<Vec<u8>, Stop> {
+    let spoken = folder.join(SPOKEN);
+    if !spoken.is_file() {
+        return opened(&folder.join(REQUESTS));
+    }
+    named(&spoken.display().to_string(), &text(&spoken)?, terms, names)
+}
+
+/// Requests by name as lines of requests.tsv. Under terms that are refused nothing
+/// is asked.
+pub fn named(file: &str, text: &str, terms: &[u8], names: &Names) -> Result<Vec<u8>, Stop> {
+    match keeper::terms::read(terms) {
+        Ok(read) => requests::read(file, text, &read.terms, names),
+        Err(_) => Ok(Vec::new()),
+    }
+}
+
+/// Why a folder has no terms; a file with nearly the right name is pointed at.
+fn missing(folder: &Path) -> Stop {
+    let entries = fs::read_dir(folder).into_iter().flatten().flatten();
+    let names = entries.map(|file| file.file_name().to_string_lossy().into_owned());
+    let mut near: Vec<String> =
+        names.filter(|name| name.to_lowercase().starts_with("term")).collect();
+    near.sort();
+    let what = format!("there is no {SOURCE} and no {TERMS} in {}", folder.display());
+    Stop::Failed(match near.first() {
+        Some(near) => {
+            format!("{what}, but {near}; it has to be called {SOURCE} or {TERMS}, in these letters")
+        }
+        None => format!(
+            "{what}; `cuckooormolu new {}` writes a {SOURCE} to start from",
+            folder.display()
+        ),
+    })
+}
+
+/// Stops where a terms.tsv that was named is not what the source beside it
+/// compiles to: nobody is to be answered from old terms.
+fn up_to_date(terms: &[u8], file: &Path, source: &Path) -> Result<(), Stop> {
+    let folder = folder_of(file);
+    if Folder::from_source(source)?.terms == terms {
+        return Ok(());
+    }
+    Err(Stop::Failed(format!(
+        "{} is not what {} compiles to; name the folder, or run `cuckooormolu compile {}` first",
+        file.display(),
+        source.display(),
+        folder.display(),
+    )))
+}
+
+/// A file as a text; empty if there is no such file.
+fn text(path: &Path) -> Result<String, Stop> {
+    String::from_utf8(bytes(path)?).map_err(|error| {
+        let valid = &error.as_bytes()[..error.utf8_error().valid_up_to()];
+        let line = valid.iter().filter(|&&byte| byte == b'\n').count() + 1;
+        Stop::Failed(format!("{} is no UTF-8 text: line {line}; save it as UTF-8", path.display()))
+    })
+}
+
+/// The bytes of a file that the program opens too: no longer one is read.
+fn opened(path: &Path) -> Result<Vec<u8>, Stop> {
+    let bytes = bytes(path)?;
+    fits(path, bytes.len()).map(|()| bytes)
 }
 
 /// A file's bytes; none if there is no such file.

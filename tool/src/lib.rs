@@ -3,15 +3,18 @@
 //!
 //! * `both`: every acceptance and verdict, from the proved library and from the
 //!   keeper of the whole record
-//! * `names`, `folder`: the names of members, relations and events; a folder's files
+//! * `names`, `folder`, `storing`: the names of members, relations and events; a folder's files
 //! * `source`: the source language, compiled and written back
 //! * `replay`, `words`, `matrix`: the requests made one by one; words for them; who may do what
 //! * `why`: why a request is granted or denied
 //! * `report`: a folder's story as one page
-//! * `trial`: requests made and taken back at a prompt
+//! * `requests`: requests by name
+//! * `trial`, `editing`: requests made and taken back at a prompt; a line edited at a terminal
+//! * `watch`: doing something again when files change
 //! * `aloud`: every policy and effect as a sentence
 //! * `check`: what is wrong with a terms file, and what may be
 //! * `commands`: one file for each sub-command
+//! * `pages`: the overview, the manual page and completions for shells
 //! * `arguments`, `json`, `stop`: what the sub-commands share
 
 pub mod aloud;
@@ -19,14 +22,19 @@ pub mod arguments;
 pub mod both;
 pub mod check;
 pub mod commands;
+pub mod editing;
 pub mod folder;
 pub mod json;
 pub mod matrix;
 pub mod names;
+pub mod pages;
 pub mod replay;
 pub mod report;
+pub mod requests;
 pub mod source;
 pub mod stop;
+pub mod storing;
 pub mod trial;
+pub mod watch;
 pub mod why;
 pub mod words;

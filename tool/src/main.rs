@@ -2,6 +2,7 @@
 
 use cuckooormolu_tool::commands::{Command, COMMANDS};
 use cuckooormolu_tool::names::did_you_mean;
+use cuckooormolu_tool::pages;
 use cuckooormolu_tool::stop::{Stop, USAGE, WELL};
 use std::io::{self, Write};
 
@@ -10,10 +11,11 @@ fn main() {
         std::env::args_os().skip(1).map(|word| word.to_string_lossy().into_owned()).collect();
     let mut out = io::BufWriter::new(io::stdout());
     let status = match dispatch(&arguments, &mut out) {
-        Ok(status) => out.flush().map_or_else(|error| report("", &error.into()), |()| status),
+        Ok(status) => {
+            out.flush().map_or_else(|error| report("", &error.into(), false, &mut out), |()| status)
+        }
         Err((name, stop)) => {
-            let _ = out.flush();
-            report(name, &stop)
+            report(name, &stop, arguments.iter().any(|word| word == "--json"), &mut out)
         }
     };
     std::process::exit(status);
@@ -22,13 +24,17 @@ fn main() {
 /// Runs the sub-command that the first argument names.
 fn dispatch<'a>(arguments: &'a [String], out: &mut dyn Write) -> Result<i32, (&'a str, Stop)> {
     let Some((name, rest)) = arguments.split_first() else {
-        eprint!("{}", overview());
+        eprint!("{}", pages::overview());
         return Ok(USAGE);
     };
     match name.as_str() {
-        "help" | "--help" | "-h" => match rest.first() {
-            Some(about) => show(out, find(about).map_err(|stop| ("", stop))?.help),
-            None => show(out, &overview()),
+        "help" | "--help" | "-h" => match rest {
+            [] => show(out, &pages::overview()),
+            [about] if about == "--man" => show(out, &pages::manual()),
+            [option, shell] if option == "--completion" => {
+                show(out, &pages::completion(shell).map_err(|stop| ("", stop))?)
+            }
+            [about, ..] => show(out, find(about).map_err(|stop| ("", stop))?.help),
         },
         "--version" | "-V" => show(out, concat!("cuckooormolu ", env!("CARGO_PKG_VERSION"))),
         name => {
@@ -53,22 +59,21 @@ fn find(name: &str) -> Result<&'static Command, Stop> {
     })
 }
 
-fn overview() -> String {
-    let mut text = String::from("usage: cuckooormolu COMMAND ...\n\n");
-    for command in &COMMANDS {
-        text.push_str(&format!("  {:9} {}\n", command.name, command.summary));
-    }
-    text.push_str("\n`cuckooormolu COMMAND --help` says more.\n");
-    text.push_str("Exit status: 0, or 1 where something is denied, refused or failing, or 2 for a wrong command line.\n");
-    text
-}
-
-/// Says on standard error why a sub-command stopped; gives the exit status.
-fn report(name: &str, stop: &Stop) -> i32 {
+/// Says why a sub-command stopped: on standard error, or as JSON after whatever
+/// was printed before. Gives the exit status.
+fn report(name: &str, stop: &Stop, json: bool, out: &mut dyn Write) -> i32 {
     let who = if name.is_empty() { "cuckooormolu".into() } else { format!("cuckooormolu {name}") };
+    if json {
+        for line in stop.json() {
+            let _ = writeln!(out, "{line}");
+        }
+    }
+    let _ = out.flush();
     match stop {
+        _ if json => {}
         Stop::Closed => {}
         Stop::Usage(_) => eprintln!("{who}: {stop}\n`{who} --help` says more."),
+        Stop::Mistaken(_) => eprintln!("{stop}"),
         Stop::Failed(_) | Stop::Differ(_) => eprintln!("{who}: {stop}"),
     }
     stop.status()

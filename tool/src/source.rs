@@ -1,6 +1,7 @@
 //! The source language: terms with names, compiled to a terms file, and back.
 //!
 //! * `tokens`, `parse`, `ast`: a text, read
+//! * `kinds`: kinds of members as attributes
 //! * `resolve`, `said`: names found, definitions and derived forms unfolded
 //! * `tree`: at which member each part is said
 //! * `entries`: variables numbered, equal parts made one entry
@@ -12,6 +13,7 @@ pub mod ast;
 pub mod compile;
 pub mod decompile;
 mod entries;
+mod kinds;
 pub mod mistake;
 pub mod parse;
 pub mod print;
@@ -21,4 +23,5 @@ pub mod tokens;
 mod tree;
 
 pub use compile::{compile, Compiled};
+pub use entries::Origin;
 pub use parse::parse;

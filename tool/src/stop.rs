@@ -1,14 +1,20 @@
 //! How a sub-command ends, and why it stops early.
 
+use crate::json::Json;
+use crate::source::mistake::Mistaken;
 use std::fmt;
 use std::io;
 
-/// The exit status: all is well.
+/// The exit status: done.
 pub const WELL: i32 = 0;
-/// The exit status: denied, refused or failing.
+/// The exit status: what was asked to hold does not. A denial, a refusal, an
+/// expectation that fails, a document that quotes otherwise.
 pub const FAILING: i32 = 1;
 /// The exit status: the command line is wrong.
 pub const USAGE: i32 = 2;
+/// The exit status: a file can't be read, written or compiled, or its terms are
+/// not accepted.
+pub const UNUSABLE: i32 = 3;
 
 /// Why a sub-command stops early.
 #[derive(Debug)]
@@ -17,6 +23,8 @@ pub enum Stop {
     Usage(String),
     /// What was asked for can't be done.
     Failed(String),
+    /// A source has mistakes.
+    Mistaken(Mistaken),
     /// The proved library and the keeper differ.
     Differ(String),
     /// The reader of the output went away.
@@ -28,7 +36,16 @@ impl Stop {
         match self {
             Stop::Usage(_) => USAGE,
             Stop::Closed => WELL,
-            Stop::Failed(_) | Stop::Differ(_) => FAILING,
+            Stop::Failed(_) | Stop::Mistaken(_) | Stop::Differ(_) => UNUSABLE,
+        }
+    }
+
+    /// What `--json` prints of it, one object a line. Each has an `error`.
+    pub fn json(&self) -> Vec<Json> {
+        match self {
+            Stop::Closed => Vec::new(),
+            Stop::Mistaken(mistaken) => mistaken.json(),
+            _ => vec![Json::Object(vec![("error", self.to_string().into())])],
         }
     }
 }
@@ -37,6 +54,7 @@ impl fmt::Display for Stop {
     fn fmt(&self, out: &mut fmt::Formatter<'_>) -> fmt::Result {
         match self {
             Stop::Usage(said) | Stop::Failed(said) => out.write_str(said),
+            Stop::Mistaken(mistaken) => mistaken.fmt(out),
             Stop::Differ(said) => {
                 write!(out, "the proved library and the keeper differ, please report it: {said}")
             }

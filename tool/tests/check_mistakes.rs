@@ -2,7 +2,7 @@
 //! what is said of it.
 
 use cuckooormolu_tool::commands::check;
-use cuckooormolu_tool::stop::{FAILING, WELL};
+use cuckooormolu_tool::stop::{UNUSABLE, WELL};
 use std::fs;
 use std::path::PathBuf;
 
@@ -40,7 +40,7 @@ fn each_mistake_is_named() {
         let expected = fs::read_to_string(folder.join("said.txt")).unwrap();
         assert_eq!(text, expected, "{name}");
         let accepted = ACCEPTED.iter().any(|number| name.starts_with(number));
-        assert_eq!(status, if accepted { WELL } else { FAILING }, "{name}");
+        assert_eq!(status, if accepted { WELL } else { UNUSABLE }, "{name}");
         assert_eq!(text.contains("warning"), accepted, "{name}");
     }
 }

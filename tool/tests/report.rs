@@ -53,7 +53,7 @@ fn everything_is_on_the_page() {
         "6 requests: 3 granted, 2 denied, 1 refused.",
         "You may always share with the target.",
         "id=\"request-6\" class=\"refused\"",
-        "own dora → saw, share dora → pete at moment 1, but withdraw dora → pete at moment 3",
+        "dora owns saw, and dora shared with pete at moment 1, but dora withdrew from pete at moment 3",
         "<title id=\"title3\">Moment 3: withdraw dora → pete</title>",
         "<desc id=\"desc0\">Relation edges: own dora → saw.</desc>",
         "prefers-color-scheme:dark",
@@ -117,5 +117,5 @@ fn mistakes() {
     assert_eq!(run(&["report", folder.path()]).status, 2);
     assert_eq!(run(&["report", "-o", "x.html"]).status, 2);
     let nowhere = folder.file("no/such/folder.html");
-    assert_eq!(run(&["report", folder.path(), "-o", nowhere.to_str().unwrap()]).status, 1);
+    assert_eq!(run(&["report", folder.path(), "-o", nowhere.to_str().unwrap()]).status, 3);
 }

@@ -25,12 +25,13 @@ fn it_goes_on_and_says_why() {
     assert_eq!(
         run(&["why", folder.path()]).out,
         "1  load pete → saw       granted
-     own dora → saw, as stored: once share dora → pete and no withdraw dora → pete since
+     dora owns saw, and when it was stored, dora had at some time shared with pete and had not \
+         withdrawn from pete since
 2  withdraw dora → pete  granted
      it is always allowed
 3  load pete → saw       denied
-     own dora → saw, as stored: once share dora → pete and no withdraw dora → pete since, \
-         but withdraw dora → pete at moment 2
+     dora owns saw, and when it was stored, dora had at some time shared with pete and had not \
+         withdrawn from pete since, but dora withdrew from pete at moment 2
 "
     );
 }
@@ -42,8 +43,9 @@ fn what_was_not_so_has_not_become_so() {
     folder.write("terms.tsv", &forgotten);
     folder.write("requests.tsv", "R\t1\t2\t1\nR\t2\t1\t2\n");
     let why = run(&["why", folder.path(), "2"]).out;
-    let said = "own dora → saw, but as stored: not once share dora → pete and no withdraw \
-                dora → pete since, since then never share dora → pete";
+    let said = "dora owns saw, but when it was stored, it was not the case that dora had at some \
+                time shared with pete and had not withdrawn from pete since, and since then dora \
+                has never shared with pete";
     assert!(why.contains(said), "{why}");
 }
 
@@ -119,7 +121,7 @@ fn it_is_checked_and_written_as_a_source_and_drawn() {
 #[test]
 fn lines_are_counted_from_s() {
     let folder = shared();
-    let unused = folder.read("terms.tsv").replace("P\t0\t8\n", "F\t9\ttop\t0\t0\nP\t0\t8\n");
+    let unused = folder.read("terms.tsv").replace("P\t0\t0\n", "F\t9\ttop\t0\t0\nP\t0\t0\n");
     folder.write("terms.tsv", &unused);
     let said = run(&["check", folder.path()]).out;
     assert!(said.contains("warning, line 13: entry 9 is used by no policy"), "{said}");
@@ -131,7 +133,7 @@ fn terms_to_begin_with_are_written_before_anything_has_passed() {
     let written = folder.file("written.tsv");
     let arguments = ["run", folder.path(), "--write", written.to_str().unwrap()];
     let said = run(&arguments);
-    assert_eq!(said.status, 1);
+    assert_eq!(said.status, 3);
     assert!(said.err.contains("refused with 12: something has passed"), "{}", said.err);
     assert!(!written.exists());
     folder.write("requests.tsv", "R\t2\t1\t2\n");

@@ -4,68 +4,79 @@
 use crate::arguments::Arguments;
 use crate::both::Both;
 use crate::check::{check, Checked, Fault, Warning};
-use crate::folder::{Folder, TERMS};
+use crate::folder::Folder;
 use crate::json::Json;
-use crate::stop::{Stop, FAILING, WELL};
+use crate::source::mistake::Mistake;
+use crate::stop::{Stop, UNUSABLE, WELL};
+use crate::watch::watch;
 use std::collections::BTreeSet;
-use std::fs;
 use std::io::Write;
 use std::path::Path;
 
 pub const HELP: &str = "\
-usage: cuckooormolu check DIR|FILE [--json]
+usage: cuckooormolu check DIR|FILE [--json] [--watch]
 
-Says whether a terms file is accepted. If not: the refusal's number, the line
-with the place marked, what is wrong and what would be right. Tabs are shown as
-→ and carriage returns as ↵. If it is: what may be a mistake all the same.
+Says whether terms are accepted: those of a source, terms.say, by its lines; where
+there is none, those of a terms file. If not: the line with the place marked, what
+is wrong and what would be right. Of a terms file also the refusal's number; tabs
+are shown as → and carriage returns as ↵. If they are: what may be a mistake all
+the same.
 
-Exit status: 0 if the file is accepted, with warnings or without; 1 if not.
+Exit status: 0 if the file is accepted, with warnings or without; 3 if not.
 
-  --json  one line: accepted, and number, line, from, to, what, right of the
-          fault; or counts. Then one for each warning: warning, line, what, right
+  --watch  again whenever a file of the folder changes, until it is stopped
+  --json   one line: accepted, and number, line, from, to, what, right of the
+           fault; or counts. Then one for each warning: warning, line, what, right
 ";
 
 pub fn main(arguments: &[String], out: &mut dyn Write) -> Result<i32, Stop> {
-    let arguments = Arguments::read(arguments, &["--json"], &[])?;
+    let arguments = Arguments::read(arguments, &["--json", "--watch"], &[])?;
     let path = Path::new(arguments.one("a folder or a terms file")?);
-    if let Some(stop) = other_case(path) {
-        return Err(stop);
-    }
-    let folder = Folder::load(path)?;
     let json = arguments.has("--json");
+    if !arguments.has("--watch") {
+        return checked(path, json, out);
+    }
+    watch(path, || {
+        match checked(path, json, out) {
+            Err(Stop::Closed) => return Err(Stop::Closed),
+            Err(stop) if json => stop.json().iter().try_for_each(|line| writeln!(out, "{line}"))?,
+            Err(stop) => writeln!(out, "{stop}")?,
+            Ok(_) => {}
+        }
+        if !json {
+            writeln!(out, "-- {} is watched; Ctrl-C ends", path.display())?;
+        }
+        Ok(out.flush()?)
+    })
+}
+
+/// Checks once.
+fn checked(path: &Path, json: bool, out: &mut dyn Write) -> Result<i32, Stop> {
+    let folder = Folder::load(path)?;
     match check(&folder)? {
         Checked::Refused(fault) if json => writeln!(out, "{}", fault_json(&fault))?,
         Checked::Refused(fault) => refused(out, &fault, &folder.terms)?,
         Checked::Accepted(both, warnings) => {
             if json {
                 writeln!(out, "{}", accepted_json(&both))?;
+                for warning in folder.source.iter().flat_map(|source| &source.compiled.warnings) {
+                    let source = folder.source.as_ref().map_or("", |source| &source.text);
+                    writeln!(out, "{}", source_json(warning, source))?;
+                }
                 for warning in &warnings {
                     writeln!(out, "{}", warning_json(warning))?;
                 }
             } else {
-                accepted(out, &both, &warnings)?;
+                accepted(out, &both)?;
+                write!(out, "{}", folder.warnings())?;
+                for warning in &warnings {
+                    warned(out, warning, &folder)?;
+                }
             }
             return Ok(WELL);
         }
     }
-    Ok(FAILING)
-}
-
-/// A folder whose terms file is written with other letters.
-fn other_case(path: &Path) -> Option<Stop> {
-    if !path.is_dir() || path.join(TERMS).exists() {
-        return None;
-    }
-    let mut near: Vec<String> = fs::read_dir(path)
-        .ok()?
-        .flatten()
-        .map(|file| file.file_name().to_string_lossy().into_owned())
-        .filter(|name| name.to_lowercase().starts_with("term"))
-        .collect();
-    near.sort();
-    let near = near.first()?;
-    let what = format!("no {TERMS} in {}", path.display());
-    Some(Stop::Failed(format!("{what}, but {near}; the program opens {TERMS}, in these letters")))
+    Ok(UNUSABLE)
 }
 
 fn refused(out: &mut dyn Write, fault: &Fault, text: &[u8]) -> Result<(), Stop> {
@@ -85,7 +96,7 @@ fn refused(out: &mut dyn Write, fault: &Fault, text: &[u8]) -> Result<(), Stop> 
     Ok(())
 }
 
-fn accepted(out: &mut dyn Write, both: &Both, warnings: &[Warning]) -> Result<(), Stop> {
+fn accepted(out: &mut dyn Write, both: &Both) -> Result<(), Stop> {
     let terms = both.terms();
     let counted = |count: usize, one: &str, more: &str| match count {
         1 => format!("1 {one}"),
@@ -111,14 +122,23 @@ fn accepted(out: &mut dyn Write, both: &Both, warnings: &[Warning]) -> Result<()
         let bits = counted(bits, "line of the past", "lines of the past");
         writeln!(out, "stored: with {bits} and {event}; `cuckooormolu aloud` reads them")?;
     }
-    for warning in warnings {
-        match warning.line {
-            0 => writeln!(out, "warning: {}", warning.what)?,
-            line => writeln!(out, "warning, line {line}: {}", warning.what)?,
-        }
-        if !warning.right.is_empty() {
-            writeln!(out, "  {}", warning.right)?;
-        }
+    Ok(())
+}
+
+/// A warning: at its place in the source, or with the line of the terms file.
+fn warned(out: &mut dyn Write, warning: &Warning, folder: &Folder) -> Result<(), Stop> {
+    if let (Some((_, span)), Some(source)) = (folder.place(warning.about), &folder.source) {
+        let shown =
+            Mistake::new(span, format!("warning: {}", warning.what)).advise(&*warning.right);
+        write!(out, "{}", shown.render(&folder.file.display().to_string(), &source.text))?;
+        return Ok(());
+    }
+    match warning.line {
+        0 => writeln!(out, "warning: {}", warning.what)?,
+        line => writeln!(out, "warning, line {line}: {}", warning.what)?,
+    }
+    if !warning.right.is_empty() {
+        writeln!(out, "  {}", warning.right)?;
     }
     Ok(())
 }
@@ -147,6 +167,15 @@ fn accepted_json(both: &Both) -> Json {
         ("kept", terms.kept.len().into()),
         ("edges", terms.edges.len().into()),
         ("stored", both.is_stored().into()),
+    ])
+}
+
+fn source_json(warning: &Mistake, text: &str) -> Json {
+    Json::Object(vec![
+        ("warning", "source".into()),
+        ("line", warning.place(text).0.into()),
+        ("what", warning.message.as_str().into()),
+        ("right", warning.advice.clone().into()),
     ])
 }
 

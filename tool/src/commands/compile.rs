@@ -2,11 +2,10 @@
 
 use crate::arguments::Arguments;
 use crate::both::Both;
-use crate::folder::{self, folder_of, NAMES, SOURCE, TERMS};
+use crate::folder::{self, Folder, NAMES, SOURCE, TERMS};
 use crate::json::Json;
-use crate::source::mistake::Mistake;
-use crate::source::{compile, Compiled};
-use crate::stop::{Stop, FAILING, WELL};
+use crate::source::Compiled;
+use crate::stop::{Stop, WELL};
 use keeper::terms::{MOST_ENTRIES, MOST_PAST};
 use std::fs;
 use std::io::Write;
@@ -23,33 +22,26 @@ Both files are written beside the source.
   --print   print terms.tsv and write nothing
   --json    print one line of JSON: what was written, or what is wrong and where
 
-Exit status: 0, or 1 where the source has a mistake.";
+Exit status: 0, or 3 where the source cannot be read or has a mistake.";
 
 pub fn main(arguments: &[String], out: &mut dyn Write) -> Result<i32, Stop> {
     let arguments = Arguments::read(arguments, &["--print", "--json"], &["-o"])?;
     let given = Path::new(arguments.one("the source FILE")?);
     let file = if given.is_dir() { given.join(SOURCE) } else { given.to_path_buf() };
-    let text = fs::read(&file)
-        .map_err(|error| Stop::Failed(format!("cannot read {}: {error}", file.display())))?;
-    let text = String::from_utf8(text)
-        .map_err(|_| Stop::Failed(format!("{} is no UTF-8 text", file.display())))?;
-    let compiled = match compile(&text) {
-        Ok(compiled) => compiled,
-        Err(mistake) if arguments.has("--json") => {
-            writeln!(out, "{}", mistaken(&mistake, &file, &text))?;
-            return Ok(FAILING);
-        }
-        Err(mistake) => {
-            eprint!("{}", mistake.render(&file.display().to_string(), &text));
-            return Ok(FAILING);
-        }
-    };
-    let terms = accepted(&compiled)?;
+    if !file.is_file() {
+        return Err(Stop::Failed(format!("there is no {}", file.display())));
+    }
+    let read = Folder::from_source(&file)?;
+    let compiled = &read.source.as_ref().expect("it has a source").compiled;
+    let terms = accepted(compiled)?;
+    if !arguments.has("--json") {
+        eprint!("{}", read.warnings());
+    }
     if arguments.has("--print") {
         out.write_all(&terms)?;
         return Ok(WELL);
     }
-    let folder = arguments.option("-o").map_or_else(|| folder_of(&file), PathBuf::from);
+    let folder = arguments.option("-o").map_or_else(|| read.path.clone(), PathBuf::from);
     fs::create_dir_all(&folder)
         .map_err(|error| Stop::Failed(format!("cannot make {}: {error}", folder.display())))?;
     folder::write(&folder.join(TERMS), &terms)?;
@@ -81,15 +73,4 @@ fn accepted(compiled: &Compiled) -> Result<Vec<u8>, Stop> {
             Err(wrong(&format!("the compiled terms are refused with {}", refusal.number)))
         }
     }
-}
-
-fn mistaken(mistake: &Mistake, file: &Path, text: &str) -> Json {
-    let (line, column) = mistake.place(text);
-    Json::Object(vec![
-        ("file", file.display().to_string().into()),
-        ("line", line.into()),
-        ("column", column.into()),
-        ("message", mistake.message.as_str().into()),
-        ("advice", mistake.advice.clone().into()),
-    ])
 }

@@ -18,7 +18,7 @@ and first edges. What a stored file remembers of the past is not in a source.
 
   -o FILE   write it to FILE instead of printing it
 
-Exit status: 0, or 1 where the terms are refused.";
+Exit status: 0, or 3 where the terms are refused.";
 
 pub fn main(arguments: &[String], out: &mut dyn Write) -> Result<i32, Stop> {
     let arguments = Arguments::read(arguments, &[], &["-o"])?;

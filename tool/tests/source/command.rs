@@ -56,15 +56,16 @@ fn compile_shows_mistakes_and_writes_nothing() {
     let path = folder("mistaken", "members a\nevent e when me own target\n");
     let file = path.join("terms.say").display().to_string();
     let (status, out, error) = said(&["compile", &file]);
-    assert_eq!((status, out.as_str()), (1, ""));
+    assert_eq!((status, out.as_str()), (3, ""));
     assert!(error.starts_with(&format!("{file}:2:17: no relation or event `own`")), "{error}");
     let (status, out, _) = said(&["compile", &file, "--json"]);
-    assert_eq!(status, 1);
-    assert!(out.contains("\"line\":2,\"column\":17,\"message\":"), "{out}");
+    assert_eq!(status, 3);
+    assert!(out.starts_with("{\"error\":\"no relation or event `own`"), "{out}");
+    assert!(out.contains("\"line\":2,\"column\":17,\"advice\":"), "{out}");
     assert!(!path.join("terms.tsv").exists());
     let (status, _, error) = said(&["compile", "nowhere.say"]);
-    assert_eq!(status, 1);
-    assert!(error.contains("cannot read nowhere.say"), "{error}");
+    assert_eq!(status, 3);
+    assert!(error.contains("there is no nowhere.say"), "{error}");
 }
 
 #[test]
@@ -80,7 +81,7 @@ fn source_goes_back() {
     let broken = Path::new(&path).join("broken.tsv");
     fs::write(&broken, "M\t0\n").unwrap();
     let (status, _, error) = said(&["source", &broken.display().to_string()]);
-    assert_eq!(status, 1);
+    assert_eq!(status, 3);
     assert!(error.contains("the terms are refused with 2 at line 1"), "{error}");
 }
 

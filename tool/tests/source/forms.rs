@@ -7,7 +7,7 @@ const START: &str = "members a, b\nrelation owns, friend\nevent share by anyone\
 /// The compiled terms of a policy.
 fn terms(formula: &str) -> Vec<u8> {
     let text = format!("{START}event load when {formula}\n");
-    compile(&text).unwrap_or_else(|mistake| panic!("{}", mistake.render("f", &text))).text()
+    compile(&text).unwrap_or_else(|mistake| panic!("{mistake:?}")).text()
 }
 
 #[test]
@@ -76,7 +76,7 @@ fn counted() {
 fn definitions() {
     let with = |define: &str, formula: &str| {
         let text = format!("{START}{define}\nevent load when {formula}\n");
-        compile(&text).unwrap_or_else(|mistake| panic!("{}", mistake.render("f", &text))).text()
+        compile(&text).unwrap_or_else(|mistake| panic!("{mistake:?}")).text()
     };
     let plain = terms("me owns target and target friend me");
     let two = "x owns y and y friend x";

@@ -5,6 +5,7 @@ use crate::evaluate::World;
 use crate::generate::{source, Dice};
 use cuckooormolu_tool::both::Both;
 use cuckooormolu_tool::source::ast::Source;
+use cuckooormolu_tool::source::mistake::Mistake;
 use cuckooormolu_tool::source::print::print;
 use cuckooormolu_tool::source::{compile, parse, Compiled};
 use keeper::record::Record;
@@ -20,14 +21,15 @@ fn compiled_terms_mean_what_is_written() {
         let mut dice = Dice::new(seed);
         let written = source(&mut dice);
         let text = print(&written);
-        let read = parse(&text).unwrap_or_else(|m| panic!("{}", m.render("random", &text)));
+        let read = parse(&text).unwrap_or_else(|m| panic!("{m:?}\n{text}"));
         assert_eq!(read, written, "seed {seed}:\n{text}");
         let compiled = match compile(&text) {
             Ok(compiled) => compiled,
-            Err(mistake) => {
+            Err(mistakes) => {
                 let known = ["; the past may speak of", "; what leads to", "names at once"];
-                let expected = known.iter().any(|part| mistake.message.contains(part));
-                assert!(expected, "seed {seed}:\n{}", mistake.render("random", &text));
+                let expected =
+                    |mistake: &Mistake| known.iter().any(|part| mistake.message.contains(part));
+                assert!(mistakes.iter().all(expected), "seed {seed}:\n{mistakes:?}\n{text}");
                 continue;
             }
         };
@@ -72,12 +74,10 @@ fn names_are_kept_apart() {
     ];
     for policy in policies {
         let text = format!("{start}{policy}\n");
-        let shown =
-            |mistake: cuckooormolu_tool::source::mistake::Mistake| mistake.render("f", &text);
-        let written = parse(&text).unwrap_or_else(|mistake| panic!("{}", shown(mistake)));
+        let written = parse(&text).unwrap_or_else(|mistakes| panic!("{mistakes:?}\n{text}"));
         let mut tally = Tally::default();
         for seed in 0..60 {
-            let compiled = compile(&text).unwrap_or_else(|mistake| panic!("{}", shown(mistake)));
+            let compiled = compile(&text).unwrap_or_else(|mistakes| panic!("{mistakes:?}\n{text}"));
             compare(&written, compiled, &mut Dice::new(seed), &mut tally);
         }
         assert!(tally.granted > 0 && tally.denied > 0, "{policy}");
