@@ -6,6 +6,7 @@ pub mod compile;
 pub mod report;
 pub mod run;
 pub mod source;
+pub mod test;
 pub mod try_it;
 pub mod who;
 pub mod why;
@@ -25,7 +26,7 @@ pub struct Command {
 }
 
 /// All sub-commands, in the order in which a user meets them.
-pub const COMMANDS: [Command; 9] = [
+pub const COMMANDS: [Command; 10] = [
     Command {
         name: "compile",
         summary: "compile a readable source to terms.tsv and names.tsv",
@@ -73,6 +74,12 @@ pub const COMMANDS: [Command; 9] = [
         summary: "make requests at a prompt",
         help: try_it::HELP,
         main: try_it::main,
+    },
+    Command {
+        name: "test",
+        summary: "make the tests of folders and show where they fail",
+        help: test::HELP,
+        main: test::main,
     },
     Command {
         name: "source",

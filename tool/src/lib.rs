@@ -9,6 +9,7 @@
 //! * `why`: why a request is granted or denied
 //! * `report`: a folder's story as one page
 //! * `trial`: requests made and taken back at a prompt
+//! * `testing`: tests that people write
 //! * `aloud`: every policy and effect as a sentence
 //! * `check`: what is wrong with a terms file, and what may be
 //! * `commands`: one file for each sub-command
@@ -27,6 +28,7 @@ pub mod replay;
 pub mod report;
 pub mod source;
 pub mod stop;
+pub mod testing;
 pub mod trial;
 pub mod why;
 pub mod words;
