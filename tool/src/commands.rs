@@ -3,6 +3,7 @@
 pub mod aloud;
 pub mod check;
 pub mod compile;
+pub mod play;
 pub mod report;
 pub mod run;
 pub mod source;
@@ -26,7 +27,7 @@ pub struct Command {
 }
 
 /// All sub-commands, in the order in which a user meets them.
-pub const COMMANDS: [Command; 10] = [
+pub const COMMANDS: [Command; 11] = [
     Command {
         name: "compile",
         summary: "compile a readable source to terms.tsv and names.tsv",
@@ -74,6 +75,12 @@ pub const COMMANDS: [Command; 10] = [
         summary: "make requests at a prompt",
         help: try_it::HELP,
         main: try_it::main,
+    },
+    Command {
+        name: "play",
+        summary: "edit terms and try them on a page in the browser",
+        help: play::HELP,
+        main: play::main,
     },
     Command {
         name: "test",

@@ -9,11 +9,11 @@
 //! * `why`: why a request is granted or denied
 //! * `report`: a folder's story as one page
 //! * `trial`: requests made and taken back at a prompt
-//! * `testing`: tests that people write
+//! * `testing`: tests that people write; `play`: a page to edit terms in and try them
 //! * `aloud`: every policy and effect as a sentence
 //! * `check`: what is wrong with a terms file, and what may be
 //! * `commands`: one file for each sub-command
-//! * `arguments`, `json`, `stop`: what the sub-commands share
+//! * `arguments`, `http`, `json`, `stop`: what the sub-commands share
 
 pub mod aloud;
 pub mod arguments;
@@ -21,9 +21,11 @@ pub mod both;
 pub mod check;
 pub mod commands;
 pub mod folder;
+pub mod http;
 pub mod json;
 pub mod matrix;
 pub mod names;
+pub mod play;
 pub mod replay;
 pub mod report;
 pub mod source;

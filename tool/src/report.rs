@@ -3,16 +3,16 @@
 //! * `layout`: members on a circle; `drawing`: graphs as SVG
 //! * `moments`: the strip, and each moment with what was asked at it
 //! * `policies`: the policies read aloud; `tables`: who may do what in the end
-//! * `palette`, `style.css`: colours and everything else that is seen
+//! * `palette`, `colours.css`, `style.css`, `pictures.css`, `tables.css`: what is seen
 //! * `html`: text made safe for a page
 
-mod drawing;
-mod html;
+pub mod drawing;
+pub mod html;
 mod layout;
 mod moments;
-mod palette;
-mod policies;
-mod tables;
+pub mod palette;
+pub mod policies;
+pub mod tables;
 
 use crate::both::Verdict;
 use crate::names::Names;
@@ -21,6 +21,14 @@ use crate::stop::Stop;
 use crate::words::Words;
 use drawing::Drawing;
 use html::{counted, escaped};
+
+/// What the page looks like: colours, the page, pictures, tables.
+const STYLE: [&str; 4] = [COLOURS, include_str!("report/style.css"), PICTURES, TABLES];
+
+/// The parts of the style that other pages have, too.
+pub const COLOURS: &str = include_str!("report/colours.css");
+pub const PICTURES: &str = include_str!("report/pictures.css");
+pub const TABLES: &str = include_str!("report/tables.css");
 
 /// The whole page.
 pub fn page(title: &str, replay: &Replay, names: &Names) -> Result<String, Stop> {
@@ -33,7 +41,7 @@ pub fn page(title: &str, replay: &Replay, names: &Names) -> Result<String, Stop>
          <meta name=\"color-scheme\" content=\"light dark\">\n<title>{title}</title>\n\
          <style>\n{}{}</style>\n</head>\n<body>\n{}\
          <header>\n<h1>{title}</h1>\n{}</header>\n<main>\n{}{}{}</main>\n</body>\n</html>\n",
-        include_str!("report/style.css"),
+        STYLE.concat(),
         palette::style(words.terms.relations),
         drawing.definitions(),
         summary(replay),

@@ -1,9 +1,10 @@
 //! Tests that people write: tests.say, with what is given and who may then do what.
 //!
 //! * `lines`: a text cut into statements; `read`: the statements, with their names found
-//! * `people`: whom a statement speaks of
+//! * `cursor`: the words of a statement; `people`: whom it speaks of
 //! * `run`: the tests made, each from the first moment, and where they fail
 
+mod cursor;
 mod lines;
 mod people;
 pub mod read;

@@ -117,5 +117,5 @@ fn mistakes() {
     assert_eq!(run(&["report", folder.path()]).status, 2);
     assert_eq!(run(&["report", "-o", "x.html"]).status, 2);
     let nowhere = folder.file("no/such/folder.html");
-    assert_eq!(run(&["report", folder.path(), "-o", nowhere.to_str().unwrap()]).status, 1);
+    assert_eq!(run(&["report", folder.path(), "-o", nowhere.to_str().unwrap()]).status, 3);
 }

@@ -71,34 +71,37 @@ impl<'a> Drawing<'a> {
         let mut text = String::from(
             "<svg width=\"0\" height=\"0\" aria-hidden=\"true\" class=\"shared\"><defs>\n",
         );
-        let mut arrow = |name: &str, class: &str, size: f64| {
-            text.push_str(&format!(
-                "<marker id=\"{name}\" class=\"{class}\" viewBox=\"0 -4 8 8\" refX=\"1\" refY=\"0\" \
-                 markerWidth=\"{size}\" markerHeight=\"{size}\" markerUnits=\"userSpaceOnUse\" \
-                 orient=\"auto-start-reverse\"><path d=\"M0-3.5L8 0L0 3.5z\"/></marker>\n",
-            ));
-        };
-        for relation in 0..self.words.terms.relations.min(8) {
-            arrow(&format!("arrow{relation}"), &format!("a{relation}"), self.layout.arrow);
-        }
-        arrow("arrow", "event-arrow", 13.0);
-        text.push_str(&self.members());
+        text.push_str(&self.arrows());
+        text.push_str(&format!("<g id=\"members\">\n{}</g>\n", self.members()));
         for (index, edges) in self.layers.iter().enumerate() {
-            let many = if self.layout.is_many() { " class=\"many\"" } else { "" };
-            text.push_str(&format!("<g id=\"edges{index}\"{many}>\n"));
-            text.push_str(&self.relation_edges(edges.iter(), edges, ""));
-            text.push_str("</g>\n");
+            text.push_str(&self.layer_edges(edges, &format!(" id=\"edges{index}\"")));
         }
         text.push_str("</defs></svg>\n");
         text
     }
 
+    /// The ends of lines, in the colours of the relations.
+    fn arrows(&self) -> String {
+        let arrow = |name: &str, class: &str, size: f64| {
+            format!(
+                "<marker id=\"{name}\" class=\"{class}\" viewBox=\"0 -4 8 8\" refX=\"1\" refY=\"0\" \
+                 markerWidth=\"{size}\" markerHeight=\"{size}\" markerUnits=\"userSpaceOnUse\" \
+                 orient=\"auto-start-reverse\"><path d=\"M0-3.5L8 0L0 3.5z\"/></marker>\n",
+            )
+        };
+        let relations = (0..self.words.terms.relations.min(8)).map(|relation| {
+            arrow(&format!("arrow{relation}"), &format!("a{relation}"), self.layout.arrow)
+        });
+        relations.chain([arrow("arrow", "event-arrow", 13.0)]).collect()
+    }
+
     fn members(&self) -> String {
         let layout = &self.layout;
-        let mut text = format!("<g id=\"members\" font-size=\"{}\">\n", layout.font);
+        let mut text = String::new();
         for (member, &(x, y)) in layout.places.iter().enumerate() {
             text.push_str(&format!(
-                "<circle class=\"member\" cx=\"{x:.1}\" cy=\"{y:.1}\" r=\"{:.1}\"/>",
+                "<g class=\"node\" data-member=\"{member}\">\
+                 <circle class=\"member\" cx=\"{x:.1}\" cy=\"{y:.1}\" r=\"{:.1}\"/>",
                 layout.dot
             ));
             let (nx, ny) = layout.name_place(member);
@@ -111,13 +114,14 @@ impl<'a> Drawing<'a> {
                 }
             };
             text.push_str(&format!(
-                "<text x=\"{nx:.1}\" y=\"{ny:.1}\" dy=\"{}em\" text-anchor=\"{}\"{turn}>{}</text>\n",
+                "<text font-size=\"{}\" x=\"{nx:.1}\" y=\"{ny:.1}\" dy=\"{}em\" \
+                 text-anchor=\"{}\"{turn}>{}</text></g>\n",
+                layout.font,
                 if layout.is_many() { 0.35 } else { 0.35 + 0.3 * oy },
                 layout.anchor(member),
                 escaped(&layout.names[member]),
             ));
         }
-        text.push_str("</g>\n");
         text
     }
 
@@ -167,25 +171,40 @@ impl<'a> Drawing<'a> {
         format!("<path class=\"{classes}{more}\" d=\"{path}\"><title>{title}</title></path>\n")
     }
 
-    /// The picture of one moment.
+    /// The picture of one moment, with what all share taken from the definitions.
     pub fn picture(&self, moment: usize) -> String {
+        let edges = format!("<use href=\"#edges{}\"/>\n", self.layer[moment]);
+        self.scene(moment, "", &edges, "<use href=\"#members\"/>")
+    }
+
+    /// The picture of one moment for a page that has no definitions, and none but
+    /// this. Members have their numbers, to be clicked at.
+    pub fn alone(&self, moment: usize) -> String {
+        let defined = format!("<defs>\n{}</defs>\n", self.arrows());
+        let edges = self.layer_edges(&self.graphs[moment].edges, "");
+        self.scene(moment, &defined, &edges, &self.members())
+    }
+
+    fn scene(&self, moment: usize, defined: &str, edges: &str, members: &str) -> String {
         let graph = &self.graphs[moment];
         let (left, top, wide, high) = self.layout.bounds();
-        let mut text = format!(
+        let added = self.changes(moment).added;
+        format!(
             "<svg class=\"graph\" viewBox=\"{left:.0} {top:.0} {wide:.0} {high:.0}\" width=\"{wide:.0}\" \
              height=\"{high:.0}\" role=\"img\" aria-labelledby=\"title{moment} desc{moment}\">\
-             <title id=\"title{moment}\">{}</title><desc id=\"desc{moment}\">{}</desc>\n",
+             <title id=\"title{moment}\">{}</title><desc id=\"desc{moment}\">{}</desc>\n\
+             {defined}{edges}{}{}{members}</svg>\n",
             escaped(&self.title(moment)),
             escaped(&self.description(graph)),
-        );
-        text.push_str(&format!("<use href=\"#edges{}\"/>\n", self.layer[moment]));
-        let added = self.changes(moment).added;
-        text.push_str(&self.relation_edges(added.iter(), &graph.edges, " added"));
-        if let Some(edge) = graph.event {
-            text.push_str(&self.event_edge(edge));
-        }
-        text.push_str("<use href=\"#members\"/></svg>\n");
-        text
+            self.relation_edges(added.iter(), &graph.edges, " added"),
+            graph.event.map_or_else(String::new, |edge| self.event_edge(edge)),
+        )
+    }
+
+    /// The relation edges of a graph as one group.
+    fn layer_edges(&self, edges: &BTreeSet<Edge>, name: &str) -> String {
+        let many = if self.layout.is_many() { " class=\"many\"" } else { "" };
+        format!("<g{name}{many}>\n{}</g>\n", self.relation_edges(edges.iter(), edges, ""))
     }
 
     /// The relation edges that a moment has and the one before has not, and the

@@ -1,12 +1,11 @@
 //! Members on a circle, with room for their names.
 
+use super::tables::shortened;
 use crate::words::Words;
 use std::f64::consts::PI;
 
 /// From so many members on, names stand along the radius.
 const MANY: usize = 20;
-/// The longest name on a picture, in letters.
-const LONGEST: usize = 14;
 
 /// A point of the picture.
 pub type Point = (f64, f64);
@@ -159,11 +158,4 @@ impl Layout {
 fn direction(member: usize, members: usize) -> Point {
     let angle = 2.0 * PI * member as f64 / members as f64 - PI / 2.0;
     (angle.cos(), angle.sin())
-}
-
-fn shortened(name: &str) -> String {
-    if name.chars().count() <= LONGEST {
-        return name.to_string();
-    }
-    name.chars().take(LONGEST - 1).chain(['…']).collect()
 }

@@ -56,16 +56,16 @@ pub fn read(text: &str, both: &Both, names: &Names) -> Result<Vec<Test>, Vec<Mis
 }
 
 /// The names that a statement may use.
-struct Known<'a> {
+pub(super) struct Known<'a> {
     terms: &'a Terms,
     names: &'a Names,
     stored: bool,
 }
 
 /// One statement, read word by word.
-struct Reader<'a> {
-    words: &'a [Word<'a>],
-    next: usize,
+pub(super) struct Reader<'a> {
+    pub(super) words: &'a [Word<'a>],
+    pub(super) next: usize,
     known: &'a Known<'a>,
     /// Whether something has happened or was asked before in this test.
     happened: bool,
@@ -247,46 +247,5 @@ impl<'a> Reader<'a> {
             ),
             false => mistake,
         })
-    }
-
-    fn word(&mut self, what: &str) -> Result<Word<'a>, Mistake> {
-        let word = *self.words.get(self.next).ok_or_else(|| self.expected(what))?;
-        if word.is(",") {
-            return Err(self.expected(what));
-        }
-        self.next += 1;
-        Ok(word)
-    }
-
-    fn take(&mut self, word: &str) -> bool {
-        let there = self.words.get(self.next).is_some_and(|next| next.is(word));
-        self.next += usize::from(there);
-        there
-    }
-
-    fn ends(&self, what: &str) -> Result<(), Mistake> {
-        match self.words.get(self.next) {
-            None => Ok(()),
-            Some(_) => Err(self.expected(what)),
-        }
-    }
-
-    fn expected(&self, what: &str) -> Mistake {
-        let found = self.words.get(self.next);
-        let found =
-            found.map_or("the end of the line".to_string(), |word| format!("`{}`", word.text));
-        Mistake::new(self.span(), format!("expected {what}, found {found}"))
-    }
-
-    /// The stretch of the next word, or the end of the statement.
-    fn span(&self) -> Span {
-        self.words
-            .get(self.next)
-            .map_or_else(|| Span { start: self.last().end, end: self.last().end }, |word| word.span)
-    }
-
-    /// The stretch of the word read last.
-    fn last(&self) -> Span {
-        self.words[self.next.saturating_sub(1).min(self.words.len() - 1)].span
     }
 }
