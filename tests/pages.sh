@@ -1,6 +1,6 @@
 #!/bin/sh
 # pages.sh PROGRAM KEEPER: what the pages of docs/ show. The terms file of FORMAT with its requests gives its answers; each line of its table of refusals, put after the F lines,
-# gives the number; the lines of its stored form are what is stored, and the program goes on from them. The preset of SCOPE is the example's and gives its answers.
+# gives the number; the lines of its stored form are what is stored, and the program goes on from them. The preset of SCOPE is the program's own data, its requests are the example's, and it gives its answers.
 here=$(cd "$(dirname "$0")" && pwd)
 # shellcheck source=tests/hold.sh
 . "$here/hold.sh"
@@ -54,7 +54,6 @@ sed -n '/^## The preset$/,/^## Cases$/s/^    //p' "$docs/SCOPE.md" | tr ' ' '\t'
 column SCOPE.md 'The preset' 1 >"$work/case/requests.tsv"
 column SCOPE.md 'The preset' 2 >"$work/wanted"
 hold 'SCOPE, the preset'
-for file in terms.tsv requests.tsv; do
-    cmp "$work/case/$file" "$preset/$file" || failed=$((failed + 1))
-done
+cmp "$work/case/terms.tsv" "$here/../crates/exchange/data/terms.tsv" || failed=$((failed + 1))
+cmp "$work/case/requests.tsv" "$preset/requests.tsv" || failed=$((failed + 1))
 finish

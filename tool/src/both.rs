@@ -1,6 +1,8 @@
 //! Every acceptance and every verdict, twice: from the proved library and from
 //! the keeper of the whole record. Where they differ, it is an error.
 
+mod stored;
+
 use crate::stop::Stop;
 use keeper::expect;
 use keeper::record::{Graph, Record};
@@ -114,7 +116,7 @@ impl Both {
     /// The stored form: reading it goes on from here.
     pub fn store(&self) -> Result<Vec<u8>, Stop> {
         let text = self.monitor.store();
-        if text == terms::store(self.record.terms(), &self.record.state()) {
+        if stored::agrees(&text, &self.record) {
             Ok(text)
         } else {
             Err(differ("they store other texts"))

@@ -23,17 +23,12 @@ mod warnings;
 
 pub use fault::Fault;
 pub use reader::diagnose;
-pub use warnings::Warning;
+pub use warnings::{About, Warning};
 
 use crate::both::Both;
 use crate::folder::Folder;
 use crate::stop::Stop;
 use keeper::terms::Refusal;
-
-/// The most bytes of a file that the program opens.
-pub const MOST_BYTES: usize = 65_536;
-/// The refusal of a file that is too long; no line is at fault.
-const TOO_LONG: u16 = 6;
 
 /// What there is to say of a terms text.
 pub enum Checked {
@@ -44,14 +39,9 @@ pub enum Checked {
 /// Checks the terms of a folder.
 pub fn check(folder: &Folder) -> Result<Checked, Stop> {
     let text = &folder.terms[..];
-    if text.len() > MOST_BYTES {
-        let what = format!("the file has {} bytes", text.len());
-        let right = format!("the program opens files of at most {MOST_BYTES} bytes");
-        return Ok(Checked::Refused(Fault::without_line(TOO_LONG, what, right)));
-    }
     match Both::read(text)? {
         Ok(both) => {
-            let warnings = warnings::warnings(&both, &folder.names, &folder.requests())?;
+            let warnings = warnings::warnings(&both, folder)?;
             Ok(Checked::Accepted(Box::new(both), warnings))
         }
         Err(refusal) => Ok(Checked::Refused(agreed(folder, refusal))),

@@ -3,6 +3,7 @@
 pub mod aloud;
 pub mod check;
 pub mod compile;
+pub mod new;
 pub mod play;
 pub mod report;
 pub mod run;
@@ -27,7 +28,13 @@ pub struct Command {
 }
 
 /// All sub-commands, in the order in which a user meets them.
-pub const COMMANDS: [Command; 11] = [
+pub const COMMANDS: [Command; 12] = [
+    Command {
+        name: "new",
+        summary: "make a folder with a source to start from",
+        help: new::HELP,
+        main: new::main,
+    },
     Command {
         name: "compile",
         summary: "compile a readable source to terms.tsv and names.tsv",

@@ -4,6 +4,7 @@ use crate::names::Names;
 use crate::source::mistake::{Mistake, Mistaken};
 use crate::source::{compile, Compiled};
 use crate::stop::Stop;
+use crate::storing::fits;
 use keeper::terms::read;
 use std::fs;
 use std::io::ErrorKind;
@@ -157,10 +158,11 @@ fn text(path: &Path) -> Result<String, Stop> {
     })
 }
 
-/// A file's bytes; none if there is no such file.
+/// A file's bytes; none if there is no such file. No longer file is read than the
+/// program opens.
 fn bytes(path: &Path) -> Result<Vec<u8>, Stop> {
     match fs::read(path) {
-        Ok(bytes) => Ok(bytes),
+        Ok(bytes) => fits(path, bytes.len()).map(|()| bytes),
         Err(error) if error.kind() == ErrorKind::NotFound => Ok(Vec::new()),
         Err(error) => Err(Stop::Failed(format!("cannot read {}: {error}", path.display()))),
     }

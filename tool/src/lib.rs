@@ -3,7 +3,7 @@
 //!
 //! * `both`: every acceptance and verdict, from the proved library and from the
 //!   keeper of the whole record
-//! * `names`, `folder`: the names of members, relations and events; a folder's files
+//! * `names`, `folder`, `storing`: the names of members, relations and events; a folder's files
 //! * `source`: the source language, compiled and written back
 //! * `replay`, `words`, `matrix`: the requests made one by one; words for them; who may do what
 //! * `why`: why a request is granted or denied
@@ -13,6 +13,7 @@
 //! * `aloud`: every policy and effect as a sentence
 //! * `check`: what is wrong with a terms file, and what may be
 //! * `commands`: one file for each sub-command
+//! * `pages`: the overview, the manual page and completions for shells
 //! * `arguments`, `http`, `json`, `stop`: what the sub-commands share
 
 pub mod aloud;
@@ -25,11 +26,13 @@ pub mod http;
 pub mod json;
 pub mod matrix;
 pub mod names;
+pub mod pages;
 pub mod play;
 pub mod replay;
 pub mod report;
 pub mod source;
 pub mod stop;
+pub mod storing;
 pub mod testing;
 pub mod trial;
 pub mod why;

@@ -2,14 +2,9 @@
 
 use cuckooormolu_tool::commands::{Command, COMMANDS};
 use cuckooormolu_tool::names::did_you_mean;
+use cuckooormolu_tool::pages;
 use cuckooormolu_tool::stop::{Stop, USAGE, WELL};
 use std::io::{self, Write};
-
-/// One rule for all sub-commands.
-const STATUSES: &str = "\
-Exit status: 0 done; 1 something was denied or failed, where that was asked for (`run --strict`,
-`aloud --verify`); 2 a wrong command line; 3 a file that cannot be read, written or compiled.
-";
 
 fn main() {
     let arguments: Vec<String> =
@@ -29,13 +24,17 @@ fn main() {
 /// Runs the sub-command that the first argument names.
 fn dispatch<'a>(arguments: &'a [String], out: &mut dyn Write) -> Result<i32, (&'a str, Stop)> {
     let Some((name, rest)) = arguments.split_first() else {
-        eprint!("{}", overview());
+        eprint!("{}", pages::overview());
         return Ok(USAGE);
     };
     match name.as_str() {
-        "help" | "--help" | "-h" => match rest.first() {
-            Some(about) => show(out, find(about).map_err(|stop| ("", stop))?.help),
-            None => show(out, &overview()),
+        "help" | "--help" | "-h" => match rest {
+            [] => show(out, &pages::overview()),
+            [about] if about == "--man" => show(out, &pages::manual()),
+            [option, shell] if option == "--completion" => {
+                show(out, &pages::completion(shell).map_err(|stop| ("", stop))?)
+            }
+            [about, ..] => show(out, find(about).map_err(|stop| ("", stop))?.help),
         },
         "--version" | "-V" => show(out, concat!("cuckooormolu ", env!("CARGO_PKG_VERSION"))),
         name => {
@@ -58,16 +57,6 @@ fn find(name: &str) -> Result<&'static Command, Stop> {
         let hint = did_you_mean(name, COMMANDS.iter().map(|command| command.name));
         Stop::Usage(format!("no command `{name}`{hint}"))
     })
-}
-
-fn overview() -> String {
-    let mut text = String::from("usage: cuckooormolu COMMAND ...\n\n");
-    for command in &COMMANDS {
-        text.push_str(&format!("  {:9} {}\n", command.name, command.summary));
-    }
-    text.push_str("\n`cuckooormolu COMMAND --help` says more.\n");
-    text.push_str(STATUSES);
-    text
 }
 
 /// Says why a sub-command stopped: on standard error, or as JSON after whatever

@@ -4,9 +4,6 @@ use crate::both::{Both, Verdict};
 use crate::folder::{Folder, Request};
 use crate::stop::Stop;
 
-/// The most bytes a file may have.
-const MOST_BYTES: usize = 65_536;
-
 /// One line of requests.tsv and its answer.
 #[derive(Clone, Copy, Debug, PartialEq, Eq)]
 pub struct Step {
@@ -30,9 +27,6 @@ impl Replay {
     /// Reads the terms and makes all requests.
     pub fn of(folder: &Folder) -> Result<Replay, Stop> {
         let mut replay = Replay::before(folder)?;
-        if folder.requests.len() > MOST_BYTES {
-            return Err(Stop::Failed(format!("requests.tsv has more than {MOST_BYTES} bytes")));
-        }
         for request in folder.requests() {
             replay.make(request)?;
         }

@@ -21,4 +21,5 @@ pub mod tokens;
 mod tree;
 
 pub use compile::{compile, Compiled};
+pub use entries::Origin;
 pub use parse::parse;

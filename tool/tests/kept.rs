@@ -91,15 +91,15 @@ fn typed() {
 #[test]
 fn stored_and_gone_on() {
     let folder = folder("R\t1\t1\t2\n");
-    let stored = folder.file("stored.tsv");
+    let stored = folder.file("later/terms.tsv");
     run(&["run", folder.path(), "--store", stored.to_str().unwrap()]);
-    let text = folder.read("stored.tsv");
+    let text = folder.read("later/terms.tsv");
     assert!(text.ends_with("V\t17\t1\t2\n") && text.contains("\nK\t1\n"), "{text}");
-    folder.write("terms.tsv", &text);
-    folder.write("requests.tsv", "R\t2\t1\t2\n");
-    let aloud = run(&["aloud", folder.path()]).out;
+    folder.write("later/requests.tsv", "R\t2\t1\t2\n");
+    let later = folder.file("later").display().to_string();
+    let aloud = run(&["aloud", &later]).out;
     assert!(aloud.contains("- pete has just tried in vain to load saw\n"), "{aloud}");
-    let why = run(&["why", folder.path()]).out;
+    let why = run(&["why", &later]).out;
     assert!(why.contains("as stored: once denied load pete → saw"), "{why}");
 }
 

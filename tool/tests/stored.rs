@@ -119,7 +119,7 @@ fn it_is_checked_and_written_as_a_source_and_drawn() {
 #[test]
 fn lines_are_counted_from_s() {
     let folder = shared();
-    let unused = folder.read("terms.tsv").replace("P\t0\t8\n", "F\t9\ttop\t0\t0\nP\t0\t8\n");
+    let unused = folder.read("terms.tsv").replace("P\t0\t0\n", "F\t9\ttop\t0\t0\nP\t0\t0\n");
     folder.write("terms.tsv", &unused);
     let said = run(&["check", folder.path()]).out;
     assert!(said.contains("warning, line 13: entry 9 is used by no policy"), "{said}");

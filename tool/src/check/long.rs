@@ -5,7 +5,7 @@
 //! initiator or the target stands for one; one bound at the far end of an edge
 //! may stand for all in turn.
 
-use super::warnings::{entry_line, Warning};
+use super::warnings::{About, Subject, Warning};
 use keeper::terms::{Entry, Terms, Variables};
 use std::collections::HashSet;
 
@@ -15,18 +15,17 @@ const MANY: usize = 200_000;
 const MOST_PLACES: usize = 100_000;
 
 /// A warning for the entry that takes longest, if that is long.
-pub fn long(terms: &Terms) -> Option<Warning> {
-    let (entry, depth) = deepest(terms);
-    let ways = terms.members.saturating_pow(depth as u32);
-    (ways > MANY).then(|| Warning {
-        kind: "long",
-        line: entry_line(entry),
-        what: format!(
-            "entry {entry} speaks of {depth} members that binders name one inside the other: up to {} to the power of {depth} = {ways} ways to work it out",
-            terms.members
-        ),
-        right: "a request may take long; fewer nested binders or fewer members help".to_string(),
-    })
+pub fn long(subject: &Subject) -> Option<Warning> {
+    let (entry, depth) = deepest(subject.terms);
+    let members = subject.terms.members;
+    let ways = members.saturating_pow(depth as u32);
+    let told = |who: String, how: &str, few: &str| {
+        let what = format!("{who} of {depth} members that {how} one inside the other: up to {members} to the power of {depth} = {ways} ways to work it out");
+        (what, format!("a request may take long; fewer {few} or fewer members help"))
+    };
+    let in_terms = || told(format!("entry {entry} speaks"), "binders name", "nested binders");
+    let in_source = || told("this speaks".to_string(), "are sought", "people sought inside others");
+    (ways > MANY).then(|| subject.warn("long", About::Entry(entry), in_terms, in_source))
 }
 
 /// The entry with the most free variables that were bound at the far end of an

@@ -1,9 +1,8 @@
 //! Policies that were never met, or always, when requests were tried.
 
-use super::warnings::{policy_line, Warning};
+use super::warnings::{About, Subject, Warning};
 use crate::both::{Both, Verdict};
 use crate::folder::Request;
-use crate::names::Names;
 use crate::stop::Stop;
 use keeper::terms::{Entry, Terms};
 
@@ -20,6 +19,9 @@ const LOOKS: usize = 3_000;
 /// What is often wrong with a policy that is never met.
 const IN_FOR_OUT: &str =
     "is `in` written where `out` is meant, or `out` for `in`? `cuckooormolu aloud` reads it aloud";
+/// The same in a source.
+const TURNED: &str =
+    "is a sentence turned round, `a owns b` for `b owns a`? `cuckooormolu aloud` reads it aloud";
 
 /// How often each event was granted and denied.
 #[derive(Clone, Copy, Default)]
@@ -30,8 +32,12 @@ struct Count {
 
 /// Warnings for events that were all granted or all denied: by the folder's
 /// requests, and by looks to begin with and after requests tried in turn.
-pub fn one_sided(both: &Both, names: &Names, requests: &[Request]) -> Result<Vec<Warning>, Stop> {
-    let terms = both.terms();
+pub fn one_sided(
+    both: &Both,
+    subject: &Subject,
+    requests: &[Request],
+) -> Result<Vec<Warning>, Stop> {
+    let (terms, names) = (subject.terms, subject.names);
     let asked = asked(both, requests)?;
     let (seen, moments) = seen(both)?;
     let mut warnings = Vec::new();
@@ -47,20 +53,25 @@ pub fn one_sided(both: &Both, names: &Names, requests: &[Request]) -> Result<Vec
             let what = format!(
                 "nobody was ever granted {name} {looks}; {no_proof} can its policy be met?"
             );
-            ("never", what, IN_FOR_OUT)
+            ("never", what, [IN_FOR_OUT, TURNED])
         } else if asked.denied + seen.denied == 0 {
             let what = format!("nobody was ever denied {name} {looks}; {no_proof} does its policy ask for anything?");
-            ("always", what, "`top` says that everybody may")
+            (
+                "always",
+                what,
+                ["`top` says that everybody may", "`by anyone` says that everybody may"],
+            )
         } else if asked.granted == 0 && asked.denied > 1 {
             let times = asked.denied;
             let what =
                 format!("requests.tsv asks {times} times for {name} and is denied each time");
-            ("denied", what, IN_FOR_OUT)
+            ("denied", what, [IN_FOR_OUT, TURNED])
         } else {
             continue;
         };
-        let line = policy_line(terms, event);
-        warnings.push(Warning { kind, line, what, right: right.to_string() });
+        let told = |right: &str| (what.clone(), right.to_string());
+        let about = About::Policy(event);
+        warnings.push(subject.warn(kind, about, || told(right[0]), || told(right[1])));
     }
     Ok(warnings)
 }

@@ -4,8 +4,10 @@ use super::entries::labels;
 use super::{long, tried};
 use crate::aloud::listed;
 use crate::both::Both;
-use crate::folder::Request;
+use crate::folder::{Folder, Sourced};
 use crate::names::{Kind, Labelled, Names};
+use crate::source::ast::Span;
+use crate::source::mistake::Mistake;
 use crate::stop::Stop;
 use keeper::terms::{Entry, Terms};
 
@@ -14,45 +16,91 @@ use keeper::terms::{Entry, Terms};
 pub struct Warning {
     /// A word for programs.
     pub kind: &'static str,
-    /// The line that it is about; 0 if it is about no single one.
+    /// What it is about.
+    pub about: About,
+    /// The line of the terms file, or of the source where there is one; 0 if it is
+    /// about no single one.
     pub line: usize,
     pub what: String,
     /// What to look at; may be empty.
     pub right: String,
 }
 
+#[derive(Clone, Copy, Debug, PartialEq, Eq)]
+pub enum About {
+    Entry(usize),
+    /// The policy of an event.
+    Policy(usize),
+    Nothing,
+}
+
 /// Lines before the first entry: M and L.
 const HEAD: usize = 2;
 
-/// The line of an entry.
-pub fn entry_line(entry: usize) -> usize {
-    HEAD + 1 + entry
+/// The terms that are looked at, and how to speak of them.
+pub struct Subject<'a> {
+    pub terms: &'a Terms,
+    pub names: &'a Names,
+    /// Whether each entry is part of a policy.
+    pub reached: Vec<bool>,
+    /// Whether the terms come from a source: it has no entries and no labels.
+    pub sourced: bool,
 }
 
-/// The line of an event's policy.
-pub fn policy_line(terms: &Terms, event: usize) -> usize {
-    HEAD + terms.entries.len() + 1 + event
+impl Subject<'_> {
+    /// A warning, told for a terms file or for a source.
+    pub fn warn(
+        &self,
+        kind: &'static str,
+        about: About,
+        terms: impl FnOnce() -> (String, String),
+        source: impl FnOnce() -> (String, String),
+    ) -> Warning {
+        let (what, right) = if self.sourced { source() } else { terms() };
+        Warning { kind, about, line: 0, what, right }
+    }
 }
 
 /// All warnings, by line.
-pub fn warnings(both: &Both, names: &Names, requests: &[Request]) -> Result<Vec<Warning>, Stop> {
-    let terms = both.terms();
-    let reached = reached(terms);
-    let mut warnings = unused(terms, &reached);
-    warnings.extend(edgeless(terms, names, &reached));
-    warnings.extend(swapped(terms, names, &reached));
-    warnings.extend(uncountable(terms, names, &reached));
-    warnings.extend(unkept(terms, names, &reached));
+pub fn warnings(both: &Both, folder: &Folder) -> Result<Vec<Warning>, Stop> {
+    let (terms, names) = (both.terms(), &folder.names);
+    let sourced = folder.source.is_some();
+    let subject = Subject { terms, names, reached: reached(terms), sourced };
+    let mut warnings = unused(&subject);
+    warnings.extend(edgeless(&subject));
+    warnings.extend(swapped(&subject));
+    warnings.extend(uncountable(&subject));
+    warnings.extend(unkept(&subject));
     warnings.extend(strangers(terms, names));
-    match long::long(terms) {
+    match long::long(&subject) {
         Some(warning) => warnings.push(warning),
-        None => warnings.extend(tried::one_sided(both, names, requests)?),
+        None => warnings.extend(tried::one_sided(both, &subject, &folder.requests())?),
     }
     // In the stored form all lines come after S.
-    let moved = usize::from(both.is_stored());
-    warnings.iter_mut().filter(|warning| warning.line > 0).for_each(|w| w.line += moved);
+    let head = HEAD + usize::from(both.is_stored());
+    for warning in &mut warnings {
+        warning.line = match (folder.place(warning.about), warning.about) {
+            (Some((line, _)), _) => line,
+            (None, About::Entry(entry)) => head + 1 + entry,
+            (None, About::Policy(event)) => head + terms.entries.len() + 1 + event,
+            (None, About::Nothing) => 0,
+        };
+    }
     warnings.sort_by_key(|warning| warning.line);
     Ok(warnings)
+}
+
+impl Folder {
+    /// The line and the stretch of the source that a warning is about.
+    pub fn place(&self, about: About) -> Option<(usize, Span)> {
+        let Sourced { text, compiled } = self.source.as_ref()?;
+        let span = match about {
+            About::Entry(entry) => compiled.origins.get(entry)?.span,
+            About::Policy(event) => *compiled.events.get(event)?,
+            About::Nothing => return None,
+        };
+        Some((Mistake::new(span, "").place(text).0, span))
+    }
 }
 
 /// Whether each entry is part of a policy.
@@ -71,52 +119,65 @@ fn reached(terms: &Terms) -> Vec<bool> {
     reached
 }
 
-/// Entries that no policy and no other entry uses.
-fn unused(terms: &Terms, reached: &[bool]) -> Vec<Warning> {
+/// Entries that no policy and no other entry uses. A source has none.
+fn unused(subject: &Subject) -> Vec<Warning> {
+    let (terms, reached) = (subject.terms, &subject.reached);
     let used = |entry: usize| terms.entries.iter().any(|above| above.operands().contains(&entry));
     let unused = (0..reached.len()).filter(|&entry| !reached[entry] && !used(entry));
     unused
         .map(|entry| Warning {
             kind: "unused",
-            line: entry_line(entry),
+            about: About::Entry(entry),
+            line: 0,
             what: format!("entry {entry} is used by no policy and no other entry"),
             right: "delete it, or name it where it is meant".to_string(),
         })
         .collect()
 }
 
+/// The entries of policies that follow a label.
+fn followers<'a>(subject: &'a Subject) -> impl Iterator<Item = (usize, usize)> + 'a {
+    let reached = (0..subject.reached.len()).filter(|&index| subject.reached[index]);
+    reached.filter_map(|index| match subject.terms.entries[index] {
+        Entry::Out(label, _) | Entry::In(label, _) | Entry::Many(label, _, _) => {
+            Some((index, label))
+        }
+        _ => None,
+    })
+}
+
 /// Entries that follow a relation that never has an edge.
-fn edgeless(terms: &Terms, names: &Names, reached: &[bool]) -> Vec<Warning> {
+fn edgeless(subject: &Subject) -> Vec<Warning> {
+    let Subject { terms, names, .. } = *subject;
     let effects = || terms.effects.iter().flatten();
     let empty = |relation: usize| {
         !terms.edges.iter().any(|edge| edge.0 == relation)
             && !effects().any(|effect| effect.add && effect.relation == relation)
     };
-    let follows = |index: usize, relation: usize| {
-        let entry = terms.entries[index];
-        let (Entry::Out(label, _) | Entry::In(label, _) | Entry::Many(label, _, _)) = entry else {
-            return false;
-        };
-        label == relation
-    };
     let mut warnings = Vec::new();
     for relation in (0..terms.relations).filter(|&relation| empty(relation)) {
-        let entries =
-            (0..reached.len()).filter(|&index| reached[index] && follows(index, relation));
-        let entries: Vec<usize> = entries.collect();
+        let entries = followers(subject).filter(|&(_, label)| label == relation);
+        let entries: Vec<usize> = entries.map(|(index, _)| index).collect();
         let Some(&first) = entries.first() else { continue };
-        let shown: Vec<String> = entries.iter().map(usize::to_string).collect();
-        let follow = match entries.len() {
-            1 => format!("entry {first} follows"),
-            _ => format!("entries {} follow", listed(&shown)),
+        let in_terms = || {
+            let shown: Vec<String> = entries.iter().map(usize::to_string).collect();
+            let follow = match entries.len() {
+                1 => format!("entry {first} follows"),
+                _ => format!("entries {} follow", listed(&shown)),
+            };
+            let name = named("relation", relation, names.given(Kind::Relation, relation));
+            let what = format!(
+                "{follow} label {relation}, {name}, which never has an edge: no first edge and no effect adds one"
+            );
+            let all = labels(terms.relations, terms.events, names);
+            (what, format!("{all}; adding a relation shifts the label of every event by one"))
         };
-        let name = named("relation", relation, names.given(Kind::Relation, relation));
-        let what = format!(
-            "{follow} label {relation}, {name}, which never has an edge: no first edge and no effect adds one"
-        );
-        let all = labels(terms.relations, terms.events, names);
-        let right = format!("{all}; adding a relation shifts the label of every event by one");
-        warnings.push(Warning { kind: "edgeless", line: entry_line(first), what, right });
+        let in_source = || {
+            let name = names.relation(relation);
+            let what = format!("`{name}` never has an edge, so this looks in vain");
+            (what, format!("no `first` and no `then add` gives `{name}` an edge; add one, or is another relation meant?"))
+        };
+        warnings.push(subject.warn("edgeless", About::Entry(first), in_terms, in_source));
     }
     warnings
 }
@@ -141,51 +202,70 @@ fn event_named(terms: &Terms, names: &Names, label: usize) -> Option<String> {
 }
 
 /// Entries that follow a denied event whose denials are not kept.
-fn unkept(terms: &Terms, names: &Names, reached: &[bool]) -> Vec<Warning> {
+fn unkept(subject: &Subject) -> Vec<Warning> {
+    let Subject { terms, names, .. } = *subject;
     let mut warnings = Vec::new();
-    for (index, entry) in terms.entries.iter().enumerate().filter(|&(index, _)| reached[index]) {
-        let (Entry::Out(label, _) | Entry::In(label, _) | Entry::Many(label, _, _)) = *entry else {
-            continue;
-        };
+    for (index, label) in followers(subject) {
         let Labelled::Denied(event) = Labelled::of(terms, label) else { continue };
         if terms.kept.contains(&event) {
             continue;
         }
-        let shown = named("event", event, names.given(Kind::Event, event));
-        let what = format!(
-            "entry {index} asks for a denied request of {shown}, but none of them makes a moment: the event is not kept"
-        );
-        let right = format!("a line `K {event}` after the P lines keeps them");
-        warnings.push(Warning { kind: "unkept", line: entry_line(index), what, right });
+        let in_terms = || {
+            let shown = named("event", event, names.given(Kind::Event, event));
+            let what = format!(
+                "entry {index} asks for a denied request of {shown}, but none of them makes a moment: the event is not kept"
+            );
+            (what, format!("a line `K {event}` after the P lines keeps them"))
+        };
+        let in_source = || {
+            let name = names.event(event);
+            let what = format!("denied requests of `{name}` are not kept, so this is never true");
+            (what, format!("add a statement `keep denied {name}`"))
+        };
+        warnings.push(subject.warn("unkept", About::Entry(index), in_terms, in_source));
     }
     warnings
 }
 
 /// A since whose first operand is an event's edge.
-fn swapped(terms: &Terms, names: &Names, reached: &[bool]) -> Vec<Warning> {
+fn swapped(subject: &Subject) -> Vec<Warning> {
+    let Subject { terms, names, .. } = *subject;
     let mut warnings = Vec::new();
-    for (index, entry) in terms.entries.iter().enumerate().filter(|&(index, _)| reached[index]) {
-        let Entry::Since(f, g) = *entry else { continue };
+    for index in (0..subject.reached.len()).filter(|&index| subject.reached[index]) {
+        let Entry::Since(f, g) = terms.entries[index] else { continue };
         let (Entry::Out(label, _) | Entry::In(label, _)) = terms.entries[f] else { continue };
         let Some(shown) = event_named(terms, names, label) else { continue };
-        let what = format!(
-            "entry {index} asks for an edge of {shown} at every moment after that of entry {g}, but an event's edge is there for one moment only"
-        );
-        let right = format!(
-            "`since f g` says that g held and that f has held ever since; `since {g} {f}` would be: once {f}, and {g} ever since"
-        );
-        warnings.push(Warning { kind: "swapped", line: entry_line(index), what, right });
+        let in_terms = || {
+            let what = format!(
+                "entry {index} asks for an edge of {shown} at every moment after that of entry {g}, but an event's edge is there for one moment only"
+            );
+            (what, format!("`since f g` says that g held and that f has held ever since; `since {g} {f}` would be: once {f}, and {g} ever since"))
+        };
+        let in_source = || {
+            let what = format!(
+                "`{}` is true for one moment only, so it cannot have held ever since",
+                names.label(terms, label)
+            );
+            (what, "`f since g` says that g held once and that f has held at every moment after it; are the two swapped, or is a `not` missing?".to_string())
+        };
+        warnings.push(subject.warn("swapped", About::Entry(index), in_terms, in_source));
     }
     warnings
 }
 
 /// A many that asks for more than there can be.
-fn uncountable(terms: &Terms, names: &Names, reached: &[bool]) -> Vec<Warning> {
+fn uncountable(subject: &Subject) -> Vec<Warning> {
+    let Subject { terms, names, .. } = *subject;
     let mut warnings = Vec::new();
-    for (index, entry) in terms.entries.iter().enumerate().filter(|&(index, _)| reached[index]) {
-        let Entry::Many(label, _, count) = *entry else { continue };
+    for index in (0..subject.reached.len()).filter(|&index| subject.reached[index]) {
+        let Entry::Many(label, _, count) = terms.entries[index] else { continue };
         let event = event_named(terms, names, label).filter(|_| count > 1);
         let (why, right) = match event {
+            Some(_) if subject.sourced => {
+                let name = names.label(terms, label);
+                let why = format!("of `{name}`, and a moment has one event at most");
+                (why, "count along a relation that the event's effects add to")
+            }
             Some(shown) => {
                 let why = format!("edges of {shown}, and a moment has one event edge at most");
                 (why, "count along a relation that the event's effects add to")
@@ -196,9 +276,10 @@ fn uncountable(terms: &Terms, names: &Names, reached: &[bool]) -> Vec<Warning> {
             }
             None => continue,
         };
-        let what = format!("entry {index} asks for at least {count} {why}");
-        let line = entry_line(index);
-        warnings.push(Warning { kind: "count", line, what, right: right.to_string() });
+        let told = |who: String| (format!("{who} for at least {count} {why}"), right.to_string());
+        let about = About::Entry(index);
+        let in_terms = || told(format!("entry {index} asks"));
+        warnings.push(subject.warn("count", about, in_terms, || told("this asks".to_string())));
     }
     warnings
 }
@@ -217,6 +298,7 @@ fn strangers(terms: &Terms, names: &Names) -> Vec<Warning> {
         for (number, name) in found {
             warnings.push(Warning {
                 kind: "name",
+                about: About::Nothing,
                 line: 0,
                 what: format!(
                     "names.tsv calls {kind} {number} {name}, but there is no such {kind}"

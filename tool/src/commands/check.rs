@@ -6,6 +6,7 @@ use crate::both::Both;
 use crate::check::{check, Checked, Fault, Warning};
 use crate::folder::Folder;
 use crate::json::Json;
+use crate::source::mistake::Mistake;
 use crate::stop::{Stop, UNUSABLE, WELL};
 use std::collections::BTreeSet;
 use std::io::Write;
@@ -14,9 +15,11 @@ use std::path::Path;
 pub const HELP: &str = "\
 usage: cuckooormolu check DIR|FILE [--json]
 
-Says whether a terms file is accepted. If not: the refusal's number, the line
-with the place marked, what is wrong and what would be right. Tabs are shown as
-→ and carriage returns as ↵. If it is: what may be a mistake all the same.
+Says whether terms are accepted: those of a source, terms.say, by its lines; where
+there is none, those of a terms file. If not: the line with the place marked, what
+is wrong and what would be right. Of a terms file also the refusal's number; tabs
+are shown as → and carriage returns as ↵. If they are: what may be a mistake all
+the same.
 
 Exit status: 0 if the file is accepted, with warnings or without; 3 if not.
 
@@ -39,7 +42,10 @@ pub fn main(arguments: &[String], out: &mut dyn Write) -> Result<i32, Stop> {
                     writeln!(out, "{}", warning_json(warning))?;
                 }
             } else {
-                accepted(out, &both, &warnings)?;
+                accepted(out, &both)?;
+                for warning in &warnings {
+                    warned(out, warning, &folder)?;
+                }
             }
             return Ok(WELL);
         }
@@ -64,7 +70,7 @@ fn refused(out: &mut dyn Write, fault: &Fault, text: &[u8]) -> Result<(), Stop> 
     Ok(())
 }
 
-fn accepted(out: &mut dyn Write, both: &Both, warnings: &[Warning]) -> Result<(), Stop> {
+fn accepted(out: &mut dyn Write, both: &Both) -> Result<(), Stop> {
     let terms = both.terms();
     let counted = |count: usize, one: &str, more: &str| match count {
         1 => format!("1 {one}"),
@@ -90,14 +96,23 @@ fn accepted(out: &mut dyn Write, both: &Both, warnings: &[Warning]) -> Result<()
         let bits = counted(bits, "line of the past", "lines of the past");
         writeln!(out, "stored: with {bits} and {event}; `cuckooormolu aloud` reads them")?;
     }
-    for warning in warnings {
-        match warning.line {
-            0 => writeln!(out, "warning: {}", warning.what)?,
-            line => writeln!(out, "warning, line {line}: {}", warning.what)?,
-        }
-        if !warning.right.is_empty() {
-            writeln!(out, "  {}", warning.right)?;
-        }
+    Ok(())
+}
+
+/// A warning: at its place in the source, or with the line of the terms file.
+fn warned(out: &mut dyn Write, warning: &Warning, folder: &Folder) -> Result<(), Stop> {
+    if let (Some((_, span)), Some(source)) = (folder.place(warning.about), &folder.source) {
+        let shown =
+            Mistake::new(span, format!("warning: {}", warning.what)).advise(&*warning.right);
+        write!(out, "{}", shown.render(&folder.file.display().to_string(), &source.text))?;
+        return Ok(());
+    }
+    match warning.line {
+        0 => writeln!(out, "warning: {}", warning.what)?,
+        line => writeln!(out, "warning, line {line}: {}", warning.what)?,
+    }
+    if !warning.right.is_empty() {
+        writeln!(out, "  {}", warning.right)?;
     }
     Ok(())
 }

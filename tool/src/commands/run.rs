@@ -2,10 +2,11 @@
 
 use crate::arguments::Arguments;
 use crate::both::Verdict;
-use crate::folder::{self, Folder, Request};
+use crate::folder::{Folder, Request};
 use crate::json::Json;
 use crate::replay::{Replay, Step};
 use crate::stop::{Stop, FAILING, WELL};
+use crate::storing::store;
 use crate::words::{answered, Words};
 use keeper::terms::Refusal;
 use std::io::Write;
@@ -21,7 +22,9 @@ were stored go on from there.
 
   --strict       exit with 1 if a request is denied or refused
   --json         one JSON object a line
-  --store FILE   then store terms and state, with what has passed, in FILE
+  --store FILE   then store terms and state, with what has passed, in FILE; its
+                 folder is made if need be. Called terms.tsv, it gets the names
+                 beside it, and its folder goes on from there
   --write FILE   then write the terms and relations, as terms to begin with; no
                  such file is written where something has passed (refusal 12)
 
@@ -43,11 +46,11 @@ pub fn main(arguments: &[String], out: &mut dyn Write) -> Result<i32, Stop> {
         }
     }
     if let Some(file) = arguments.option("--store") {
-        folder::write(Path::new(file), &replay.both.store()?)?;
+        store(Path::new(file), &replay.both.store()?, &folder)?;
     }
     if let Some(file) = arguments.option("--write") {
         let text = replay.both.write()?.map_err(|refusal| Stop::Failed(no_fresh_start(refusal)))?;
-        folder::write(Path::new(file), &text)?;
+        store(Path::new(file), &text, &folder)?;
     }
     Ok(if arguments.has("--strict") && !replay.all_granted() { FAILING } else { WELL })
 }

@@ -1,7 +1,7 @@
 //! Compiles a source to terms.
 
 use super::ast::{Effect, Name, Source, Span, Who};
-use super::entries::Entries;
+use super::entries::{Entries, Origin};
 use super::mistake::Mistake;
 use super::parse::parse;
 use super::resolve::Resolver;
@@ -19,6 +19,10 @@ use std::collections::BTreeSet;
 pub struct Compiled {
     pub terms: Terms,
     pub names: Names,
+    /// Where each entry is written.
+    pub origins: Vec<Origin>,
+    /// Where each event is declared.
+    pub events: Vec<Span>,
 }
 
 impl Compiled {
@@ -42,7 +46,7 @@ fn one_by_one(text: &str) -> Result<Compiled, Mistake> {
         events: source.events.len(),
         ..Terms::default()
     };
-    policies(&source, text, &mut terms)?;
+    let origins = policies(&source, text, &mut terms)?;
     for event in &source.events {
         let most = format!("`{}` has more than {MOST_EFFECTS} effects", event.name.text);
         if event.effects.len() > MOST_EFFECTS {
@@ -63,7 +67,8 @@ fn one_by_one(text: &str) -> Result<Compiled, Mistake> {
         let from = find(&names, Kind::Member, &fact.from)?;
         terms.edges.insert((relation, from, find(&names, Kind::Member, &fact.to)?));
     }
-    let compiled = Compiled { terms, names };
+    let events = source.events.iter().map(|event| event.name.span).collect();
+    let compiled = Compiled { terms, names, origins, events };
     let bytes = compiled.text().len();
     if bytes > MOST_BYTES {
         let span = source.first.last().map_or(Span::default(), |fact| fact.from.span);
@@ -113,7 +118,7 @@ fn declared(source: &Source, text: &str) -> Result<Names, Mistake> {
 }
 
 /// Fills in entries and policies.
-fn policies(source: &Source, text: &str, terms: &mut Terms) -> Result<(), Mistake> {
+fn policies(source: &Source, text: &str, terms: &mut Terms) -> Result<Vec<Origin>, Mistake> {
     let mut resolver = Resolver::new(source);
     for place in 0..source.definitions.len() {
         resolver.check_definition(place)?;
@@ -147,8 +152,9 @@ fn policies(source: &Source, text: &str, terms: &mut Terms) -> Result<(), Mistak
         }
         terms.policies.push(place);
     }
+    let origins = entries.origins();
     terms.entries = entries.list;
-    Ok(())
+    Ok(origins)
 }
 
 fn too_many(event: &Name, what: &str, most: usize, own: usize) -> Mistake {

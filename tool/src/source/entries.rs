@@ -1,6 +1,7 @@
 //! Numbers the variables of formulas and lists their parts as entries. Equal
 //! parts are one entry.
 
+use super::ast::Span;
 use super::said::{Id, TARGET};
 use super::tree::{Node, Spelled, Tree};
 use keeper::terms::{Entry, VARIABLES};
@@ -12,9 +13,22 @@ pub struct TooManyNames;
 /// The variables of the people free in a formula, in the order of its `free`.
 type Variables = Vec<usize>;
 
+/// Where an entry comes from.
+#[derive(Clone, Debug, Default, PartialEq)]
+pub struct Origin {
+    /// Where it is written. What a derived form is made of stands where the form
+    /// does.
+    pub span: Span,
+    /// The place of the definition that it is, and for each of its people the
+    /// variable; none for the member at which it is said.
+    pub called: Option<(usize, Vec<Option<usize>>)>,
+}
+
 #[derive(Default)]
 pub struct Entries {
     pub list: Vec<Entry>,
+    /// For each entry where it comes from, as far as it is told.
+    origins: Vec<(Option<Span>, Option<(usize, Vec<Option<usize>>)>)>,
     places: HashMap<(usize, [usize; 3]), usize>,
     known: HashMap<(*const Spelled, Variables), usize>,
     kept: Vec<Tree>,
@@ -77,10 +91,36 @@ impl Entries {
         let place = *self.places.entry(entry.parts()).or_insert(next);
         if place == next {
             self.list.push(entry);
+            self.origins.push((f.span, None));
+        }
+        if let (Some((definition, people)), None) = (&f.called, &self.origins[place].1) {
+            let variable = |person: &Option<Id>| match person {
+                None => Some(None),
+                Some(id) => f.free.iter().position(|free| free == id).map(|at| Some(variables[at])),
+            };
+            let people: Option<Vec<_>> = people.iter().map(variable).collect();
+            self.origins[place].1 = people.map(|people| (*definition, people));
         }
         self.kept.push(f.clone());
         self.known.insert(key, place);
         Ok(place)
+    }
+
+    /// Where each entry comes from. An entry with no place of its own stands where
+    /// the first that uses it does.
+    pub fn origins(&self) -> Vec<Origin> {
+        let mut spans: Vec<Option<Span>> = self.origins.iter().map(|origin| origin.0).collect();
+        for place in (0..spans.len()).rev() {
+            for part in self.list[place].operands() {
+                spans[part] = spans[part].or(spans[place]);
+            }
+        }
+        let told = self.origins.iter().zip(spans);
+        told.map(|((_, called), span)| Origin {
+            span: span.unwrap_or_default(),
+            called: called.clone(),
+        })
+        .collect()
     }
 
     /// How many entries are about the past.

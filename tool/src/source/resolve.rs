@@ -5,7 +5,7 @@ mod walk;
 
 use super::ast::{Formula, Kind, Name, Person, Quantifier, Source, Span, Who as Written};
 use super::mistake::Mistake;
-use super::said::{conjunction, negated, once, said, Form, Id, Said, Who, ME};
+use super::said::{called, conjunction, negated, once, said, written, Form, Id, Said, Who, ME};
 use keeper::terms::VARIABLES;
 use std::collections::HashMap;
 
@@ -91,6 +91,7 @@ impl<'a> Resolver<'a> {
         self.depth += 1;
         let said =
             if self.depth < DEEPEST { Some(self.unfolded_formula(formula, scope)?) } else { None };
+        let said = said.map(|said| written(said, formula.span));
         self.depth -= 1;
         said.filter(|said| said.height < DEEPEST).ok_or_else(|| {
             let message = format!("the definitions unfold more than {DEEPEST} deep");
@@ -239,7 +240,7 @@ impl<'a> Resolver<'a> {
         let names = definition.parameters.iter().map(|name| name.text.clone());
         let mut scope: Scope = names.zip(key.1.iter().copied()).collect();
         self.inside.push(place);
-        let unfolded = self.formula(&definition.body, &mut scope)?;
+        let unfolded = called(self.formula(&definition.body, &mut scope)?, place, &key.1);
         self.inside.pop();
         self.unfolded.insert(key, unfolded.clone());
         Ok(unfolded)

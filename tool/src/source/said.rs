@@ -77,6 +77,10 @@ pub struct Fact {
     pub placed: bool,
     /// How many formulas stand in one another in it.
     pub height: usize,
+    /// Where it is written; none for what a derived form is made of.
+    pub span: Option<Span>,
+    /// The place of the definition that it is, and the people it is said of.
+    pub called: Option<(usize, Vec<Who>)>,
 }
 
 pub type Said = Rc<Fact>;
@@ -139,7 +143,24 @@ pub fn said(form: Form) -> Said {
             placed = *wanted || body.placed;
         }
     }
-    Rc::new(Fact { form, here, others, placed, height })
+    Rc::new(Fact { form, here, others, placed, height, span: None, called: None })
+}
+
+/// The formula with the place at which it is written. What is in use elsewhere
+/// keeps its own.
+pub fn written(mut f: Said, span: Span) -> Said {
+    if let Some(fact) = Rc::get_mut(&mut f) {
+        fact.span.get_or_insert(span);
+    }
+    f
+}
+
+/// The formula as a definition said of some people.
+pub fn called(mut f: Said, place: usize, people: &[Who]) -> Said {
+    if let Some(fact) = Rc::get_mut(&mut f) {
+        fact.called.get_or_insert_with(|| (place, people.to_vec()));
+    }
+    f
 }
 
 /// The negation; that of a negation is what was negated.

@@ -12,6 +12,11 @@ pub struct Spelled {
     pub node: Node,
     /// The people free in it, rising.
     pub free: Vec<Id>,
+    /// Where it is written, if it is.
+    pub span: Option<Span>,
+    /// The place of the definition that it is, and the people it is said of; none
+    /// for the member at which it stands.
+    pub called: Option<(usize, Vec<Option<Id>>)>,
 }
 
 pub type Tree = Rc<Spelled>;
@@ -74,7 +79,7 @@ impl Placer {
         if let Some(known) = self.known.get(&key) {
             return Ok(known.clone());
         }
-        let placed = self.form(f, &key.1)?;
+        let placed = marked(self.form(f, &key.1)?, f, &key.1);
         self.kept.push(f.clone());
         self.known.insert(key, placed.clone());
         Ok(placed)
@@ -233,6 +238,21 @@ impl Placer {
     }
 }
 
+/// The formula with what is known of where it comes from.
+fn marked(mut placed: Tree, f: &Said, names: &[Id]) -> Tree {
+    let person = |who: &Who| match who {
+        Who::Other(id) if !names.contains(id) => Some(*id),
+        _ => None,
+    };
+    if let Some(spelled) = Rc::get_mut(&mut placed) {
+        spelled.span = spelled.span.or(f.span);
+        let people =
+            |(place, whos): &(usize, Vec<Who>)| (*place, whos.iter().map(person).collect());
+        spelled.called = spelled.called.take().or(f.called.as_ref().map(people));
+    }
+    placed
+}
+
 /// Whether somebody is the member that has the given names.
 fn is_here(who: &Who, names: &[Id]) -> bool {
     match who {
@@ -270,5 +290,5 @@ fn tree(node: Node) -> Tree {
     };
     free.sort_unstable();
     free.dedup();
-    Rc::new(Spelled { node, free })
+    Rc::new(Spelled { node, free, span: None, called: None })
 }

@@ -1,7 +1,7 @@
 //! The examples' documents quote what is read aloud.
 
 use cuckooormolu_tool::commands::aloud;
-use cuckooormolu_tool::stop::{FAILING, WELL};
+use cuckooormolu_tool::stop::{FAILING, UNUSABLE, WELL};
 use std::fs;
 
 #[test]
@@ -68,7 +68,7 @@ fn another_document_is_told_apart() {
     assert!(text.contains("not what is read aloud"), "{text}");
     assert!(text.ends_with("  aloud:  You may always share with the target.\n"), "{text}");
     let (text, status) = said(&[PRESET, "--verify", &format!("{PRESET}/terms.tsv")]);
-    assert_eq!(status, FAILING);
+    assert_eq!(status, UNUSABLE);
     assert!(text.ends_with("no block fenced as ```aloud\n"), "{text}");
 }
 
@@ -76,6 +76,6 @@ fn another_document_is_told_apart() {
 fn refused_terms_are_not_read() {
     let mistake = concat!(env!("CARGO_MANIFEST_DIR"), "/tests/mistakes/04-and");
     let (text, status) = said(&[mistake]);
-    assert_eq!(status, FAILING);
+    assert_eq!(status, UNUSABLE);
     assert!(text.contains("refused with 1 at line 10"), "{text}");
 }

@@ -1,26 +1,12 @@
-//! The examples' sources: they compile to terms with the answers of the
-//! example's own.
+//! The examples' sources: the terms.tsv and names.tsv beside each are what it
+//! compiles to, byte by byte.
 
-use cuckooormolu_tool::both::{Both, Verdict};
-use cuckooormolu_tool::folder::{Folder, Request, SOURCE};
-use cuckooormolu_tool::source::decompile::{agrees, decompile, differing};
-use cuckooormolu_tool::source::{compile, Compiled};
+use cuckooormolu_tool::folder::{Folder, SOURCE};
+use cuckooormolu_tool::source::decompile::{agrees, decompile};
+use cuckooormolu_tool::source::Compiled;
 use keeper::program::output;
-use keeper::record::Record;
-use keeper::terms::{self, Entry, Terms};
 use std::fs;
 use std::path::{Path, PathBuf};
-
-/// Examples whose terms are the compiled file itself.
-const COMPILED: [&str; 6] =
-    ["chinese-wall", "circle", "cliques", "consent", "policy-20-many", "saved"];
-
-/// Examples that spell out what the source counts.
-const SPELLED_OUT: [&str; 3] = ["charities", "friends", "policy-20"];
-
-/// Examples whose policies are the same formulas, listed in another order.
-const REORDERED: [&str; 6] =
-    ["groups", "groups-now", "groups-reach", "invitations", "just-shared", "preset"];
 
 /// The example folders that have a source, with what it compiles to.
 fn examples() -> Vec<(PathBuf, String, Compiled)> {
@@ -28,76 +14,40 @@ fn examples() -> Vec<(PathBuf, String, Compiled)> {
     let mut found = Vec::new();
     for entry in fs::read_dir(all).unwrap() {
         let path = entry.unwrap().path();
-        let Ok(text) = fs::read_to_string(path.join(SOURCE)) else { continue };
+        if !path.join(SOURCE).is_file() {
+            continue;
+        }
         let name = path.file_name().unwrap().to_string_lossy().into_owned();
-        let compiled = compile(&text).unwrap_or_else(|mistakes| panic!("{name}: {mistakes:?}"));
-        found.push((path, name, compiled));
+        let folder = Folder::load(&path).unwrap_or_else(|stop| panic!("{name}: {stop}"));
+        found.push((path, name, folder.source.unwrap().compiled));
     }
-    assert!(found.len() >= COMPILED.len() + REORDERED.len());
+    assert!(found.len() >= 19);
     found
 }
 
 #[test]
-fn the_same_answers() {
+fn terms_and_names_are_what_compiling_gives() {
     for (path, name, compiled) in examples() {
-        let folder = Folder::load(&path).unwrap();
+        let file = |name: &str| fs::read_to_string(path.join(name)).unwrap();
+        let how = format!("cuckooormolu compile examples/{name}");
+        assert_eq!(file("terms.tsv").as_bytes(), compiled.text(), "{how}");
+        assert_eq!(file("names.tsv"), compiled.names.write(), "{how}");
+    }
+}
+
+#[test]
+fn the_answers_are_the_examples() {
+    for (path, name, compiled) in examples() {
+        let requests = fs::read(path.join("requests.tsv")).unwrap();
         let expected = fs::read_to_string(path.join("expected.tsv")).unwrap();
-        assert_eq!(output(&compiled.text(), &folder.requests), expected, "{name}");
-        assert_eq!(output(&folder.terms, &folder.requests), expected, "{name}");
-        assert_eq!(compiled.names, folder.names, "{name}: names.tsv");
-    }
-}
-
-#[test]
-fn the_same_terms() {
-    for (path, name, compiled) in examples() {
-        let folder = Folder::load(&path).unwrap();
-        let own = terms::read(&folder.terms).unwrap().terms;
-        assert_eq!(compiled.terms.effects, own.effects, "{name}");
-        assert_eq!(compiled.terms.edges, own.edges, "{name}");
-        if COMPILED.contains(&name.as_str()) {
-            assert_eq!(compiled.text(), folder.terms, "{name}");
-        }
-        let counts = |terms: &Terms| terms.entries.iter().any(|f| matches!(f, Entry::Many(..)));
-        if SPELLED_OUT.contains(&name.as_str()) {
-            assert!(counts(&compiled.terms) && !counts(&own), "{name}");
-        }
-        if REORDERED.contains(&name.as_str()) {
-            assert!(differing(&compiled.terms, &own).is_empty(), "{name}");
-        }
-    }
-}
-
-/// At every moment of the example's story, everybody may do the same.
-#[test]
-fn the_same_looks() {
-    for (path, name, compiled) in examples() {
-        let folder = Folder::load(&path).unwrap();
-        let mut own = Both::accepted(&folder.terms).unwrap();
-        let mut other = Record::new(compiled.terms);
-        for request in folder.requests() {
-            for event in 0..own.terms().events {
-                for from in 0..own.terms().members {
-                    for to in 0..own.terms().members {
-                        let look = own.record().permits(event, from, to);
-                        assert_eq!(look, other.permits(event, from, to), "{name}");
-                    }
-                }
-            }
-            if let Request::Ask { event, from, to } = request {
-                let verdict = own.request(event, from, to).unwrap();
-                other.call(false, event, from, to, 2_048);
-                assert_ne!(verdict, Verdict::Refused(6));
-            }
-        }
+        assert_eq!(output(&compiled.text(), &requests), expected, "{name}");
     }
 }
 
 #[test]
 fn the_way_back() {
-    for (path, name, _) in examples() {
-        let folder = Folder::load(&path).unwrap();
-        let own = terms::read(&folder.terms).unwrap().terms;
-        assert!(agrees(&decompile(&own, &folder.names), &own), "{name}");
+    for (_, name, compiled) in examples() {
+        let own = &compiled.terms;
+        assert!(agrees(&decompile(own, &compiled.names), own), "{name}");
     }
 }

@@ -1,0 +1,38 @@
+//! `cuckooormolu new`: a folder with a source to start from.
+
+use crate::arguments::Arguments;
+use crate::folder::{self, NAMES, REQUESTS, SOURCE, TERMS};
+use crate::stop::{Stop, WELL};
+use std::fs;
+use std::io::Write;
+use std::path::Path;
+
+pub const HELP: &str = "\
+usage: cuckooormolu new DIR
+
+Makes the folder DIR and writes a terms.say into it, with comments, to start from:
+who may load a preset, from docs/LANGUAGE.md. Nothing that is there is written over.
+
+Exit status: 0, or 3 where DIR has terms already or cannot be written.
+";
+
+/// The source to start from.
+pub const START: &str = include_str!("new/terms.say");
+
+pub fn main(arguments: &[String], out: &mut dyn Write) -> Result<i32, Stop> {
+    let arguments = Arguments::read(arguments, &[], &[])?;
+    let directory = Path::new(arguments.one("the DIR to make")?);
+    let there = [SOURCE, TERMS, NAMES, REQUESTS].into_iter();
+    if let Some(file) = there.map(|name| directory.join(name)).find(|file| file.exists()) {
+        let shown = file.display();
+        return Err(Stop::Failed(format!("{shown} is there already; name another folder")));
+    }
+    fs::create_dir_all(directory)
+        .map_err(|error| Stop::Failed(format!("cannot make {}: {error}", directory.display())))?;
+    folder::write(&directory.join(SOURCE), START.as_bytes())?;
+    let shown = directory.display();
+    writeln!(out, "{} written. Edit it; then:", directory.join(SOURCE).display())?;
+    writeln!(out, "  cuckooormolu aloud {shown}   reads it back")?;
+    writeln!(out, "  cuckooormolu try {shown}     answers requests, and says why")?;
+    Ok(WELL)
+}

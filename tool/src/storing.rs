@@ -1,0 +1,48 @@
+//! The files that a folder's story is stored in, and how long files may be.
+
+use crate::folder::{self, folder_of, Folder, NAMES, SOURCE, TERMS};
+use crate::stop::Stop;
+use keeper::program::MOST_BYTES;
+use std::fs;
+use std::path::Path;
+
+/// The one rule about length: what the program can't open is neither read nor
+/// written here.
+pub fn fits(file: &Path, bytes: usize) -> Result<(), Stop> {
+    if bytes <= MOST_BYTES {
+        return Ok(());
+    }
+    Err(Stop::Failed(format!(
+        "{} has {bytes} bytes, and the program opens at most {MOST_BYTES}; fewer members, edges or parts about the \
+         past make terms shorter, and requests can be made in several runs. A host that links the library has no \
+         such limit",
+        file.display()
+    )))
+}
+
+/// Stores a text of terms with the names of the folder that it comes from
+/// beside it, in a folder that is made if need be.
+pub fn store(file: &Path, text: &[u8], from: &Folder) -> Result<(), Stop> {
+    fits(file, text.len())?;
+    let place = folder_of(file);
+    let own = file.file_name().is_some_and(|name| name == TERMS);
+    if own && place.join(SOURCE).exists() {
+        let shown = place.display();
+        return Err(Stop::Failed(format!(
+            "{shown} has a {SOURCE}, which is what runs there; store in another folder"
+        )));
+    }
+    let names = from.names.write();
+    let beside = place.join(NAMES);
+    let there = fs::read_to_string(&beside).ok();
+    if own && there.as_ref().is_some_and(|there| *there != names) {
+        let shown = beside.display();
+        return Err(Stop::Failed(format!("{shown} has other names; store in another folder")));
+    }
+    fs::create_dir_all(&place)
+        .map_err(|error| Stop::Failed(format!("cannot make {}: {error}", place.display())))?;
+    if own && there.is_none() {
+        folder::write(&beside, names.as_bytes())?;
+    }
+    folder::write(file, text)
+}

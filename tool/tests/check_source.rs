@@ -1,0 +1,67 @@
+//! `check` on a source speaks of its lines, never of entries or labels.
+
+mod run_support;
+
+use run_support::{run, Folder};
+
+const START: &str =
+    "members dora, pete, saw\nrelations owns, likes\nevents share, load by anyone\n\
+                     first dora owns saw\n";
+
+/// What `check` says of a source, with the file called by its name alone.
+fn said(rest: &str) -> String {
+    let folder = Folder::new();
+    folder.write("terms.say", &format!("{START}{rest}\n"));
+    let said = run(&["check", folder.path()]);
+    assert_eq!((said.status, said.err.as_str()), (0, ""));
+    let file = folder.file("terms.say").display().to_string();
+    assert_eq!(run(&["check", &file]).out, said.out);
+    said.out.replace(&format!("{}/", folder.path()), "")
+}
+
+#[test]
+fn warnings_stand_at_their_lines() {
+    let cases = [
+        (
+            "event edit when me owns target and me likes target",
+            "terms.say:5:36: warning: `likes` never has an edge, so this looks in vain",
+        ),
+        (
+            "event edit when me denied load target or me owns target",
+            "terms.say:5:17: warning: denied requests of `load` are not kept, so this is never true",
+        ),
+        ("event edit when me denied load target or me owns target", "add a statement `keep denied load`"),
+        (
+            "event edit when me share target since me owns target",
+            "terms.say:5:17: warning: `share` is true for one moment only",
+        ),
+        (
+            "event edit\n  when at least 4 owns of me",
+            "terms.say:6:8: warning: this asks for at least 4 members, and there are 3",
+        ),
+        (
+            "event edit when at least 2 share of me",
+            "this asks for at least 2 of `share`, and a moment has one event at most",
+        ),
+        (
+            "event edit when me owns target and not me owns target",
+            "terms.say:5:7: warning: nobody was ever granted edit",
+        ),
+    ];
+    for (rest, part) in cases {
+        let said = said(rest);
+        assert!(said.contains(part), "{rest}:\n{said}");
+        for word in ["entry", "label ", "`K", "P line", "terms.tsv", "`top`", "`out`"] {
+            assert!(!said.lines().skip(1).any(|line| line.contains(word)), "{word}:\n{said}");
+        }
+    }
+}
+
+#[test]
+fn for_programs() {
+    let folder = Folder::new();
+    folder.write("terms.say", &format!("{START}event edit when me likes target\n"));
+    let said = run(&["check", folder.path(), "--json"]).out;
+    let second = said.lines().nth(1).unwrap();
+    assert!(second.starts_with("{\"warning\":\"edgeless\",\"line\":5,"), "{said}");
+}

@@ -1,0 +1,83 @@
+//! `run --store`: a folder that goes on, in little time, within the program's
+//! limit.
+
+mod run_support;
+
+use run_support::{preset, run, run_with, Folder};
+use std::time::{Duration, Instant};
+
+#[test]
+fn another_folder_goes_on() {
+    let folder = preset();
+    let other = folder.file("there/other");
+    let file = other.join("terms.tsv").display().to_string();
+    let said = run(&["run", folder.path(), "--store", &file]);
+    assert_eq!((said.status, said.err.as_str()), (0, ""));
+    let other = other.display().to_string();
+    let said = run_with(&["try", &other], "share dora pete\nload pete saw\n");
+    assert_eq!(said.out, "granted; moment 1\ngranted; moment 2\n");
+}
+
+#[test]
+fn nothing_is_stored_where_it_would_not_run() {
+    let (folder, other) = (preset(), Folder::new());
+    let file = other.file("terms.tsv").display().to_string();
+    other.write("names.tsv", "member\t0\tanna\n");
+    let said = run(&["run", folder.path(), "--store", &file]);
+    assert_eq!(said.status, 3);
+    assert!(said.err.contains("names.tsv has other names"), "{}", said.err);
+    other.write("terms.say", "members a\nevent e by anyone\n");
+    let said = run(&["run", folder.path(), "--store", &file]);
+    assert_eq!(said.status, 3);
+    assert!(said.err.contains("has a terms.say, which is what runs there"), "{}", said.err);
+    assert!(!other.file("terms.tsv").exists());
+}
+
+/// 64 members, each of whom has shared with many.
+fn crowd(requests: usize) -> Folder {
+    let folder = Folder::new();
+    let members: Vec<String> = (0..64).map(|n| format!("m{n}")).collect();
+    folder.write(
+        "terms.say",
+        &format!(
+            "members {}\nrelations a, b\nevent share by anyone then add me a target, add target b me\n\
+             event load when some x a target: not x share me since me share x\n\
+             event keep when once target share me and never me share target\n",
+            members.join(", ")
+        ),
+    );
+    let line = |n: usize| format!("R\t0\t{}\t{}\n", n % 64, (n * 7 + n / 64) % 64);
+    folder.write("requests.tsv", &(0..requests).map(line).collect::<String>());
+    folder
+}
+
+#[test]
+fn many_members_are_stored_soon() {
+    let folder = crowd(60);
+    let stored = folder.file("stored.tsv").display().to_string();
+    let began = Instant::now();
+    let said = run(&["run", folder.path(), "--store", &stored]);
+    assert_eq!((said.status, said.err.as_str()), (0, ""));
+    assert!(began.elapsed() < Duration::from_secs(20), "{:?}", began.elapsed());
+    assert!(folder.read("stored.tsv").starts_with("S\t2\nM\t64\n"));
+}
+
+#[test]
+fn one_rule_for_long_files() {
+    let folder = crowd(2_400);
+    let stored = folder.file("stored.tsv").display().to_string();
+    let said = run(&["run", folder.path(), "--store", &stored]);
+    assert_eq!(said.status, 3);
+    assert!(
+        said.err.contains("and the program opens at most 65536; fewer members"),
+        "{}",
+        said.err
+    );
+    assert!(!folder.file("stored.tsv").exists());
+    folder.write("requests.tsv", &"R\t0\t0\t1\n".repeat(8_200));
+    for command in ["run", "check", "why"] {
+        let said = run(&[command, folder.path()]);
+        assert_eq!((said.status, said.out.as_str()), (3, ""));
+        assert!(said.err.contains("requests.tsv has 65600 bytes"), "{}", said.err);
+    }
+}
