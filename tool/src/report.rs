@@ -1,13 +1,17 @@
 //! A folder's story as one page of HTML that needs nothing else.
 //!
-//! * `layout`: members on a circle; `drawing`: graphs as SVG
-//! * `moments`: the strip, and each moment with what was asked at it
+//! * `layout`: members on a circle; `label`: the event's name beside its line
+//! * `grid`: many members as a matrix; `drawing`: graphs as SVG, one or the other
+//! * `moments`: the strip, and each moment with what was asked at it; `filter`: which of it
 //! * `policies`: the policies read aloud; `tables`: who may do what in the end
 //! * `palette`, `colours.css`, `style.css`, `pictures.css`, `tables.css`: what is seen
 //! * `html`: text made safe for a page
 
 pub mod drawing;
+mod filter;
+mod grid;
 pub mod html;
+mod label;
 mod layout;
 mod moments;
 pub mod palette;
@@ -39,10 +43,12 @@ pub fn page(title: &str, replay: &Replay, names: &Names) -> Result<String, Stop>
         "<!DOCTYPE html>\n<html lang=\"en\">\n<head>\n<meta charset=\"utf-8\">\n\
          <meta name=\"viewport\" content=\"width=device-width, initial-scale=1\">\n\
          <meta name=\"color-scheme\" content=\"light dark\">\n<title>{title}</title>\n\
-         <style>\n{}{}</style>\n</head>\n<body>\n{}\
+         <style>\n{}{}{}</style>\n</head>\n<body>\n\
+         <a class=\"skip\" href=\"#story\">Skip to what happened</a>\n{}\
          <header>\n<h1>{title}</h1>\n{}</header>\n<main>\n{}{}{}</main>\n</body>\n</html>\n",
         STYLE.concat(),
         palette::style(words.terms.relations),
+        filter::style(replay, &words),
         drawing.definitions(),
         summary(replay),
         policies::section(replay.both.record(), &words),

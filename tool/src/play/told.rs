@@ -9,8 +9,7 @@ use crate::matrix::Matrix;
 use crate::names::{Kind, Names};
 use crate::replay::{Replay, Step};
 use crate::report::drawing::Drawing;
-use crate::report::html::escaped;
-use crate::report::{palette, policies, tables};
+use crate::report::{policies, tables};
 use crate::source::mistake::Mistake;
 use crate::stop::Stop;
 use crate::why::reason::Reasons;
@@ -114,20 +113,11 @@ fn step(replay: &mut Replay, named: &Named, names: &Names) -> Result<Made, Stop>
 fn scene(replay: &Replay, words: &Words) -> Vec<(&'static str, Json)> {
     let moment = replay.moment();
     let drawing = Drawing::new(words, replay.both.record().graphs());
-    let legend = |relation: usize| {
-        format!(
-            "<li><svg width=\"34\" height=\"12\" viewBox=\"0 0 34 12\" aria-hidden=\"true\">\
-             <path class=\"{}\" d=\"M1 6H24\" marker-end=\"url(#arrow{})\"/></svg>{}</li>",
-            palette::classes(relation),
-            palette::colour(relation),
-            escaped(&words.names.relation(relation)),
-        )
-    };
     vec![
         ("moment", moment.into()),
         ("title", drawing.title(moment).into()),
         ("picture", drawing.alone(moment).into()),
-        ("legend", (0..words.terms.relations).map(legend).collect::<String>().into()),
+        ("legend", drawing.legend().into()),
     ]
 }
 

@@ -1,8 +1,11 @@
-//! Graphs as SVG. Members and relation edges are drawn once and used by every
-//! moment that has them; the event edge is a moment's own.
+//! Graphs as SVG: on a circle, or as a matrix where members are many. Members and
+//! relation edges are drawn once and used by every moment that has them; the event edge
+//! is a moment's own.
 
+use super::grid::Grid;
 use super::html::escaped;
-use super::layout::Layout;
+use super::label;
+use super::layout::{Curve, Layout};
 use super::palette;
 use crate::words::Words;
 use keeper::record::Graph;
@@ -11,6 +14,9 @@ use std::collections::BTreeSet;
 
 /// So many edges are named in a picture's description.
 const NAMED: usize = 40;
+
+/// From so many members on, a graph is a matrix.
+const MANY: usize = 20;
 
 /// So many moments have a picture, with so many edges drawn in all of them.
 const MOST_PICTURES: usize = 200;
@@ -21,6 +27,8 @@ pub struct Drawing<'a> {
     words: &'a Words<'a>,
     graphs: &'a [Graph],
     layout: Layout,
+    /// In place of the circle.
+    grid: Option<Grid>,
     /// The different sets of relation edges, and which one each picture has.
     layers: Vec<&'a BTreeSet<Edge>>,
     layer: Vec<usize>,
@@ -52,7 +60,8 @@ impl<'a> Drawing<'a> {
             }
             layer.push(known.unwrap_or(layers.len() - 1));
         }
-        Drawing { words, graphs, layout: Layout::new(words, looped), layers, layer }
+        let grid = (words.terms.members > MANY).then(|| Grid::new(words));
+        Drawing { words, graphs, layout: Layout::new(words, looped), grid, layers, layer }
     }
 
     /// How many moments have a picture: the first ones, as far as the page
@@ -63,7 +72,7 @@ impl<'a> Drawing<'a> {
 
     /// Whether a picture needs the width of the page.
     pub fn is_wide(&self) -> bool {
-        self.layout.is_many()
+        self.grid.is_some()
     }
 
     /// What all pictures share.
@@ -96,28 +105,21 @@ impl<'a> Drawing<'a> {
     }
 
     fn members(&self) -> String {
+        if let Some(grid) = &self.grid {
+            return grid.members();
+        }
         let layout = &self.layout;
         let mut text = String::new();
         for (member, &(x, y)) in layout.places.iter().enumerate() {
+            let (nx, ny) = layout.name_place(member);
             text.push_str(&format!(
                 "<g class=\"node\" data-member=\"{member}\">\
-                 <circle class=\"member\" cx=\"{x:.1}\" cy=\"{y:.1}\" r=\"{:.1}\"/>",
-                layout.dot
-            ));
-            let (nx, ny) = layout.name_place(member);
-            let (ox, oy) = layout.outward(member);
-            let turn = match (layout.is_many(), ox < -0.3) {
-                (false, _) => String::new(),
-                (true, flipped) => {
-                    let angle = oy.atan2(ox).to_degrees() + if flipped { 180.0 } else { 0.0 };
-                    format!(" transform=\"rotate({angle:.1} {nx:.1} {ny:.1})\"")
-                }
-            };
-            text.push_str(&format!(
-                "<text font-size=\"{}\" x=\"{nx:.1}\" y=\"{ny:.1}\" dy=\"{}em\" \
-                 text-anchor=\"{}\"{turn}>{}</text></g>\n",
+                 <circle class=\"member\" cx=\"{x:.1}\" cy=\"{y:.1}\" r=\"{:.1}\"/>\
+                 <text font-size=\"{}\" x=\"{nx:.1}\" y=\"{ny:.1}\" dy=\"{:.2}em\" \
+                 text-anchor=\"{}\">{}</text></g>\n",
+                layout.dot,
                 layout.font,
-                if layout.is_many() { 0.35 } else { 0.35 + 0.3 * oy },
+                0.35 + 0.3 * layout.outward(member).1,
                 layout.anchor(member),
                 escaped(&layout.names[member]),
             ));
@@ -125,34 +127,28 @@ impl<'a> Drawing<'a> {
         text
     }
 
-    /// Some edges of a graph. Where it has an edge back as well, one line with
-    /// two arrows stands for both.
+    /// Some edges of a graph.
     fn relation_edges<'e>(
         &self,
         some: impl Iterator<Item = &'e Edge>,
         all: &BTreeSet<Edge>,
         more: &str,
     ) -> String {
-        let mut lines = BTreeSet::new();
-        for &(relation, from, to) in some {
-            let both = from != to && all.contains(&(relation, to, from));
-            let ends = if both { (from.min(to), from.max(to)) } else { (from, to) };
-            lines.insert((relation, ends, both));
+        match &self.grid {
+            Some(grid) => grid.marks(some, all, self.words, more),
+            None => lines(some, all).iter().map(|&line| self.relation_line(line, more)).collect(),
         }
-        let line = |&(relation, (from, to), both): &(usize, (usize, usize), bool)| {
-            self.relation_line(relation, from, to, both, more)
-        };
-        lines.iter().map(line).collect()
     }
 
-    fn relation_line(
-        &self,
-        relation: usize,
-        from: usize,
-        to: usize,
-        both: bool,
-        more: &str,
-    ) -> String {
+    /// The line of an edge between two members, with its arrows.
+    fn relation_curve(&self, Line { relation, from, to, both }: Line) -> Curve {
+        let bend = 0.08 + 0.04 * (relation % 8) as f64;
+        let room = self.layout.arrow;
+        self.layout.curve(from, to, bend, [if both { room } else { 0.0 }, room])
+    }
+
+    fn relation_line(&self, line: Line, more: &str) -> String {
+        let Line { relation, from, to, both } = line;
         let mut title = self.words.edge(relation, from, to);
         if both {
             title = format!("{title}, {}", self.words.edge(relation, to, from));
@@ -161,14 +157,47 @@ impl<'a> Drawing<'a> {
         let path = if from == to {
             self.layout.loop_path(from, relation)
         } else {
-            let bend = 0.08 + 0.04 * (relation % 8) as f64;
-            let room = self.layout.arrow;
-            let (path, _) = self.layout.path(from, to, bend, [if both { room } else { 0.0 }, room]);
+            let path = self.relation_curve(line).path();
             let arrow = format!("url(#arrow{})", palette::colour(relation));
             let start = if both { format!("\" marker-start=\"{arrow}") } else { String::new() };
             format!("{path}{start}\" marker-end=\"{arrow}")
         };
         format!("<path class=\"{classes}{more}\" d=\"{path}\"><title>{title}</title></path>\n")
+    }
+
+    /// What stands for each relation, as the items of a list.
+    pub fn legend(&self) -> String {
+        let item = |relation: usize| {
+            let sample = match self.is_wide() {
+                true => format!(
+                    "<rect class=\"mark {}\" x=\"12\" y=\"1\" width=\"10\" height=\"10\"/>",
+                    palette::filled(relation)
+                ),
+                false => format!(
+                    "<path class=\"{}\" d=\"M1 6H28\" marker-end=\"url(#arrow{})\"/>",
+                    palette::classes(relation),
+                    palette::colour(relation)
+                ),
+            };
+            format!(
+                "<li><svg width=\"38\" height=\"12\" viewBox=\"0 0 38 12\" aria-hidden=\"true\">{sample}</svg>\
+                 {}</li>\n",
+                escaped(&self.words.names.relation(relation)),
+            )
+        };
+        (0..self.words.terms.relations).map(item).collect()
+    }
+
+    /// What stands for an event of a class.
+    pub fn sample(&self, class: &str) -> String {
+        match self.is_wide() {
+            true => {
+                format!("<rect class=\"{class}\" x=\"12\" y=\"1\" width=\"12\" height=\"12\"/>")
+            }
+            false => {
+                format!("<path class=\"{class}\" d=\"M1 7H24\" marker-end=\"url(#arrow)\"/>")
+            }
+        }
     }
 
     /// The picture of one moment, with what all share taken from the definitions.
@@ -187,7 +216,9 @@ impl<'a> Drawing<'a> {
 
     fn scene(&self, moment: usize, defined: &str, edges: &str, members: &str) -> String {
         let graph = &self.graphs[moment];
-        let (left, top, wide, high) = self.layout.bounds();
+        let bounds = self.grid.as_ref().map_or_else(|| self.layout.bounds(), Grid::bounds);
+        let (left, top, right, bottom) = bounds;
+        let (wide, high) = (right - left, bottom - top);
         let added = self.changes(moment).added;
         format!(
             "<svg class=\"graph\" viewBox=\"{left:.0} {top:.0} {wide:.0} {high:.0}\" width=\"{wide:.0}\" \
@@ -197,14 +228,13 @@ impl<'a> Drawing<'a> {
             escaped(&self.title(moment)),
             escaped(&self.description(graph)),
             self.relation_edges(added.iter(), &graph.edges, " added"),
-            graph.event.map_or_else(String::new, |edge| self.event_edge(edge)),
+            graph.event.map_or_else(String::new, |edge| self.event_edge(graph, edge)),
         )
     }
 
     /// The relation edges of a graph as one group.
     fn layer_edges(&self, edges: &BTreeSet<Edge>, name: &str) -> String {
-        let many = if self.layout.is_many() { " class=\"many\"" } else { "" };
-        format!("<g{name}{many}>\n{}</g>\n", self.relation_edges(edges.iter(), edges, ""))
+        format!("<g{name}>\n{}</g>\n", self.relation_edges(edges.iter(), edges, ""))
     }
 
     /// The relation edges that a moment has and the one before has not, and the
@@ -239,7 +269,10 @@ impl<'a> Drawing<'a> {
         format!("Relation edges: {}.", edges.join(", "))
     }
 
-    fn event_edge(&self, edge: EventEdge) -> String {
+    fn event_edge(&self, graph: &Graph, edge: EventEdge) -> String {
+        if let Some(grid) = &self.grid {
+            return grid.event(edge);
+        }
         let EventEdge { from, to, denied, .. } = edge;
         let class = if denied { "event-edge denied-edge" } else { "event-edge" };
         let mut text = String::new();
@@ -254,14 +287,42 @@ impl<'a> Drawing<'a> {
             let path = self.layout.loop_path(from, 0);
             return text + &format!("<path class=\"{class}\" d=\"{path}\"/>\n");
         }
-        let (path, (x, y)) = self.layout.path(from, to, 0.0, [0.0, 13.0]);
-        let label = edge.label(self.words.terms);
-        let name = escaped(&self.words.names.label(self.words.terms, label));
+        let curve = self.layout.curve(from, to, 0.0, [0.0, 13.0]);
+        let name = self.words.names.label(self.words.terms, edge.label(self.words.terms));
+        let lines = lines(graph.edges.iter(), &graph.edges);
+        let curves = |&line: &Line| match line.from == line.to {
+            true => self.layout.loop_curves(line.from, line.relation).to_vec(),
+            false => vec![self.relation_curve(line)],
+        };
+        let others: Vec<Curve> = lines.iter().flat_map(curves).collect();
+        let (x, y) = label::place(&self.layout, &curve, &others, &name);
         text + &format!(
-            "<path class=\"{class}\" d=\"{path}\" marker-end=\"url(#arrow)\"/>\
-             <text class=\"event-name\" x=\"{x:.1}\" y=\"{y:.1}\" dy=\"-0.5em\" \
-             text-anchor=\"middle\" font-size=\"{}\">{name}</text>\n",
-            self.layout.font
+            "<path class=\"{class}\" d=\"{}\" marker-end=\"url(#arrow)\"/>\
+             <text class=\"event-name\" x=\"{x:.1}\" y=\"{y:.1}\" dy=\"0.35em\" \
+             text-anchor=\"middle\" font-size=\"{}\">{}</text>\n",
+            curve.path(),
+            self.layout.font,
+            escaped(&name),
         )
     }
+}
+
+/// An edge as it is drawn: where there is one back as well, one line with two arrows
+/// stands for both.
+#[derive(Clone, Copy, PartialEq, Eq, PartialOrd, Ord)]
+struct Line {
+    relation: usize,
+    from: usize,
+    to: usize,
+    both: bool,
+}
+
+/// The lines for some edges of a graph.
+fn lines<'e>(some: impl Iterator<Item = &'e Edge>, all: &BTreeSet<Edge>) -> BTreeSet<Line> {
+    let line = |&(relation, from, to): &Edge| {
+        let both = from != to && all.contains(&(relation, to, from));
+        let (from, to) = if both { (from.min(to), from.max(to)) } else { (from, to) };
+        Line { relation, from, to, both }
+    };
+    some.map(line).collect()
 }
