@@ -1,12 +1,13 @@
 //! A folder's story as one page of HTML that needs nothing else.
 //!
-//! * `layout`: members on a circle; `label`: the event's name beside its line
-//! * `grid`: many members as a matrix; `drawing`: graphs as SVG, one or the other
+//! * `drawing`: graphs as SVG; `circle`: on a circle; `grid`: as a matrix, if members are many
+//! * `layout`: places on the circle; `label`: the event's name beside its line
 //! * `moments`: the strip, and each moment with what was asked at it; `filter`: which of it
 //! * `policies`: the policies read aloud; `tables`: who may do what in the end
 //! * `palette`, `colours.css`, `style.css`, `pictures.css`, `tables.css`: what is seen
 //! * `html`: text made safe for a page
 
+mod circle;
 pub mod drawing;
 mod filter;
 mod grid;

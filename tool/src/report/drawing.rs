@@ -2,10 +2,9 @@
 //! relation edges are drawn once and used by every moment that has them; the event edge
 //! is a moment's own.
 
+use super::circle::Circle;
 use super::grid::Grid;
 use super::html::escaped;
-use super::label;
-use super::layout::{Curve, Layout};
 use super::palette;
 use crate::words::Words;
 use keeper::record::Graph;
@@ -15,7 +14,7 @@ use std::collections::BTreeSet;
 /// So many edges are named in a picture's description.
 const NAMED: usize = 40;
 
-/// From so many members on, a graph is a matrix.
+/// A graph of more members than these is a matrix.
 const MANY: usize = 20;
 
 /// So many moments have a picture, with so many edges drawn in all of them.
@@ -26,12 +25,16 @@ const MOST_EDGES: usize = 20_000;
 pub struct Drawing<'a> {
     words: &'a Words<'a>,
     graphs: &'a [Graph],
-    layout: Layout,
-    /// In place of the circle.
-    grid: Option<Grid>,
+    shape: Shape<'a>,
     /// The different sets of relation edges, and which one each picture has.
     layers: Vec<&'a BTreeSet<Edge>>,
     layer: Vec<usize>,
+}
+
+/// How graphs are drawn.
+enum Shape<'a> {
+    Circle(Circle<'a>),
+    Grid(Grid),
 }
 
 /// What an event's effects changed.
@@ -60,8 +63,11 @@ impl<'a> Drawing<'a> {
             }
             layer.push(known.unwrap_or(layers.len() - 1));
         }
-        let grid = (words.terms.members > MANY).then(|| Grid::new(words));
-        Drawing { words, graphs, layout: Layout::new(words, looped), grid, layers, layer }
+        let shape = match words.terms.members > MANY {
+            true => Shape::Grid(Grid::new(words)),
+            false => Shape::Circle(Circle::new(words, looped)),
+        };
+        Drawing { words, graphs, shape, layers, layer }
     }
 
     /// How many moments have a picture: the first ones, as far as the page
@@ -72,7 +78,7 @@ impl<'a> Drawing<'a> {
 
     /// Whether a picture needs the width of the page.
     pub fn is_wide(&self) -> bool {
-        self.grid.is_some()
+        matches!(self.shape, Shape::Grid(_))
     }
 
     /// What all pictures share.
@@ -89,42 +95,25 @@ impl<'a> Drawing<'a> {
         text
     }
 
-    /// The ends of lines, in the colours of the relations.
     fn arrows(&self) -> String {
-        let arrow = |name: &str, class: &str, size: f64| {
-            format!(
-                "<marker id=\"{name}\" class=\"{class}\" viewBox=\"0 -4 8 8\" refX=\"1\" refY=\"0\" \
-                 markerWidth=\"{size}\" markerHeight=\"{size}\" markerUnits=\"userSpaceOnUse\" \
-                 orient=\"auto-start-reverse\"><path d=\"M0-3.5L8 0L0 3.5z\"/></marker>\n",
-            )
-        };
-        let relations = (0..self.words.terms.relations.min(8)).map(|relation| {
-            arrow(&format!("arrow{relation}"), &format!("a{relation}"), self.layout.arrow)
-        });
-        relations.chain([arrow("arrow", "event-arrow", 13.0)]).collect()
+        match &self.shape {
+            Shape::Grid(_) => String::new(),
+            Shape::Circle(circle) => circle.arrows(),
+        }
     }
 
     fn members(&self) -> String {
-        if let Some(grid) = &self.grid {
-            return grid.members();
+        match &self.shape {
+            Shape::Grid(grid) => grid.members(),
+            Shape::Circle(circle) => circle.members(),
         }
-        let layout = &self.layout;
-        let mut text = String::new();
-        for (member, &(x, y)) in layout.places.iter().enumerate() {
-            let (nx, ny) = layout.name_place(member);
-            text.push_str(&format!(
-                "<g class=\"node\" data-member=\"{member}\">\
-                 <circle class=\"member\" cx=\"{x:.1}\" cy=\"{y:.1}\" r=\"{:.1}\"/>\
-                 <text font-size=\"{}\" x=\"{nx:.1}\" y=\"{ny:.1}\" dy=\"{:.2}em\" \
-                 text-anchor=\"{}\">{}</text></g>\n",
-                layout.dot,
-                layout.font,
-                0.35 + 0.3 * layout.outward(member).1,
-                layout.anchor(member),
-                escaped(&layout.names[member]),
-            ));
+    }
+
+    fn event_edge(&self, graph: &Graph, edge: EventEdge) -> String {
+        match &self.shape {
+            Shape::Grid(grid) => grid.event(edge),
+            Shape::Circle(circle) => circle.event(graph, edge),
         }
-        text
     }
 
     /// Some edges of a graph.
@@ -134,35 +123,10 @@ impl<'a> Drawing<'a> {
         all: &BTreeSet<Edge>,
         more: &str,
     ) -> String {
-        match &self.grid {
-            Some(grid) => grid.marks(some, all, self.words, more),
-            None => lines(some, all).iter().map(|&line| self.relation_line(line, more)).collect(),
+        match &self.shape {
+            Shape::Grid(grid) => grid.marks(some, all, self.words, more),
+            Shape::Circle(circle) => circle.edges(some, all, more),
         }
-    }
-
-    /// The line of an edge between two members, with its arrows.
-    fn relation_curve(&self, Line { relation, from, to, both }: Line) -> Curve {
-        let bend = 0.08 + 0.04 * (relation % 8) as f64;
-        let room = self.layout.arrow;
-        self.layout.curve(from, to, bend, [if both { room } else { 0.0 }, room])
-    }
-
-    fn relation_line(&self, line: Line, more: &str) -> String {
-        let Line { relation, from, to, both } = line;
-        let mut title = self.words.edge(relation, from, to);
-        if both {
-            title = format!("{title}, {}", self.words.edge(relation, to, from));
-        }
-        let (title, classes) = (escaped(&title), palette::classes(relation));
-        let path = if from == to {
-            self.layout.loop_path(from, relation)
-        } else {
-            let path = self.relation_curve(line).path();
-            let arrow = format!("url(#arrow{})", palette::colour(relation));
-            let start = if both { format!("\" marker-start=\"{arrow}") } else { String::new() };
-            format!("{path}{start}\" marker-end=\"{arrow}")
-        };
-        format!("<path class=\"{classes}{more}\" d=\"{path}\"><title>{title}</title></path>\n")
     }
 
     /// What stands for each relation, as the items of a list.
@@ -216,8 +180,10 @@ impl<'a> Drawing<'a> {
 
     fn scene(&self, moment: usize, defined: &str, edges: &str, members: &str) -> String {
         let graph = &self.graphs[moment];
-        let bounds = self.grid.as_ref().map_or_else(|| self.layout.bounds(), Grid::bounds);
-        let (left, top, right, bottom) = bounds;
+        let (left, top, right, bottom) = match &self.shape {
+            Shape::Grid(grid) => grid.bounds(),
+            Shape::Circle(circle) => circle.bounds(),
+        };
         let (wide, high) = (right - left, bottom - top);
         let added = self.changes(moment).added;
         format!(
@@ -268,61 +234,4 @@ impl<'a> Drawing<'a> {
         let edges: Vec<String> = graph.edges.iter().map(edge).collect();
         format!("Relation edges: {}.", edges.join(", "))
     }
-
-    fn event_edge(&self, graph: &Graph, edge: EventEdge) -> String {
-        if let Some(grid) = &self.grid {
-            return grid.event(edge);
-        }
-        let EventEdge { from, to, denied, .. } = edge;
-        let class = if denied { "event-edge denied-edge" } else { "event-edge" };
-        let mut text = String::new();
-        for member in [from, to] {
-            let (x, y) = self.layout.places[member];
-            let radius = self.layout.dot + 3.0;
-            text.push_str(&format!(
-                "<circle class=\"taking-part\" cx=\"{x:.1}\" cy=\"{y:.1}\" r=\"{radius:.1}\"/>"
-            ));
-        }
-        if from == to {
-            let path = self.layout.loop_path(from, 0);
-            return text + &format!("<path class=\"{class}\" d=\"{path}\"/>\n");
-        }
-        let curve = self.layout.curve(from, to, 0.0, [0.0, 13.0]);
-        let name = self.words.names.label(self.words.terms, edge.label(self.words.terms));
-        let lines = lines(graph.edges.iter(), &graph.edges);
-        let curves = |&line: &Line| match line.from == line.to {
-            true => self.layout.loop_curves(line.from, line.relation).to_vec(),
-            false => vec![self.relation_curve(line)],
-        };
-        let others: Vec<Curve> = lines.iter().flat_map(curves).collect();
-        let (x, y) = label::place(&self.layout, &curve, &others, &name);
-        text + &format!(
-            "<path class=\"{class}\" d=\"{}\" marker-end=\"url(#arrow)\"/>\
-             <text class=\"event-name\" x=\"{x:.1}\" y=\"{y:.1}\" dy=\"0.35em\" \
-             text-anchor=\"middle\" font-size=\"{}\">{}</text>\n",
-            curve.path(),
-            self.layout.font,
-            escaped(&name),
-        )
-    }
-}
-
-/// An edge as it is drawn: where there is one back as well, one line with two arrows
-/// stands for both.
-#[derive(Clone, Copy, PartialEq, Eq, PartialOrd, Ord)]
-struct Line {
-    relation: usize,
-    from: usize,
-    to: usize,
-    both: bool,
-}
-
-/// The lines for some edges of a graph.
-fn lines<'e>(some: impl Iterator<Item = &'e Edge>, all: &BTreeSet<Edge>) -> BTreeSet<Line> {
-    let line = |&(relation, from, to): &Edge| {
-        let both = from != to && all.contains(&(relation, to, from));
-        let (from, to) = if both { (from.min(to), from.max(to)) } else { (from, to) };
-        Line { relation, from, to, both }
-    };
-    some.map(line).collect()
 }
