@@ -26,6 +26,21 @@ for (const picture of all('svg.graph')) {
   say(picture.querySelector('title') && picture.querySelector('desc'), 'a picture without words');
 }
 
+// The name of an event stands beside lines. Its box has some room above and below the letters.
+for (const name of all('.event-name')) {
+  const picture = name.closest('svg');
+  const shared = picture.querySelector('use').getAttribute('href');
+  const lines = [...picture.querySelectorAll('path'), ...all(`${shared} path`)];
+  const { x, y, width, height } = name.getBBox();
+  const hit = (point) => point.x > x + 1 && point.x < x + width - 1
+    && point.y > y + height / 4 && point.y < y + height * 0.75;
+  const crossed = lines.some((line) => {
+    const length = line.getTotalLength();
+    return Array.from({ length: 61 }, (_, part) => line.getPointAtLength((length * part) / 60)).some(hit);
+  });
+  say(!crossed, `${picture.querySelector('title').textContent}: its name lies on a line`);
+}
+
 const style = getComputedStyle(document.documentElement);
 const light = (name) => {
   const digits = style.getPropertyValue(name).trim().replace(/^#(.)(.)(.)$/, '#$1$1$2$2$3$3');

@@ -4,9 +4,11 @@ pub mod aloud;
 pub mod check;
 pub mod compile;
 pub mod new;
+pub mod play;
 pub mod report;
 pub mod run;
 pub mod source;
+pub mod test;
 pub mod try_it;
 pub mod who;
 pub mod why;
@@ -26,7 +28,7 @@ pub struct Command {
 }
 
 /// All sub-commands, in the order in which a user meets them.
-pub const COMMANDS: [Command; 10] = [
+pub const COMMANDS: [Command; 12] = [
     Command {
         name: "new",
         summary: "make a folder with a source to start from",
@@ -80,6 +82,18 @@ pub const COMMANDS: [Command; 10] = [
         summary: "make requests at a prompt",
         help: try_it::HELP,
         main: try_it::main,
+    },
+    Command {
+        name: "play",
+        summary: "edit terms and try them on a page in the browser",
+        help: play::HELP,
+        main: play::main,
+    },
+    Command {
+        name: "test",
+        summary: "make the tests of folders and show where they fail",
+        help: test::HELP,
+        main: test::main,
     },
     Command {
         name: "source",

@@ -144,6 +144,12 @@ pub fn named(file: &str, text: &str, terms: &[u8], names: &Names) -> Result<Vec<
     }
 }
 
+/// The name of a folder, also of `.`.
+pub fn name(folder: &Path) -> String {
+    let whole = folder.canonicalize().unwrap_or_else(|_| folder.to_path_buf());
+    whole.file_name().map_or_else(|| "terms".into(), |name| name.to_string_lossy().into_owned())
+}
+
 /// Why a folder has no terms; a file with nearly the right name is pointed at.
 fn missing(folder: &Path) -> Stop {
     let entries = fs::read_dir(folder).into_iter().flatten().flatten();

@@ -1,4 +1,6 @@
-//! JSON, written: one value a line is what `--json` prints.
+//! JSON, written: one value a line is what `--json` prints. `read` reads it.
+
+pub mod read;
 
 use std::fmt;
 

@@ -11,11 +11,12 @@
 //! * `requests`: requests by name
 //! * `trial`, `editing`: requests made and taken back at a prompt; a line edited at a terminal
 //! * `watch`: doing something again when files change
+//! * `testing`: tests that people write; `play`, `http`: a page to edit terms in and try them
 //! * `aloud`: every policy and effect as a sentence
 //! * `check`: what is wrong with a terms file, and what may be
 //! * `commands`: one file for each sub-command
 //! * `pages`: the overview, the manual page and completions for shells
-//! * `arguments`, `json`, `stop`: what the sub-commands share
+//! * `arguments`, `http`, `json`, `stop`: what the sub-commands share
 
 pub mod aloud;
 pub mod arguments;
@@ -24,16 +25,19 @@ pub mod check;
 pub mod commands;
 pub mod editing;
 pub mod folder;
+pub mod http;
 pub mod json;
 pub mod matrix;
 pub mod names;
 pub mod pages;
+pub mod play;
 pub mod replay;
 pub mod report;
 pub mod requests;
 pub mod source;
 pub mod stop;
 pub mod storing;
+pub mod testing;
 pub mod trial;
 pub mod watch;
 pub mod why;

@@ -1,18 +1,23 @@
 //! A folder's story as one page of HTML that needs nothing else.
 //!
-//! * `layout`: members on a circle; `drawing`: graphs as SVG
-//! * `moments`: the strip, and each moment with what was asked at it
+//! * `drawing`: graphs as SVG; `circle`: on a circle; `grid`: as a matrix, if members are many
+//! * `layout`: places on the circle; `label`: the event's name beside its line
+//! * `moments`: the strip, and each moment with what was asked at it; `filter`: which of it
 //! * `policies`: the policies read aloud; `tables`: who may do what in the end
-//! * `palette`, `style.css`: colours and everything else that is seen
+//! * `palette`, `colours.css`, `style.css`, `pictures.css`, `tables.css`: what is seen
 //! * `html`: text made safe for a page
 
-mod drawing;
-mod html;
+mod circle;
+pub mod drawing;
+mod filter;
+mod grid;
+pub mod html;
+mod label;
 mod layout;
 mod moments;
-mod palette;
-mod policies;
-mod tables;
+pub mod palette;
+pub mod policies;
+pub mod tables;
 
 use crate::both::Verdict;
 use crate::names::Names;
@@ -21,6 +26,14 @@ use crate::stop::Stop;
 use crate::words::Words;
 use drawing::Drawing;
 use html::{counted, escaped};
+
+/// What the page looks like: colours, the page, pictures, tables.
+const STYLE: [&str; 4] = [COLOURS, include_str!("report/style.css"), PICTURES, TABLES];
+
+/// The parts of the style that other pages have, too.
+pub const COLOURS: &str = include_str!("report/colours.css");
+pub const PICTURES: &str = include_str!("report/pictures.css");
+pub const TABLES: &str = include_str!("report/tables.css");
 
 /// The whole page.
 pub fn page(title: &str, replay: &Replay, names: &Names) -> Result<String, Stop> {
@@ -31,10 +44,12 @@ pub fn page(title: &str, replay: &Replay, names: &Names) -> Result<String, Stop>
         "<!DOCTYPE html>\n<html lang=\"en\">\n<head>\n<meta charset=\"utf-8\">\n\
          <meta name=\"viewport\" content=\"width=device-width, initial-scale=1\">\n\
          <meta name=\"color-scheme\" content=\"light dark\">\n<title>{title}</title>\n\
-         <style>\n{}{}</style>\n</head>\n<body>\n{}\
+         <style>\n{}{}{}</style>\n</head>\n<body>\n\
+         <a class=\"skip\" href=\"#story\">Skip to what happened</a>\n{}\
          <header>\n<h1>{title}</h1>\n{}</header>\n<main>\n{}{}{}</main>\n</body>\n</html>\n",
-        include_str!("report/style.css"),
+        STYLE.concat(),
         palette::style(words.terms.relations),
+        filter::style(replay, &words),
         drawing.definitions(),
         summary(replay),
         policies::section(replay.both.record(), &words),

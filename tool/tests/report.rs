@@ -112,6 +112,56 @@ fn long_stories_stay_light() {
 }
 
 #[test]
+fn who_may_is_a_table() {
+    let folder = preset();
+    folder.write("names.tsv", "member\t1\ta very long name indeed\nevent\t0\tshare\n");
+    let page = page(&folder);
+    assert_eq!(page.matches("<table class=\"may\"").count(), 3);
+    for wanted in [
+        "<caption>9 pairs may <b>share</b> at moment 3.<br/>Rows ask, columns are asked.</caption>",
+        "<caption>Nobody may <b>event 2</b> at moment 3.<br/>",
+        "<th scope=\"col\" title=\"a very long name indeed\"><div><span>a very long n…</span></div></th>",
+        "<tr><th scope=\"row\">0</th><td class=\"y\">✓</td>",
+    ] {
+        assert!(page.contains(wanted), "{wanted}");
+    }
+}
+
+#[test]
+fn a_long_story_is_folded_and_can_be_filtered() {
+    let folder = preset();
+    let short = page(&folder);
+    assert!(short.contains("<a class=\"skip\" href=\"#story\">Skip to what happened</a>"));
+    assert!(!short.contains("class=\"folded\""));
+    assert!(short.contains("<option value=\"1\">pete</option>"));
+    assert!(short.contains("class=\"refused\" data-who=\"0 0\" data-answer=\"refused\""));
+    assert!(short.contains("option[value=\"denied\"]:checked) :is(.asked>li,.strip>.step)"));
+    folder.write("requests.tsv", &"R\t0\t0\t1\n".repeat(100));
+    let long = page(&folder);
+    assert!(long.contains("<details class=\"folded\"><summary>141 more</summary>"));
+    assert_eq!(long.matches("<li class=\"step\"").count(), 100);
+    assert!(!long.contains("<option value=\"2\">saw</option>"), "saw takes no part");
+}
+
+/// Lines between many members would hide one another.
+#[test]
+fn many_members_are_a_matrix() {
+    let folder = Folder::new();
+    let terms = "M\t64\nL\t2\t1\nF\t0\ttop\t0\t0\nP\t0\t0\nE\t0\tadd\t1\tfwd\nG\t0\t3\t5\n";
+    folder.write("terms.tsv", terms);
+    folder.write("requests.tsv", "R\t0\t3\t5\nR\t0\t63\t0\n");
+    let page = page(&folder);
+    tags(&page);
+    let before = "<rect class=\"mark a0\" x=\"56.0\" y=\"34.0\" width=\"9.0\" height=\"9.0\">";
+    let shared = "<rect class=\"mark a0\" x=\"56.0\" y=\"34.0\" width=\"4.5\" height=\"9.0\">";
+    assert!(page.contains(before) && page.contains(shared));
+    assert!(page.contains("<title>relation 1: 3 → 5</title>"));
+    assert!(page.contains("<rect class=\"event-edge\" x=\"54.0\" y=\"32.0\""));
+    assert!(page.contains("A mark is an edge from its row to its column."));
+    assert!(!page.contains("class=\"event-name\""));
+}
+
+#[test]
 fn mistakes() {
     let folder = preset();
     assert_eq!(run(&["report", folder.path()]).status, 2);

@@ -26,7 +26,8 @@ pub fn main(arguments: &[String], out: &mut dyn Write) -> Result<i32, Stop> {
     let directory = Path::new(arguments.one("DIR")?);
     let file = arguments.option("-o").ok_or_else(|| Stop::Usage("give -o FILE.html".into()))?;
     let folder = Folder::load(directory)?;
-    let title = arguments.option("--title").map_or_else(|| name(&folder.path), str::to_string);
+    let title =
+        arguments.option("--title").map_or_else(|| folder::name(&folder.path), str::to_string);
     let page = report::page(&title, &Replay::of(&folder)?, &folder.names)?;
     if file == "-" {
         out.write_all(page.as_bytes())?;
@@ -34,10 +35,4 @@ pub fn main(arguments: &[String], out: &mut dyn Write) -> Result<i32, Stop> {
         folder::write(Path::new(file), page.as_bytes())?;
     }
     Ok(WELL)
-}
-
-/// The name of a folder, also of `.`.
-fn name(folder: &Path) -> String {
-    let whole = folder.canonicalize().unwrap_or_else(|_| folder.to_path_buf());
-    whole.file_name().map_or_else(|| "report".into(), |name| name.to_string_lossy().into_owned())
 }

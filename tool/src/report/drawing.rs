@@ -1,8 +1,10 @@
-//! Graphs as SVG. Members and relation edges are drawn once and used by every
-//! moment that has them; the event edge is a moment's own.
+//! Graphs as SVG: on a circle, or as a matrix where members are many. Members and
+//! relation edges are drawn once and used by every moment that has them; the event edge
+//! is a moment's own.
 
+use super::circle::Circle;
+use super::grid::Grid;
 use super::html::escaped;
-use super::layout::Layout;
 use super::palette;
 use crate::words::Words;
 use keeper::record::Graph;
@@ -12,6 +14,9 @@ use std::collections::BTreeSet;
 /// So many edges are named in a picture's description.
 const NAMED: usize = 40;
 
+/// A graph of more members than these is a matrix.
+const MANY: usize = 20;
+
 /// So many moments have a picture, with so many edges drawn in all of them.
 const MOST_PICTURES: usize = 200;
 const MOST_EDGES: usize = 20_000;
@@ -20,10 +25,16 @@ const MOST_EDGES: usize = 20_000;
 pub struct Drawing<'a> {
     words: &'a Words<'a>,
     graphs: &'a [Graph],
-    layout: Layout,
+    shape: Shape<'a>,
     /// The different sets of relation edges, and which one each picture has.
     layers: Vec<&'a BTreeSet<Edge>>,
     layer: Vec<usize>,
+}
+
+/// How graphs are drawn.
+enum Shape<'a> {
+    Circle(Circle<'a>),
+    Grid(Grid),
 }
 
 /// What an event's effects changed.
@@ -52,7 +63,11 @@ impl<'a> Drawing<'a> {
             }
             layer.push(known.unwrap_or(layers.len() - 1));
         }
-        Drawing { words, graphs, layout: Layout::new(words, looped), layers, layer }
+        let shape = match words.terms.members > MANY {
+            true => Shape::Grid(Grid::new(words)),
+            false => Shape::Circle(Circle::new(words, looped)),
+        };
+        Drawing { words, graphs, shape, layers, layer }
     }
 
     /// How many moments have a picture: the first ones, as far as the page
@@ -63,7 +78,7 @@ impl<'a> Drawing<'a> {
 
     /// Whether a picture needs the width of the page.
     pub fn is_wide(&self) -> bool {
-        self.layout.is_many()
+        matches!(self.shape, Shape::Grid(_))
     }
 
     /// What all pictures share.
@@ -71,121 +86,121 @@ impl<'a> Drawing<'a> {
         let mut text = String::from(
             "<svg width=\"0\" height=\"0\" aria-hidden=\"true\" class=\"shared\"><defs>\n",
         );
-        let mut arrow = |name: &str, class: &str, size: f64| {
-            text.push_str(&format!(
-                "<marker id=\"{name}\" class=\"{class}\" viewBox=\"0 -4 8 8\" refX=\"1\" refY=\"0\" \
-                 markerWidth=\"{size}\" markerHeight=\"{size}\" markerUnits=\"userSpaceOnUse\" \
-                 orient=\"auto-start-reverse\"><path d=\"M0-3.5L8 0L0 3.5z\"/></marker>\n",
-            ));
-        };
-        for relation in 0..self.words.terms.relations.min(8) {
-            arrow(&format!("arrow{relation}"), &format!("a{relation}"), self.layout.arrow);
-        }
-        arrow("arrow", "event-arrow", 13.0);
-        text.push_str(&self.members());
+        text.push_str(&self.arrows());
+        text.push_str(&format!("<g id=\"members\">\n{}</g>\n", self.members()));
         for (index, edges) in self.layers.iter().enumerate() {
-            let many = if self.layout.is_many() { " class=\"many\"" } else { "" };
-            text.push_str(&format!("<g id=\"edges{index}\"{many}>\n"));
-            text.push_str(&self.relation_edges(edges.iter(), edges, ""));
-            text.push_str("</g>\n");
+            text.push_str(&self.layer_edges(edges, &format!(" id=\"edges{index}\"")));
         }
         text.push_str("</defs></svg>\n");
         text
     }
 
-    fn members(&self) -> String {
-        let layout = &self.layout;
-        let mut text = format!("<g id=\"members\" font-size=\"{}\">\n", layout.font);
-        for (member, &(x, y)) in layout.places.iter().enumerate() {
-            text.push_str(&format!(
-                "<circle class=\"member\" cx=\"{x:.1}\" cy=\"{y:.1}\" r=\"{:.1}\"/>",
-                layout.dot
-            ));
-            let (nx, ny) = layout.name_place(member);
-            let (ox, oy) = layout.outward(member);
-            let turn = match (layout.is_many(), ox < -0.3) {
-                (false, _) => String::new(),
-                (true, flipped) => {
-                    let angle = oy.atan2(ox).to_degrees() + if flipped { 180.0 } else { 0.0 };
-                    format!(" transform=\"rotate({angle:.1} {nx:.1} {ny:.1})\"")
-                }
-            };
-            text.push_str(&format!(
-                "<text x=\"{nx:.1}\" y=\"{ny:.1}\" dy=\"{}em\" text-anchor=\"{}\"{turn}>{}</text>\n",
-                if layout.is_many() { 0.35 } else { 0.35 + 0.3 * oy },
-                layout.anchor(member),
-                escaped(&layout.names[member]),
-            ));
+    fn arrows(&self) -> String {
+        match &self.shape {
+            Shape::Grid(_) => String::new(),
+            Shape::Circle(circle) => circle.arrows(),
         }
-        text.push_str("</g>\n");
-        text
     }
 
-    /// Some edges of a graph. Where it has an edge back as well, one line with
-    /// two arrows stands for both.
+    fn members(&self) -> String {
+        match &self.shape {
+            Shape::Grid(grid) => grid.members(),
+            Shape::Circle(circle) => circle.members(),
+        }
+    }
+
+    fn event_edge(&self, graph: &Graph, edge: EventEdge) -> String {
+        match &self.shape {
+            Shape::Grid(grid) => grid.event(edge),
+            Shape::Circle(circle) => circle.event(graph, edge),
+        }
+    }
+
+    /// Some edges of a graph.
     fn relation_edges<'e>(
         &self,
         some: impl Iterator<Item = &'e Edge>,
         all: &BTreeSet<Edge>,
         more: &str,
     ) -> String {
-        let mut lines = BTreeSet::new();
-        for &(relation, from, to) in some {
-            let both = from != to && all.contains(&(relation, to, from));
-            let ends = if both { (from.min(to), from.max(to)) } else { (from, to) };
-            lines.insert((relation, ends, both));
+        match &self.shape {
+            Shape::Grid(grid) => grid.marks(some, all, self.words, more),
+            Shape::Circle(circle) => circle.edges(some, all, more),
         }
-        let line = |&(relation, (from, to), both): &(usize, (usize, usize), bool)| {
-            self.relation_line(relation, from, to, both, more)
-        };
-        lines.iter().map(line).collect()
     }
 
-    fn relation_line(
-        &self,
-        relation: usize,
-        from: usize,
-        to: usize,
-        both: bool,
-        more: &str,
-    ) -> String {
-        let mut title = self.words.edge(relation, from, to);
-        if both {
-            title = format!("{title}, {}", self.words.edge(relation, to, from));
-        }
-        let (title, classes) = (escaped(&title), palette::classes(relation));
-        let path = if from == to {
-            self.layout.loop_path(from, relation)
-        } else {
-            let bend = 0.08 + 0.04 * (relation % 8) as f64;
-            let room = self.layout.arrow;
-            let (path, _) = self.layout.path(from, to, bend, [if both { room } else { 0.0 }, room]);
-            let arrow = format!("url(#arrow{})", palette::colour(relation));
-            let start = if both { format!("\" marker-start=\"{arrow}") } else { String::new() };
-            format!("{path}{start}\" marker-end=\"{arrow}")
+    /// What stands for each relation, as the items of a list.
+    pub fn legend(&self) -> String {
+        let item = |relation: usize| {
+            let sample = match self.is_wide() {
+                true => format!(
+                    "<rect class=\"mark {}\" x=\"12\" y=\"1\" width=\"10\" height=\"10\"/>",
+                    palette::filled(relation)
+                ),
+                false => format!(
+                    "<path class=\"{}\" d=\"M1 6H28\" marker-end=\"url(#arrow{})\"/>",
+                    palette::classes(relation),
+                    palette::colour(relation)
+                ),
+            };
+            format!(
+                "<li><svg width=\"38\" height=\"12\" viewBox=\"0 0 38 12\" aria-hidden=\"true\">{sample}</svg>\
+                 {}</li>\n",
+                escaped(&self.words.names.relation(relation)),
+            )
         };
-        format!("<path class=\"{classes}{more}\" d=\"{path}\"><title>{title}</title></path>\n")
+        (0..self.words.terms.relations).map(item).collect()
     }
 
-    /// The picture of one moment.
+    /// What stands for an event of a class.
+    pub fn sample(&self, class: &str) -> String {
+        match self.is_wide() {
+            true => {
+                format!("<rect class=\"{class}\" x=\"12\" y=\"1\" width=\"12\" height=\"12\"/>")
+            }
+            false => {
+                format!("<path class=\"{class}\" d=\"M1 7H24\" marker-end=\"url(#arrow)\"/>")
+            }
+        }
+    }
+
+    /// The picture of one moment, with what all share taken from the definitions.
     pub fn picture(&self, moment: usize) -> String {
+        let edges = format!("<use href=\"#edges{}\"/>\n", self.layer[moment]);
+        self.scene(moment, "", &edges, "<use href=\"#members\"/>")
+    }
+
+    /// The picture of one moment for a page that has no definitions, and none but
+    /// this. Members have their numbers, to be clicked at.
+    pub fn alone(&self, moment: usize) -> String {
+        let defined = format!("<defs>\n{}</defs>\n", self.arrows());
+        let edges = self.layer_edges(&self.graphs[moment].edges, "");
+        self.scene(moment, &defined, &edges, &self.members())
+    }
+
+    fn scene(&self, moment: usize, defined: &str, edges: &str, members: &str) -> String {
         let graph = &self.graphs[moment];
-        let (left, top, wide, high) = self.layout.bounds();
-        let mut text = format!(
+        let (left, top, right, bottom) = match &self.shape {
+            Shape::Grid(grid) => grid.bounds(),
+            Shape::Circle(circle) => circle.bounds(),
+        };
+        let (wide, high) = (right - left, bottom - top);
+        let added = self.changes(moment).added;
+        format!(
             "<svg class=\"graph\" viewBox=\"{left:.0} {top:.0} {wide:.0} {high:.0}\" width=\"{wide:.0}\" \
              height=\"{high:.0}\" role=\"img\" aria-labelledby=\"title{moment} desc{moment}\">\
-             <title id=\"title{moment}\">{}</title><desc id=\"desc{moment}\">{}</desc>\n",
+             <title id=\"title{moment}\">{}</title><desc id=\"desc{moment}\">{}</desc>\n\
+             {defined}{edges}{}{}{members}</svg>\n",
             escaped(&self.title(moment)),
             escaped(&self.description(graph)),
-        );
-        text.push_str(&format!("<use href=\"#edges{}\"/>\n", self.layer[moment]));
-        let added = self.changes(moment).added;
-        text.push_str(&self.relation_edges(added.iter(), &graph.edges, " added"));
-        if let Some(edge) = graph.event {
-            text.push_str(&self.event_edge(edge));
-        }
-        text.push_str("<use href=\"#members\"/></svg>\n");
-        text
+            self.relation_edges(added.iter(), &graph.edges, " added"),
+            graph.event.map_or_else(String::new, |edge| self.event_edge(graph, edge)),
+        )
+    }
+
+    /// The relation edges of a graph as one group.
+    fn layer_edges(&self, edges: &BTreeSet<Edge>, name: &str) -> String {
+        format!("<g{name}>\n{}</g>\n", self.relation_edges(edges.iter(), edges, ""))
     }
 
     /// The relation edges that a moment has and the one before has not, and the
@@ -218,31 +233,5 @@ impl<'a> Drawing<'a> {
         let edge = |&(relation, from, to): &Edge| self.words.edge(relation, from, to);
         let edges: Vec<String> = graph.edges.iter().map(edge).collect();
         format!("Relation edges: {}.", edges.join(", "))
-    }
-
-    fn event_edge(&self, edge: EventEdge) -> String {
-        let EventEdge { from, to, denied, .. } = edge;
-        let class = if denied { "event-edge denied-edge" } else { "event-edge" };
-        let mut text = String::new();
-        for member in [from, to] {
-            let (x, y) = self.layout.places[member];
-            let radius = self.layout.dot + 3.0;
-            text.push_str(&format!(
-                "<circle class=\"taking-part\" cx=\"{x:.1}\" cy=\"{y:.1}\" r=\"{radius:.1}\"/>"
-            ));
-        }
-        if from == to {
-            let path = self.layout.loop_path(from, 0);
-            return text + &format!("<path class=\"{class}\" d=\"{path}\"/>\n");
-        }
-        let (path, (x, y)) = self.layout.path(from, to, 0.0, [0.0, 13.0]);
-        let label = edge.label(self.words.terms);
-        let name = escaped(&self.words.names.label(self.words.terms, label));
-        text + &format!(
-            "<path class=\"{class}\" d=\"{path}\" marker-end=\"url(#arrow)\"/>\
-             <text class=\"event-name\" x=\"{x:.1}\" y=\"{y:.1}\" dy=\"-0.5em\" \
-             text-anchor=\"middle\" font-size=\"{}\">{name}</text>\n",
-            self.layout.font
-        )
     }
 }

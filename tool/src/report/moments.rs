@@ -1,8 +1,8 @@
 //! The strip of answers, and each moment with its graph and what was asked at it.
 
 use super::drawing::Drawing;
+use super::filter;
 use super::html::{counted, escaped, unbroken};
-use super::palette;
 use crate::both::Verdict;
 use crate::replay::{Replay, Step};
 use crate::stop::Stop;
@@ -11,6 +11,9 @@ use crate::words::{answered, Words};
 use keeper::record::Graph;
 use keeper::terms::Edge;
 
+/// So many links to moments and answers are shown at once.
+const MOST_LINKS: usize = 60;
+
 pub fn section(replay: &Replay, words: &Words, drawing: &Drawing) -> Result<String, Stop> {
     let graphs = replay.both.record().graphs();
     let mut reasons = Reasons::new(replay.both.record());
@@ -18,8 +21,8 @@ pub fn section(replay: &Replay, words: &Words, drawing: &Drawing) -> Result<Stri
     let mut text = format!(
         "<section aria-labelledby=\"story\">\n<h2 id=\"story\">What happened</h2>\n{}{}\
          <ol class=\"moments{wide}\" start=\"0\">\n",
-        strip(replay, words),
-        legend(words, drawing.count(), graphs.len()),
+        filter::controls(replay, words) + &strip(replay, words),
+        legend(words, drawing, graphs.len()),
     );
     for (moment, graph) in graphs.iter().enumerate() {
         let event = graph.event.map(|edge| words.happened(edge));
@@ -47,29 +50,46 @@ pub fn section(replay: &Replay, words: &Words, drawing: &Drawing) -> Result<Stri
     Ok(text)
 }
 
-/// Every moment and every answer in order, each a link to where it is told.
+/// Every moment and every answer in order, each a link to where it is told. Of a long
+/// story the beginning and the end are shown, and the rest on demand.
 fn strip(replay: &Replay, words: &Words) -> String {
-    let mut text = String::from("<nav aria-label=\"Moments and answers\"><ol class=\"strip\">\n");
     let moment_link = |moment: usize| {
-        format!("<li><a class=\"at\" href=\"#moment-{moment}\" title=\"moment {moment}\">{moment}</a></li>\n")
+        format!(
+            "<li><a class=\"at\" href=\"#moment-{moment}\" title=\"moment {moment}\">{moment}</a></li>\n"
+        )
     };
-    text.push_str(&moment_link(0));
+    let mut links = vec![moment_link(0)];
     for step in &replay.steps {
         let said = format!("{}: {}", words.request(step.request), answered(step.verdict));
-        text.push_str(&format!(
-            "<li><a class=\"{0}\" href=\"#request-{1}\" title=\"{2}\"><span aria-hidden=\"true\">{3}</span>\
-             <span class=\"away\">request {1}, {0}</span></a></li>\n",
+        links.push(format!(
+            "<li class=\"step\" {4}><a class=\"{0}\" href=\"#request-{1}\" title=\"{2}\">\
+             <span aria-hidden=\"true\">{3}</span><span class=\"away\">request {1}, {0}</span></a></li>\n",
             answered(step.verdict),
             step.line,
             escaped(&said),
             sign(step.verdict),
+            filter::marks(step),
         ));
         if step.made {
-            text.push_str(&moment_link(step.moment + 1));
+            links.push(moment_link(step.moment + 1));
         }
     }
-    text.push_str("</ol></nav>\n");
-    text
+    let list = |links: &[String]| format!("<ol class=\"strip\">\n{}</ol>", links.concat());
+    let links = match links.len() > MOST_LINKS {
+        false => list(&links),
+        true => {
+            let (first, rest) = links.split_at(MOST_LINKS / 2);
+            let (middle, last) = rest.split_at(rest.len() - MOST_LINKS / 2);
+            format!(
+                "{}<details class=\"folded\"><summary>{} more</summary>{}</details>{}",
+                list(first),
+                middle.len(),
+                list(middle),
+                list(last),
+            )
+        }
+    };
+    format!("<nav aria-label=\"Moments and answers\">{links}</nav>\n")
 }
 
 fn sign(verdict: Verdict) -> &'static str {
@@ -80,34 +100,28 @@ fn sign(verdict: Verdict) -> &'static str {
     }
 }
 
-/// Which line stands for what, and how many moments are drawn.
-fn legend(words: &Words, pictures: usize, moments: usize) -> String {
+/// Which line or mark stands for what, and how many moments are drawn.
+fn legend(words: &Words, drawing: &Drawing, moments: usize) -> String {
     let mut text = String::from("<ul class=\"legend\" aria-label=\"Lines in the pictures\">\n");
-    for relation in 0..words.terms.relations {
-        text.push_str(&format!(
-            "<li><svg width=\"38\" height=\"12\" viewBox=\"0 0 38 12\" aria-hidden=\"true\">\
-             <path class=\"{}\" d=\"M1 6H28\" marker-end=\"url(#arrow{})\"/></svg>{}</li>\n",
-            palette::classes(relation),
-            palette::colour(relation),
-            escaped(&words.names.relation(relation)),
-        ));
-    }
-    text.push_str(
-        "<li><svg width=\"38\" height=\"14\" viewBox=\"0 0 38 14\" aria-hidden=\"true\">\
-         <path class=\"event-edge\" d=\"M1 7H24\" marker-end=\"url(#arrow)\"/></svg>\
-         the event that made the moment</li>\n",
-    );
+    text.push_str(&drawing.legend());
+    let event = |class: &str, text: &str| {
+        format!(
+            "<li><svg width=\"38\" height=\"14\" viewBox=\"0 0 38 14\" aria-hidden=\"true\">{}</svg>{text}</li>\n",
+            drawing.sample(class),
+        )
+    };
+    text.push_str(&event("event-edge", "the event that made the moment"));
     if !words.terms.kept.is_empty() {
-        text.push_str(
-            "<li><svg width=\"38\" height=\"14\" viewBox=\"0 0 38 14\" aria-hidden=\"true\">\
-             <path class=\"event-edge denied-edge\" d=\"M1 7H24\" marker-end=\"url(#arrow)\"/></svg>\
-             the denied try that made the moment</li>\n",
-        );
+        text.push_str(&event("event-edge denied-edge", "the denied try that made the moment"));
     }
     text.push_str("</ul>\n");
-    if pictures < moments {
+    if drawing.is_wide() {
+        text.push_str("<p class=\"quiet\">A mark is an edge from its row to its column.</p>\n");
+    }
+    if drawing.count() < moments {
         text.push_str(&format!(
-            "<p class=\"quiet\">The first {pictures} of {moments} moments are drawn.</p>\n"
+            "<p class=\"quiet\">The first {} of {moments} moments are drawn.</p>\n",
+            drawing.count()
         ));
     }
     text
@@ -171,11 +185,12 @@ fn asked(
     for step in steps {
         let answer = answered(step.verdict);
         text.push_str(&format!(
-            "<li id=\"request-{0}\" class=\"{answer}\"><p class=\"request\"><span class=\"line\">{0}</span> \
+            "<li id=\"request-{0}\" class=\"{answer}\" {3}><p class=\"request\"><span class=\"line\">{0}</span> \
              <span class=\"what\">{1}</span> <strong><span aria-hidden=\"true\">{2}</span> {answer}</strong></p>\n",
             step.line,
             unbroken(&words.request(step.request)),
             sign(step.verdict),
+            filter::marks(step),
         ));
         text.push_str(&told(step, words, reasons)?);
         text.push_str("</li>\n");

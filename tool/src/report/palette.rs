@@ -35,3 +35,11 @@ pub fn classes(relation: usize) -> String {
     let dashes = if relation < LIGHT.len() { "" } else { " dashed" };
     format!("edge c{}{dashes}", colour(relation))
 }
+
+/// The classes of a relation's marks: filled, or hollow from eight on.
+pub fn filled(relation: usize) -> String {
+    match relation < LIGHT.len() {
+        true => format!("a{}", colour(relation)),
+        false => format!("c{} hollow", colour(relation)),
+    }
+}

@@ -6,11 +6,16 @@ use crate::words::Words;
 use keeper::record::Record;
 
 pub fn section(record: &Record, words: &Words) -> String {
+    format!(
+        "<section aria-labelledby=\"policies\">\n<h2 id=\"policies\">What may be done</h2>\n{}</section>\n",
+        list(record, words),
+    )
+}
+
+/// The policies one by one, and the clauses that they name.
+pub fn list(record: &Record, words: &Words) -> String {
     let aloud = Aloud::of_record(record, words.names);
-    let mut text = String::from(
-        "<section aria-labelledby=\"policies\">\n<h2 id=\"policies\">What may be done</h2>\n\
-         <dl class=\"policies\">\n",
-    );
+    let mut text = String::from("<dl class=\"policies\">\n");
     for spoken in &aloud.events {
         let name = escaped(&words.names.event(spoken.event));
         text.push_str(&format!("<div><dt>{name}</dt>\n<dd>{}", sentence(&spoken.policy)));
@@ -31,7 +36,6 @@ pub fn section(record: &Record, words: &Words) -> String {
         aloud.clauses.iter().for_each(|clause| text.push_str(&sentence(clause)));
         text.push_str("</div>\n");
     }
-    text.push_str("</section>\n");
     text
 }
 

@@ -1,10 +1,16 @@
-//! Who may do what to whom in the end, on demand.
+//! Who may do what to whom, as tables.
 
-use super::html::escaped;
+use super::html::{counted, escaped};
 use crate::matrix::Matrix;
 use crate::replay::Replay;
 use crate::stop::Stop;
 use crate::words::Words;
+
+/// The longest name in a table, in letters.
+const LONGEST: usize = 14;
+
+/// From so many members on, cells are small.
+const MANY: usize = 20;
 
 pub fn section(replay: &Replay, words: &Words) -> Result<String, Stop> {
     let mut text = String::from(
@@ -12,19 +18,74 @@ pub fn section(replay: &Replay, words: &Words) -> Result<String, Stop> {
     );
     for event in 0..words.terms.events {
         let matrix = Matrix::now(&replay.both, event)?;
-        let pairs = words.terms.members * words.terms.members;
-        let name = escaped(&words.names.event(event));
-        let count = match matrix.count() {
-            0 => "nobody may".to_string(),
-            all if all == pairs => "everybody may, to everybody".to_string(),
-            some => format!("{some} of {pairs} pairs may"),
-        };
         text.push_str(&format!(
-            "<details class=\"who\"><summary><b>{name}</b> <span>{count}</span></summary>\n\
-             <p>Rows ask, columns are asked.</p>\n<pre tabindex=\"0\">{}</pre></details>\n",
-            escaped(&matrix.cells(words)),
+            "<details class=\"who\"><summary><b>{}</b> <span>{}</span></summary>\n{}</details>\n",
+            escaped(&words.names.event(event)),
+            in_short(&matrix),
+            table(&matrix, words),
         ));
     }
     text.push_str("</section>\n");
     Ok(text)
+}
+
+/// How many pairs are allowed.
+fn in_short(matrix: &Matrix) -> String {
+    let pairs = matrix.rows.len() * matrix.rows.len();
+    match matrix.count() {
+        0 => "nobody may".to_string(),
+        all if all == pairs => "everybody may, to everybody".to_string(),
+        some => format!("{some} of {pairs} pairs may"),
+    }
+}
+
+/// The table of an event: a row for each member who asks, a column for each who is
+/// asked. Long names are cut; the whole name is told where the mouse rests.
+pub fn table(matrix: &Matrix, words: &Words) -> String {
+    let members = matrix.rows.len();
+    let size = if members > MANY { " small" } else { "" };
+    let shown: Vec<String> = (0..members).map(|n| shortened(&words.member(n))).collect();
+    let letters = shown.iter().map(|name| name.chars().count()).max().unwrap_or(0);
+    let event = escaped(&words.names.event(matrix.event));
+    let mut text = format!(
+        "<div class=\"cells\" tabindex=\"0\" role=\"region\" aria-label=\"Who may {event}\">\
+         <table class=\"may{size}\" style=\"--letters:{letters}\"><caption>{} may <b>{event}</b> \
+         at moment {}.<br/>Rows ask, columns are asked.</caption>\n<thead><tr><td></td>",
+        match matrix.count() {
+            0 => "Nobody".to_string(),
+            some => counted(some, "pair"),
+        },
+        matrix.moment,
+    );
+    let name = |member: usize| {
+        let whole = words.member(member);
+        let title = match whole.chars().count() > LONGEST {
+            true => format!(" title=\"{}\"", escaped(&whole)),
+            false => String::new(),
+        };
+        (escaped(&shown[member]), title)
+    };
+    for member in 0..members {
+        let (shown, title) = name(member);
+        text.push_str(&format!("<th scope=\"col\"{title}><div><span>{shown}</span></div></th>"));
+    }
+    text.push_str("</tr></thead>\n<tbody>\n");
+    for (member, row) in matrix.rows.iter().enumerate() {
+        let (shown, title) = name(member);
+        text.push_str(&format!("<tr><th scope=\"row\"{title}>{shown}</th>"));
+        for &may in row {
+            text.push_str(if may { "<td class=\"y\">✓</td>" } else { "<td></td>" });
+        }
+        text.push_str("</tr>\n");
+    }
+    text.push_str("</tbody></table></div>\n");
+    text
+}
+
+/// A name that is not too long for a picture or a table.
+pub fn shortened(name: &str) -> String {
+    if name.chars().count() <= LONGEST {
+        return name.to_string();
+    }
+    name.chars().take(LONGEST - 1).chain(['…']).collect()
 }

@@ -1,0 +1,95 @@
+// play.mjs BROWSER ADDRESS FOLDER: uses the page as a person would, with the mouse and the keyboard, and reads what
+// it answers. The page is that of the preset example, without requests. Leaves pictures in FOLDER.
+import assert from 'node:assert/strict';
+import { open } from './devtools.mjs';
+
+const [browser, address, folder] = process.argv.slice(2);
+const page = await open(browser, address);
+const all = (selector) => `[...document.querySelectorAll('${selector}')]`;
+const texts = (selector) => page.value(`${all(selector)}.map((one) => one.innerText.trim())`);
+const text = async (selector) => (await texts(selector)).join('\n');
+const within = (selector, words) => page.until(
+  `document.querySelector('${selector}').innerText.includes(${JSON.stringify(words)})`,
+  `${words} in ${selector}`,
+);
+const member = (name) => page.click(
+  `${all('.node')}.find((node) => node.getAttribute('aria-label') === '${name}').querySelector('circle')`,
+);
+const event = (name) => page.click(`${all('#looks button')}.find((button) => button.innerText === '${name}')`);
+
+/** Chooses two members, makes the request, and waits for its answer. */
+async function request(name, from, to, answer) {
+  await member(from);
+  await page.until(`state.from === '${from}' && state.to === null && !document.querySelector('#looks li')`);
+  await member(to);
+  await page.until(`state.to === '${to}' && document.querySelectorAll('#looks button').length === 4`);
+  const before = await page.value('state.at');
+  await event(name);
+  await page.until(`document.querySelectorAll('#strip li').length === ${before + 2}`);
+  await within('#why', `${name} ${from} → ${to}`);
+  await within('#why', answer);
+}
+
+try {
+  await page.until('document.querySelectorAll(".node").length === 3');
+  assert.deepEqual(await texts('#aloud dt'), ['share', 'withdraw', 'load']);
+
+  // Type an event with a mistake, see where it is and what would be right, and put it right.
+  await page.click('document.getElementById("source")');
+  await page.value('document.getElementById("source").setSelectionRange(9999, 9999)');
+  await page.type('\nevent preview\n  when target shar me\n');
+  await within('#mistakes', 'did you mean `share`?');
+  assert.equal(await text('#size'), '1 mistake');
+  assert.equal(await text('#shown .bad'), 'shar');
+  assert.ok(await page.value('document.body.classList.contains("stale")'));
+  await page.picture(`${folder}/play-mistake.png`);
+  await page.click('document.querySelector("#mistakes button")');
+  await page.type('share');
+  await page.until('!document.body.classList.contains("stale")');
+  assert.deepEqual(await texts('#aloud dt'), ['share', 'withdraw', 'load', 'preview']);
+  await within('#aloud', 'You may preview');
+
+  // Three requests and their answers.
+  await request('load', 'player', 'preset', 'denied');
+  await request('share', 'designer', 'player', 'granted');
+  await request('load', 'player', 'preset', 'granted');
+  await within('#moment', 'Moment 2');
+  await page.value('(() => { const who = document.getElementById("event"); who.value = "load"; who.onchange(); })()');
+  const line = ['the first edges', '✗ load player → preset', '✓ share designer → player 1', '✓ load player → preset 2'];
+  assert.deepEqual(await texts('#strip li'), line);
+  await within('#table', '1 pair may load at moment 2');
+  await page.picture(`${folder}/play-light.png`);
+
+  // Back to the moment of the share, and on from there another way.
+  await page.click('document.querySelectorAll("#strip button")[2]');
+  await within('#moment', 'Moment 1');
+  assert.deepEqual(await texts('#strip .back'), ['✓ load player → preset 2']);
+  await request('withdraw', 'designer', 'player', 'granted');
+  assert.deepEqual(await texts('#strip .back'), []);
+  await within('#table', 'Nobody may load at moment 2');
+
+  // A cell chooses its two members.
+  await page.click('document.querySelector("#table tbody").rows[1].cells[3]');
+  await page.until('state.from === "player" && state.to === "preset"');
+  await page.until('document.querySelectorAll("#looks .deny").length === 2');
+
+  // Save, and nothing is left to be saved.
+  await page.click('document.getElementById("save")');
+  await within('#said', 'terms.say is saved, and requests.tsv with 3 requests.');
+  assert.equal(await page.value('document.getElementById("save").disabled'), true);
+
+  for (const [name, options] of [['dark', { dark: true }], ['narrow', { width: 420, height: 1600 }]]) {
+    const other = await open(browser, address, options);
+    await other.until('document.querySelectorAll(".node").length === 3');
+    const fits = await other.value('document.documentElement.scrollWidth <= innerWidth');
+    assert.ok(fits, `${name}: wider than the window`);
+    await other.picture(`${folder}/play-${name}.png`);
+    await other.close();
+  }
+} catch (error) {
+  await page.picture(`${folder}/play-failed.png`);
+  throw error;
+} finally {
+  await page.close();
+}
+console.log('play: a change was typed, requests were made and answered, taken back and saved');

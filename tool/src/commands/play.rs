@@ -1,0 +1,43 @@
+//! `cuckooormolu play`: a page on this machine to edit terms in and try them.
+
+use crate::arguments::Arguments;
+use crate::http;
+use crate::play::files::Files;
+use crate::play::{listen, Play};
+use crate::stop::{Stop, WELL};
+use std::io::Write;
+use std::path::Path;
+
+pub const HELP: &str = "\
+usage: cuckooormolu play FOLDER [--port PORT]
+
+Prints the address of a page; open it in a browser. There the terms of FOLDER are
+edited and read aloud while you type, with mistakes underlined; requests are made
+by choosing two members and an event, and answered by the proved library; the
+graph and what has happened are drawn, with why, and who may do what. You can go
+back to any moment. Save writes terms.say and requests.tsv.
+
+The page is served on 127.0.0.1 only, to whoever has its address, and needs no
+network. Ctrl-C ends it.
+
+  --port PORT   the port; else one that is free
+
+Exit status: 0, or 3 if the folder cannot be read or the port is taken.
+";
+
+pub fn main(arguments: &[String], out: &mut dyn Write) -> Result<i32, Stop> {
+    let arguments = Arguments::read(arguments, &[], &["--port"])?;
+    let files = Files::new(Path::new(arguments.one("FOLDER")?))?;
+    let port = arguments.option("--port").unwrap_or("0");
+    let port = port
+        .parse()
+        .map_err(|_| Stop::Usage(format!("PORT is a number up to 65535; `{port}` is none")))?;
+    let failed = |error| Stop::Failed(format!("cannot listen on 127.0.0.1, port {port}: {error}"));
+    let listener = listen(port).map_err(failed)?;
+    let play = Play::new(files, &listener).map_err(failed)?;
+    writeln!(out, "{}", play.address())?;
+    writeln!(out, "Open this address in a browser on this machine. Ctrl-C ends it.")?;
+    out.flush()?;
+    http::serve(&listener, move |request| play.answer(request)).map_err(failed)?;
+    Ok(WELL)
+}

@@ -1,0 +1,183 @@
+//! `cuckooormolu test`: the tests that people write, and where they fail.
+
+use crate::arguments::Arguments;
+use crate::both::Both;
+use crate::folder::{folder_of, Folder};
+use crate::json::Json;
+use crate::source::ast::Span;
+use crate::source::mistake::{Mistake, Mistaken};
+use crate::stop::{Stop, FAILING, WELL};
+use crate::testing::read::read;
+use crate::testing::run::{run, Failure, Outcome};
+use crate::testing::Test;
+use std::fs;
+use std::io::Write;
+use std::path::Path;
+
+/// The tests of a folder.
+const TESTS: &str = "tests.say";
+
+pub const HELP: &str = "\
+usage: cuckooormolu test FOLDER... [--all] [--json]
+
+Makes the tests of each FOLDER's tests.say under its terms:
+
+  test a share lasts until it is withdrawn
+    given dora owns pad                first edges, besides those of the terms
+    given dora share pete              a request that is made, and granted
+    pete may load pad                  asked; makes no moment
+    then dora withdraw pete            more that happens
+    pete may not load pad because withdraw dora
+
+Each test begins at moment 0, without the requests of the folder. `because` has
+words that stand in what `why --all` says. `nobody`, `anyone` and `only pete and
+quin` may stand for a member. `dora denied share pete` is made, and denied.
+
+Prints a diff for each answer that is not the expected one, and a summary.
+
+  --all    list the tests that pass, too
+  --json   one JSON object a line: each test, then the summary
+
+Exit status: 0 if all tests pass, 1 if one fails, 2 for a wrong command line, 3
+if a file cannot be read or has a mistake.
+";
+
+pub fn main(arguments: &[String], out: &mut dyn Write) -> Result<i32, Stop> {
+    let arguments = Arguments::read(arguments, &["--all", "--json"], &[])?;
+    if arguments.rest.is_empty() {
+        return Err(Stop::Usage("give FOLDER, one or more".into()));
+    }
+    let (json, all) = (arguments.has("--json"), arguments.has("--all"));
+    let mut count = Count::default();
+    for given in &arguments.rest {
+        let tested = Tested::of(Path::new(given))?;
+        for (test, outcome) in &tested.outcomes {
+            count.add(outcome);
+            match json {
+                true => writeln!(out, "{}", tested.line(given, test, outcome))?,
+                false => write!(out, "{}", tested.told(test, outcome, all))?,
+            }
+        }
+    }
+    match json {
+        true => writeln!(out, "{}", count.json())?,
+        false => writeln!(out, "{}", count.told())?,
+    }
+    Ok(if count.failed == 0 { WELL } else { FAILING })
+}
+
+/// A folder's tests and what came of them.
+struct Tested {
+    file: String,
+    text: String,
+    outcomes: Vec<(Test, Outcome)>,
+}
+
+impl Tested {
+    fn of(path: &Path) -> Result<Tested, Stop> {
+        let folder = Folder::load(path)?;
+        let file = folder_of(path).join(TESTS);
+        let name = file.display().to_string();
+        let text = fs::read_to_string(&file).map_err(|error| {
+            Stop::Failed(format!(
+                "cannot read {name}: {error}; `cuckooormolu test --help` shows one"
+            ))
+        })?;
+        let both = Both::accepted(&folder.terms)?;
+        let tests = match read(&text, &both, &folder.names) {
+            Ok(tests) => tests,
+            Err(mistakes) => {
+                return Err(Stop::Mistaken(Mistaken { file: name, text, mistakes }));
+            }
+        };
+        if tests.is_empty() {
+            let advice = "`cuckooormolu test --help` shows one";
+            return Err(Stop::Failed(format!("{name} has no test; {advice}")));
+        }
+        let mut outcomes = Vec::new();
+        for test in tests {
+            let outcome = run(&test, &both, &folder.terms, &folder.names)?;
+            outcomes.push((test, outcome));
+        }
+        Ok(Tested { file: name, text, outcomes })
+    }
+
+    /// The line that a stretch of the text begins at.
+    fn at(&self, span: Span) -> usize {
+        Mistake::new(span, "").place(&self.text).0
+    }
+
+    /// A test that fails as a diff; one that passes in a line, if all are asked for.
+    fn told(&self, test: &Test, outcome: &Outcome, all: bool) -> String {
+        let (file, line, title) = (&self.file, self.at(test.span), &test.title);
+        if outcome.passed() {
+            return if all { format!("passed  {file}:{line}: {title}\n") } else { String::new() };
+        }
+        let mut text = format!("FAILED  {file}:{line}: {title}\n");
+        for failure in &outcome.failures {
+            let line = self.at(failure.span);
+            text.push_str(&format!("  line {line}\n"));
+            text.push_str(&format!("  - {}\n  + {}\n", failure.expected, failure.found));
+        }
+        match outcome.skipped {
+            0 => {}
+            1 => text.push_str("  1 statement after it was left out\n"),
+            many => text.push_str(&format!("  {many} statements after it were left out\n")),
+        }
+        text
+    }
+
+    fn line(&self, folder: &str, test: &Test, outcome: &Outcome) -> Json {
+        let failure = |failure: &Failure| {
+            Json::Object(vec![
+                ("line", self.at(failure.span).into()),
+                ("expected", failure.expected.as_str().into()),
+                ("found", failure.found.as_str().into()),
+            ])
+        };
+        Json::Object(vec![
+            ("folder", folder.into()),
+            ("test", test.title.as_str().into()),
+            ("line", self.at(test.span).into()),
+            ("passed", outcome.passed().into()),
+            ("answers", outcome.answers.into()),
+            ("failures", outcome.failures.iter().map(failure).collect::<Vec<_>>().into()),
+            ("skipped", outcome.skipped.into()),
+        ])
+    }
+}
+
+/// How many tests and answers there were in all folders.
+#[derive(Default)]
+struct Count {
+    passed: usize,
+    failed: usize,
+    answers: usize,
+}
+
+impl Count {
+    fn add(&mut self, outcome: &Outcome) {
+        self.passed += usize::from(outcome.passed());
+        self.failed += usize::from(!outcome.passed());
+        self.answers += outcome.answers;
+    }
+
+    fn told(&self) -> String {
+        let Count { passed, failed, answers } = self;
+        let plural = |count: usize, word: &str| match count {
+            1 => format!("1 {word}"),
+            count => format!("{count} {word}s"),
+        };
+        let tests = plural(passed + failed, "test");
+        format!("{tests} with {}: {passed} passed, {failed} failed", plural(*answers, "answer"))
+    }
+
+    fn json(&self) -> Json {
+        Json::Object(vec![
+            ("tests", (self.passed + self.failed).into()),
+            ("passed", self.passed.into()),
+            ("failed", self.failed.into()),
+            ("answers", self.answers.into()),
+        ])
+    }
+}

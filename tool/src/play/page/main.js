@@ -1,0 +1,128 @@
+// What the page knows, and how it asks for the rest.
+
+const begin = JSON.parse($('begin').textContent);
+const state = {
+  kept: begin.kept, // what the folder has
+  requests: begin.kept.requests,
+  at: begin.kept.requests.length,
+  from: null,
+  to: null,
+  who: null,
+  told: null, // the last answer without mistakes
+};
+let asked = 0;
+let waiting = 0;
+
+const post = async (path, body) => {
+  const reply = await fetch(path, { method: 'POST', body: JSON.stringify(body) });
+  if (!reply.ok) throw new Error((await reply.text()).trim());
+  return reply.json();
+};
+
+/** Asks for everything and draws it. An answer that is late is not looked at. */
+async function refresh() {
+  const number = ++asked;
+  const source = $('source').value;
+  const { requests, at, from, to } = state;
+  const pair = from !== null && to !== null ? [from, to] : null;
+  try {
+    const told = await post('told', { source, requests, at, pair, who: state.who });
+    if (number === asked) draw(source, told);
+  } catch (error) {
+    if (number === asked) fail(error);
+  }
+}
+
+function draw(source, told) {
+  const { mistakes } = told;
+  show(source, mistakes);
+  listMistakes(mistakes);
+  document.body.classList.toggle('stale', mistakes.length > 0);
+  for (const card of document.querySelectorAll('.graph-card, .asking, .story, .who')) card.inert = mistakes.length > 0;
+  $('size').className = mistakes.length ? 'wrong' : '';
+  $('size').textContent = mistakes.length
+    ? `${mistakes.length} ${mistakes.length === 1 ? 'mistake' : 'mistakes'}`
+    : `${told.entries} of 256 entries, ${told.past} of 32 about the past`;
+  markSaved();
+  document.body.dataset.drawn = asked;
+  if (mistakes.length) return;
+  state.told = told;
+  // Who or what is no longer declared cannot stay chosen.
+  const known = (name) => (told.members.includes(name) ? name : null);
+  const chosen = [state.from, state.to].map(known);
+  const who = told.events.includes(state.who) ? state.who : told.events.at(-1);
+  const again = who !== state.who || chosen[0] !== state.from || chosen[1] !== state.to;
+  Object.assign(state, { from: chosen[0], to: chosen[0] === null ? null : chosen[1], who });
+  $('aloud').innerHTML = told.aloud;
+  drawScene();
+  drawChoice();
+  drawStory();
+  drawWhy();
+  drawWho();
+  if (again) refresh();
+}
+
+function fail(error) {
+  $('size').className = 'wrong';
+  $('size').textContent = error instanceof TypeError
+    ? 'No answer: the program has ended. Copy what you need before you close this page.'
+    : error.message;
+}
+
+const present = () => ({ source: $('source').value, requests: state.requests.slice(0, state.at) });
+const changed = () => JSON.stringify(present()) !== JSON.stringify(state.kept);
+
+function markSaved() {
+  $('save').disabled = !changed();
+}
+
+async function save(anyway) {
+  const now = present();
+  try {
+    const reply = await post('save', { now, before: state.kept, anyway });
+    $('said').textContent = reply.said;
+    $('anyway').hidden = !reply.changed;
+    if (reply.done) state.kept = reply.kept;
+    markSaved();
+  } catch (error) {
+    fail(error);
+  }
+}
+
+$('source').value = begin.kept.source;
+$('source').setSelectionRange(0, 0);
+$('source').addEventListener('input', () => {
+  $('said').textContent = '';
+  show($('source').value, []);
+  clearTimeout(waiting);
+  waiting = setTimeout(refresh, 120);
+});
+$('source').addEventListener('scroll', follow);
+for (const end of ['from', 'to']) {
+  $(end).onchange = () => {
+    state[end] = $(end).value || null;
+    refresh();
+  };
+}
+$('swap').onclick = () => {
+  [state.from, state.to] = [state.to, state.from];
+  refresh();
+};
+$('event').onchange = () => {
+  state.who = $('event').value;
+  refresh();
+};
+$('table').onclick = chooseCell;
+$('undo').onclick = () => goTo(state.at - 1);
+$('redo').onclick = () => goTo(state.at + 1);
+$('start').onclick = () => goTo(0);
+$('save').onclick = () => save(false);
+$('anyway').onclick = () => save(true);
+document.addEventListener('keydown', (press) => {
+  if (press.key !== 's' || !(press.ctrlKey || press.metaKey)) return;
+  press.preventDefault();
+  save(false);
+});
+addEventListener('beforeunload', (leaving) => changed() && leaving.preventDefault());
+show(begin.kept.source, []);
+refresh();

@@ -1,0 +1,70 @@
+// The requests so far, why the last was answered so, and who may do what.
+
+/** The requests in order. Those that were taken back stay, until another is made. */
+function drawStory() {
+  const { told, at } = state;
+  const begin = make('button', 'start', 'the first edges');
+  begin.onclick = () => goTo(0);
+  const chips = told.steps.map((step, index) => {
+    const name = kind(step.answer);
+    const words = `${SIGNS[name]} ${step.event} ${step.from} → ${step.to}`;
+    const chip = make('button', index < at ? name : `${name} back`, words);
+    chip.onclick = () => goTo(index + 1);
+    chip.title = `${ANSWERS[name]}${step.made ? `; moment ${step.moment}` : ''}`;
+    if (step.made) chip.append(' ', make('sup', '', step.moment));
+    return chip;
+  });
+  const items = [begin, ...chips].map((button, index) => {
+    button.type = 'button';
+    if (index === at) button.setAttribute('aria-current', 'step');
+    const item = make('li');
+    item.append(button);
+    return item;
+  });
+  $('strip').replaceChildren(...items);
+  // The page itself stays where it is.
+  const { offsetTop, offsetHeight } = items[at] ?? items[0];
+  $('strip').scrollTop = offsetTop + offsetHeight - $('strip').clientHeight;
+  $('undo').disabled = $('start').disabled = at === 0;
+  $('redo').disabled = at === state.requests.length;
+}
+
+/** Goes to the moment after so many requests. */
+function goTo(at) {
+  state.at = at;
+  refresh();
+}
+
+/** Why the last request was answered as it was. */
+function drawWhy() {
+  const { told, at } = state;
+  const step = told.steps[at - 1];
+  if (!step) {
+    $('why').replaceChildren(make('p', 'quiet', 'Nothing was asked yet.'));
+    return;
+  }
+  const name = kind(step.answer);
+  const head = make('p', 'asked', `${step.event} ${step.from} → ${step.to} `);
+  head.append(make('span', `answer ${name}`, `${SIGNS[name]} ${ANSWERS[name]}`));
+  const list = make('ul');
+  const lines = told.why ?? (step.because ? [step.because] : []);
+  list.append(...lines.map((line) => make('li', '', line)));
+  $('why').replaceChildren(head, list);
+}
+
+/** Who may do the chosen event; a cell chooses its two members. */
+function drawWho() {
+  const { told } = state;
+  fill($('event'), told.events.map((name) => [name, name]), state.who);
+  $('table').innerHTML = told.table ?? '';
+  const cell = (from, to) => $('table').querySelector('tbody')?.rows[from]?.cells[to + 1];
+  cell(told.members.indexOf(state.from), told.members.indexOf(state.to))?.classList.add('chosen');
+}
+
+function chooseCell({ target }) {
+  const cell = target.closest('tbody td');
+  if (!cell) return;
+  const { members } = state.told;
+  Object.assign(state, { from: members[cell.parentNode.sectionRowIndex], to: members[cell.cellIndex - 1] });
+  refresh();
+}

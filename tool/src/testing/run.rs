@@ -1,0 +1,181 @@
+//! Makes tests, each from the first moment; every answer is the proved library's.
+
+use super::{Call, Said, Test};
+use crate::both::{Both, Verdict};
+use crate::folder::Request;
+use crate::names::Names;
+use crate::replay::{Replay, Step};
+use crate::source::ast::Span;
+use crate::stop::Stop;
+use crate::why::reason::Reasons;
+use crate::why::Because;
+use crate::words::Words;
+use keeper::terms;
+
+/// What came of a test.
+#[derive(Clone, Debug, Default)]
+pub struct Outcome {
+    /// How many answers were compared.
+    pub answers: usize,
+    pub failures: Vec<Failure>,
+    /// How many statements were left out, after something given did not happen.
+    pub skipped: usize,
+}
+
+impl Outcome {
+    pub fn passed(&self) -> bool {
+        self.failures.is_empty()
+    }
+}
+
+/// An answer that is not the expected one: both as sentences.
+#[derive(Clone, Debug)]
+pub struct Failure {
+    pub span: Span,
+    pub expected: String,
+    pub found: String,
+}
+
+/// Makes one test from the terms as they were read.
+pub fn run(test: &Test, both: &Both, text: &[u8], names: &Names) -> Result<Outcome, Stop> {
+    let mut replay = Replay { both: begun(test, both, text)?, steps: Vec::new() };
+    let mut outcome = Outcome::default();
+    for (index, statement) in test.statements.iter().enumerate() {
+        match &statement.said {
+            Said::First { .. } => {}
+            Said::Made { call, granted } => {
+                let request = Request::Ask { event: call.event, from: call.from, to: call.to };
+                let step = replay.make(request)?;
+                outcome.answers += 1;
+                if (step.verdict == Verdict::Grant) != *granted {
+                    let telling = Telling { replay: &replay, names };
+                    let found = telling.made(*call, !granted);
+                    let found = format!("{found} because {}", telling.why(&step)?.sentence());
+                    let expected = telling.made(*call, *granted);
+                    outcome.failures.push(Failure { span: statement.span, expected, found });
+                    outcome.skipped = test.statements.len() - index - 1;
+                    break;
+                }
+            }
+            Said::Asked { calls, because } => {
+                outcome.answers += calls.len();
+                let telling = Telling { replay: &replay, names };
+                for &(call, may) in calls {
+                    let failure = telling.differs(statement.span, call, may, because.as_deref())?;
+                    outcome.failures.extend(failure);
+                }
+            }
+        }
+    }
+    Ok(outcome)
+}
+
+/// Moment 0 of a test: the terms with the edges that it gives.
+fn begun(test: &Test, both: &Both, text: &[u8]) -> Result<Both, Stop> {
+    let mut edges = both.terms().edges.clone();
+    let mut own = false;
+    for statement in &test.statements {
+        if let Said::First { there, edges: given } = &statement.said {
+            own = true;
+            for edge in given {
+                if *there {
+                    edges.insert(*edge);
+                } else {
+                    edges.remove(edge);
+                }
+            }
+        }
+    }
+    match own {
+        true => Both::accepted(&terms::write(both.terms(), &edges)),
+        false => Both::accepted(text),
+    }
+}
+
+/// A test's present moment, and words for what is asked at it.
+struct Telling<'a> {
+    replay: &'a Replay,
+    names: &'a Names,
+}
+
+impl Telling<'_> {
+    fn words(&self) -> Words<'_> {
+        Words::new(self.replay.both.terms(), self.names)
+    }
+
+    /// `dora share pete`, `dora denied share pete`.
+    fn made(&self, call: Call, granted: bool) -> String {
+        let denied = if granted { "" } else { "denied " };
+        let (from, to) = (self.words().member(call.from), self.words().member(call.to));
+        format!("{from} {denied}{} {to}", self.names.event(call.event))
+    }
+
+    /// `pete may not load saw`.
+    fn asked(&self, call: Call, may: bool) -> String {
+        let not = if may { "" } else { "not " };
+        let (from, to) = (self.words().member(call.from), self.words().member(call.to));
+        format!("{from} may {not}{} {to}", self.names.event(call.event))
+    }
+
+    /// How the answer to a call differs from what is expected of it, if it does.
+    fn differs(
+        &self,
+        span: Span,
+        call: Call,
+        may: bool,
+        wanted: Option<&str>,
+    ) -> Result<Option<Failure>, Stop> {
+        let Call { event, from, to } = call;
+        let verdict = self.replay.both.look(event, from, to)?;
+        let answer = verdict == Verdict::Grant;
+        if answer == may && wanted.is_none() {
+            return Ok(None);
+        }
+        let (request, moment) = (Request::Ask { event, from, to }, self.replay.moment());
+        let because = self.why(&Step { line: 0, request, verdict, moment, made: false })?;
+        if answer == may && wanted.is_some_and(|wanted| says(&because, wanted)) {
+            return Ok(None);
+        }
+        let reason = wanted.map_or(String::new(), |wanted| format!(" because {wanted}"));
+        Ok(Some(Failure {
+            span,
+            expected: self.asked(call, may) + &reason,
+            found: format!("{} because {}", self.asked(call, answer), because.sentence()),
+        }))
+    }
+
+    /// The whole reason of an answer.
+    fn why(&self, step: &Step) -> Result<Because, Stop> {
+        let because = Reasons::new(self.replay.both.record()).of(&self.words(), step, true)?;
+        because.ok_or_else(|| Stop::Failed(format!("an answer without a reason: {}", step.verdict)))
+    }
+}
+
+/// Whether a line of the reason has the words, one after another.
+fn says(because: &Because, wanted: &str) -> bool {
+    let wanted = words(wanted);
+    because.lines.iter().any(|line| {
+        let line = words(line);
+        line.windows(wanted.len()).any(|some| some == wanted)
+    })
+}
+
+/// The words of a line, without signs, in small letters.
+fn words(line: &str) -> Vec<String> {
+    let part = |letter: char| !(letter.is_alphanumeric() || letter == '-' || letter == '_');
+    line.split(part).filter(|word| !word.is_empty()).map(str::to_lowercase).collect()
+}
+
+#[cfg(test)]
+mod tests {
+    use super::*;
+
+    #[test]
+    fn words_of_a_reason() {
+        let lines = vec!["never share dora → pete".to_string(), "pete is Suspended".to_string()];
+        let because = Because { granted: false, lines, more: 0 };
+        assert!(says(&because, "suspended") && says(&because, "never share dora pete"));
+        assert!(!says(&because, "pend") && !says(&because, "share pete"));
+        assert!(!says(&because, "pete is suspended again"));
+    }
+}

@@ -1,0 +1,253 @@
+//! `play`: the page's server, asked as the page asks it and as others might.
+
+mod run_support;
+
+use run_support::{example, run, Folder};
+use std::io::{BufRead, BufReader, Read, Write};
+use std::net::{Shutdown, TcpStream};
+use std::process::{Child, Command, Stdio};
+use std::time::{Duration, Instant};
+
+const SOURCE: &str = "# </script><b>&\nmembers dora, pete, saw\nrelation owns\n\
+    event share, withdraw by anyone\n\
+    event load\n  when some owner owns target: not owner withdraw me since owner share me\n\
+    first dora owns saw\n";
+
+/// The program with its page, until it is dropped.
+struct Page {
+    child: Child,
+    host: String,
+    token: String,
+}
+
+impl Drop for Page {
+    fn drop(&mut self) {
+        let _ = self.child.kill();
+        let _ = self.child.wait();
+    }
+}
+
+impl Page {
+    fn of(folder: &Folder) -> Page {
+        let mut child = Command::new(env!("CARGO_BIN_EXE_cuckooormolu"))
+            .args(["play", folder.path()])
+            .stdout(Stdio::piped())
+            .spawn()
+            .unwrap();
+        let mut line = String::new();
+        BufReader::new(child.stdout.as_mut().unwrap()).read_line(&mut line).unwrap();
+        let address = line.trim().strip_prefix("http://").unwrap();
+        assert!(address.starts_with("127.0.0.1:"), "{address}");
+        let (host, token) = address.trim_end_matches('/').split_once('/').unwrap();
+        assert_eq!(token.len(), 32);
+        let (host, token) = (host.to_string(), token.to_string());
+        Page { child, host, token }
+    }
+
+    /// Sends bytes and gives the whole answer.
+    fn sent(&self, bytes: &[u8]) -> String {
+        let mut stream = TcpStream::connect(&self.host).unwrap();
+        let _ = stream.write_all(bytes);
+        let _ = stream.shutdown(Shutdown::Write);
+        let mut said = Vec::new();
+        let _ = stream.read_to_end(&mut said);
+        String::from_utf8(said).unwrap()
+    }
+
+    /// The number of the answer to a request with these headers.
+    fn status(&self, method: &str, path: &str, headers: &[(&str, &str)]) -> u16 {
+        let mut text = format!("{method} {path} HTTP/1.1\r\n");
+        headers.iter().for_each(|(name, value)| text.push_str(&format!("{name}: {value}\r\n")));
+        let said = self.sent(format!("{text}\r\n").as_bytes());
+        said.split(' ').nth(1).unwrap().parse().unwrap()
+    }
+
+    /// Posts as the page does; gives the body of an answer that is well.
+    fn post(&self, path: &str, body: &str) -> String {
+        let Page { host, token, .. } = self;
+        let said = self.sent(
+            format!(
+                "POST /{token}/{path} HTTP/1.1\r\nHost: {host}\r\nOrigin: http://{host}\r\n\
+                 Content-Length: {}\r\n\r\n{body}",
+                body.len()
+            )
+            .as_bytes(),
+        );
+        let (head, body) = said.split_once("\r\n\r\n").unwrap();
+        assert!(head.starts_with("HTTP/1.1 200 OK\r\n"), "{head}\n{body}");
+        body.to_string()
+    }
+
+    fn told(&self, source: &str, requests: &str, at: usize, rest: &str) -> String {
+        let source = source.replace('"', "\\\"").replace('\n', "\\n");
+        let body =
+            format!("{{\"source\":\"{source}\",\"requests\":{requests},\"at\":{at},{rest}}}");
+        self.post("told", &body)
+    }
+}
+
+fn folder() -> Folder {
+    let folder = Folder::new();
+    folder.write("terms.say", SOURCE);
+    folder
+}
+
+const NOTHING: &str = "\"pair\":null,\"who\":null";
+
+#[test]
+fn the_page_is_whole_and_loads_nothing() {
+    let folder = folder();
+    let page = Page::of(&folder);
+    let (host, token) = (&page.host, &page.token);
+    let said = page.sent(format!("GET /{token}/ HTTP/1.1\r\nHost: {host}\r\n\r\n").as_bytes());
+    let (head, body) = said.split_once("\r\n\r\n").unwrap();
+    assert!(head.contains("Content-Security-Policy: default-src 'none'; script-src 'nonce-"));
+    assert!(head.contains("Cache-Control: no-store"));
+    for unwanted in
+        ["http:", "https:", "src=", "@import", "url(h", "onload", "<link", "{{", "</script><b>"]
+    {
+        assert!(!body.contains(unwanted), "{unwanted}");
+    }
+    assert!(body.contains("\\u003c/script>\\u003cb>&"));
+    assert!(body.ends_with("</html>\n"));
+}
+
+#[test]
+fn others_get_nothing() {
+    let folder = folder();
+    let page = Page::of(&folder);
+    let (host, own) = (page.host.as_str(), format!("/{}/", page.token));
+    let origin = format!("http://{host}");
+    let get = |path: &str, headers: &[(&str, &str)]| page.status("GET", path, headers);
+    assert_eq!(get(&own, &[("Host", host)]), 200);
+    assert_eq!(get(&own, &[("Host", host), ("Origin", &origin)]), 200);
+    let wrong = format!("/{}/", "0".repeat(32));
+    for path in ["/", "/favicon.ico", wrong.as_str(), &own[..20], &format!("/{own}")] {
+        assert_eq!(get(path, &[("Host", host)]), 403, "{path}");
+    }
+    let port = host.split(':').nth(1).unwrap();
+    for other in [format!("localhost:{port}"), "evil.example".into(), "127.0.0.1".into()] {
+        assert_eq!(get(&own, &[("Host", &other)]), 403, "{other}");
+    }
+    assert_eq!(get(&own, &[]), 403);
+    for other in ["http://evil.example", "null", "https://evil.example", "http://127.0.0.1"] {
+        assert_eq!(get(&own, &[("Host", host), ("Origin", other)]), 403, "{other}");
+    }
+    let post = |headers: &[(&str, &str)]| page.status("POST", &format!("{own}told"), headers);
+    assert_eq!(post(&[("Host", host), ("Content-Length", "0")]), 403);
+    let named = [("Host", host), ("Origin", origin.as_str()), ("Content-Length", "0")];
+    assert_eq!(post(&named), 400);
+    assert_eq!(page.status("DELETE", &own, &named), 405);
+    assert_eq!(page.status("GET", &format!("{own}told"), &named[..1]), 405);
+    assert_eq!(page.status("GET", &format!("{own}../etc"), &named[..1]), 404);
+}
+
+#[test]
+fn hostile_clients() {
+    let folder = folder();
+    let page = Page::of(&folder);
+    let (host, token) = (&page.host, &page.token);
+    // A client that is slow keeps nobody else waiting.
+    let mut slow: Vec<TcpStream> = (0..8).map(|_| TcpStream::connect(host).unwrap()).collect();
+    slow.iter_mut().for_each(|stream| stream.write_all(b"POST /").unwrap());
+    let began = Instant::now();
+    let line = format!("GET /{} HTTP/1.1\r\n\r\n", "a".repeat(1 << 20));
+    assert!(page.sent(line.as_bytes()).starts_with("HTTP/1.1 414 "));
+    let head = format!("POST /{token}/told HTTP/1.1\r\nHost: {host}\r\nOrigin: http://{host}\r\n");
+    let lies = format!("{head}Content-Length: 5000\r\n\r\n{{}}");
+    assert!(page.sent(lies.as_bytes()).starts_with("HTTP/1.1 400 "));
+    let large = format!("{head}Content-Length: 99999999999\r\n\r\n{{}}");
+    assert!(page.sent(large.as_bytes()).starts_with("HTTP/1.1 413 "));
+    for body in ["", "{}", "[[", "\u{1}", &"[".repeat(100_000), "{\"source\":1}"] {
+        let request = format!("{head}Content-Length: {}\r\n\r\n{body}", body.len());
+        assert!(page.sent(request.as_bytes()).starts_with("HTTP/1.1 400 "), "{:.20}", body);
+    }
+    assert!(page.told(SOURCE, "[]", 0, NOTHING).contains("\"moment\":0"));
+    assert!(began.elapsed() < Duration::from_secs(9));
+}
+
+#[test]
+fn a_change_and_three_requests() {
+    let folder = folder();
+    let page = Page::of(&folder);
+    let requests = r#"[["load","pete","saw"],["share","dora","pete"],["load","pete","saw"],["load","quin","saw"]]"#;
+    let answers = |told: &str| -> Vec<String> {
+        let parts = told.split("\"answer\":\"").skip(1);
+        parts.map(|part| part.split('"').next().unwrap().to_string()).collect()
+    };
+    let told = page.told(SOURCE, requests, 4, NOTHING);
+    assert_eq!(answers(&told), ["deny", "grant", "grant", "refuse"]);
+    assert!(told.contains("there is no member `quin`"), "{told}");
+    assert!(told.contains("\"moment\":2,\"title\":\"Moment 2: load pete → saw\""), "{told}");
+    let source = SOURCE.replace("members dora, pete, saw", "members quin, dora, pete, saw");
+    let rest = r#""pair":["quin","saw"],"who":"load""#;
+    let told = page.told(&source, requests, 2, rest);
+    let steps = told.split_once("\"steps\":").unwrap().1;
+    assert_eq!(answers(steps), ["deny", "grant", "grant", "deny"], "those taken back, too");
+    assert!(told.contains("\"moment\":1,\"title\":\"Moment 1: share dora → pete\""), "{told}");
+    let looks = told.split_once("\"looks\":").unwrap().1.split_once("\"table\":").unwrap().0;
+    assert_eq!(answers(looks), ["grant", "grant", "deny"]);
+    assert!(told.contains("1 pair may <b>load</b> at moment 1"), "{told}");
+    assert!(told.contains("You may always share with the target."), "{told}");
+}
+
+#[test]
+fn mistakes_are_told_where_a_browser_finds_them() {
+    let folder = folder();
+    let page = Page::of(&folder);
+    let told = page.told("# 😀\nmembers a\nevnt go by anyone\n", "[]", 0, NOTHING);
+    assert!(
+        told.starts_with("{\"mistakes\":[{\"start\":15,\"end\":19,\"line\":3,\"column\":1,"),
+        "{told}"
+    );
+    assert!(told.contains("event"), "{told}");
+    assert!(!told.contains("\"picture\""), "{told}");
+}
+
+#[test]
+fn saved_unless_others_have_written() {
+    let folder = folder();
+    let page = Page::of(&folder);
+    let text = |source: &str| source.replace('\n', "\\n");
+    let kept = |source: &str, requests: &str| {
+        format!("{{\"source\":\"{}\",\"requests\":{requests}}}", text(source))
+    };
+    let save = |now: &str, before: &str, anyway: bool| {
+        page.post("save", &format!("{{\"now\":{now},\"before\":{before},\"anyway\":{anyway}}}"))
+    };
+    let changed = SOURCE.replace("saw", "pad");
+    let requests = r#"[["share","dora","pete"]]"#;
+    let said = save(&kept(&changed, requests), &kept(SOURCE, "[]"), false);
+    assert!(said.contains("\"done\":true") && said.contains("with 1 request."), "{said}");
+    assert_eq!(folder.read("terms.say"), changed);
+    assert_eq!(folder.read("requests.tsv"), "R\t0\t0\t1\n");
+    let said = save(&kept(SOURCE, "[]"), &kept(SOURCE, "[]"), false);
+    assert!(said.starts_with("{\"done\":false,\"changed\":true,"), "{said}");
+    assert_eq!(folder.read("terms.say"), changed);
+    let said = save(&kept(SOURCE, "[]"), &kept(SOURCE, "[]"), true);
+    assert!(said.contains("\"done\":true"), "{said}");
+    assert_eq!(
+        (folder.read("terms.say").as_str(), folder.read("requests.tsv").as_str()),
+        (SOURCE, "")
+    );
+    // Lines that name nothing can't be shown, and are not written over.
+    folder.write("requests.tsv", "R\t9\t0\t0\nR\t0\t0\t1\n");
+    let said = save(&kept(&changed, requests), &kept(SOURCE, requests), false);
+    assert!(said.contains("requests.tsv is left as it was"), "{said}");
+    assert_eq!(folder.read("requests.tsv"), "R\t9\t0\t0\nR\t0\t0\t1\n");
+    // A source with mistakes is kept as it is.
+    let said = save(&kept("members", "[]"), &kept(&changed, requests), false);
+    assert!(said.contains("the terms have mistakes"), "{said}");
+    assert_eq!(folder.read("terms.say"), "members");
+}
+
+#[test]
+fn what_cannot_be_played() {
+    let stored = example("saved/later");
+    let said = run(&["play", stored.to_str().unwrap()]);
+    assert_eq!(said.status, 3);
+    assert!(said.err.contains("stored with a past"), "{}", said.err);
+    assert_eq!(run(&["play", "/no/such/folder"]).status, 3);
+    assert_eq!(run(&["play"]).status, 2);
+    assert_eq!(run(&["play", folder().path(), "--port", "x"]).status, 2);
+}

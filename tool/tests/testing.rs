@@ -1,0 +1,179 @@
+//! `test`: tests that people write, and what is said where they fail.
+
+mod run_support;
+
+use run_support::{example, run, Folder};
+use std::fs;
+
+const SOURCE: &str = "members dora, pete, saw, pad\nrelations owns, bank\n\
+    event share, withdraw by anyone\n\
+    event load when some owner owns target: not owner withdraw me since owner share me\n\
+    event peek when me is bank\nkeep denied peek\n\
+    event complain when once me denied peek target\n\
+    first dora owns saw\n";
+
+/// A folder with the source and these tests.
+fn folder(tests: &str) -> Folder {
+    let folder = Folder::new();
+    folder.write("terms.say", SOURCE);
+    folder.write("tests.say", tests);
+    folder
+}
+
+#[test]
+fn what_passes() {
+    let folder = folder(
+        "# a comment\ntest a share lasts until it is withdrawn\n\
+           given not dora owns saw, dora owns pad\n\
+           nobody may load saw\n\
+           then dora share pete   # and so on\n\
+           only pete may load pad\n\
+           pete may load only pad\n\
+           then dora withdraw pete,\n\
+                pete denied peek dora\n\
+           pete may not load pad and saw\n\
+           pete may not load pad because dora\n\
+           anyone may share pete\n\n\
+         test \"attributes\"\n\
+           given pete is bank, dora is owns of saw\n\
+           pete may peek saw\n",
+    );
+    let said = run(&["test", folder.path()]);
+    assert_eq!((said.err.as_str(), said.status), ("", 0));
+    assert_eq!(said.out, "2 tests with 23 answers: 2 passed, 0 failed\n");
+    let said = run(&["test", "--all", folder.path(), folder.path()]);
+    assert_eq!(said.status, 0);
+    assert!(said.out.contains("tests.say:14: attributes\n"), "{}", said.out);
+    assert!(said.out.ends_with("4 tests with 46 answers: 4 passed, 0 failed\n"), "{}", said.out);
+}
+
+#[test]
+fn what_fails_is_shown_as_a_diff() {
+    let folder = folder(
+        "test one\n  pete may load saw\n  pete may not share dora\n\
+         test two\n  given dora share pete\n  pete may not load saw because suspended\n\
+         test three\n  given pete peek saw\n  pete may load saw\n  pete may load pad\n\
+         test four\n  dora may share pete\n",
+    );
+    let said = run(&["test", folder.path()]);
+    assert_eq!(said.status, 1);
+    for wanted in [
+        "tests.say:1: one\n  line 2\n  - pete may load saw\n  + pete may not load saw because ",
+        "  line 3\n  - pete may not share dora\n  + pete may share dora because ",
+        "tests.say:4: two\n  line 6\n  - pete may not load saw because suspended\n  + pete may load",
+        "  line 8\n  - pete peek saw\n  + pete denied peek saw because ",
+        "  2 statements after it were left out\n",
+        "\n4 tests with 6 answers: 1 passed, 3 failed\n",
+    ] {
+        assert!(said.out.contains(wanted), "{wanted}\n{}", said.out);
+    }
+    assert!(!said.out.contains("four"), "{}", said.out);
+    let json = run(&["test", folder.path(), "--json"]);
+    assert_eq!(json.status, 1);
+    let lines: Vec<&str> = json.out.lines().collect();
+    assert!(lines[0].contains("\"test\":\"one\",\"line\":1,\"passed\":false"), "{}", lines[0]);
+    assert!(lines[2].contains("\"expected\":\"pete peek saw\""), "{}", lines[2]);
+    assert!(lines[2].ends_with("\"skipped\":2}"), "{}", lines[2]);
+    assert_eq!(lines[4], "{\"tests\":4,\"passed\":1,\"failed\":3,\"answers\":6}");
+}
+
+/// Each statement with the message and the cure that belong to it.
+#[test]
+fn mistakes_have_a_place_a_cause_and_a_cure() {
+    let cases = [
+        ("pete may lod saw", "no event `lod`; did you mean `load`?", ""),
+        ("peet may load saw", "no member `peet`; did you mean `pete`?", ""),
+        ("pete may owns saw", "`owns` is a relation", "given dora owns saw"),
+        ("pete load saw", "nothing is asked here", "write `pete may load saw` to ask"),
+        ("gven dora share pete", "nothing is asked here; did you mean `given`?", ""),
+        ("pete quin may load saw", "expected `may`, or `and` and another member, found `quin`", ""),
+        ("pete may load", "expected a member, found the end of the line", ""),
+        ("pete may load saw because", "expected the words that `why` has to say", ""),
+        ("pete may load saw now", "expected `because` or the end of the line, found `now`", ""),
+        ("anyone may not load saw", "this can be understood in two ways", "`nobody may ...`"),
+        ("given pete is suspended", "no relation or event `suspended`", "follows from them"),
+        ("given dora ows saw", "no relation or event `ows`; did you mean `owns`?", ""),
+        ("given dora owns saw both", "expected `ways` after `both`", ""),
+        ("given dora owns saw pad", "expected `,` or the end of the line, found `pad`", ""),
+        ("given not dora share pete", "did not happen needs no words", "leave it out"),
+        ("given dora share pete, dora owns pad", "at the beginning of a test only", "put it first"),
+        ("given dora owns saw,", "expected a member, found the end of the line", ""),
+    ];
+    for (line, message, advice) in cases {
+        let folder = folder(&format!("test one\n  {line}\n"));
+        let said = run(&["test", folder.path()]);
+        assert_eq!((said.status, said.out.as_str()), (3, ""), "{line}");
+        assert!(said.err.contains("tests.say:2:"), "{line}: {}", said.err);
+        assert!(said.err.contains(message) && said.err.contains(advice), "{line}: {}", said.err);
+    }
+    let folder = folder("test one\n peet may load saw\n pete may lod saw\n");
+    let said = run(&["test", folder.path()]);
+    assert!(said.err.contains("`peet`") && said.err.contains("`lod`"), "{}", said.err);
+}
+
+#[test]
+fn tests_that_say_nothing() {
+    for (text, message) in [
+        ("", "has no test; `cuckooormolu test --help` shows one"),
+        ("pete may load saw\n", "this stands in no test"),
+        ("test one\ntest two\n pete may share saw\n", "this test asks nothing"),
+        ("test\n  pete may share saw\n", "this test has no title"),
+    ] {
+        let said = run(&["test", folder(text).path()]);
+        assert_eq!(said.status, 3, "{text}");
+        assert!(said.err.contains(message), "{text}: {}", said.err);
+    }
+    let folder = Folder::new();
+    folder.write("terms.say", SOURCE);
+    let said = run(&["test", folder.path()]);
+    assert_eq!(said.status, 3);
+    assert!(said.err.contains("tests.say") && said.err.contains("--help"), "{}", said.err);
+    assert_eq!(run(&["test"]).status, 2);
+}
+
+/// Stored terms keep their past; edges can't be given to them.
+#[test]
+fn stored_terms() {
+    let later = example("saved/later");
+    let folder = Folder::new();
+    for name in ["terms.tsv", "names.tsv"] {
+        fs::copy(later.join(name), folder.file(name)).unwrap();
+    }
+    folder.write("tests.say", "test gone on\n  pete may load pad\n  pete may star nobody\n");
+    assert_eq!(run(&["test", folder.path()]).out, "1 test with 5 answers: 1 passed, 0 failed\n");
+    folder.write("tests.say", "test one\n  given dora owns pad\n  pete may load pad\n");
+    let said = run(&["test", folder.path()]);
+    assert_eq!(said.status, 3);
+    assert!(said.err.contains("stored with a past"), "{}", said.err);
+}
+
+/// The tests of docs/LANGUAGE.md pass under the terms that it begins with.
+#[test]
+fn the_language_page() {
+    let page = fs::read_to_string(example("../docs/LANGUAGE.md")).unwrap();
+    let block = |heading: &str| {
+        let section = page.split_once(&format!("\n## {heading}\n")).unwrap().1;
+        let lines = section.lines().skip_while(|line| !line.starts_with("    "));
+        let lines = lines.take_while(|line| line.is_empty() || line.starts_with("    "));
+        lines.map(|line| format!("{}\n", line.trim_start_matches("    "))).collect::<String>()
+    };
+    let folder = Folder::new();
+    folder.write("terms.say", &block("Five minutes"));
+    folder.write("tests.say", &block("Tests"));
+    let said = run(&["test", folder.path()]);
+    assert_eq!((said.err.as_str(), said.status), ("", 0), "{}", said.out);
+    assert!(page.contains(&format!("\n    {}", said.out)), "{}", said.out);
+}
+
+#[test]
+fn the_examples_have_tests_that_pass() {
+    let examples = fs::read_dir(example("")).unwrap().map(|entry| entry.unwrap().path());
+    let folders: Vec<String> = examples
+        .filter(|path| path.is_dir())
+        .map(|path| path.to_str().unwrap().to_string())
+        .collect();
+    let mut arguments = vec!["test"];
+    arguments.extend(folders.iter().map(String::as_str));
+    let said = run(&arguments);
+    assert_eq!((said.err.as_str(), said.status), ("", 0), "{}", said.out);
+}
