@@ -1,8 +1,14 @@
 #!/bin/sh
-# Renders the pages of the examples, and one with 64 members, in a headless browser, in light and dark, wide and narrow, and checks that what should be
-# there is there. Leaves pages and pictures in a folder: `tool/browser.sh [FOLDER]`. Needs Chromium; BROWSER names another one.
+# Renders the pages of the examples, and one with 64 members, in a headless browser, in light and dark, wide and narrow,
+# and checks that what should be there is there. Leaves pages and pictures in a folder: `tool/browser.sh [--quick]
+# [FOLDER]`. `--quick` looks at three pages, once each, without pictures. Needs Chromium; BROWSER names another one.
 set -e
 cd "$(dirname "$0")/.."
+quick=''
+if [ "${1:-}" = --quick ]; then
+    quick=yes
+    shift
+fi
 out=${1:-target/browser}
 browser=${BROWSER:-chromium}
 export CARGO_TARGET_DIR="${CARGO_TARGET_DIR:-$PWD/target/cargo}"
@@ -37,12 +43,13 @@ look() { # page, mode, width, height
     [ "$mode" = dark ] && scheme=0
     set -- --headless=new --no-sandbox --disable-gpu --hide-scrollbars --user-data-dir="$profile" --blink-settings=preferredColorScheme=$scheme \
         --window-size="$width,$height"
-    "$browser" "$@" --screenshot="$out/$page-$mode-$width.png" "file://$out/$page.html" 2>/dev/null
+    picture="$out/$page-$mode-$width.png"
+    [ -n "$quick" ] || "$browser" "$@" --screenshot="$picture" "file://$out/$page.html" 2>/dev/null
     { cat "$out/$page.html"; echo '<script>'; cat tool/browser/check.js; echo '</script>'; } >"$out/$page.checked.html"
     "$browser" "$@" --dump-dom "file://$out/$page.checked.html" >"$out/$page.dom" 2>/dev/null
     said=$(sed -n 's/.* data-checked="\([^"]*\)".*/\1/p' "$out/$page.dom" | head -n 1)
     rm "$out/$page.checked.html"
-    if [ "$said" = ok ] && [ -s "$out/$page-$mode-$width.png" ]; then
+    if [ "$said" = ok ] && { [ -n "$quick" ] || [ -s "$picture" ]; }; then
         echo "browser: $page, $mode, $width wide: ok"
     else
         echo "browser: $page, $mode, $width wide: ${said:-not rendered}" >&2
@@ -50,13 +57,19 @@ look() { # page, mode, width, height
     fi
 }
 
-for dir in examples/*/ "$out/many/"; do
+if [ -n "$quick" ]; then
+    set -- examples/preset/ examples/suspended/ "$out/many/"
+else
+    set -- examples/*/ "$out/many/"
+fi
+for dir in "$@"; do
     page=$(basename "$dir")
     "$tool" report "$dir" -o "$out/$page.html"
-    look "$page" light 1200 1600
+    [ -n "$quick" ] || look "$page" light 1200 1600
     look "$page" dark 400 1600
     requests=$(wc -l <"$dir/requests.tsv")
-    pictures=$("$tool" run "$dir" --json | grep -c '"answer":"grant"' || true)
+    # A grant makes a moment, and so does a denial that is kept.
+    pictures=$("$tool" run "$dir" --json | grep -c '"made":' || true)
     shown=$(grep -c '<li id="request-' "$out/$page.dom" || true)
     drawn=$(grep -c '<svg class="graph"' "$out/$page.dom" || true)
     if [ "$shown" != "$requests" ] || [ "$drawn" != $((pictures + 1)) ]; then

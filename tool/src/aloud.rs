@@ -4,10 +4,11 @@
 //! * `clause`, `resolve`: the same with everybody named of whom something is said
 //! * `labels`, `wording`, `verbs`, `grammar`: how relations and events are said
 //! * `render`, `words`: clauses in words, in a line or as an outline
-//! * `stored`: what a stored file remembers
+//! * `stored`: what a stored file remembers; `told`: sentences about single members
 //! * `quote`: the sentences as a document quotes them
 
 pub mod clause;
+mod define;
 pub mod form;
 mod grammar;
 pub mod labels;
@@ -15,6 +16,7 @@ pub mod quote;
 mod render;
 pub mod resolve;
 mod stored;
+pub mod told;
 mod verbs;
 mod wording;
 mod words;
@@ -125,7 +127,7 @@ pub struct Aloud {
     pub events: Vec<Spoken>,
     /// What a stored file remembers.
     pub stored: Option<Sentence>,
-    /// The numbered clauses, from 1.
+    /// What is said apart: definitions, and clauses by number, counted together.
     pub clauses: Vec<Sentence>,
 }
 
@@ -141,8 +143,8 @@ impl Aloud {
     }
 
     fn with(terms: &Terms, names: &Names, record: Option<&Record>) -> Aloud {
-        let (forms, labels) = (Forms::new(terms), Labels::new(terms, names));
-        let mut speaker = Speaker { labels: &labels, apart: Vec::new() };
+        let (forms, labels) = (Forms::new(terms, names), Labels::new(terms, names));
+        let mut speaker = Speaker { labels: &labels, names, apart: Vec::new(), numbered: true };
         let mut events = Vec::new();
         for (event, &entry) in terms.policies.iter().enumerate() {
             let clause = resolve::of_policy(&forms, entry);
@@ -162,6 +164,12 @@ impl Aloud {
         let stored = record.and_then(|record| stored::stored(record, &forms, &mut speaker, names));
         let mut clauses = Vec::new();
         while let Some(&entry) = speaker.apart.get(clauses.len()) {
+            if let Some(called) = names.defined(entry) {
+                let words =
+                    speaker.say(&resolve::of_defined(&forms, entry, called), Time::Now, None);
+                clauses.push(Sentence::of(&format!("{} if", define::head(called)), words));
+                continue;
+            }
             let number = clauses.len() + 1;
             let words = speaker.say(&resolve::of_entry(&forms, entry), Time::Now, None);
             let given: Vec<String> = (1..VARIABLES)

@@ -1,6 +1,8 @@
-//! The files of a folder: terms.say or terms.tsv, requests.tsv, names.tsv.
+//! The files of a folder: terms.say or terms.tsv, requests.say or requests.tsv,
+//! names.tsv.
 
 use crate::names::Names;
+use crate::requests;
 use crate::source::mistake::{Mistake, Mistaken};
 use crate::source::{compile, Compiled};
 use crate::stop::Stop;
@@ -12,6 +14,8 @@ use std::path::{Path, PathBuf};
 
 pub const TERMS: &str = "terms.tsv";
 pub const REQUESTS: &str = "requests.tsv";
+/// The same by name; where it is there, it is what is asked.
+pub const SPOKEN: &str = "requests.say";
 pub const NAMES: &str = "names.tsv";
 /// The readable source that the terms are compiled from.
 pub const SOURCE: &str = "terms.say";
@@ -58,12 +62,12 @@ impl Folder {
         if !file.is_file() {
             return Err(missing(&folder));
         }
-        let terms = bytes(&file)?;
+        let terms = opened(&file)?;
         if file.file_name().is_some_and(|name| name == TERMS) && source.is_file() {
             up_to_date(&terms, &file, &source)?;
         }
         let names = Names::read(&text(&folder.join(NAMES))?).map_err(Stop::Failed)?;
-        let requests = bytes(&folder.join(REQUESTS))?;
+        let requests = asked(&folder, &terms, &names)?;
         Ok(Folder { path: folder, file, source: None, terms, requests, names })
     }
 
@@ -84,15 +88,28 @@ impl Folder {
     pub fn from_source(file: &Path) -> Result<Folder, Stop> {
         let text = text(file)?;
         let path = folder_of(file);
-        let requests = bytes(&path.join(REQUESTS))?;
-        let folder = Folder { path, requests, ..Folder::default() };
+        let folder = Folder { path, ..Folder::default() };
         let folder = folder.with_source(&text).map_err(|mistakes| {
             Stop::Mistaken(Mistaken { file: file.display().to_string(), text, mistakes })
         })?;
-        Ok(Folder { file: file.to_path_buf(), ..folder })
+        let requests = asked(&folder.path, &folder.terms, &folder.names)?;
+        Ok(Folder { file: file.to_path_buf(), requests, ..folder })
     }
 
-    /// The lines of requests.tsv.
+    /// What compiling warns of, at its place in the source.
+    pub fn warnings(&self) -> String {
+        let file = self.file.display().to_string();
+        let shown = |source: &Sourced| {
+            let told = source.compiled.warnings.iter().map(|warning| {
+                let message = format!("warning: {}", warning.message);
+                Mistake { message, ..warning.clone() }.render(&file, &source.text)
+            });
+            told.collect::<String>()
+        };
+        self.source.as_ref().map(shown).unwrap_or_default()
+    }
+
+    /// The requests, line by line.
     pub fn requests(&self) -> Vec<Request> {
         self.requests.split_inclusive(|&byte| byte == b'\n').map(Request::read).collect()
     }
@@ -113,6 +130,24 @@ pub fn folder_of(path: &Path) -> PathBuf {
 pub fn name(folder: &Path) -> String {
     let whole = folder.canonicalize().unwrap_or_else(|_| folder.to_path_buf());
     whole.file_name().map_or_else(|| "terms".into(), |name| name.to_string_lossy().into_owned())
+}
+
+/// The requests of a folder: those of requests.say, or else of requests.tsv.
+fn asked(folder: &Path, terms: &[u8], names: &Names) -> Result<Vec<u8>, Stop> {
+    let spoken = folder.join(SPOKEN);
+    if !spoken.is_file() {
+        return opened(&folder.join(REQUESTS));
+    }
+    named(&spoken.display().to_string(), &text(&spoken)?, terms, names)
+}
+
+/// Requests by name as lines of requests.tsv. Under terms that are refused nothing
+/// is asked.
+pub fn named(file: &str, text: &str, terms: &[u8], names: &Names) -> Result<Vec<u8>, Stop> {
+    match keeper::terms::read(terms) {
+        Ok(read) => requests::read(file, text, &read.terms, names),
+        Err(_) => Ok(Vec::new()),
+    }
 }
 
 /// Why a folder has no terms; a file with nearly the right name is pointed at.
@@ -158,11 +193,16 @@ fn text(path: &Path) -> Result<String, Stop> {
     })
 }
 
-/// A file's bytes; none if there is no such file. No longer file is read than the
-/// program opens.
+/// The bytes of a file that the program opens too: no longer one is read.
+fn opened(path: &Path) -> Result<Vec<u8>, Stop> {
+    let bytes = bytes(path)?;
+    fits(path, bytes.len()).map(|()| bytes)
+}
+
+/// A file's bytes; none if there is no such file.
 fn bytes(path: &Path) -> Result<Vec<u8>, Stop> {
     match fs::read(path) {
-        Ok(bytes) => fits(path, bytes.len()).map(|()| bytes),
+        Ok(bytes) => Ok(bytes),
         Err(error) if error.kind() == ErrorKind::NotFound => Ok(Vec::new()),
         Err(error) => Err(Stop::Failed(format!("cannot read {}: {error}", path.display()))),
     }

@@ -8,7 +8,9 @@
 //! * `replay`, `words`, `matrix`: the requests made one by one; words for them; who may do what
 //! * `why`: why a request is granted or denied
 //! * `report`: a folder's story as one page
-//! * `trial`: requests made and taken back at a prompt
+//! * `requests`: requests by name
+//! * `trial`, `editing`: requests made and taken back at a prompt; a line edited at a terminal
+//! * `watch`: doing something again when files change
 //! * `testing`: tests that people write; `play`: a page to edit terms in and try them
 //! * `aloud`: every policy and effect as a sentence
 //! * `check`: what is wrong with a terms file, and what may be
@@ -21,6 +23,7 @@ pub mod arguments;
 pub mod both;
 pub mod check;
 pub mod commands;
+pub mod editing;
 pub mod folder;
 pub mod http;
 pub mod json;
@@ -30,10 +33,12 @@ pub mod pages;
 pub mod play;
 pub mod replay;
 pub mod report;
+pub mod requests;
 pub mod source;
 pub mod stop;
 pub mod storing;
 pub mod testing;
 pub mod trial;
+pub mod watch;
 pub mod why;
 pub mod words;

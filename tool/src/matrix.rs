@@ -17,19 +17,29 @@ pub struct Matrix {
     pub event: usize,
     pub moment: usize,
     pub rows: Vec<Vec<bool>>,
+    /// The members that have a row, and a column.
+    pub from: Vec<usize>,
+    pub to: Vec<usize>,
 }
 
 impl Matrix {
     /// Looks at every pair; makes no moment.
     pub fn now(both: &Both, event: usize) -> Result<Matrix, Stop> {
-        let members = both.terms().members;
-        let mut rows = vec![vec![false; members]; members];
-        for (from, row) in rows.iter_mut().enumerate() {
-            for (to, cell) in row.iter_mut().enumerate() {
-                *cell = both.look(event, from, to)? == Verdict::Grant;
-            }
-        }
-        Ok(Matrix { event, moment: both.record().graphs().len() - 1, rows })
+        let all: Vec<usize> = (0..both.terms().members).collect();
+        Matrix::between(both, event, all.clone(), all)
+    }
+
+    /// The same for some members only.
+    pub fn between(
+        both: &Both,
+        event: usize,
+        from: Vec<usize>,
+        to: Vec<usize>,
+    ) -> Result<Matrix, Stop> {
+        let may = |asks, asked| Ok(both.look(event, asks, asked)? == Verdict::Grant);
+        let row = |asks: &usize| to.iter().map(|asked| may(*asks, *asked)).collect();
+        let rows = from.iter().map(row).collect::<Result<_, Stop>>()?;
+        Ok(Matrix { event, moment: both.record().graphs().len() - 1, rows, from, to })
     }
 
     /// How many pairs are allowed.
@@ -39,7 +49,7 @@ impl Matrix {
 
     /// The table for a terminal, with a line that says what it is.
     pub fn table(&self, words: &Words) -> String {
-        let pairs = self.rows.len() * self.rows.len();
+        let pairs = self.from.len() * self.to.len();
         format!(
             "{} at moment {}: {} of {pairs} pairs may ({MAY}); rows ask, columns are asked\n\n{}",
             words.names.event(self.event),
@@ -49,30 +59,51 @@ impl Matrix {
         )
     }
 
-    /// The rows and columns alone: targets along the top, read downwards.
+    /// The rows and columns alone: targets along the top, read downwards. Where
+    /// members have kinds, the kinds stand apart.
     pub fn cells(&self, words: &Words) -> String {
-        let members = self.rows.len();
-        let gap = if members <= WIDE { " " } else { "" };
-        let headers: Vec<Vec<char>> = (0..members).map(|n| header(&words.member(n))).collect();
-        let longest = headers.iter().map(Vec::len).max().unwrap_or(0);
+        let gap = if self.to.len() <= WIDE { " " } else { "" };
+        let tops: Vec<Vec<char>> = self.to.iter().map(|n| header(&words.member(*n))).collect();
+        let sides: Vec<Vec<char>> = self.from.iter().map(|n| header(&words.member(*n))).collect();
+        let wide = sides.iter().map(Vec::len).max().unwrap_or(0);
+        let longest = tops.iter().map(Vec::len).max().unwrap_or(0);
+        let columns = |cells: Vec<String>| {
+            let mut line = String::new();
+            for (index, cell) in cells.iter().enumerate() {
+                let apart =
+                    index > 0 && kind(words, self.to[index - 1]) != kind(words, self.to[index]);
+                line.push_str(if index == 0 { "" } else { gap });
+                line.push_str(if apart { " " } else { "" });
+                line.push_str(cell);
+            }
+            line
+        };
         let mut text = String::new();
         for line in 0..longest {
             let letter = |name: &Vec<char>| {
                 let top = longest - name.len();
                 line.checked_sub(top).map_or(' ', |index| name[index]).to_string()
             };
-            let letters: Vec<String> = headers.iter().map(letter).collect();
-            let row = format!("{:longest$}  {}", "", letters.join(gap));
+            let row = format!("{:wide$}  {}", "", columns(tops.iter().map(letter).collect()));
             text.push_str(row.trim_end());
             text.push('\n');
         }
-        for (name, row) in headers.iter().zip(&self.rows) {
+        for (index, (name, row)) in sides.iter().zip(&self.rows).enumerate() {
+            if index > 0 && kind(words, self.from[index - 1]) != kind(words, self.from[index]) {
+                text.push('\n');
+            }
             let name: String = name.iter().collect();
-            let cells: Vec<&str> = row.iter().map(|&may| if may { MAY } else { MAY_NOT }).collect();
-            text.push_str(&format!("{name:>longest$}  {}\n", cells.join(gap)));
+            let cell = |may: &bool| if *may { MAY } else { MAY_NOT }.to_string();
+            let cells = columns(row.iter().map(cell).collect());
+            text.push_str(&format!("{name:>wide$}  {cells}\n"));
         }
         text
     }
+}
+
+/// The kind of a member, if it has one.
+pub fn kind(words: &Words, member: usize) -> Option<usize> {
+    words.names.kinds().iter().position(|(_, members)| members.contains(&member))
 }
 
 /// A name cut to the header's length.

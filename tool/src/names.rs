@@ -1,6 +1,6 @@
 //! The names of members, relations and events.
 
-use keeper::terms::Terms;
+use keeper::terms::{Entry, Terms};
 use std::collections::BTreeMap;
 use std::fmt;
 
@@ -73,11 +73,47 @@ impl Labelled {
 #[derive(Clone, Debug, Default, PartialEq, Eq)]
 pub struct Names {
     names: BTreeMap<(Kind, usize), String>,
+    /// The entries that are a definition of the source.
+    defined: BTreeMap<usize, Called>,
+    /// How events are said, where that was told.
+    spoken: BTreeMap<usize, Spoken>,
+    /// Members by kind, where a source has kinds.
+    kinds: Vec<(String, Vec<usize>)>,
+}
+
+/// How an event is said: what follows `may`, and what follows `has`.
+#[derive(Clone, Debug, PartialEq, Eq)]
+pub struct Spoken {
+    pub may: String,
+    pub has: String,
+}
+
+impl Spoken {
+    /// From the words of a source: `peeked at` of an event peek, or both forms with
+    /// a slash between them.
+    pub fn of(name: &str, words: &str) -> Spoken {
+        match words.split_once('/') {
+            Some((may, has)) => Spoken { may: may.trim().into(), has: has.trim().into() },
+            None => {
+                let rest =
+                    words.split_once(' ').map_or(String::new(), |(_, rest)| format!(" {rest}"));
+                Spoken { may: format!("{name}{rest}"), has: words.to_string() }
+            }
+        }
+    }
+}
+
+/// A definition said of one or two people.
+#[derive(Clone, Debug, PartialEq, Eq)]
+pub struct Called {
+    pub name: String,
+    /// For each of its people the variable; none for the member at which it is said.
+    pub people: Vec<Option<usize>>,
 }
 
 impl Names {
-    /// Reads names.tsv: lines of kind, number and name, parted by tabs. Blank
-    /// lines are skipped. An error says which line is wrong and why.
+    /// Reads names.tsv: lines of kind, number and name, separated by tabs; of an event
+    /// also how it is said, two fields. Blank lines are skipped. An error says which line is wrong and why.
     pub fn read(text: &str) -> Result<Names, String> {
         let mut names = Names::default();
         for (index, line) in text.lines().enumerate() {
@@ -86,8 +122,10 @@ impl Names {
             }
             let wrong = |why: String| format!("names.tsv line {}: {why}", index + 1);
             let fields: Vec<&str> = line.split('\t').collect();
-            let [kind, number, name] = fields[..] else {
-                return Err(wrong("kind, number and name are due, parted by tabs".into()));
+            let (kind, number, name, spoken) = match fields[..] {
+                [kind, number, name] => (kind, number, name, None),
+                ["event", number, name, may, has] => ("event", number, name, Some((may, has))),
+                _ => return Err(wrong("kind, number and name are due, separated by tabs".into())),
             };
             let kind =
                 Kind::ALL.into_iter().find(|known| known.word() == kind).ok_or_else(|| {
@@ -98,6 +136,9 @@ impl Names {
                 .parse()
                 .map_err(|_| wrong(format!("`{number}` is no number of a {kind}")))?;
             names.set(kind, number, name).map_err(wrong)?;
+            if let Some((may, has)) = spoken {
+                names.say(number, Spoken { may: may.into(), has: has.into() });
+            }
         }
         Ok(names)
     }
@@ -116,10 +157,71 @@ impl Names {
         Ok(())
     }
 
+    /// Calls an entry by the definition that it is.
+    pub fn define(&mut self, entry: usize, called: Called) {
+        self.defined.insert(entry, called);
+    }
+
+    /// Adds members to a kind.
+    pub fn group(&mut self, kind: &str, members: Vec<usize>) {
+        match self.kinds.iter_mut().find(|(known, _)| known == kind) {
+            Some((_, known)) => known.extend(members),
+            None => self.kinds.push((kind.to_string(), members)),
+        }
+    }
+
+    /// The kinds of members, with the members of each, in the order of declaration.
+    pub fn kinds(&self) -> &[(String, Vec<usize>)] {
+        &self.kinds
+    }
+
+    /// The members that a word means: those of a kind, or one.
+    pub fn members(&self, word: &str, count: usize) -> Result<Vec<usize>, String> {
+        match self.kinds.iter().find(|(kind, _)| kind == word) {
+            Some((_, members)) => Ok(members.clone()),
+            None => Ok(vec![self.lookup(Kind::Member, word, count).map_err(|said| {
+                let kinds: Vec<&str> = self.kinds.iter().map(|(kind, _)| kind.as_str()).collect();
+                match kinds.is_empty() {
+                    true => said,
+                    false => format!("{said}; kinds: {}", kinds.join(", ")),
+                }
+            })?]),
+        }
+    }
+
+    /// Tells how an event is said.
+    pub fn say(&mut self, event: usize, spoken: Spoken) {
+        self.spoken.insert(event, spoken);
+    }
+
+    /// How an event is said, where that was told.
+    pub fn spoken(&self, event: usize) -> Option<&Spoken> {
+        self.spoken.get(&event)
+    }
+
+    /// Whether an entry says elsewhere what a definition says: then that one is told.
+    pub fn passes_on(&self, entry: usize, terms: &Terms) -> bool {
+        let (Entry::At(_, f) | Entry::Bind(_, f)) = terms.entries[entry] else { return false };
+        let name = |entry: usize| self.defined(entry).map(|called| &called.name);
+        name(f).is_some() && name(f) == name(entry)
+    }
+
+    /// The definition that an entry is.
+    pub fn defined(&self, entry: usize) -> Option<&Called> {
+        self.defined.get(&entry)
+    }
+
     /// The text of names.tsv.
     pub fn write(&self) -> String {
+        let said = |kind: Kind, number: &usize| match self.spoken(*number) {
+            Some(spoken) if kind == Kind::Event => format!("\t{}\t{}", spoken.may, spoken.has),
+            _ => String::new(),
+        };
         let lines = self.names.iter();
-        lines.map(|((kind, number), name)| format!("{kind}\t{number}\t{name}\n")).collect()
+        let line = |((kind, number), name): (&(Kind, usize), &String)| {
+            format!("{kind}\t{number}\t{name}{}\n", said(*kind, number))
+        };
+        lines.map(line).collect()
     }
 
     /// The name of a number, or its kind and number.
@@ -229,6 +331,10 @@ mod tests {
         assert_eq!(names.member(1), "pete");
         assert_eq!(names.member(2), "member 2");
         assert_eq!(names.event(4), "event 4");
+        let said = "event\t0\tpeek\tpeek at\tpeeked at\n";
+        let names = Names::read(said).unwrap();
+        assert_eq!(names.spoken(0), Some(&Spoken::of("peek", "peeked at")));
+        assert_eq!(names.write(), said);
     }
 
     #[test]

@@ -1,6 +1,7 @@
 //! The source language: terms with names, compiled to a terms file, and back.
 //!
 //! * `tokens`, `parse`, `ast`: a text, read
+//! * `kinds`: kinds of members as attributes
 //! * `resolve`, `said`: names found, definitions and derived forms unfolded
 //! * `tree`: at which member each part is said
 //! * `entries`: variables numbered, equal parts made one entry
@@ -12,6 +13,7 @@ pub mod ast;
 pub mod compile;
 pub mod decompile;
 mod entries;
+mod kinds;
 pub mod mistake;
 pub mod parse;
 pub mod print;

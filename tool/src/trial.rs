@@ -3,10 +3,11 @@
 pub mod typed;
 
 use crate::both::Verdict;
-use crate::folder::{self, Folder, Request, REQUESTS};
+use crate::folder::{self, Folder, Request, REQUESTS, SPOKEN};
 use crate::matrix::Matrix;
 use crate::names::Kind;
 use crate::replay::{Replay, Step};
+use crate::requests;
 use crate::stop::Stop;
 use crate::why::reason::Reasons;
 use crate::words::{answered, Words};
@@ -47,6 +48,11 @@ impl Trial {
             "Moment {moment}, after {count} requests. Events: {events}.\n\
              Type an event, who asks and who is asked; or help."
         )
+    }
+
+    /// The words that may stand where a typed line ends.
+    pub fn next(&self, before: &str) -> Vec<String> {
+        typed::next(before, self.replay.both.terms(), &self.folder.names)
     }
 
     /// Does what a line asks for. An error stops the trial.
@@ -180,16 +186,22 @@ impl Trial {
         let lost = self.replay.steps.iter().any(malformed)
             || !self.after && !self.folder.requests.is_empty();
         if file.is_none() && lost {
-            let said = "the folder's requests.tsv has more than this: give save a file name";
+            let said = "the folder's requests have more than this: give save a file name";
             return Reply::Wrong(said.to_string());
         }
-        let own = self.folder.path.join(REQUESTS);
+        let spoken = self.folder.path.join(SPOKEN);
+        let own = if spoken.exists() { spoken } else { self.folder.path.join(REQUESTS) };
         let path = file.map_or(own.as_path(), Path::new);
         let line = |step: &Step| match step.request {
             Request::Ask { event, from, to } => Some(format!("R\t{event}\t{from}\t{to}\n")),
             Request::Malformed => None,
         };
-        let lines: Vec<String> = self.replay.steps.iter().filter_map(line).collect();
+        let steps = self.replay.steps.iter();
+        let by_name = path.extension().is_some_and(|ending| ending == "say");
+        let lines: Vec<String> = match by_name {
+            true => requests::write(steps.map(|step| step.request), &self.folder.names),
+            false => steps.filter_map(line).collect(),
+        };
         match folder::write(path, lines.concat().as_bytes()) {
             Ok(()) => Reply::Said(format!("wrote {} requests to {}", lines.len(), path.display())),
             Err(stop) => Reply::Wrong(stop.to_string()),

@@ -2,20 +2,20 @@
 //!
 //! * `reason`: one step of a justification, read off the keeper's record
 //! * `story`: what the steps come down to, as facts
-//! * `fact`, `phrase`: words for facts and for entries
+//! * `fact`: facts about the record, and sentences for them
 
 pub mod fact;
-pub mod phrase;
 pub mod reason;
 pub mod story;
 
+use crate::aloud::told::Telling;
 use crate::both::Verdict;
 use crate::folder::Request;
 use crate::replay::Step;
 use crate::stop::Stop;
 use crate::words::Words;
 use fact::Fact;
-use reason::{Place, Reasons};
+use reason::{Claim, Place, Reasons};
 use story::Story;
 
 /// So many lines and so many facts in a line are told unless all are asked for.
@@ -83,24 +83,60 @@ fn because(
     all: bool,
 ) -> Because {
     let claim = reasons.claim(Place::policy(words.terms, event, from, to, moment));
-    let stories = story::stories(reasons, claim);
-    let telling = stories.iter().filter(|story| !story.is_slight()).count();
-    let count = if all || telling == 0 { stories.len() } else { telling };
-    let shown = if all { count } else { count.min(MOST_LINES) };
-    let always = if claim.holds { "it is always allowed" } else { "it is never allowed" };
-    let tell = |story: &Story| match story.facts[..] {
-        [Fact::Always] => always.to_string(),
-        _ => line(story, words, reasons, moment, all),
-    };
-    Because {
-        granted: claim.holds,
-        lines: stories[..shown].iter().map(tell).collect(),
-        more: count - shown,
+    let telling = Telling::new(words.terms, words.names);
+    let mut teller = Lines { reasons, words, telling, now: moment, all, granted: claim.holds };
+    let (lines, more) = teller.of(claim, 0);
+    Because { granted: claim.holds, lines, more }
+}
+
+/// Definitions are told inside definitions down to this depth.
+const DEEPEST: usize = 3;
+
+/// Tells the lines of a reason, with why definitions hold or fail under them.
+struct Lines<'t, 'r> {
+    reasons: &'t mut Reasons<'r>,
+    words: &'t Words<'t>,
+    telling: Telling<'t>,
+    now: usize,
+    all: bool,
+    granted: bool,
+}
+
+impl Lines<'_, '_> {
+    /// The lines of a claim, and how many stories are left out.
+    fn of(&mut self, claim: Claim, depth: usize) -> (Vec<String>, usize) {
+        let stories = story::stories(self.reasons, self.words.names, claim, self.granted);
+        let telling = stories.iter().filter(|story| !story.is_slight()).count();
+        let count = if self.all || telling == 0 { stories.len() } else { telling };
+        let shown = if self.all { count } else { count.min(MOST_LINES) };
+        let always = if claim.holds { "it is always allowed" } else { "it is never allowed" };
+        let mut lines = Vec::new();
+        for story in &stories[..shown] {
+            lines.push(match story.facts[..] {
+                [Fact::Always] => always.to_string(),
+                _ => line(story, &self.telling, self.words, self.reasons, self.now, self.all),
+            });
+            for fact in &story.facts {
+                let Fact::Defined(inner) = fact else { continue };
+                if depth < DEEPEST {
+                    let under = self.of(*inner, depth + 1).0;
+                    lines.extend(under.into_iter().map(|line| format!("  {line}")));
+                }
+            }
+        }
+        (lines, count - shown)
     }
 }
 
 /// A story in one line. Of a long one the beginning and the end are told.
-fn line(story: &Story, words: &Words, reasons: &Reasons, now: usize, all: bool) -> String {
+fn line(
+    story: &Story,
+    telling: &Telling,
+    words: &Words,
+    reasons: &Reasons,
+    now: usize,
+    all: bool,
+) -> String {
     let count = story.facts.len();
     let left_out = match all || count <= MOST_FACTS {
         true => 0..0,
@@ -110,16 +146,16 @@ fn line(story: &Story, words: &Words, reasons: &Reasons, now: usize, all: bool) 
     for (index, fact) in story.facts.iter().enumerate() {
         if left_out.contains(&index) {
             if index == left_out.start {
-                text.push_str(&format!(", {} facts more", left_out.len()));
+                text.push_str(&format!(", and {} facts more", left_out.len()));
             }
             continue;
         }
         text.push_str(match index {
             0 => "",
             _ if story.turn == Some(index) => ", but ",
-            _ => ", ",
+            _ => ", and ",
         });
-        text.push_str(&fact.told(words, reasons.graphs(), now));
+        text.push_str(&fact.told(telling, words, reasons.graphs(), now));
     }
     text
 }

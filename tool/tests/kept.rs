@@ -66,13 +66,13 @@ fn run_and_why() {
     assert_eq!(
         run(&["why", folder.path()]).out,
         "1  complain pete → saw   denied
-     never denied load pete → saw
+     pete has never tried in vain to load saw
 2  load pete → saw       denied
-     owns dora → saw, but never share dora → pete
+     dora owns saw, but dora has never shared with pete
 3  complain pete → saw   granted
-     denied load pete → saw at moment 1
+     pete tried in vain to load saw at moment 1
 4  complain pete → dora  denied
-     never denied load pete → dora
+     pete has never tried in vain to load dora
 "
     );
 }
@@ -100,7 +100,10 @@ fn stored_and_gone_on() {
     let aloud = run(&["aloud", &later]).out;
     assert!(aloud.contains("- pete has just tried in vain to load saw\n"), "{aloud}");
     let why = run(&["why", &later]).out;
-    assert!(why.contains("as stored: once denied load pete → saw"), "{why}");
+    assert!(
+        why.contains("when it was stored, pete had at some time tried in vain to load saw"),
+        "{why}"
+    );
 }
 
 #[test]
@@ -127,7 +130,7 @@ fn the_example_says_why() {
     let path = example("suspended");
     let why = |line: &str| run(&["why", path.to_str().unwrap(), line]).out;
     assert!(
-        why("5").contains("denied load pete → saw at moment 4, denied load pete → saw at moment 1")
+        why("5").contains("     pete is suspended\n       pete tried in vain to load saw at moment 4, and pete was warned")
     );
-    assert!(why("10").contains("but release mint → pete at moment 8"));
+    assert!(why("10").contains("but mint released pete at moment 8"));
 }

@@ -53,7 +53,7 @@ fn everything_is_on_the_page() {
         "6 requests: 3 granted, 2 denied, 1 refused.",
         "You may always share with the target.",
         "id=\"request-6\" class=\"refused\"",
-        "own dora → saw, share dora → pete at moment 1, but withdraw dora → pete at moment 3",
+        "dora owns saw, and dora shared with pete at moment 1, but dora withdrew from pete at moment 3",
         "<title id=\"title3\">Moment 3: withdraw dora → pete</title>",
         "<desc id=\"desc0\">Relation edges: own dora → saw.</desc>",
         "prefers-color-scheme:dark",

@@ -30,7 +30,7 @@ fn run_for_programs() {
     let lines: Vec<&str> = said.out.lines().collect();
     assert_eq!(
         lines[0],
-        r#"{"line":1,"request":[0,0,1],"event":"share","from":"dora","to":"pete","answer":"grant"}"#
+        r#"{"line":1,"request":[0,0,1],"event":"share","from":"dora","to":"pete","answer":"grant","made":1}"#
     );
     assert!(
         lines[1].contains(r#""number":9,"because":["there is no member 7: members are 0 to 2"]"#)
@@ -66,15 +66,15 @@ fn why_names_the_moments_that_decide() {
     assert_eq!(
         said.out,
         "1  load pete → saw       denied
-     own dora → saw, but never share dora → pete
+     dora owns saw, but dora has never shared with pete
 2  share dora → pete     granted
      it is always allowed
 3  load pete → saw       granted
-     own dora → saw, share dora → pete at moment 1
+     dora owns saw, and dora shared with pete at moment 1
 4  withdraw dora → pete  granted
      it is always allowed
 5  load pete → saw       denied
-     own dora → saw, share dora → pete at moment 1, but withdraw dora → pete at moment 3
+     dora owns saw, and dora shared with pete at moment 1, but dora withdrew from pete at moment 3
 6  event 9: dora → dora  refused: there is no event 9: events are 0 to 2
 "
     );
@@ -89,7 +89,7 @@ fn why_of_one_line() {
     assert_eq!(run(&["why", folder.path(), "7"]).status, 2);
     assert_eq!(run(&["why", folder.path(), "x"]).status, 2);
     let said = run(&["why", folder.path(), "5", "--json"]);
-    assert!(said.out.contains(r#""moment":3,"because":["own dora → saw, share dora → pete at moment 1, but withdraw dora → pete at moment 3"],"more":0"#));
+    assert!(said.out.contains(r#""moment":3,"because":["dora owns saw, and dora shared with pete at moment 1, but dora withdrew from pete at moment 3"],"more":0"#));
 }
 
 /// The moments that the examples' READMEs name.

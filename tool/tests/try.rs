@@ -14,13 +14,13 @@ fn requests_looks_and_reasons() {
         said.out,
         "denied
 load pete → saw: denied
-  own dora → saw, but never share dora → pete
+  dora owns saw, but dora has never shared with pete
 granted; moment 1
 would be granted
 granted; moment 2
 granted; moment 3
 load pete → saw: denied
-  own dora → saw, share dora → pete at moment 1, but withdraw dora → pete at moment 3
+  dora owns saw, and dora shared with pete at moment 1, but dora withdrew from pete at moment 3
 "
     );
     assert_eq!(said.status, 0);
@@ -61,7 +61,7 @@ fn saved_requests_are_run_again() {
     let file = folder.file("saved.tsv");
     let typed = format!("load pete saw\nshare dora pete\nsave\nsave {}\n", file.display());
     let said = run_with(&["try", folder.path(), "--first"], &typed);
-    assert!(said.out.contains("? the folder's requests.tsv has more than this"), "{}", said.out);
+    assert!(said.out.contains("? the folder's requests have more than this"), "{}", said.out);
     assert_eq!(folder.read("saved.tsv"), "R\t2\t1\t2\nR\t0\t0\t1\n");
     folder.write("requests.tsv", "R\t0\t0\t1\n");
     let said = run_with(&["try", folder.path()], "load pete saw\nsave\n");

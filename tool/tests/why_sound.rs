@@ -1,6 +1,7 @@
 //! Reasons hold up: truth is rebuilt from them alone and compared with the
 //! record at every node, over random terms and requests.
 
+use cuckooormolu_tool::names::Names;
 use cuckooormolu_tool::why::fact::Fact;
 use cuckooormolu_tool::why::reason::{has_edge, Claim, Place, Reason, Reasons};
 use cuckooormolu_tool::why::story::stories;
@@ -237,7 +238,8 @@ fn is_so(terms: &Terms, graphs: &[Graph], meaning: &mut Meaning, fact: Fact) -> 
         }
         Fact::Stored(Claim { place, holds: value }) => holds(place, 0) == value,
         Fact::Since { place, first } => (first..=place.moment).all(|moment| holds(place, moment)),
-        Fact::Claim(Claim { place, holds: value }) => holds(place, place.moment) == value,
+        Fact::Claim(Claim { place, holds: value })
+        | Fact::Defined(Claim { place, holds: value }) => holds(place, place.moment) == value,
     }
 }
 
@@ -265,7 +267,7 @@ fn truth_is_rebuilt_from_reasons() {
             if let Some(truth) = rebuilt.truth(claim) {
                 assert_eq!(truth, granted, "seed {seed}");
             }
-            let told = stories(&mut rebuilt.reasons, claim);
+            let told = stories(&mut rebuilt.reasons, &Names::default(), claim, claim.holds);
             assert!(!told.is_empty(), "seed {seed}");
             for fact in told.iter().flat_map(|story| &story.facts) {
                 let so = is_so(terms, record.graphs(), &mut rebuilt.meaning, *fact);

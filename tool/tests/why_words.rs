@@ -38,48 +38,51 @@ fn always_and_never() {
 
 #[test]
 fn edges_that_are_there_and_are_not() {
-    assert_eq!(why(&["out 0 1"], &["1 1 2"]), ["friend ben → cem"]);
-    assert_eq!(why(&["out 0 1"], &["1 2 1"]), ["no friend cem → ben"]);
-    assert_eq!(why(&["in 0 0"], &["1 0 1"]), ["no friend anybody → ann"]);
+    assert_eq!(why(&["out 0 1"], &["1 1 2"]), ["cem is a friend of ben"]);
+    assert_eq!(why(&["out 0 1"], &["1 2 1"]), ["ben is not a friend of cem"]);
+    assert_eq!(why(&["in 0 0"], &["1 0 1"]), ["ann is a friend of no member"]);
     assert_eq!(
         why(&["out 0 1", "out 0 2"], &["1 1 0"]),
-        ["friend ben → cem, but no friend cem → ann"]
+        ["cem is a friend of ben, but ann is not a friend of cem"]
     );
 }
 
 #[test]
 fn events_of_the_last_moment() {
     let just = ["in 1 1"];
-    assert_eq!(why(&just, &["0 1 0", "1 0 1"]), ["ask ben → ann at moment 1"]);
+    assert_eq!(why(&just, &["0 1 0", "1 0 1"]), ["ben asked ann at moment 1"]);
     assert_eq!(
         why(&just, &["0 2 0", "1 0 1"]),
-        ["the last event is ask cem → ann, not ask ben → ann"]
+        ["ben has not just asked ann: cem has just asked ann"]
     );
-    assert_eq!(why(&just, &["1 0 1"]), ["no ask ben → ann"]);
+    assert_eq!(why(&just, &["1 0 1"]), ["ben has not just asked ann"]);
 }
 
 #[test]
 fn one_moment_before() {
     let before = ["in 1 1", "prev 2 0"];
     assert_eq!(why(&before, &["1 0 1"]), ["there is no moment before moment 0"]);
-    assert_eq!(why(&before, &["0 1 0", "1 0 1"]), ["no ask ben → ann at moment 0"]);
-    assert_eq!(why(&before, &["0 1 0", "0 2 2", "1 0 1"]), ["ask ben → ann at moment 1"]);
+    assert_eq!(why(&before, &["0 1 0", "1 0 1"]), ["ben did not ask ann at moment 0"]);
+    assert_eq!(why(&before, &["0 1 0", "0 2 2", "1 0 1"]), ["ben asked ann at moment 1"]);
 }
 
 #[test]
 fn since_a_moment() {
     // Ben asked me, and I have not asked him since.
     let since = ["in 1 1", "out 1 1", "not 3 0", "since 4 2"];
-    assert_eq!(why(&since, &["1 0 1"]), ["never ask ben → ann"]);
-    assert_eq!(why(&since, &["0 1 0", "1 0 1"]), ["ask ben → ann at moment 1"]);
+    assert_eq!(why(&since, &["1 0 1"]), ["ben has never asked ann"]);
+    assert_eq!(why(&since, &["0 1 0", "1 0 1"]), ["ben asked ann at moment 1"]);
     let kept = why(&since, &["0 1 0", "0 2 2", "1 0 1"]);
-    assert_eq!(kept, ["ask ben → ann at moment 1, no ask ann → ben since"]);
+    assert_eq!(kept, ["ben asked ann at moment 1, and ann has not asked ben since"]);
     let broken = why(&since, &["0 1 0", "0 0 1", "1 0 1"]);
-    assert_eq!(broken, ["ask ben → ann at moment 1, but ask ann → ben at moment 2"]);
+    assert_eq!(broken, ["ben asked ann at moment 1, but ann asked ben at moment 2"]);
     // Asked by ben, and friends with somebody ever since.
     let with_friend = ["in 1 1", "out 0 0", "since 3 2"];
     let kept = why(&with_friend, &["0 0 3", "0 1 0", "0 2 2", "1 0 1"]);
-    assert_eq!(kept, ["ask ben → ann at moment 2, always since: friend ann → somebody"]);
+    assert_eq!(
+        kept,
+        ["ben asked ann at moment 2, and at every moment since some member was a friend of ann"]
+    );
 }
 
 #[test]
@@ -90,8 +93,8 @@ fn a_moment_that_came_near() {
     assert_eq!(
         near,
         [
-            "ask cem → ann at moment 1, but no friend cem → ben at moment 1",
-            "at no moment: ask y → ann with friend y → ben",
+            "cem asked ann at moment 1, but ben was not a friend of cem at moment 1",
+            "there was no moment so far at which some member that had just asked ann had ben as a friend",
         ]
     );
 }
@@ -100,35 +103,38 @@ fn a_moment_that_came_near() {
 fn a_step_along_the_past() {
     // Somebody whom I once asked is a friend of the target.
     let step = ["var 1 0", "out 1 2", "since 0 3", "out 0 1", "reach 1 4 5"];
-    assert_eq!(why(&step, &["1 0 2"]), ["nobody is y with once ask ann → y"]);
+    assert_eq!(why(&step, &["1 0 2"]), ["there is no member that ann has at some time asked"]);
     let reached = why(&step, &["0 0 1", "0 3 3", "1 0 2"]);
-    assert_eq!(reached, ["ask ann → ben at moment 1, friend ben → cem"]);
+    assert_eq!(reached, ["ann asked ben at moment 1, and cem is a friend of ben"]);
     let missed = why(&step, &["0 0 1", "0 3 3", "1 0 0"]);
-    assert_eq!(missed, ["ask ann → ben at moment 1, but no friend ben → ann"]);
+    assert_eq!(missed, ["ann asked ben at moment 1, but ann is not a friend of ben"]);
 }
 
 #[test]
 fn neighbours_that_are_counted() {
     // At least two friends; at least two who have a friend.
     let two = ["many 0 0 2"];
-    assert_eq!(why(&two, &["1 1 0"]), ["friend ben → cem, only 1 of at least 2"]);
-    assert_eq!(why(&two, &["1 0 1"]), ["friend ann → nobody who counts, only 0 of at least 2"]);
-    let enough = ["friend ben → ann and cem, 2 of at least 2"];
+    assert_eq!(why(&two, &["1 1 0"]), ["only 1 of at least 2 counts: cem is a friend of ben"]);
+    assert_eq!(why(&two, &["1 0 1"]), ["none of at least 2 counts"]);
+    let enough = ["2 of at least 2 count: ann is a friend of ben and cem is a friend of ben"];
     assert_eq!(why(&two, &["0 1 0", "1 1 0"]), enough);
     let with_friends = ["out 0 0", "many 0 2 2"];
     assert_eq!(
         why(&with_friends, &["0 1 0", "0 2 3", "1 1 0"]),
-        ["friend ben → cem, only 1 of at least 2", "friend ben → ann, but no friend ann → anybody",]
+        [
+            "only 1 of at least 2 counts: cem is a friend of ben",
+            "ann is a friend of ben, but no member is a friend of ann"
+        ]
     );
     assert_eq!(
         why(&with_friends, &["0 1 0", "0 2 3", "0 0 1", "1 1 0"]),
-        ["friend ben → ann and cem, 2 of at least 2, friend ben → ann, friend ann → ben, \
-          friend ben → cem, friend cem → x"]
+        ["2 of at least 2 count: ann is a friend of ben and cem is a friend of ben, and ann is a \
+          friend of ben, and ben is a friend of ann, and cem is a friend of ben, and x is a friend of cem"]
     );
     // Once two friends: a part that is told in a clause.
     let once = ["many 0 0 2", "since 0 2"];
     let never = why(&once, &["1 1 0"]);
-    assert_eq!(never, ["at no moment: at least 2 y with friend ben → y"]);
+    assert_eq!(never, ["there was no moment so far at which for at least 2 different members A, A was a friend of ben"]);
 }
 
 #[test]
@@ -136,8 +142,14 @@ fn neighbours_that_are_named_already() {
     // Two friends: a friend, and a friend that is not that one.
     let two =
         ["var 1 0", "var 2 0", "not 2 0", "out 0 4", "at 2 5", "bind 1 6", "out 0 7", "bind 2 8"];
-    assert_eq!(why(&two, &["1 1 0"]), ["friend ben → cem, but friend ben → only cem"]);
-    assert_eq!(why(&two, &["0 1 0", "1 1 0"]), ["friend ben → ann, friend ben → cem"]);
+    assert_eq!(
+        why(&two, &["1 1 0"]),
+        ["cem is a friend of ben, but none but cem is a friend of ben"]
+    );
+    assert_eq!(
+        why(&two, &["0 1 0", "1 1 0"]),
+        ["ann is a friend of ben, and cem is a friend of ben"]
+    );
 }
 
 #[test]
@@ -146,8 +158,17 @@ fn alternatives_are_told_nearest_first() {
     let either = ["out 0 1", "out 0 2", "in 1 1", "or 4 3"];
     assert_eq!(
         why(&either, &["1 1 0"]),
-        ["friend ben → cem, but no friend cem → ann", "no ask ann → ben"]
+        ["cem is a friend of ben, but ann is not a friend of cem", "ann has not just asked ben"]
     );
+}
+
+#[test]
+fn every_condition_that_fails_is_told() {
+    // A friend of the target, and asked by the target.
+    let both = ["out 0 1", "not 2 0", "in 1 1", "not 4 0", "or 3 5", "not 6 0"];
+    let told = why(&both, &["1 0 1"]);
+    assert_eq!(told, ["ben is not a friend of ann", "ben has not just asked ann"]);
+    assert_eq!(why(&both, &["0 0 1", "0 2 2", "1 0 1"]).len(), 1);
 }
 
 /// Parts that are used twice at every level would be told 16,384 times.

@@ -3,6 +3,7 @@
 //! A node is an entry or its negation. `not` entries are never met: they turn
 //! the node round. So each shape is told from one entry and one sign.
 
+use crate::names::Names;
 use keeper::terms::{Entry, Terms, Variables};
 
 /// An entry that is no `not`, or its negation.
@@ -96,7 +97,7 @@ pub struct Forms<'a> {
 }
 
 impl<'a> Forms<'a> {
-    pub fn new(terms: &'a Terms) -> Forms<'a> {
+    pub fn new(terms: &'a Terms, names: &Names) -> Forms<'a> {
         let count = terms.entries.len();
         let (negative, apart) = (Vec::new(), vec![false; count]);
         let mut forms = Forms { terms, free: terms.free(), negative, apart };
@@ -104,14 +105,16 @@ impl<'a> Forms<'a> {
             let signs = [false, true].map(|holds| forms.says_what_is_not(entry, holds));
             forms.negative.push(signs);
         }
-        forms.set_apart();
+        forms.set_apart(names);
         forms
     }
 
-    /// The node of an entry.
+    /// The node of an entry. A definition stays what it is, also where it begins
+    /// with `not`.
     pub fn node(&self, entry: usize, holds: bool) -> Node {
         let mut node = Node { entry, holds };
-        while let Entry::Not(f) = self.terms.entries[node.entry] {
+        while let (Entry::Not(f), false) = (self.terms.entries[node.entry], self.apart[node.entry])
+        {
             node = Node { entry: f, holds: !node.holds };
         }
         node
@@ -211,9 +214,9 @@ impl<'a> Forms<'a> {
         }
     }
 
-    /// Finds the entries that are said apart. What is used in several places is
+    /// Finds the entries that are said apart: definitions, and what is long. What is used in several places is
     /// small or apart, so the sentences of any terms stay short.
-    fn set_apart(&mut self) {
+    fn set_apart(&mut self, names: &Names) {
         let uses = self.uses();
         let (mut size, mut depth) = (Vec::new(), Vec::new());
         for (index, entry) in self.terms.entries.iter().enumerate() {
@@ -229,8 +232,9 @@ impl<'a> Forms<'a> {
             depth.push(own_depth);
             let shared = uses[index] > 1 && own_size > SMALL;
             let named = matches!(entry, Entry::Not(_) | Entry::Bind(_, _) | Entry::At(_, _));
+            let defined = names.defined(index).is_some() && !names.passes_on(index, self.terms);
             self.apart[index] =
-                shared && !matches!(entry, Entry::Not(_)) || own_depth >= DEEP && !named;
+                defined || shared && !matches!(entry, Entry::Not(_)) || own_depth >= DEEP && !named;
         }
     }
 

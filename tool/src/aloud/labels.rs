@@ -2,6 +2,7 @@
 //! otherwise by their names.
 
 use super::grammar::{article, be, do_, have, with, Linking, Time};
+use super::verbs::Verb;
 use super::wording::Wording;
 use crate::names::{Kind, Labelled, Names};
 use keeper::terms::Terms;
@@ -26,6 +27,12 @@ pub enum Voice {
     Passive,
 }
 
+/// Whether a name says how somebody is rather than what: `suspended`, `active`.
+pub fn is_adjective(name: &str) -> bool {
+    const ENDINGS: [&str; 9] = ["ed", "able", "ible", "ive", "ous", "ful", "less", "al", "ic"];
+    ENDINGS.iter().any(|ending| name.len() > ending.len() + 2 && name.ends_with(ending))
+}
+
 /// The wordings of all labels of some terms: those of relations and events, the
 /// events denied having those of the events.
 pub struct Labels {
@@ -38,9 +45,17 @@ impl Labels {
         let labels = 0..terms.relations + terms.events;
         let kinds: Vec<(Kind, usize)> =
             labels.map(|label| Labelled::of(terms, label).named()).collect();
-        let wording = |&(kind, number): &(Kind, usize)| match names.given(kind, number) {
-            None => Wording::Name(format!("{kind} {number}")),
-            Some(name) => Wording::of(kind, name),
+        let spoken = |kind: Kind, number: usize| match kind {
+            Kind::Event => names.spoken(number),
+            _ => None,
+        };
+        let wording = |&(kind, number): &(Kind, usize)| match (
+            spoken(kind, number),
+            names.given(kind, number),
+        ) {
+            (Some(spoken), _) => Wording::Verb(Verb::told(&spoken.may, &spoken.has)),
+            (None, None) => Wording::Name(format!("{kind} {number}")),
+            (None, Some(name)) => Wording::of(kind, name),
         };
         let mut labels =
             Labels { relations: terms.relations, wordings: kinds.iter().map(wording).collect() };
@@ -71,6 +86,11 @@ impl Labels {
             }
         }
         said.into_values().filter(|labels| labels.len() > 1).flatten().collect()
+    }
+
+    /// Whether nothing is known of how a label is said but its name.
+    pub fn is_plain_name(&self, label: usize) -> bool {
+        matches!(self.wording(label), Wording::Name(_))
     }
 
     pub fn is_event(&self, label: usize) -> bool {
@@ -124,6 +144,33 @@ impl Labels {
             self.event(label, voice, you, time, manner).map(Linking::from)
         } else {
             self.relation(label, voice, you, time, manner == Manner::Plain)
+        }
+    }
+
+    /// What is said of somebody with an edge to itself: `is a bank`, `was not
+    /// suspended`. Only of relations that are called by a name of one word.
+    pub fn attribute(&self, label: usize, you: bool, time: Time, holds: bool) -> Option<String> {
+        let Wording::Name(name) = self.wording(label) else { return None };
+        if self.is_event(label) || name.contains(' ') {
+            return None;
+        }
+        let not = if holds { "" } else { " not" };
+        let article = if is_adjective(name) { "" } else { article(name) };
+        Some(format!("{}{not} {}", be(you, time), with(article, name).trim_start()))
+    }
+
+    /// An event in the past: `shared with`, `did not share with`, `tried in vain to
+    /// load`.
+    pub fn did(&self, label: usize, holds: bool) -> String {
+        let may = self.may(label);
+        match (self.is_denied(label), holds, self.wording(label)) {
+            (true, true, _) => format!("tried in vain to {may}"),
+            (true, false, _) => format!("did not try in vain to {may}"),
+            (false, false, _) => format!("did not {may}"),
+            (false, true, Wording::Verb(verb)) => with(&verb.past, verb.preposition),
+            (false, true, Wording::Of(name) | Wording::Role(name) | Wording::Name(name)) => {
+                format!("did {name} to")
+            }
         }
     }
 

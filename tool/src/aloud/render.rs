@@ -6,15 +6,20 @@ mod past;
 mod reached;
 
 use super::clause::{Clause, Who};
+use super::define;
 use super::grammar::{be, Linking, Time};
 use super::labels::{Labels, Manner, Voice};
 use super::words::{join, name, object, Shape, Words};
+use crate::names::Names;
 
 /// Puts the clauses of some terms into words.
 pub struct Speaker<'a> {
     pub labels: &'a Labels,
+    pub names: &'a Names,
     /// The entries that are said apart, in the order of their numbers.
     pub apart: Vec<usize>,
+    /// Whether what is said apart is told under its number.
+    pub numbered: bool,
 }
 
 impl Speaker<'_> {
@@ -67,6 +72,12 @@ impl Speaker<'_> {
         manner: Manner,
         focus: Option<Who>,
     ) -> Words {
+        if from == to && matches!(manner, Manner::Plain | Manner::Negated) {
+            let holds = manner == Manner::Plain;
+            if let Some(said) = self.labels.attribute(label, from == Who::You, time, holds) {
+                return Words::of(from, said);
+            }
+        }
         let (from, to) = if self.labels.is_reversed(label) { (to, from) } else { (from, to) };
         if focus == Some(to) && from != to {
             if let Some(link) = self.link(label, Voice::Passive, to, time, manner) {
@@ -101,7 +112,14 @@ impl Speaker<'_> {
         holds: bool,
         time: Time,
     ) -> Words {
-        let number = self.number(entry);
+        if let Some(called) = self.names.defined(entry) {
+            self.number(entry);
+            return define::clause(called, of, given, holds, time);
+        }
+        let clause = match self.numbered {
+            true => format!("clause {}", self.number(entry)),
+            false => "a longer condition".to_string(),
+        };
         let hold = match (holds, time) {
             (true, Time::Now) => "holds",
             (true, Time::Then) => "held",
@@ -114,7 +132,7 @@ impl Speaker<'_> {
         });
         let given: Vec<String> = given.collect();
         let with = if given.is_empty() { "" } else { ", with " };
-        let text = format!("clause {number} {hold} of {}{with}{}", name(of), given.join(", "));
+        let text = format!("{clause} {hold} of {}{with}{}", name(of), given.join(", "));
         // More may follow only where no list of members ends the line.
         Words::whole(text, if with.is_empty() { Shape::Simple } else { Shape::Open })
     }

@@ -2,7 +2,10 @@
 
 use super::clause::{Clause, Counted, Link, Reached, Who};
 use super::form::{Form, Forms, Node, Quantity};
-use keeper::terms::VARIABLES;
+use super::told::At;
+use crate::names::Called;
+use keeper::record::meaning::Assigned;
+use keeper::terms::{Entry, VARIABLES};
 
 /// Whom each variable stands for.
 #[derive(Clone, Copy)]
@@ -31,11 +34,49 @@ pub fn of_entry(forms: &Forms, entry: usize) -> Clause {
     Resolver { forms, guests: 0 }.inside(forms.node(entry, true), Who::Here, named)
 }
 
+/// What an entry that is a definition says of its people. Whoever else it speaks
+/// of is the initiator or the target.
+pub fn of_defined(forms: &Forms, entry: usize, called: &Called) -> Clause {
+    let mut named = Named([Who::You; VARIABLES]).with(0, Who::Target);
+    for variable in called.people.iter().flatten() {
+        named = named.with(*variable, Who::Given(*variable));
+    }
+    let here = if called.people.contains(&None) { Who::Here } else { Who::You };
+    Resolver { forms, guests: 0 }.inside(Node { entry, holds: true }, here, named)
+}
+
 /// What a past-time entry says of one member with its free variable, if any,
 /// standing for another.
 pub fn of_pair(forms: &Forms, entry: usize, member: usize, other: usize) -> Clause {
     let named = Named([Who::Member(other); VARIABLES]);
     Resolver { forms, guests: 0 }.inside(forms.node(entry, true), Who::Member(member), named)
+}
+
+/// What an entry, or its negation, says at a member, with every variable
+/// standing for a member.
+pub fn of_place(forms: &Forms, (entry, member, assigned): At, holds: bool) -> Clause {
+    let (here, named) = (Who::Member(member), standing(assigned));
+    Resolver { forms, guests: 0 }.inside(forms.node(entry, holds), here, named)
+}
+
+/// That the step of a reach leads from a member to nobody.
+pub fn no_step(forms: &Forms, (entry, member, assigned): At) -> Clause {
+    let Entry::Reach(variable, step, _) = forms.terms.entries[entry] else {
+        return Clause::Constant(false);
+    };
+    let (here, guest) = (Who::Member(member), Who::Guest(0));
+    let named = standing(assigned).with(variable, guest);
+    let step = Resolver { forms, guests: 1 }.boxed(forms.node(step, true), here, named);
+    let that = Box::new(Clause::Constant(true));
+    Clause::Reached(Reached { quantity: Quantity::No, guest: 0, step, that })
+}
+
+fn standing(assigned: Assigned) -> Named {
+    let mut named = Named([Who::Target; VARIABLES]);
+    for variable in 0..VARIABLES {
+        named = named.with(variable, Who::Member(assigned.member(variable)));
+    }
+    named
 }
 
 struct Resolver<'a> {

@@ -14,16 +14,24 @@ pub struct Verb {
     pub preposition: &'static str,
 }
 
+impl Verb {
+    /// A verb as a source tells it: what follows `may`, and what follows `has`.
+    pub fn told(may: &str, has: &str) -> Verb {
+        let (base, done) = (may.to_string(), has.to_string());
+        Verb { third: base.clone(), base, past: done.clone(), participle: done, preposition: "" }
+    }
+}
+
 /// Verbs that are said without a preposition and inflected by rule.
 const PLAIN: &str = "
-    accept acknowledge add admit allow answer appoint approve archive assess attend audit
-    authorize back ban befriend block borrow call cancel certify change check claim clear close
+    accept acknowledge add admit allow answer appoint approve archive assess attend ask audit
+    authorize back ban befriend block borrow browse call cancel certify change check claim clear close
     confirm contact contain copy create decline delete deny disable discharge dismiss dominate
-    download drop edit employ enable endorse enter expel export fetch fire follow forgive greet
+    download drop edit employ enable endorse enter expel export fetch fire follow greet
     guard help hire ignore import include inspect install invite join judge kick like list load
     lock love manage mark mention mentor move mute name nominate notify open order own pass pin
     play prescribe preview print promote publish query quote rate receive recommend record refer
-    refuse reject release remove rename repair replace report request reserve restore return
+    refuse reject release remove rename remix repair replace report request reserve restore return
     review save scan share sign sponsor star start stop store submit supervise support suspect
     suspend tag thank touch track trust unfriend update upload use verify view visit watch
 ";
@@ -35,6 +43,7 @@ const IRREGULAR: &[(&str, &str, &str)] = &[
     ("feed", "fed", "fed"),
     ("find", "found", "found"),
     ("forget", "forgot", "forgotten"),
+    ("forgive", "forgave", "forgiven"),
     ("get", "got", "got"),
     ("give", "gave", "given"),
     ("have", "had", "had"),
@@ -85,6 +94,7 @@ const PREPOSITIONS: &[(&str, &str)] = &[
     ("lend", "to"),
     ("listen", "to"),
     ("part", "from"),
+    ("peek", "at"),
     ("post", "to"),
     ("publish", "to"),
     ("refer", "to"),
@@ -194,6 +204,7 @@ mod tests {
     #[test]
     fn inflections() {
         assert_eq!(forms("owns"), "own owns owned owned ");
+        assert_eq!(forms("forgive"), "forgive forgives forgave forgiven ");
         assert_eq!(forms("share"), "share shares shared shared with");
         assert_eq!(forms("withdraw"), "withdraw withdraws withdrew withdrawn from");
         assert_eq!(forms("reply"), "reply replies replied replied to");

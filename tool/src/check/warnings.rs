@@ -2,6 +2,7 @@
 
 use super::entries::labels;
 use super::{long, tried};
+use crate::aloud::labels::Labels;
 use crate::aloud::listed;
 use crate::both::Both;
 use crate::folder::{Folder, Sourced};
@@ -72,6 +73,7 @@ pub fn warnings(both: &Both, folder: &Folder) -> Result<Vec<Warning>, Stop> {
     warnings.extend(uncountable(&subject));
     warnings.extend(unkept(&subject));
     warnings.extend(strangers(terms, names));
+    warnings.extend(unsaid(&subject));
     match long::long(&subject) {
         Some(warning) => warnings.push(warning),
         None => warnings.extend(tried::one_sided(both, &subject, &folder.requests())?),
@@ -282,6 +284,21 @@ fn uncountable(subject: &Subject) -> Vec<Warning> {
         warnings.push(subject.warn("count", about, in_terms, || told("this asks".to_string())));
     }
     warnings
+}
+
+/// Events of a source whose names are no verbs that are known.
+fn unsaid(subject: &Subject) -> Vec<Warning> {
+    let Subject { terms, names, sourced, .. } = *subject;
+    let labels = Labels::new(terms, names);
+    let unsaid = (0..terms.events).filter(|event| labels.is_plain_name(terms.relations + event));
+    let warn = |event: usize| {
+        let name = names.event(event);
+        let what =
+            format!("`{name}` is no verb that is known here: it is read as \"do {name} to\"");
+        let right = format!("tell what follows `has`, once: `event {name} said \"peeked at\"`");
+        Warning { kind: "verb", about: About::Policy(event), line: 0, what, right }
+    };
+    unsaid.filter(|_| sourced).map(warn).collect()
 }
 
 /// Names of what there isn't.

@@ -8,12 +8,13 @@ use crate::folder::Folder;
 use crate::json::Json;
 use crate::source::mistake::Mistake;
 use crate::stop::{Stop, UNUSABLE, WELL};
+use crate::watch::watch;
 use std::collections::BTreeSet;
 use std::io::Write;
 use std::path::Path;
 
 pub const HELP: &str = "\
-usage: cuckooormolu check DIR|FILE [--json]
+usage: cuckooormolu check DIR|FILE [--json] [--watch]
 
 Says whether terms are accepted: those of a source, terms.say, by its lines; where
 there is none, those of a terms file. If not: the line with the place marked, what
@@ -23,26 +24,51 @@ the same.
 
 Exit status: 0 if the file is accepted, with warnings or without; 3 if not.
 
-  --json  one line: accepted, and number, line, from, to, what, right of the
-          fault; or counts. Then one for each warning: warning, line, what, right
+  --watch  again whenever a file of the folder changes, until it is stopped
+  --json   one line: accepted, and number, line, from, to, what, right of the
+           fault; or counts. Then one for each warning: warning, line, what, right
 ";
 
 pub fn main(arguments: &[String], out: &mut dyn Write) -> Result<i32, Stop> {
-    let arguments = Arguments::read(arguments, &["--json"], &[])?;
+    let arguments = Arguments::read(arguments, &["--json", "--watch"], &[])?;
     let path = Path::new(arguments.one("a folder or a terms file")?);
-    let folder = Folder::load(path)?;
     let json = arguments.has("--json");
+    if !arguments.has("--watch") {
+        return checked(path, json, out);
+    }
+    watch(&[path], || {
+        match checked(path, json, out) {
+            Err(Stop::Closed) => return Err(Stop::Closed),
+            Err(stop) if json => stop.json().iter().try_for_each(|line| writeln!(out, "{line}"))?,
+            Err(stop) => writeln!(out, "{stop}")?,
+            Ok(_) => {}
+        }
+        if !json {
+            writeln!(out, "-- {} is watched; Ctrl-C ends", path.display())?;
+        }
+        Ok(out.flush()?)
+    })
+}
+
+/// Checks once.
+fn checked(path: &Path, json: bool, out: &mut dyn Write) -> Result<i32, Stop> {
+    let folder = Folder::load(path)?;
     match check(&folder)? {
         Checked::Refused(fault) if json => writeln!(out, "{}", fault_json(&fault))?,
         Checked::Refused(fault) => refused(out, &fault, &folder.terms)?,
         Checked::Accepted(both, warnings) => {
             if json {
                 writeln!(out, "{}", accepted_json(&both))?;
+                for warning in folder.source.iter().flat_map(|source| &source.compiled.warnings) {
+                    let source = folder.source.as_ref().map_or("", |source| &source.text);
+                    writeln!(out, "{}", source_json(warning, source))?;
+                }
                 for warning in &warnings {
                     writeln!(out, "{}", warning_json(warning))?;
                 }
             } else {
                 accepted(out, &both)?;
+                write!(out, "{}", folder.warnings())?;
                 for warning in &warnings {
                     warned(out, warning, &folder)?;
                 }
@@ -141,6 +167,15 @@ fn accepted_json(both: &Both) -> Json {
         ("kept", terms.kept.len().into()),
         ("edges", terms.edges.len().into()),
         ("stored", both.is_stored().into()),
+    ])
+}
+
+fn source_json(warning: &Mistake, text: &str) -> Json {
+    Json::Object(vec![
+        ("warning", "source".into()),
+        ("line", warning.place(text).0.into()),
+        ("what", warning.message.as_str().into()),
+        ("right", warning.advice.clone().into()),
     ])
 }
 

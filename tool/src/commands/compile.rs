@@ -34,6 +34,9 @@ pub fn main(arguments: &[String], out: &mut dyn Write) -> Result<i32, Stop> {
     let read = Folder::from_source(&file)?;
     let compiled = &read.source.as_ref().expect("it has a source").compiled;
     let terms = accepted(compiled)?;
+    if !arguments.has("--json") {
+        eprint!("{}", read.warnings());
+    }
     if arguments.has("--print") {
         out.write_all(&terms)?;
         return Ok(WELL);

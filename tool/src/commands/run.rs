@@ -2,26 +2,28 @@
 
 use crate::arguments::Arguments;
 use crate::both::Verdict;
-use crate::folder::{Folder, Request};
+use crate::folder::{named, Folder, Request};
 use crate::json::Json;
 use crate::replay::{Replay, Step};
 use crate::stop::{Stop, FAILING, WELL};
 use crate::storing::store;
 use crate::words::{answered, Words};
 use keeper::terms::Refusal;
-use std::io::Write;
+use std::io::{self, Write};
 use std::path::Path;
 
 pub const HELP: &str = "\
-usage: cuckooormolu run DIR [--strict] [--json] [--store FILE] [--write FILE]
+usage: cuckooormolu run DIR [-] [--strict] [--json] [--store FILE] [--write FILE]
 
-Makes the requests of DIR/requests.tsv under the terms of DIR and prints each
-with its answer. The terms are what DIR/terms.say compiles to; where there is
+Makes the requests of DIR/requests.say, one a line by name, `load pete saw`, or
+else of DIR/requests.tsv, under the terms of DIR, and prints each with its answer.
+With `-` they come from standard input instead, in either form; `run -` is
+`run . -`. The terms are what DIR/terms.say compiles to; where there is
 none, DIR/terms.tsv, with the names of DIR/names.tsv if it is there. Terms that
 were stored go on from there.
 
   --strict       exit with 1 if a request is denied or refused
-  --json         one JSON object a line
+  --json         one JSON object a line; `made` is the moment that a request made
   --store FILE   then store terms and state, with what has passed, in FILE; its
                  folder is made if need be. Called terms.tsv, it gets the names
                  beside it, and its folder goes on from there
@@ -34,7 +36,17 @@ cannot be read, written or compiled.
 
 pub fn main(arguments: &[String], out: &mut dyn Write) -> Result<i32, Stop> {
     let arguments = Arguments::read(arguments, &["--json", "--strict"], &["--store", "--write"])?;
-    let folder = Folder::load(Path::new(arguments.one("DIR")?))?;
+    let (directory, input) = match &arguments.rest[..] {
+        [only] if only == "-" => (".", true),
+        [directory, dash] if dash == "-" => (directory.as_str(), true),
+        _ => (arguments.one("DIR")?, false),
+    };
+    let mut folder = Folder::load(Path::new(directory))?;
+    if input {
+        let text = io::read_to_string(io::stdin())
+            .map_err(|error| Stop::Failed(format!("cannot read standard input: {error}")))?;
+        folder.requests = named("standard input", &text, &folder.terms, &folder.names)?;
+    }
     let replay = Replay::of(&folder)?;
     let words = Words::new(replay.both.terms(), &folder.names);
     let widths = Widths::of(&replay.steps, &words);
@@ -106,6 +118,7 @@ pub fn fields(step: &Step, words: &Words) -> Vec<(&'static str, Json)> {
         fields.push(("from", words.names.member(from).into()));
         fields.push(("to", words.names.member(to).into()));
     }
+    let made = step.made.then_some(step.moment + 1);
     match step.verdict {
         Verdict::Grant => fields.push(("answer", "grant".into())),
         Verdict::Deny => fields.push(("answer", "deny".into())),
@@ -115,5 +128,6 @@ pub fn fields(step: &Step, words: &Words) -> Vec<(&'static str, Json)> {
             fields.push(("because", vec![words.refusal(step.request, number)].into()));
         }
     }
+    fields.extend(made.map(|moment| ("made", moment.into())));
     fields
 }

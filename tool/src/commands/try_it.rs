@@ -1,6 +1,8 @@
 //! `cuckooormolu try`: requests at a prompt.
 
 use crate::arguments::Arguments;
+use crate::editing::terminal::{self, Raw};
+use crate::editing::Editor;
 use crate::folder::Folder;
 use crate::stop::{Stop, USAGE, WELL};
 use crate::trial::{Reply, Trial};
@@ -19,11 +21,12 @@ Reads lines from standard input and answers each:
   who load               who may do it to whom
   list, members          the requests so far; who and what there is
   undo                   take the last request back
-  save [FILE]            write the requests to FILE, or to DIR/requests.tsv
+  save [FILE]            write the requests to FILE, or to the folder's own file
   help, quit
 
-It begins after the requests of DIR/requests.tsv. A name of several words is
-put in double quotes.
+It begins after the requests of DIR. A name of several words is put in double
+quotes. At a terminal Tab completes a word, the arrow keys move in the line and
+bring earlier ones back.
 
   --first   begin at moment 0, before them
 
@@ -35,12 +38,34 @@ pub fn main(arguments: &[String], out: &mut dyn Write) -> Result<i32, Stop> {
     let arguments = Arguments::read(arguments, &["--first"], &[])?;
     let folder = Folder::load(Path::new(arguments.one("DIR")?))?;
     let mut trial = Trial::new(folder, arguments.has("--first"))?;
-    let input = io::stdin().lock();
-    let prompt = if io::stdin().is_terminal() { "> " } else { "" };
-    if !prompt.is_empty() {
+    let terminal = io::stdin().is_terminal();
+    if terminal {
         writeln!(out, "{}", trial.greeting())?;
     }
-    converse(&mut trial, input, prompt, out)
+    let raw = if terminal && io::stdout().is_terminal() { Raw::new() } else { None };
+    match raw {
+        Some(_raw) => edited(&mut trial, out),
+        None => converse(&mut trial, io::stdin().lock(), if terminal { PROMPT } else { "" }, out),
+    }
+}
+
+const PROMPT: &str = "> ";
+
+/// The same at a terminal in raw mode, where lines are edited, completed with Tab
+/// and come back with the arrow keys.
+fn edited(trial: &mut Trial, out: &mut dyn Write) -> Result<i32, Stop> {
+    let (mut editor, mut input) = (Editor::default(), io::stdin().lock());
+    loop {
+        let line = terminal::line(&mut editor, PROMPT, &mut input, out, &|text| trial.next(text));
+        let line = line.map_err(|error| Stop::Failed(format!("cannot read: {error}")))?;
+        let Some(line) = line else { return Ok(WELL) };
+        match trial.line(&line)? {
+            Reply::Quit => return Ok(WELL),
+            Reply::Said(text) if text.is_empty() => {}
+            Reply::Said(text) => writeln!(out, "{text}")?,
+            Reply::Wrong(text) => writeln!(out, "? {text}")?,
+        }
+    }
 }
 
 /// Answers every line until there are no more or one says quit.

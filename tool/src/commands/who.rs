@@ -12,20 +12,22 @@ use std::io::Write;
 use std::path::Path;
 
 pub const HELP: &str = "\
-usage: cuckooormolu who DIR EVENT [--first] [--json]
+usage: cuckooormolu who DIR EVENT [--from WHO] [--to WHO] [--first] [--json]
 
 Shows who may do EVENT to whom after all requests of DIR/requests.tsv: a row
 for each initiator, a column for each target. EVENT is a name or a number.
 Nothing is requested: the table looks only.
 
-  --first  at moment 0, before any request
-  --json   one JSON object a line: an initiator and its targets
+  --from WHO   only these initiators: a kind of members, or one member
+  --to WHO     only these targets
+  --first      at moment 0, before any request
+  --json       one JSON object a line: an initiator and its targets
 
 Exit status: 0.
 ";
 
 pub fn main(arguments: &[String], out: &mut dyn Write) -> Result<i32, Stop> {
-    let arguments = Arguments::read(arguments, &["--first", "--json"], &[])?;
+    let arguments = Arguments::read(arguments, &["--first", "--json"], &["--from", "--to"])?;
     let [directory, event] = &arguments.rest[..] else {
         return Err(Stop::Usage("give DIR and EVENT".into()));
     };
@@ -37,18 +39,22 @@ pub fn main(arguments: &[String], out: &mut dyn Write) -> Result<i32, Stop> {
     let terms = replay.both.terms();
     let event = folder.names.lookup(Kind::Event, event, terms.events).map_err(Stop::Usage)?;
     let words = Words::new(terms, &folder.names);
-    let matrix = Matrix::now(&replay.both, event)?;
+    let members = |option: &str| match arguments.option(option) {
+        Some(word) => folder.names.members(word, terms.members).map_err(Stop::Usage),
+        None => Ok((0..terms.members).collect()),
+    };
+    let matrix = Matrix::between(&replay.both, event, members("--from")?, members("--to")?)?;
     if !arguments.has("--json") {
         write!(out, "{}", matrix.table(&words))?;
         return Ok(WELL);
     }
-    for (from, row) in matrix.rows.iter().enumerate() {
-        let allowed = (0..row.len()).filter(|&to| row[to]);
-        let targets: Vec<String> = allowed.map(|to| folder.names.member(to)).collect();
+    for (from, row) in matrix.from.iter().zip(&matrix.rows) {
+        let allowed = matrix.to.iter().zip(row).filter(|(_, may)| **may);
+        let targets: Vec<String> = allowed.map(|(to, _)| folder.names.member(*to)).collect();
         let fields = vec![
             ("event", folder.names.event(event).into()),
             ("moment", matrix.moment.into()),
-            ("from", folder.names.member(from).into()),
+            ("from", folder.names.member(*from).into()),
             ("to", targets.into()),
         ];
         writeln!(out, "{}", Json::Object(fields))?;

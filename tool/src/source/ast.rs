@@ -39,6 +39,8 @@ impl Name {
 #[derive(Clone, Debug, Default, PartialEq)]
 pub struct Source {
     pub members: Vec<Name>,
+    /// Members by kind, where they were declared so.
+    pub kinds: Vec<MemberKind>,
     pub relations: Vec<Name>,
     pub events: Vec<Event>,
     /// The events whose denied requests are kept.
@@ -47,9 +49,32 @@ pub struct Source {
     pub first: Vec<Fact>,
 }
 
+/// Members that were declared together under a name.
+#[derive(Clone, Debug, PartialEq)]
+pub struct MemberKind {
+    pub name: Name,
+    pub members: Vec<Name>,
+}
+
+impl Source {
+    /// Adds what another source has, after this one's.
+    pub fn add(&mut self, other: Source) {
+        self.members.extend(other.members);
+        self.kinds.extend(other.kinds);
+        self.relations.extend(other.relations);
+        self.events.extend(other.events);
+        self.kept.extend(other.kept);
+        self.definitions.extend(other.definitions);
+        self.first.extend(other.first);
+    }
+}
+
 #[derive(Clone, Debug, PartialEq)]
 pub struct Event {
     pub name: Name,
+    /// How it is said in sentences, where the source tells: what follows `has`, or
+    /// what follows `may`, a slash, and what follows `has`.
+    pub said: Option<String>,
     pub policy: Formula,
     pub effects: Vec<Effect>,
 }

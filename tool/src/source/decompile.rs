@@ -117,6 +117,7 @@ fn told(terms: &Terms, words: &Words, sizes: &[usize], styles: &[Style]) -> Sour
             }
         });
         source.events.push(Event {
+            said: None,
             name: Name::new(&words.labels[terms.relations + event]),
             policy,
             effects: effects.collect(),

@@ -3,10 +3,13 @@
 mod cursor;
 mod formula;
 mod sentence;
+mod stray;
 
 use super::ast::*;
 use super::mistake::Mistake;
 use super::tokens::{tokens, Token, WORDS};
+use std::collections::HashSet;
+use std::ops::Range;
 
 /// The deepest that formulas may stand in one another.
 const DEEPEST: usize = 200;
@@ -17,23 +20,105 @@ const TALLEST: usize = 600;
 const STATEMENTS: [&str; 9] =
     ["members", "member", "relation", "relations", "event", "events", "keep", "define", "first"];
 
-/// Reads a whole source.
-pub fn parse(text: &str) -> Result<Source, Mistake> {
-    let mut parser = Parser { tokens: tokens(text)?, next: 0, depth: 0, height: 0 };
-    let mut source = Source::default();
-    while *parser.token() != Token::End {
-        parser.statement(&mut source)?;
+/// Reads a whole source, or tells all that is wrong with it.
+pub fn parse(text: &str) -> Result<Source, Vec<Mistake>> {
+    let read = read(text);
+    if read.mistakes.is_empty() {
+        Ok(read.source)
+    } else {
+        Err(read.mistakes)
     }
-    Ok(source)
 }
 
+/// What could be read of a source.
+#[derive(Default)]
+pub struct Read {
+    pub source: Source,
+    pub mistakes: Vec<Mistake>,
+    /// What is accepted and seldom meant.
+    pub warnings: Vec<Mistake>,
+    /// The words of statements that could not be read: any of them may be a name
+    /// that is missed elsewhere.
+    pub doubtful: HashSet<String>,
+    /// Where these statements stand.
+    passed: Vec<Range<usize>>,
+}
+
+/// Reads what can be read. A statement with a mistake is passed over.
+pub fn read(text: &str) -> Read {
+    let (tokens, unknown) = tokens(text);
+    let first = |span: &Span| {
+        let before = text[..span.start].rsplit('\n').next().unwrap_or("");
+        before.chars().all(char::is_whitespace)
+    };
+    let declared = declared(&tokens);
+    let begins = tokens.iter().map(|(_, span)| first(span)).collect();
+    let mut parser = Parser { tokens, begins, declared, ..Parser::default() };
+    let mut read = Read::default();
+    while *parser.token() != Token::End {
+        let (first, start) = (parser.next, parser.span());
+        let mut source = Source::default();
+        match parser.statement(&mut source) {
+            Ok(()) => read.source.add(source),
+            Err(mistake) => {
+                parser.pass_over(first);
+                let words = parser.tokens[first..parser.next].iter();
+                read.doubtful.extend(words.filter_map(|(token, _)| match token {
+                    Token::Word(word) => Some(word.clone()),
+                    _ => None,
+                }));
+                // One mistake a statement is enough.
+                let within = |other: &&Mistake| {
+                    (start.start..parser.span().start).contains(&other.span.start)
+                };
+                let earlier = unknown.iter().filter(within).cloned().chain([mistake]);
+                read.mistakes.extend(earlier.min_by_key(|mistake| mistake.span.start));
+                read.passed.push(start.start..parser.span().start);
+            }
+        }
+    }
+    for mistake in unknown {
+        let passed = read.passed.iter().any(|part| part.contains(&mistake.span.start));
+        let told = |other: &Mistake| other.advice == mistake.advice;
+        if !passed && !read.mistakes.iter().any(told) {
+            read.mistakes.push(mistake);
+        }
+    }
+    read.mistakes.sort_by_key(|mistake| mistake.span.start);
+    read.warnings = parser.warnings;
+    read
+}
+
+/// The words after `relation` and `event`, up to whatever is no list.
+fn declared(tokens: &[(Token, Span)]) -> HashSet<String> {
+    let mut declared = HashSet::new();
+    let mut within = false;
+    for (token, _) in tokens {
+        match token {
+            Token::Word(word) if STATEMENTS[2..6].contains(&word.as_str()) => within = true,
+            Token::Word(word) if WORDS.contains(&word.as_str()) => within = false,
+            Token::Word(word) if within => drop(declared.insert(word.clone())),
+            _ => {}
+        }
+    }
+    declared
+}
+
+#[derive(Default)]
 struct Parser {
     tokens: Vec<(Token, Span)>,
     next: usize,
+    /// Whether each token is the first of its line.
+    begins: Vec<bool>,
+    /// The words that are declared as relations and events.
+    declared: HashSet<String>,
     /// How many formulas the present one stands in.
     depth: usize,
     /// How many formulas stand in one another in the one read last.
     height: usize,
+    /// The token after a walk that says nothing of whom it finds.
+    bare: Option<usize>,
+    warnings: Vec<Mistake>,
 }
 
 impl Parser {
@@ -41,11 +126,13 @@ impl Parser {
         match self.word_ahead(0).unwrap_or("") {
             "member" | "members" => {
                 self.next += 1;
-                source.members.extend(self.names("the name of a member")?);
+                self.members(source)?;
+                self.list_ends()?;
             }
             "relation" | "relations" => {
                 self.next += 1;
                 source.relations.extend(self.names("the name of a relation")?);
+                self.list_ends()?;
             }
             "event" | "events" => {
                 self.next += 1;
@@ -54,9 +141,12 @@ impl Parser {
             "keep" => {
                 self.next += 1;
                 if !self.take("denied") {
-                    return Err(self.expected("`denied` after `keep`", &["denied"]));
+                    return Err(self
+                        .expected("`denied` after `keep`", &["denied"])
+                        .advise("like this: `keep denied load`"));
                 }
                 source.kept.extend(self.names("the name of an event")?);
+                self.list_ends()?;
             }
             "define" => {
                 self.next += 1;
@@ -71,25 +161,49 @@ impl Parser {
             }
             _ => {
                 let what = "a statement: members, relation, event, keep, define or first";
-                return Err(self.expected(what, &STATEMENTS));
+                let mistake = self.expected(what, &STATEMENTS);
+                return Err(match mistake.advice {
+                    Some(_) => mistake,
+                    None => mistake.advise(
+                        "every statement begins with one of these; `cuckooormolu new FOLDER` writes a source to start from",
+                    ),
+                });
             }
         }
         Ok(())
     }
 
+    /// `a, b`, or `players: a, b; presets: c`.
+    fn members(&mut self, source: &mut Source) -> Result<(), Mistake> {
+        loop {
+            let kinded = self.name_ahead(0) && *self.ahead(1) == Token::Sign(':');
+            let kind = if kinded { Some(self.name("the name of a kind")?) } else { None };
+            self.next += usize::from(kinded);
+            let members = self.names("the name of a member")?;
+            source.members.extend(members.clone());
+            source.kinds.extend(kind.map(|name| MemberKind { name, members }));
+            if !self.take_sign(';') {
+                return Ok(());
+            }
+        }
+    }
+
     /// `event a, b when ... then ...`: the same for each of the names.
     fn event(&mut self, events: &mut Vec<Event>) -> Result<(), Mistake> {
-        let names = self.names("the name of an event")?;
+        let mut names = vec![self.event_name()?];
+        while self.take_sign(',') {
+            names.push(self.event_name()?);
+        }
         let policy = if self.take("when") {
             self.formula()?
         } else if self.take("by") {
             if !self.take("anyone") {
-                return Err(self.expected("`anyone` after `by`", &["anyone"]));
+                let mistake = self.expected("`anyone` after `by`", &["anyone"]);
+                return Err(mistake.advise("`by anyone`, or `when` and a condition"));
             }
             Formula { kind: Kind::True, span: self.last() }
         } else {
-            let what = "`when` and who may do it, or `by anyone`";
-            return Err(self.expected(what, &["when", "by"]));
+            return Err(self.no_policy());
         };
         let mut effects = Vec::new();
         if self.take("then") {
@@ -99,16 +213,29 @@ impl Parser {
             }
         }
         self.statement_ends(&["then"])?;
-        for name in names {
-            events.push(Event { name, policy: policy.clone(), effects: effects.clone() });
+        for (name, said) in names {
+            events.push(Event { name, said, policy: policy.clone(), effects: effects.clone() });
         }
         Ok(())
+    }
+
+    /// The name of an event, and how it is said.
+    fn event_name(&mut self) -> Result<(Name, Option<String>), Mistake> {
+        let name = self.name("the name of an event")?;
+        match self.ahead(1).clone() {
+            Token::Quoted(words) if self.is_word("said") => {
+                self.next += 2;
+                Ok((name, Some(words)))
+            }
+            _ => Ok((name, None)),
+        }
     }
 
     fn effect(&mut self) -> Result<Effect, Mistake> {
         let add = self.take("add");
         if !add && !self.take("remove") {
-            return Err(self.expected("`add` or `remove`", &["add", "remove"]));
+            let mistake = self.expected("`add` or `remove`", &["add", "remove"]);
+            return Err(mistake.advise("like this: `then add me owns target`"));
         }
         let from = self.person("`me` or `target`")?;
         if self.take("is") {
@@ -141,7 +268,10 @@ impl Parser {
         } else {
             (first, Vec::new())
         };
-        self.want_sign(':', "before what is defined")?;
+        if !self.take_sign(':') {
+            let mistake = self.expected("`:` before what is defined", &[]);
+            return Err(mistake.advise("like this: `define p is trusted: someone friend p`"));
+        }
         let body = self.formula()?;
         self.statement_ends(&[])?;
         Ok(Definition { name, parameters, body })
@@ -164,7 +294,8 @@ impl Parser {
         }
         let both = self.take("both");
         if both && !self.take("ways") {
-            return Err(self.expected("`ways` after `both`", &["ways"]));
+            let mistake = self.expected("`ways` after `both`", &["ways"]);
+            return Err(mistake.advise("like this: `first dora friend pete both ways`"));
         }
         for to in ends {
             let back = Fact { from: to.clone(), relation: relation.clone(), to: from.clone() };
@@ -176,16 +307,9 @@ impl Parser {
 
     /// After a formula nothing but the next statement may come.
     fn statement_ends(&self, also: &[&str]) -> Result<(), Mistake> {
-        let ends = match self.token() {
-            Token::End => true,
-            Token::Word(word) => STATEMENTS.contains(&word.as_str()),
-            _ => false,
-        };
-        if ends {
+        if self.at_statement() {
             return Ok(());
         }
-        let known: Vec<&str> = ["and", "or", "since"].into_iter().chain(also.to_vec()).collect();
-        let known: Vec<&str> = known.into_iter().chain(STATEMENTS).collect();
-        Err(self.expected("`and`, `or`, `since` or the next statement", &known))
+        Err(self.stray(also))
     }
 }

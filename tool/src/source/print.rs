@@ -8,7 +8,22 @@ const WIDTH: usize = 92;
 /// The whole text. Reading it gives the same source.
 pub fn print(source: &Source) -> String {
     let mut text = String::new();
-    list(&mut text, "member", &source.members);
+    let kind = |member: &Name| {
+        source
+            .kinds
+            .iter()
+            .position(|kind| kind.members.iter().any(|other| other.text == member.text))
+    };
+    for members in source.members.chunk_by(|one, other| kind(one) == kind(other)) {
+        match kind(&members[0]) {
+            None => list(&mut text, "member", members),
+            Some(place) => {
+                let names: Vec<&str> = members.iter().map(|name| &name.text[..]).collect();
+                let kind = &source.kinds[place].name.text;
+                text.push_str(&format!("members {kind}: {}\n", names.join(", ")));
+            }
+        }
+    }
     list(&mut text, "relation", &source.relations);
     for definition in &source.definitions {
         let names: Vec<&str> = definition.parameters.iter().map(|name| &name.text[..]).collect();
@@ -21,7 +36,11 @@ pub fn print(source: &Source) -> String {
         |one: &Event, other: &Event| one.policy == other.policy && one.effects == other.effects;
     for events in source.events.chunk_by(alike) {
         let event = &events[0];
-        let names: Vec<&str> = events.iter().map(|event| &event.name.text[..]).collect();
+        let said = |event: &Event| match &event.said {
+            Some(words) => format!("{} said \"{words}\"", event.name.text),
+            None => event.name.text.clone(),
+        };
+        let names: Vec<String> = events.iter().map(said).collect();
         let head = format!("\nevent {}", names.join(", "));
         if event.policy.kind == Kind::True {
             text.push_str(&format!("{head} by anyone\n"));

@@ -15,6 +15,9 @@ const MOST: usize = 200_000;
 /// The deepest that formulas may stand in one another once all is unfolded.
 const DEEPEST: usize = 1_000;
 
+/// What helps where definitions unfold too far.
+const SHORTER: &str = "let fewer definitions use one another, or use each less often";
+
 /// The names of people in sight, the innermost last.
 type Scope = Vec<(String, Who)>;
 
@@ -30,6 +33,9 @@ pub struct Resolver<'a> {
     made: usize,
     /// How many formulas the present one stands in.
     depth: usize,
+    /// The definitions that lead back to themselves, with the mistake.
+    cyclic: HashMap<usize, Mistake>,
+    warnings: Vec<Mistake>,
 }
 
 impl<'a> Resolver<'a> {
@@ -38,12 +44,28 @@ impl<'a> Resolver<'a> {
         // `x1` to `x15` ask for the variable of their number.
         people.extend((1..VARIABLES).map(|x| (format!("x{x}"), Some(x))));
         let (unfolded, inside) = (HashMap::new(), Vec::new());
-        Resolver { source, people, unfolded, inside, made: 0, depth: 0 }
+        let (cyclic, warnings) = (HashMap::new(), Vec::new());
+        Resolver { source, people, unfolded, inside, made: 0, depth: 0, cyclic, warnings }
     }
 
     /// What a policy says, of the initiator.
     pub fn policy(&mut self, policy: &Formula) -> Result<Said, Mistake> {
+        self.begin();
         self.formula(policy, &mut Scope::new())
+    }
+
+    /// What was met so far that is accepted and seldom meant, each place once.
+    pub fn take_warnings(&mut self) -> Vec<Mistake> {
+        let mut warnings = std::mem::take(&mut self.warnings);
+        warnings.sort_by_key(|warning| warning.span.start);
+        warnings.dedup_by_key(|warning| warning.span.start);
+        warnings
+    }
+
+    /// Nothing is inside anything: a mistake may have left something so.
+    fn begin(&mut self) {
+        self.inside.clear();
+        self.depth = 0;
     }
 
     /// A person's name, for messages.
@@ -58,6 +80,7 @@ impl<'a> Resolver<'a> {
 
     /// A body that nobody uses is still read, so that its mistakes are found.
     pub fn check_definition(&mut self, place: usize) -> Result<(), Mistake> {
+        self.begin();
         let people = self.source.definitions[place].parameters.clone();
         let scope = Scope::new();
         let ids = people.iter().map(|name| Who::Other(self.bound(&name.text, &scope))).collect();
@@ -86,7 +109,7 @@ impl<'a> Resolver<'a> {
         self.made += 1;
         if self.made > MOST {
             let message = format!("the definitions unfold to more than {MOST} formulas");
-            return Err(Mistake::new(formula.span, message));
+            return Err(Mistake::new(formula.span, message).advise(SHORTER));
         }
         self.depth += 1;
         let said =
@@ -95,7 +118,7 @@ impl<'a> Resolver<'a> {
         self.depth -= 1;
         said.filter(|said| said.height < DEEPEST).ok_or_else(|| {
             let message = format!("the definitions unfold more than {DEEPEST} deep");
-            Mistake::new(formula.span, message)
+            Mistake::new(formula.span, message).advise(SHORTER)
         })
     }
 
@@ -134,6 +157,7 @@ impl<'a> Resolver<'a> {
                 said(Form::At(who, self.formula(f, scope)?))
             }
             Kind::As(name, f) => {
+                self.hiding(name, scope);
                 let id = self.bound(&name.text, scope);
                 scope.push((name.text.clone(), Who::Other(id)));
                 let body = self.formula(f, scope);
@@ -208,7 +232,15 @@ impl<'a> Resolver<'a> {
             };
             let name = &definition.name.text;
             let message = format!("`{name}` is said of {}, here of {}", count(due), count(given));
-            return Err(Mistake::new(span, message));
+            let people: Vec<&str> =
+                definition.parameters.iter().map(|name| name.text.as_str()).collect();
+            let head = match &people[..] {
+                [] => name.clone(),
+                [one] => format!("{one} is {name}"),
+                [one, other] => format!("{one} {name} {other}"),
+                several => format!("{name}({})", several.join(", ")),
+            };
+            return Err(Mistake::new(span, message).advise(format!("it is defined as `{head}`")));
         }
         // Whoever is `here` gets a name: in the definition it may be another.
         let mut names = Vec::new();
@@ -233,9 +265,11 @@ impl<'a> Resolver<'a> {
             return Ok(known.clone());
         }
         let definition = &self.source.definitions[place];
-        if self.inside.contains(&place) {
-            let message = format!("`{}` is defined by itself", definition.name.text);
-            return Err(Mistake::new(span, message));
+        if let Some(mistake) = self.cyclic.get(&place) {
+            return Err(mistake.clone());
+        }
+        if let Some(first) = self.inside.iter().position(|inside| *inside == place) {
+            return Err(self.cycle(first, place, span));
         }
         let names = definition.parameters.iter().map(|name| name.text.clone());
         let mut scope: Scope = names.zip(key.1.iter().copied()).collect();
@@ -244,6 +278,31 @@ impl<'a> Resolver<'a> {
         self.inside.pop();
         self.unfolded.insert(key, unfolded.clone());
         Ok(unfolded)
+    }
+}
+
+impl Resolver<'_> {
+    /// The mistake that a definition leads back to itself, and by which way.
+    fn cycle(&mut self, first: usize, place: usize, span: Span) -> Mistake {
+        let definitions = &self.source.definitions;
+        let around = self.inside[first..].to_vec();
+        let name = |place: &usize| definitions[*place].name.text.as_str();
+        let way: Vec<&str> = around.iter().chain([&place]).map(name).collect();
+        let way = way.join(" uses ");
+        let message = format!("`{}` is defined by itself: {way}", name(&place));
+        let advice = "a definition can't use itself; say it by relations and events";
+        let mistake = Mistake::new(span, message).advise(advice);
+        self.cyclic.extend(around.into_iter().map(|place| (place, mistake.clone())));
+        mistake
+    }
+
+    /// Warns of a name that hides another that is in sight.
+    fn hiding(&mut self, name: &Name, scope: &Scope) {
+        if scope.iter().any(|(other, _)| *other == name.text) {
+            let message = format!("`{0}` hides another `{0}` that is in sight", name.text);
+            let advice = "give one of the two another name";
+            self.warnings.push(Mistake::new(name.span, message).advise(advice));
+        }
     }
 }
 

@@ -17,6 +17,8 @@ pub enum Token {
     Word(String),
     Number(usize),
     Sign(char),
+    /// What stands in double quotes after `said`.
+    Quoted(String),
     End,
 }
 
@@ -24,9 +26,9 @@ pub enum Token {
 const BYTE_ORDER_MARK: char = '\u{feff}';
 
 /// Cuts a text; the last token is the end. `#` begins a comment that goes to
-/// the end of its line.
-pub fn tokens(text: &str) -> Result<Vec<(Token, Span)>, Mistake> {
-    let mut found = Vec::new();
+/// the end of its line. What means nothing is told and passed over.
+pub fn tokens(text: &str) -> (Vec<(Token, Span)>, Vec<Mistake>) {
+    let (mut found, mut mistakes) = (Vec::new(), Vec::new());
     let mut place = 0;
     while let Some(letter) = text[place..].chars().next() {
         let rest = &text[place..];
@@ -35,14 +37,32 @@ pub fn tokens(text: &str) -> Result<Vec<(Token, Span)>, Mistake> {
         } else if letter == '#' {
             rest.find('\n').unwrap_or(rest.len())
         } else {
-            let (token, length) = token(rest, letter, place)?;
-            found.push((token, Span { start: place, end: place + length }));
-            length
+            let said = letter == '"'
+                && matches!(found.last(), Some((Token::Word(word), _)) if word == "said");
+            let token = match said {
+                true => quoted(rest, place),
+                false => token(rest, letter, place),
+            };
+            match token {
+                Ok((token, length)) => {
+                    found.push((token, Span { start: place, end: place + length }));
+                    length
+                }
+                // It may stand inside a name, so that nothing can be said of the rest.
+                Err(mistake) if letter.is_control() => {
+                    return (vec![(Token::End, mistake.span)], vec![mistake]);
+                }
+                Err(mistake) => {
+                    let length = mistake.span.end - mistake.span.start;
+                    mistakes.push(mistake);
+                    length
+                }
+            }
         };
         place += length;
     }
     found.push((Token::End, Span { start: text.trim_end().len(), end: text.trim_end().len() }));
-    Ok(found)
+    (found, mistakes)
 }
 
 fn token(rest: &str, letter: char, place: usize) -> Result<(Token, usize), Mistake> {
@@ -58,18 +78,34 @@ fn token(rest: &str, letter: char, place: usize) -> Result<(Token, usize), Mista
         let number = rest[..length].parse();
         let number = number.map_err(|_| {
             Mistake::new(span, format!("`{}` is neither a number nor a name", &rest[..length]))
-                .advise("a name begins with a letter")
+                .advise("a name begins with a letter: put one before the digits")
         })?;
         return Ok((Token::Number(number), length));
     }
-    if ":,()".contains(letter) {
+    if ":,;()".contains(letter) {
         return Ok((Token::Sign(letter), 1));
     }
     Err(unknown(rest, letter, place))
 }
 
+/// Words in double quotes, which end on their line.
+fn quoted(rest: &str, place: usize) -> Result<(Token, usize), Mistake> {
+    let line = rest[1..].lines().next().unwrap_or("");
+    match line.find('"') {
+        Some(end) if !line[..end].trim().is_empty() => {
+            Ok((Token::Quoted(line[..end].trim().to_string()), end + 2))
+        }
+        Some(_) => Err(Mistake::new(Span { start: place, end: place + 2 }, "nothing is said here")
+            .advise("like this: `event peek said \"peeked at\"`")),
+        None => {
+            Err(Mistake::new(Span { start: place, end: place + 1 }, "this quote is not closed")
+                .advise("put a `\"` after the words, on the same line"))
+        }
+    }
+}
+
 /// Signs of other languages, and what is written here instead.
-const ELSEWHERE: [(&str, &str); 14] = [
+const ELSEWHERE: [(&str, &str); 13] = [
     ("&&", "write `and`"),
     ("||", "write `or`"),
     ("&", "write `and`"),
@@ -82,17 +118,29 @@ const ELSEWHERE: [(&str, &str); 14] = [
     ("//", "a comment begins with `#`"),
     ("--", "a comment begins with `#`"),
     ("->", "write from, relation, to: `dora owns saw`"),
-    (";", "parts of a list are parted by `,`; nothing ends a statement"),
-    (".", "nothing ends a statement"),
+    (".", "delete it: nothing ends a statement"),
 ];
 
+/// Marks that names are put into elsewhere.
+const QUOTES: [char; 8] = ['"', '\'', '`', '“', '”', '„', '‘', '’'];
+
 fn unknown(rest: &str, letter: char, place: usize) -> Mistake {
+    let end = place + letter.len_utf8();
+    if QUOTES.contains(&letter) {
+        let message = format!("`{letter}` has no meaning here");
+        return Mistake::new(Span { start: place, end }, message).advise(
+            "names are written without quotes; a name of two words is joined by `-`: warm-pad",
+        );
+    }
+    if letter.is_control() {
+        let message = format!("a character that cannot be seen, U+{:04X}", letter as u32);
+        return Mistake::new(Span { start: place, end }, message).advise("delete it");
+    }
     let found = ELSEWHERE.iter().find(|(sign, _)| rest.starts_with(sign));
     let length = found.map_or(letter.len_utf8(), |(sign, _)| sign.len());
     let span = Span { start: place, end: place + length };
     let mistake = Mistake::new(span, format!("`{}` has no meaning here", &rest[..length]));
-    match found {
-        Some((_, instead)) => mistake.advise(*instead),
-        None => mistake,
-    }
+    let instead =
+        found.map_or("the signs are `:`, `,`, `(`, `)` and, before a comment, `#`", |f| f.1);
+    mistake.advise(instead)
 }

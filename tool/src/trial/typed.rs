@@ -18,6 +18,35 @@ quit                 end";
 
 const WORDS: [&str; 9] = ["look", "why", "who", "undo", "list", "members", "save", "help", "quit"];
 
+/// The words that may stand where a line ends.
+pub fn next(before: &str, terms: &Terms, names: &Names) -> Vec<String> {
+    let all = |kind: Kind, count: usize| -> Vec<String> {
+        let named = (0..count).filter_map(|number| names.given(kind, number));
+        let quoted = |name: &str| match name.contains(' ') {
+            true => format!("\"{name}\""),
+            false => name.to_string(),
+        };
+        named.map(quoted).collect()
+    };
+    let mut words = split(before);
+    if !before.ends_with(' ') {
+        words.pop();
+    }
+    let first = words.first().map(String::as_str);
+    let asked = matches!(first, Some("look" | "why" | "who"));
+    match (first, words.len() - usize::from(asked)) {
+        (None, _) => {
+            let commands = WORDS.iter().map(|word| word.to_string());
+            all(Kind::Event, terms.events).into_iter().chain(commands).collect()
+        }
+        (Some("who"), 0) => all(Kind::Event, terms.events),
+        (Some("why"), 0) => [all(Kind::Event, terms.events), vec!["all".into()]].concat(),
+        (Some("look"), 0) => all(Kind::Event, terms.events),
+        (Some(word), 1 | 2) if word != "who" => all(Kind::Member, terms.members),
+        _ => Vec::new(),
+    }
+}
+
 /// An event, its initiator and its target.
 pub type Call = (usize, usize, usize);
 
@@ -96,7 +125,7 @@ fn usage(word: &str) -> String {
 }
 
 /// The words of a line; what stands in double quotes is one word, arrows are none.
-fn split(line: &str) -> Vec<String> {
+pub(crate) fn split(line: &str) -> Vec<String> {
     let mut words = Vec::new();
     for (index, part) in line.split('"').enumerate() {
         if index % 2 == 1 {
@@ -127,6 +156,20 @@ mod tests {
         assert_eq!(said("look share 1 -> dora"), Ok(Typed::Look((0, 1, 0))));
         assert_eq!(said("why all"), Ok(Typed::Why(true)));
         assert_eq!(said("save a.tsv"), Ok(Typed::Save(Some("a.tsv".into()))));
+    }
+
+    #[test]
+    fn words_that_may_come() {
+        let terms = Terms { members: 2, events: 1, ..Terms::default() };
+        let names = Names::read("member\t0\tdora\nmember\t1\tthe saw\nevent\t0\tshare\n").unwrap();
+        let next = |before: &str| next(before, &terms, &names).join(" ");
+        assert!(next("sh").starts_with("share look why"));
+        assert_eq!(next("share "), "dora \"the saw\"");
+        assert_eq!(next("look "), "share");
+        assert_eq!(next("look share dora t"), "dora \"the saw\"");
+        assert_eq!(next("why "), "share all");
+        assert_eq!(next("who share "), "");
+        assert_eq!(next("share dora dora "), "");
     }
 
     #[test]

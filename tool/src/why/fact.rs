@@ -1,11 +1,13 @@
-//! What an explanation is told in: facts about the record, and words for them.
+//! What an explanation is told in: facts about the record, and sentences for them.
 
-use super::phrase::{Phrase, Speaker};
 use super::reason::{Claim, Place};
 use crate::aloud::listed;
+use crate::aloud::told::{At, Telling};
 use crate::words::Words;
 use keeper::record::Graph;
-use keeper::terms::Entry;
+
+/// An end of an edge that nobody is.
+const NOBODY: &str = "no member";
 
 /// Something that is so of the record.
 #[derive(Clone, Copy, Debug, PartialEq, Eq)]
@@ -35,6 +37,8 @@ pub enum Fact {
     Since { place: Place, first: usize },
     /// The step of the place's reach leads to nobody.
     NoStep(Place),
+    /// A definition, or its negation; why stands under it.
+    Defined(Claim),
     /// `top`, everywhere.
     Always,
     /// Told without going on.
@@ -42,8 +46,10 @@ pub enum Fact {
 }
 
 impl Fact {
-    /// Words for it, as seen from a later moment.
-    pub fn told(self, words: &Words, graphs: &[Graph], now: usize) -> String {
+    /// A sentence for it, as seen from a later moment.
+    pub fn told(self, telling: &Telling, words: &Words, graphs: &[Graph], now: usize) -> String {
+        let (relations, name) = (words.terms.relations, |member| words.member(member));
+        let then = |moment: usize| moment != now;
         let at = |moment: usize| match moment == now {
             true => String::new(),
             false => format!(" at moment {moment}"),
@@ -53,40 +59,47 @@ impl Fact {
             false => format!(" up to moment {moment}"),
         };
         match self {
-            Fact::Edge { label, from, to, moment } if label >= words.terms.relations => {
-                format!("{} at moment {moment}", words.edge(label, from, to))
+            Fact::Edge { label, from, to, moment } if label >= relations => {
+                let event = telling.event(label, &name(from), &name(to), true);
+                format!("{event} at moment {moment}")
             }
-            Fact::Edge { label, from, to, moment } => words.edge(label, from, to) + &at(moment),
+            Fact::Edge { label, from, to, moment } => {
+                telling.edge(label, &name(from), &name(to), then(moment), true) + &at(moment)
+            }
             Fact::NoEdge { label, from, to, moment } => {
-                let end = |member: Option<usize>| {
-                    member.map_or_else(|| "anybody".to_string(), |member| words.member(member))
-                };
-                let edge = words.arrow(label, &end(from), &end(to));
-                match graphs[moment].event {
-                    Some(event) if label >= words.terms.relations && moment == now => {
-                        format!("the last event is {}, not {edge}", words.happened(event))
-                    }
-                    _ => format!("no {edge}{}", at(moment)),
+                let end = |member: Option<usize>| member.map_or(NOBODY.to_string(), name);
+                let (ends, holds) = ((end(from), end(to)), from.is_none() || to.is_none());
+                if label < relations || !then(moment) {
+                    let edge = telling.edge(label, &ends.0, &ends.1, then(moment), holds);
+                    let event = graphs[moment].event.filter(|_| label >= relations);
+                    let last = event.map(|event| {
+                        let (from, to) = (name(event.from), name(event.to));
+                        telling.edge(event.label(words.terms), &from, &to, false, true)
+                    });
+                    let last = last.map_or_else(String::new, |last| format!(": {last}"));
+                    return edge + &last + &at(moment);
                 }
+                telling.event(label, &ends.0, &ends.1, holds) + &at(moment)
             }
             Fact::Only { label, member, out, others, moment } => {
-                let (here, others) = (words.member(member), only(words, others));
+                let here = words.member(member);
+                let others = only(words, others, telling.begins(label) != out);
                 let (from, to) = if out { (here, others) } else { (others, here) };
-                words.arrow(label, &from, &to) + &at(moment)
+                telling.edge(label, &from, &to, then(moment), true) + &at(moment)
             }
             Fact::Count { label, member, others, least, moment } => {
-                let members = (0..words.terms.members).filter(|other| others >> other & 1 == 1);
-                let names: Vec<String> = members.map(|other| words.member(other)).collect();
-                let (here, found) = (words.member(member), names.len());
-                let edge = match &names[..] {
-                    [] => words.arrow(label, &here, "nobody who counts"),
-                    names => words.arrow(label, &here, &listed(names)),
+                let here = words.member(member);
+                let fitting = names(words, others);
+                let one = |other: &String| telling.edge(label, &here, other, then(moment), true);
+                let told: Vec<String> = fitting.iter().map(one).collect();
+                let count = match (fitting.len(), fitting.len() >= least) {
+                    (0, _) => return format!("none of at least {least} counts{}", at(moment)),
+                    (1, true) => format!("1 of at least {least} counts"),
+                    (1, false) => format!("only 1 of at least {least} counts"),
+                    (found, true) => format!("{found} of at least {least} count"),
+                    (found, false) => format!("only {found} of at least {least} count"),
                 };
-                let asked = match found >= least {
-                    true => format!("{found} of at least {least}"),
-                    false => format!("only {found} of at least {least}"),
-                };
-                format!("{edge}{}, {asked}", at(moment))
+                format!("{count}{}: {}", at(moment), listed(&told))
             }
             Fact::Same { member, variable: 0 } => format!("{} is the target", words.member(member)),
             Fact::Same { member, .. } => format!("both are {}", words.member(member)),
@@ -95,29 +108,31 @@ impl Fact {
             }
             Fact::NoMomentBefore => "there is no moment before moment 0".to_string(),
             Fact::Stored(Claim { place, holds }) => {
-                format!("as stored: {}", phrase(words, place, holds).text)
+                format!("when it was stored, {}", telling.holds(whose(place), holds, true))
             }
-            Fact::Never { place, after: false } => never(words, place) + &up_to(place.moment),
-            Fact::Never { place, after: true } => {
-                format!("since then {}{}", never(words, place), up_to(place.moment))
+            Fact::Never { place, after } => {
+                let stored = if after { "since then " } else { "" };
+                let never = telling.never(whose(place), then(place.moment));
+                format!("{stored}{never}{}", up_to(place.moment))
             }
-            Fact::Since { place, .. } => {
-                let text = phrase(words, place, true).text;
-                let until = match place.moment == now {
-                    true => "since".to_string(),
-                    false => format!("from then to moment {}", place.moment),
+            Fact::Since { place, .. } => telling.since(whose(place), then(place.moment)),
+            Fact::NoStep(place) => {
+                telling.no_step(whose(place), then(place.moment)) + &at(place.moment)
+            }
+            Fact::Defined(Claim { place, holds }) => {
+                let Some(called) = words.names.defined(place.entry) else { return String::new() };
+                let person = |variable: &Option<usize>| {
+                    words.member(variable.map_or(place.member, |x| place.assigned.member(x)))
                 };
-                match text.starts_with("no ") {
-                    true => format!("{text} {until}"),
-                    false => format!("always {until}: {text}"),
-                }
+                let people: Vec<String> = called.people.iter().map(person).collect();
+                let said = telling.defined(called, &people, holds, then(place.moment));
+                said + &at(place.moment)
             }
-            Fact::NoStep(place) => no_step(words, place) + &at(place.moment),
             Fact::Always => "always".to_string(),
             Fact::Claim(Claim { place, holds }) => {
-                let verb = if holds { "holds" } else { "fails" };
+                let verb = if holds { "holds" } else { "does not hold" };
                 let member = words.member(place.member);
-                format!("entry {} {verb} at {member}{}", place.entry, at(place.moment))
+                format!("a further condition {verb} of {member}{}", at(place.moment))
             }
         }
     }
@@ -134,33 +149,22 @@ impl Fact {
     }
 }
 
-fn phrase(words: &Words, place: Place, holds: bool) -> Phrase {
-    Speaker::new(words, place).say(place.entry, holds)
+/// Whose entry is said.
+fn whose(place: Place) -> At {
+    (place.entry, place.member, place.assigned)
 }
 
-/// `nobody is x with once share dora → x`.
-fn no_step(words: &Words, place: Place) -> String {
-    match words.terms.entries[place.entry] {
-        Entry::Reach(x, f, _) => Speaker::new(words, place).no_step(x, f),
-        _ => String::new(),
-    }
-}
-
-/// `never share dora → pete`, or a clause that was right at no moment.
-fn never(words: &Words, place: Place) -> String {
-    let absent = phrase(words, place, false);
-    match absent.text.strip_prefix("no ") {
-        Some(edge) if absent.is_edge() => format!("never {edge}"),
-        _ => format!("at no moment: {}", phrase(words, place, true).text),
-    }
-}
-
-/// `only ada, bea and cem`.
-fn only(words: &Words, others: u64) -> String {
+/// The members of a set.
+fn names(words: &Words, others: u64) -> Vec<String> {
     let members = (0..words.terms.members).filter(|member| others >> member & 1 == 1);
-    let names: Vec<String> = members.map(|member| words.member(member)).collect();
-    match &names[..] {
-        [] => "nobody".to_string(),
-        names => format!("only {}", listed(names)),
+    members.map(|member| words.member(member)).collect()
+}
+
+/// `only ada, bea and cem`; as a subject, which may be several, `none but`.
+fn only(words: &Words, others: u64, subject: bool) -> String {
+    match (&names(words, others)[..], subject) {
+        ([], _) => NOBODY.to_string(),
+        (names, true) => format!("none but {}", listed(names)),
+        (names, false) => format!("only {}", listed(names)),
     }
 }

@@ -2,6 +2,7 @@
 
 use super::fact::Fact;
 use super::reason::{neighbours, Claim, Place, Reason, Reasons};
+use crate::names::Names;
 use keeper::record::meaning::Assigned;
 use keeper::terms::Entry;
 use std::collections::HashSet;
@@ -65,12 +66,13 @@ impl Story {
     }
 }
 
-/// The stories of a claim. All of them are needed. Those of a denial that came
+/// The stories of a claim, of a request that is granted or denied. The claim's own
+/// entry is told even if it is a definition. All stories are needed. Those of a denial that came
 /// nearest to a grant stand first, those that only say who is whom last.
-pub fn stories(reasons: &mut Reasons, claim: Claim) -> Vec<Story> {
-    let mut teller = Teller { reasons, granted: claim.holds, left: LONGEST };
-    let mut stories = distinct(teller.tell(claim));
-    if !claim.holds {
+pub fn stories(reasons: &mut Reasons, names: &Names, claim: Claim, granted: bool) -> Vec<Story> {
+    let mut teller = Teller { reasons, names, granted, left: LONGEST };
+    let mut stories = distinct(teller.inside(claim));
+    if !granted {
         stories.sort_by_key(|story| std::cmp::Reverse(story.weight()));
     }
     stories.sort_by_key(Story::is_slight);
@@ -103,6 +105,8 @@ fn telling(mut stories: Vec<Story>) -> Vec<Story> {
 
 struct Teller<'t, 'r> {
     reasons: &'t mut Reasons<'r>,
+    /// Definitions are told by name.
+    names: &'t Names,
     /// Whether the request is granted: then a neighbour's part does not turn the story.
     granted: bool,
     left: usize,
@@ -110,6 +114,15 @@ struct Teller<'t, 'r> {
 
 impl Teller<'_, '_> {
     fn tell(&mut self, claim: Claim) -> Vec<Story> {
+        let entry = claim.place.entry;
+        let passed = self.names.passes_on(entry, self.reasons.terms());
+        match self.names.defined(entry).filter(|_| !passed) {
+            Some(_) => vec![Story::of(Fact::Defined(claim))],
+            None => self.inside(claim),
+        }
+    }
+
+    fn inside(&mut self, claim: Claim) -> Vec<Story> {
         if self.left == 0 {
             return vec![Story::of(Fact::Claim(claim))];
         }
@@ -122,6 +135,7 @@ impl Teller<'_, '_> {
                 Entry::Var(variable) if claim.holds => Fact::Same { member: other, variable },
                 _ => Fact::Differ { member: place.member, other },
             })],
+            Reason::Side(inner) if !self.granted => self.sides(place, inner),
             Reason::Opposite(inner) | Reason::Side(inner) => self.tell(inner),
             Reason::Before(inner) | Reason::Follow(inner) => self.tell(inner),
             Reason::Neither(first, second) => {
@@ -154,6 +168,20 @@ impl Teller<'_, '_> {
             }
             Reason::Never(failing) => self.never(failing),
         }
+    }
+
+    /// Where a request is denied, an `or` that holds is a condition that fails: all
+    /// of its sides that hold are told.
+    fn sides(&mut self, place: Place, first: Claim) -> Vec<Story> {
+        let mut stories = self.tell(first);
+        if let Entry::Or(f, g) = self.reasons.terms().entries[place.entry] {
+            let other = if first.place.entry == f { g } else { f };
+            let other = self.reasons.claim(Place { entry: other, ..place });
+            if other.holds {
+                stories.extend(self.tell(other));
+            }
+        }
+        stories
     }
 
     fn began(&mut self, began: Claim, after: Vec<Claim>) -> Story {

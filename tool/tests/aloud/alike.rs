@@ -30,7 +30,7 @@ fn names(set: [&str; 5]) -> Names {
 /// The policies' clauses with all that their numbered clauses say.
 fn sayings(terms: &Terms, names: &Names) -> Vec<(String, String)> {
     let aloud = Aloud::of(terms, names);
-    let forms = Forms::new(terms);
+    let forms = Forms::new(terms, &Names::default());
     let clauses: Vec<String> = aloud.clauses.iter().map(|sentence| sentence.text()).collect();
     let mut apart = Vec::new();
     let mut meanings = Vec::new();

@@ -5,6 +5,7 @@ use cuckooormolu_tool::aloud::clause::{Clause, Counted, Link, Reached, Who};
 use cuckooormolu_tool::aloud::form::{Forms, Quantity};
 use cuckooormolu_tool::aloud::resolve;
 use cuckooormolu_tool::names::Labelled;
+use cuckooormolu_tool::names::Names;
 use keeper::generate::size::Size;
 use keeper::generate::{calls, formulas, Rng};
 use keeper::record::meaning::Assigned;
@@ -144,7 +145,7 @@ fn clauses_mean_what_entries_mean() {
     for seed in 0..5_000 {
         let record = random_record(seed);
         let terms = record.terms();
-        let forms = Forms::new(terms);
+        let forms = Forms::new(terms, &Names::default());
         let now = record.graphs().len() - 1;
         for &entry in &terms.policies {
             let clause = resolve::of_policy(&forms, entry);
@@ -184,7 +185,7 @@ fn pairs_mean_what_tables_say() {
     let (mut compared, mut held) = (0, 0);
     for seed in 0..600 {
         let record = random_record(seed);
-        let forms = Forms::new(record.terms());
+        let forms = Forms::new(record.terms(), &Names::default());
         let now = record.graphs().len() - 1;
         let tables = record.state().past.tables;
         for (entry, table) in record.terms().past().into_iter().zip(&tables) {

@@ -91,7 +91,7 @@ fn oneself() {
     assert_eq!(said("var 1 0, out 0 0, bind 1 1"), "you own yourself.");
     assert_eq!(
         said("var 1 0, out 1 0, bind 1 1, out 0 2"),
-        "you own some member that has a blacklist edge to itself."
+        "you own some member that is a blacklist."
     );
 }
 
@@ -170,7 +170,7 @@ fn the_past() {
     );
     assert_eq!(
         said(&format!("{shared}, in 3 1, not 3 0, since 4 2, not 5 0")),
-        "it is not so that the target has at some time shared with you and has not withdrawn from \
+        "it is not the case that the target has at some time shared with you and has not withdrawn from \
          you since."
     );
     assert_eq!(

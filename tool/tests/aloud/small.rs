@@ -92,7 +92,7 @@ fn small_formulas_that_sound_alike_are_the_same() {
 fn sound_different(all: impl Iterator<Item = Formula>, names: &Names) {
     let mut said: HashMap<String, String> = HashMap::new();
     for terms in all.filter_map(|formula| policy(&formula)) {
-        let clause = resolve::of_policy(&Forms::new(&terms), terms.policies[0]);
+        let clause = resolve::of_policy(&Forms::new(&terms, &Names::default()), terms.policies[0]);
         let aloud = Aloud::of(&terms, names);
         assert!(aloud.clauses.is_empty(), "small formulas have no parts of their own");
         let (sentence, clause) = (aloud.events[0].policy.text(), in_order(&clause, &[]));

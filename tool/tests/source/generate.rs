@@ -61,7 +61,7 @@ pub fn source(dice: &mut Dice) -> Source {
         let sight = Sight { people: vec![Who::Me, Who::Target, Who::Here], past: 3, definitions };
         let policy = maker.formula(4, &sight);
         let effects = (0..maker.dice.below(3)).filter_map(|_| maker.effect()).collect();
-        made.events.push(Event { name, policy, effects });
+        made.events.push(Event { name, said: None, policy, effects });
     }
     for _ in 0..maker.dice.below(6) {
         if !relations.is_empty() {

@@ -52,11 +52,15 @@ fn the_tutorial_can_be_followed() {
         child.stdin.take().unwrap().write_all(input.as_bytes()).unwrap();
         String::from_utf8(child.wait_with_output().unwrap().stdout).unwrap()
     };
+    let started = compile(cuckooormolu_tool::commands::new::START).unwrap();
+    assert_eq!(started.terms, compile(&blocks[0]).unwrap().terms);
     let typed: Vec<&str> = blocks[2].lines().collect();
     let typed = &typed[1..typed.iter().position(|line| *line == "quit").unwrap() + 1];
-    for (command, shown) in [("compile", 0), ("aloud", 1)] {
+    for command in ["compile", "aloud"] {
         let printed = run(&[command, "mine"], "");
-        let part = blocks[1].split("$ ").nth(1 + shown).unwrap();
+        let begins = format!("$ cuckooormolu {command} mine\n");
+        let mut parts = blocks.iter().map(|block| block.trim_start());
+        let part = parts.find(|block| block.starts_with(&begins)).unwrap();
         let part = part.split_once('\n').unwrap().1.trim();
         assert!(printed.contains(part), "{command}:\n{printed}");
     }

@@ -100,7 +100,11 @@ impl Speaker<'_> {
         focus: Option<Who>,
     ) -> Words {
         if let Some(words) = self.not_since(start, hold, time, focus) {
-            return if holds { words } else { words.after("it is not so that") };
+            let not = match time {
+                Time::Now => "it is not the case that",
+                Time::Then => "it was not the case that",
+            };
+            return if holds { words } else { words.after(not) };
         }
         let (there_was, until) = (there_was(holds, time), until(time));
         let (start, hold) = (self.say(start, Time::Then, None), self.say(hold, Time::Then, None));
@@ -111,7 +115,7 @@ impl Speaker<'_> {
         }
         let hold = hold.after(&format!("at every moment after it {until}"));
         let head = format!("{there_was} of which both of these are true");
-        Words::Outline { head, parts: vec![start.after("at it"), hold] }
+        Words::Outline { head, parts: vec![start.after("at that moment"), hold] }
     }
 
     /// "has shared with you and has not withdrawn from you since".
@@ -150,7 +154,12 @@ impl Speaker<'_> {
     }
 
     /// An event that does not happen: "has not withdrawn from you".
-    fn ended(&self, clause: &Clause, time: Time, focus: Option<Who>) -> Option<Words> {
+    pub(in crate::aloud) fn ended(
+        &self,
+        clause: &Clause,
+        time: Time,
+        focus: Option<Who>,
+    ) -> Option<Words> {
         match clause {
             Clause::Edge { label, from, to, holds: false } if self.labels.is_event(*label) => {
                 Some(self.edge(*label, *from, *to, time, Manner::NotSince, focus))

@@ -43,8 +43,7 @@ impl Words {
 fn word(name: &str, kind: Kind, number: usize, taken: &[String]) -> String {
     let joined = name.trim().replace(char::is_whitespace, "-");
     let fits = |word: &str| {
-        let alone =
-            matches!(tokens(word).as_deref(), Ok([(Token::Word(read), _), _]) if read == word);
+        let alone = matches!(&tokens(word).0[..], [(Token::Word(read), _), _] if read == word);
         alone && !WORDS.contains(&word) && !taken.iter().any(|other| other == word)
     };
     let mut word = if fits(&joined) { joined } else { format!("{kind}-{number}") };

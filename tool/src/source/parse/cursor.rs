@@ -1,7 +1,7 @@
 //! The tokens ahead, and what to say where another was expected.
 
 use super::*;
-use crate::names::did_you_mean;
+use crate::names::{did_you_mean, nearest};
 
 impl Parser {
     pub(super) fn token(&self) -> &Token {
@@ -20,6 +20,14 @@ impl Parser {
     /// The stretch of the token read last.
     pub(super) fn last(&self) -> Span {
         self.tokens[self.next.saturating_sub(1)].1
+    }
+
+    /// The word read last.
+    pub(super) fn last_word(&self) -> Option<&str> {
+        match &self.tokens[self.next.saturating_sub(1)].0 {
+            Token::Word(word) => Some(word),
+            _ => None,
+        }
     }
 
     pub(super) fn word_ahead(&self, places: usize) -> Option<&str> {
@@ -64,16 +72,30 @@ impl Parser {
             Token::Word(word) => (format!("`{word}`"), did_you_mean(word, known.iter().copied())),
             Token::Number(number) => (format!("`{number}`"), String::new()),
             Token::Sign(sign) => (format!("`{sign}`"), String::new()),
+            Token::Quoted(words) => (format!("\"{words}\""), String::new()),
             Token::End => ("the end of the file".to_string(), String::new()),
         };
-        Mistake::new(self.span(), format!("expected {what}, found {found}{hint}"))
+        let mistake = Mistake::new(self.span(), format!("expected {what}, found {found}{hint}"));
+        match self.token() {
+            Token::Word(word)
+                if known.iter().any(|known| *known == word.to_lowercase() && known != word) =>
+            {
+                mistake.advise("the words of the language are written in small letters")
+            }
+            Token::Word(word) if !hint.is_empty() => {
+                let near = nearest(word, known.iter().copied()).unwrap_or_default();
+                mistake.advise(format!("write `{near}`, if that is meant"))
+            }
+            _ => mistake,
+        }
     }
 
     pub(super) fn want_sign(&mut self, sign: char, after: &str) -> Result<(), Mistake> {
         if self.take_sign(sign) {
             Ok(())
         } else {
-            Err(self.expected(&format!("`{sign}` {after}"), &[]))
+            let advice = format!("put a `{sign}` here");
+            Err(self.expected(&format!("`{sign}` {after}"), &[]).advise(advice))
         }
     }
 
@@ -85,13 +107,22 @@ impl Parser {
                 let message = format!(
                     "expected {what}; `{word}` is a word of the language and can be no name"
                 );
-                Err(Mistake::new(span, message))
+                let advice = match word.as_str() {
+                    "me" | "target" | "here" => {
+                        "who that is is known only when a request is made; name a member"
+                            .to_string()
+                    }
+                    _ => format!("choose another name, such as `{word}-1`"),
+                };
+                Err(Mistake::new(span, message).advise(advice))
             }
             Token::Word(text) => {
                 self.next += 1;
                 Ok(Name { text, span })
             }
-            _ => Err(self.expected(what, &[])),
+            _ => Err(self
+                .expected(what, &[])
+                .advise("a name is missing here: letters, digits, `-` or `_`")),
         }
     }
 

@@ -25,16 +25,19 @@ impl Parser {
         while let Some((word, make)) = self.operator() {
             if let Some(first) = before.filter(|first| *first != word || word == "since") {
                 let message = format!("`{word}` after `{first}`: which of the two goes first?");
-                return Err(
-                    Mistake::new(self.span(), message).advise("put parentheses around one of them")
+                let advice = format!(
+                    "put parentheses around one of them: `a {first} (b {word} c)` or `(a {first} b) {word} c`"
                 );
+                return Err(Mistake::new(self.span(), message).advise(advice));
             }
             self.next += 1;
             let other = self.part()?;
             height = height.max(self.height) + 1;
             if height > TALLEST {
                 let message = format!("more than {TALLEST} parts stand side by side");
-                return Err(Mistake::new(other.span, message));
+                return Err(
+                    Mistake::new(other.span, message).advise("give a part a name: define ...")
+                );
             }
             let span = formula.span.to(other.span);
             formula = Formula { kind: make(Box::new(formula), Box::new(other)), span };
@@ -80,6 +83,10 @@ impl Parser {
         let kind = if let Some(make) = unary {
             self.next += 1;
             self.enter()?;
+            if self.last_word() == Some("never") && self.is_word("once") {
+                let warning = Mistake::new(self.span(), "`once` adds nothing after `never`");
+                self.warnings.push(warning.advise("leave it out"));
+            }
             let part = self.part()?;
             self.depth -= 1;
             self.height += 1;
@@ -87,8 +94,7 @@ impl Parser {
         } else if self.take_sign('(') {
             let formula = self.formula()?;
             if !self.take_sign(')') {
-                let known = ["and", "or", "since"];
-                return Err(self.expected("`and`, `or`, `since` or `)`", &known));
+                return Err(self.not_closed(start));
             }
             formula.kind
         } else {
@@ -124,7 +130,10 @@ impl Parser {
             return self.told();
         }
         if !self.name_ahead(0) {
-            return Err(self.expected("a formula", &BEGINNINGS));
+            return Err(self.no_formula(&BEGINNINGS));
+        }
+        if let Some(mistake) = self.other_quantifier() {
+            return Err(mistake);
         }
         if self.word_ahead(1) == Some("is") || self.label_ahead(1) {
             return self.told();

@@ -23,7 +23,7 @@ impl Parser {
                 self.next += 1;
                 Ok(Some(Quantifier::AtLeast(count)))
             }
-            _ => Err(self.expected("a number from 1 on after `at least`", &[])),
+            _ => Err(self.no_number()),
         }
     }
 
@@ -58,14 +58,20 @@ impl Parser {
         }
         self.next += 1;
         if !self.take("that") {
-            return Err(self.expected("`that` after `such`", &["that"]));
+            let mistake = self.expected("`that` after `such`", &["that"]);
+            return Err(
+                mistake.advise("like this: `some x such that once me share x: x owns target`")
+            );
         }
         let leads = Box::new(self.formula()?);
         let body = self.body("after whom it leads to, and what holds of them");
-        let body = body.map_err(|mistake| match mistake.advice {
-            None => mistake.advise("a `:` belongs to the nearest form; parentheses keep it inside"),
-            Some(_) => mistake,
-        })?;
+        let body =
+            body.map_err(|mistake| match mistake.message.starts_with("expected `:` after whom") {
+                true => {
+                    mistake.advise("a `:` belongs to the nearest form; parentheses keep it inside")
+                }
+                false => mistake,
+            })?;
         let every = quantifier == Quantifier::Every;
         Ok(Kind::Step(Step { every, name, leads, body }))
     }
@@ -82,6 +88,7 @@ impl Parser {
         let body = if self.is_sign(':') || quantifier == Quantifier::Every {
             self.body("and what holds of every one")?
         } else {
+            self.bare = Some(self.next);
             Box::new(Formula { kind: Kind::True, span: self.last() })
         };
         Ok(Kind::Walk(Walk { quantifier, person, label, outwards, name, body }))
@@ -96,6 +103,9 @@ impl Parser {
             self.next += 1;
             return self.being(subject);
         }
+        if let Some(mistake) = self.auxiliary() {
+            return Err(mistake);
+        }
         let label = self.label("`is`, a relation, an event or a definition")?;
         let walking = self.span();
         let kind = match (self.quantifier()?, subject) {
@@ -105,7 +115,8 @@ impl Parser {
             }
             (Some(_), None) => {
                 let message = "a walk begins at somebody: `me`, `target`, `here` or a name";
-                return Err(Mistake::new(walking, message));
+                let advice = "put one of them in the place of `someone` or `nobody`";
+                return Err(Mistake::new(walking, message).advise(advice));
             }
             (None, subject) => {
                 let negative = self.is_word("nobody");
@@ -113,7 +124,8 @@ impl Parser {
                 if subject.is_none() && object.is_none() {
                     let message =
                         "one of the two must be somebody: `me`, `target`, `here` or a name";
-                    return Err(Mistake::new(start.to(self.last()), message));
+                    let advice = "say who it is on one side: `someone owns target`";
+                    return Err(Mistake::new(start.to(self.last()), message).advise(advice));
                 }
                 let edge = Kind::Edge(subject, label, object);
                 if nobody || negative {
@@ -164,9 +176,12 @@ impl Parser {
             Some("here") => Who::Here,
             Some(word) if !WORDS.contains(&word) => Who::Named(word.to_string()),
             _ => {
-                return Err(
-                    self.expected(&format!("{what}: `me`, `target`, `here` or a name"), &PEOPLE)
-                )
+                let mistake =
+                    self.expected(&format!("{what}: `me`, `target`, `here` or a name"), &PEOPLE);
+                return Err(match mistake.advice {
+                    Some(_) => mistake,
+                    None => mistake.advise("a sentence says who, what and whom: `me owns target`"),
+                });
             }
         };
         self.next += 1;

@@ -47,7 +47,7 @@ impl Resolver<'_> {
             "nobody"
         };
         let hint = did_you_mean(text, all);
-        let mistake = Mistake::new(name.span, format!("{what} is called `{text}` here{hint}"));
+        let mistake = Mistake::unknown(name, format!("{what} is called `{text}` here{hint}"));
         mistake.advise(format!("names in sight: {}", known.join(", ")))
     }
 
@@ -67,7 +67,8 @@ impl Resolver<'_> {
             }
             let known = self.source.definitions.iter().map(|known| known.name.text.as_str());
             let hint = did_you_mean(text, known);
-            Mistake::new(name.span, format!("no definition `{text}`{hint}"))
+            let mistake = Mistake::unknown(name, format!("no definition `{text}`{hint}"));
+            mistake.advise(format!("a sentence says who, what and whom, `me owns target`; or write `define {text}: ...`"))
         })
     }
 
@@ -93,8 +94,12 @@ impl Resolver<'_> {
             let all: Vec<&str> = known.iter().copied().chain(defined).collect();
             let hint = did_you_mean(&word.text, all);
             let message = format!("no relation or event `{}`{hint}", word.text);
-            let mistake = Mistake::new(word.span, message);
-            mistake.advise(format!("relations and events: {}", known.join(", ")))
+            let mistake = Mistake::unknown(word, message);
+            let all = format!("relations and events: {}", known.join(", "));
+            match hint.is_empty() {
+                true => mistake.advise(format!("{all}; or declare it: `relation {}`", word.text)),
+                false => mistake.advise(all),
+            }
         })
     }
 

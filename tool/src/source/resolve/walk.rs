@@ -54,6 +54,7 @@ impl Resolver<'_> {
     }
 
     pub(super) fn step(&mut self, step: &Step, scope: &mut Scope) -> Result<Said, Mistake> {
+        self.hiding(&step.name, scope);
         let (span, name) = (step.leads.span, self.bound(&step.name.text, scope));
         scope.push((step.name.text.clone(), Who::Other(name)));
         let leads = self.formula(&step.leads, scope);
@@ -100,6 +101,7 @@ impl Resolver<'_> {
             None => self.fresh("somebody"),
         };
         if let Some(name) = &walk.name {
+            self.hiding(name, scope);
             scope.push((name.text.clone(), Who::Other(id)));
         }
         let body = self.formula(&walk.body, scope);

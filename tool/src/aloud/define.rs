@@ -1,0 +1,84 @@
+//! Definitions by their names: `you are suspended`, `A trusts the target`.
+
+use super::clause::Who;
+use super::grammar::{be, do_, with, Time};
+use super::verbs::verb;
+use super::words::{name, Shape, Words};
+use crate::names::Called;
+
+/// A definition said of people; of each it is known whether it is the initiator.
+pub fn said(called: &Called, people: &[(String, bool)], time: Time, holds: bool) -> String {
+    let [(subject, you), rest @ ..] = people else { return String::new() };
+    if let ([(other, _)], None) = (rest, verb(&called.name)) {
+        return of_two(called, subject, other, time, holds);
+    }
+    format!("{subject} {}", predicate(called, *you, rest.first(), time, holds))
+}
+
+/// A definition of two whose name is no verb: `near holds of A and B`.
+fn of_two(called: &Called, one: &str, other: &str, time: Time, holds: bool) -> String {
+    let hold = match (time, holds) {
+        (Time::Now, true) => "holds",
+        (Time::Then, true) => "held",
+        (Time::Now, false) => "does not hold",
+        (Time::Then, false) => "did not hold",
+    };
+    format!("{} {hold} of {one} and {other}", called.name)
+}
+
+/// The same without its subject.
+fn predicate(
+    called: &Called,
+    you: bool,
+    object: Option<&(String, bool)>,
+    time: Time,
+    holds: bool,
+) -> String {
+    let not = if holds { "" } else { " not" };
+    let Some((object, _)) = object else {
+        return format!("{}{not} {}", be(you, time), called.name);
+    };
+    let Some(verb) = verb(&called.name) else { return String::new() };
+    let done = match (time, holds, you) {
+        (Time::Now, true, true) => verb.base,
+        (Time::Now, true, false) => verb.third,
+        (Time::Then, true, _) => verb.past,
+        (time, false, you) => format!("{} not {}", do_(you, time), verb.base),
+    };
+    format!("{} {object}", with(&done, verb.preposition))
+}
+
+/// A definition within a clause.
+pub fn clause(called: &Called, of: Who, given: &[(usize, Who)], holds: bool, time: Time) -> Words {
+    let person = |variable: &Option<usize>| match variable {
+        None => of,
+        Some(x) => given.iter().find(|(y, _)| y == x).map_or(Who::Target, |(_, who)| *who),
+    };
+    let people: Vec<Who> = called.people.iter().map(person).collect();
+    let object = people.get(1).map(|who| match *who == people[0] {
+        true if *who == Who::You => ("yourself".to_string(), true),
+        true => ("itself".to_string(), false),
+        false => (name(*who), *who == Who::You),
+    });
+    if let ([one, other], None) = (&people[..], verb(&called.name)) {
+        let text = of_two(called, &name(*one), &name(*other), time, holds);
+        return Words::whole(text, Shape::Open);
+    }
+    let you = people[0] == Who::You;
+    Words::of(people[0], predicate(called, you, object.as_ref(), time, holds))
+}
+
+/// What stands before the clause of a definition: `A member M is suspended`.
+pub fn head(called: &Called) -> String {
+    let person = |variable: &Option<usize>| match variable {
+        None => ("M".to_string(), false),
+        Some(0) => ("the target".to_string(), false),
+        Some(x) => (format!("x{x}"), false),
+    };
+    let people: Vec<(String, bool)> = called.people.iter().map(person).collect();
+    let said = said(called, &people, Time::Now, true);
+    match said.starts_with("the target") || people.len() == 2 && verb(&called.name).is_none() {
+        true => said.replacen("the target", "The target", 1),
+        false => format!("A member {said}"),
+    }
+}

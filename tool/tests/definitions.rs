@@ -1,0 +1,84 @@
+//! Definitions by their names, in `aloud` and in `why`, with the details under
+//! them; and events as the source says them.
+
+mod run_support;
+
+use run_support::{run, Folder};
+
+/// A small library of sounds: who was denied twice is suspended until a bank
+/// forgives.
+const LIBRARY: &str = "\
+members anna, ben, warm-pad, north
+relations owns, bank
+event share by anyone
+event forgive when me is bank
+event load
+  when me is not suspended
+       and some owner owns target: once owner share me
+event tweak said \"twiddled with\" when once me load target
+event stroll said \"take a walk with / taken a walk with\" when once me tweak target
+keep denied load
+define p is warned: not someone forgive p since p denied load someone
+define p is suspended: not someone forgive p since (p denied load someone and previously p is warned)
+first anna owns warm-pad, north is bank
+";
+
+fn library(requests: &str) -> Folder {
+    let folder = Folder::new();
+    folder.write("terms.say", LIBRARY);
+    folder.write("requests.tsv", requests);
+    folder
+}
+
+#[test]
+fn aloud_says_the_name_and_then_what_it_is() {
+    let said = run(&["aloud", library("").path()]).out;
+    for part in [
+        "You may forgive the target if you are a bank.\n",
+        "You may load the target if you are not suspended and some member",
+        "\nA member M is suspended if there was a moment so far of which both of these are true:\n\
+         - at that moment M had just tried in vain to load some member and at the moment before \
+         that one M was warned\n",
+        "\nA member M is warned if M has at some time tried in vain to load some member and no \
+         member has forgiven M\nsince.\n",
+        "You may tweak with the target if you have at some time loaded the target.",
+        "You may take a walk with the target if you have at some time twiddled with the target.",
+    ] {
+        assert!(said.contains(part), "{part}\n\n{said}");
+    }
+    assert!(!said.contains("clause"), "{said}");
+}
+
+#[test]
+fn why_says_the_name_and_under_it_why() {
+    let folder =
+        library("R\t2\t1\t2\nR\t2\t1\t2\nR\t0\t0\t1\nR\t2\t1\t2\nR\t1\t3\t1\nR\t2\t1\t2\n");
+    let said = run(&["why", folder.path(), "4"]).out;
+    assert_eq!(
+        said,
+        "4  load ben → warm-pad  denied
+     ben is suspended
+       ben tried in vain to load warm-pad at moment 2, and ben was warned at moment 1, and no \
+       member has forgiven ben since
+         ben tried in vain to load warm-pad at moment 1
+"
+    );
+    let both = run(&["why", folder.path(), "2", "--all"]).out;
+    assert!(both.contains("anna owns warm-pad, but anna has never shared with ben"), "{both}");
+    let granted = run(&["why", folder.path(), "6"]).out;
+    assert!(granted.contains("     ben is not suspended\n"), "{granted}");
+    assert!(granted.contains("but north forgave ben at moment 5"), "{granted}");
+}
+
+#[test]
+fn a_verb_that_is_not_known_is_asked_for() {
+    let folder = Folder::new();
+    folder.write("terms.say", "members a, b\nevent zap by anyone\n");
+    let said = run(&["check", folder.path()]).out;
+    assert!(said.contains("terms.say:2:7: warning: `zap` is no verb that is known here"), "{said}");
+    assert!(said.contains("`event zap said \"peeked at\"`"), "{said}");
+    folder.write("terms.say", "members a, b\nevent zap said \"zapped\" by anyone\n");
+    assert_eq!(run(&["check", folder.path()]).out.lines().count(), 1);
+    assert_eq!(run(&["compile", folder.path()]).status, 0);
+    assert!(folder.read("names.tsv").contains("event\t0\tzap\tzap\tzapped\n"));
+}

@@ -1,0 +1,85 @@
+//! Kinds of members: as attributes in formulas, and in `who`.
+
+mod run_support;
+
+use run_support::{run, Folder};
+
+const SOURCE: &str = "\
+members players: ben, cleo; presets: warm-pad, glass-bell
+members north
+relation owns
+event share when me is player and target is player
+event load when me is player and target is preset and me is not target
+first ben owns warm-pad
+";
+
+fn folder() -> Folder {
+    let folder = Folder::new();
+    folder.write("terms.say", SOURCE);
+    folder
+}
+
+#[test]
+fn a_kind_is_an_attribute() {
+    let folder = folder();
+    let said = run(&["aloud", folder.path()]).out;
+    let policy = "You may share with the target if you are a player and the target is a player.";
+    assert!(said.contains(policy), "{said}");
+    assert_eq!(run(&["compile", folder.path()]).status, 0);
+    let names = folder.read("names.tsv");
+    assert!(names.contains("relation\t1\tplayer\nrelation\t2\tpreset\n"), "{names}");
+    let terms = folder.read("terms.tsv");
+    assert!(terms.ends_with("G\t0\t0\t2\nG\t1\t0\t0\nG\t1\t1\t1\nG\t2\t2\t2\nG\t2\t3\t3\n"));
+    // Without a formula that asks for it there is no relation.
+    let plain = "members players: ben; presets: saw\nevent share by anyone\n";
+    folder.write("terms.say", plain);
+    assert!(run(&["compile", folder.path(), "--print"]).out.starts_with("M\t2\nL\t0\t1\n"));
+}
+
+#[test]
+fn who_stands_by_kinds() {
+    let folder = folder();
+    let said = run(&["who", folder.path(), "load", "--from", "players", "--to", "presets"]).out;
+    assert!(said.starts_with("load at moment 0: 4 of 4 pairs may"), "{said}");
+    assert!(said.ends_with(" ben  ● ●\ncleo  ● ●\n"), "{said}");
+    let said = run(&["who", folder.path(), "load"]).out;
+    assert!(said.contains("cleo  · ·  ● ●  ·\n\n"), "{said}");
+    let said = run(&["who", folder.path(), "load", "--to", "warm-pad", "--json"]).out;
+    assert!(said
+        .starts_with("{\"event\":\"load\",\"moment\":0,\"from\":\"ben\",\"to\":[\"warm-pad\"]}"));
+    let said = run(&["who", folder.path(), "load", "--to", "nobody"]);
+    assert_eq!(said.status, 2);
+    assert!(said.err.contains("kinds: players, presets"), "{}", said.err);
+}
+
+#[test]
+fn mistakes() {
+    let folder = folder();
+    folder.write("terms.say", &SOURCE.replace("me is player and", "me is plyer and"));
+    let said = run(&["check", folder.path()]).err;
+    assert!(said.contains("did you mean `player`?"), "{said}");
+    folder.write("terms.say", &SOURCE.replace("; presets", "; presets, x"));
+    let said = run(&["check", folder.path()]).err;
+    assert!(said.contains("terms.say:1:"), "{said}");
+}
+
+/// The pattern of docs/LANGUAGE.md for three at once.
+#[test]
+fn three_at_once() {
+    let page = concat!(env!("CARGO_MANIFEST_DIR"), "/../docs/LANGUAGE.md");
+    let page = std::fs::read_to_string(page).unwrap();
+    let section = page.split_once("\n## Three at once\n").unwrap().1.split("\n## ").next().unwrap();
+    let block = |nth: usize| -> String {
+        let blocks = section.split("\n\n").filter(|part| part.starts_with("    "));
+        let block = blocks.into_iter().nth(nth).unwrap();
+        block.lines().map(|line| format!("{}\n", line.trim_start_matches("    "))).collect()
+    };
+    let folder = Folder::new();
+    folder.write("terms.say", &[block(0), block(1)].concat());
+    folder.write("requests.say", &block(2));
+    let said = run(&["run", folder.path(), "--json"]);
+    assert_eq!(said.err, "");
+    let answers: Vec<bool> =
+        said.out.lines().map(|line| line.contains("\"answer\":\"grant\"")).collect();
+    assert_eq!(answers, [true, true, true, true, false, false, true, false], "{}", said.out);
+}

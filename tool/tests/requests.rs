@@ -1,0 +1,133 @@
+//! Requests by name: in requests.say, on standard input, and at a terminal; and
+//! `check` that goes on watching.
+
+mod run_support;
+
+use run_support::{preset, run, run_with, Folder};
+use std::io::{BufRead, BufReader, Write};
+use std::process::{Command, Stdio};
+use std::time::Duration;
+
+const SOURCE: &str = "members dora, pete, saw\nrelation owns\nevent share by anyone\n\
+                      event load when some owner owns target: once owner share me\n\
+                      first dora owns saw\n";
+
+fn folder() -> Folder {
+    let folder = Folder::new();
+    folder.write("terms.say", SOURCE);
+    folder
+}
+
+#[test]
+fn requests_say_is_what_is_asked() {
+    let folder = folder();
+    folder.write("requests.tsv", "R\t0\t0\t0\n");
+    folder.write("requests.say", "load pete saw   # too soon\n\nshare dora pete\nload pete saw\n");
+    let said = run(&["run", folder.path()]);
+    let wanted = "1  load pete → saw    denied\n2  share dora → pete  granted\n3  load pete → saw    granted\n";
+    assert_eq!((said.status, said.out.as_str()), (0, wanted));
+    assert!(run(&["why", folder.path(), "3"]).out.contains("dora shared with pete at moment 1"));
+    let said = run_with(&["try", folder.path()], "load dora saw\nsave\n").out;
+    assert!(said.contains("wrote 4 requests to"), "{said}");
+    let kept = "load pete saw\nshare dora pete\nload pete saw\nload dora saw\n";
+    assert_eq!(folder.read("requests.say"), kept);
+}
+
+#[test]
+fn mistakes_are_told_by_line() {
+    let folder = folder();
+    folder.write("requests.say", "load pete saw\nlaod pete saw\nload pette saw\nload saw\n");
+    let said = run(&["run", folder.path()]);
+    assert_eq!((said.status, said.out.as_str()), (3, ""));
+    for part in [
+        "requests.say:2: no event `laod`; did you mean `load`?",
+        "requests.say:3: no member `pette`; did you mean `pete`?",
+        "requests.say:4: a request is an event, who asks and who is asked",
+    ] {
+        assert!(said.err.contains(part), "{}", said.err);
+    }
+}
+
+#[test]
+fn requests_come_from_standard_input() {
+    let folder = folder();
+    let said = run_with(&["run", folder.path(), "-"], "share dora pete\nR\t1\t1\t2\n");
+    assert_eq!(said.out, "1  share dora → pete  granted\n2  load pete → saw    granted\n");
+    let said = run_with(&["run", folder.path(), "-", "--strict"], "load pete saw\n");
+    assert_eq!(said.status, 1);
+    let said = run_with(&["run", folder.path(), "-"], "fly pete saw\n");
+    assert_eq!(said.status, 3);
+    assert!(said.err.contains("standard input:1: no event `fly`"), "{}", said.err);
+    // A folder without a source has names in names.tsv.
+    let said = run_with(&["run", preset().path(), "-"], "load pete saw\n").out;
+    assert_eq!(said, "1  load pete → saw  denied\n");
+    let mut child = Command::new(env!("CARGO_BIN_EXE_cuckooormolu"))
+        .args(["run", "-"])
+        .current_dir(folder.path())
+        .stdin(Stdio::piped())
+        .stdout(Stdio::piped())
+        .spawn()
+        .unwrap();
+    child.stdin.take().unwrap().write_all(b"load pete saw\n").unwrap();
+    let out = child.wait_with_output().unwrap().stdout;
+    assert_eq!(out, "1  load pete → saw  denied\n".as_bytes());
+}
+
+#[test]
+fn check_goes_on_watching() {
+    let folder = folder();
+    let mut child = Command::new(env!("CARGO_BIN_EXE_cuckooormolu"))
+        .args(["check", folder.path(), "--watch"])
+        .stdout(Stdio::piped())
+        .spawn()
+        .unwrap();
+    let mut lines = BufReader::new(child.stdout.take().unwrap()).lines();
+    let mut until = |end: &str| {
+        let mut said = String::new();
+        for line in lines.by_ref() {
+            let line = line.unwrap();
+            said.push_str(&format!("{line}\n"));
+            if line.starts_with(end) {
+                break;
+            }
+        }
+        said
+    };
+    assert!(until("--").starts_with("accepted: 3 members"));
+    std::thread::sleep(Duration::from_millis(50));
+    folder.write("terms.say", &SOURCE.replace("some owner", "some owner of"));
+    let said = until("--");
+    assert!(said.contains("terms.say:4:"), "{said}");
+    folder.write("terms.say", SOURCE);
+    assert!(until("--").starts_with("accepted: 3 members"));
+    child.kill().unwrap();
+    child.wait().unwrap();
+}
+
+/// Lines are edited, completed and brought back at a terminal, which `script` makes.
+#[test]
+fn a_line_is_edited_at_a_terminal() {
+    let folder = folder();
+    let program = env!("CARGO_BIN_EXE_cuckooormolu");
+    let typed = format!("stty cols 200; {program} try {}", folder.path());
+    let child = Command::new("script")
+        .args(["-qec", &typed, "/dev/null"])
+        .stdin(Stdio::piped())
+        .stdout(Stdio::piped())
+        .spawn();
+    let Ok(mut child) = child else {
+        println!("skipped: there is no `script` here to make a terminal");
+        return;
+    };
+    let mut keys = child.stdin.take().unwrap();
+    // Tab completes; Up brings the line back; the left arrow and a backspace mend it.
+    for part in ["lo", "a\tpe\tsaw\r", "\x1b[A\r", "share doraa\x1b[D\x7f\x05 pe\t\r", "quit\r"] {
+        std::thread::sleep(Duration::from_millis(300));
+        keys.write_all(part.as_bytes()).unwrap();
+        keys.flush().unwrap();
+    }
+    drop(keys);
+    let out = String::from_utf8_lossy(&child.wait_with_output().unwrap().stdout).into_owned();
+    assert_eq!(out.matches("denied\r\n").count(), 2, "{out:?}");
+    assert!(out.contains("granted; moment 1\r\n"), "{out:?}");
+}
