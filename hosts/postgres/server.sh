@@ -11,6 +11,7 @@ bin=$(dirname "$(command -v initdb || ls /usr/lib/postgresql/*/bin/initdb 2>/dev
 do=${1:?start, stop or kill}
 folder=${2:?the folder}
 shift 2
+case $folder in /*) ;; *) folder=$PWD/$folder ;; esac
 
 # as COMMAND...: runs it as a user that PostgreSQL takes.
 as() {
@@ -29,8 +30,9 @@ start)
         as "$bin/initdb" -D "$folder/data" -U circles -A trust -E UTF8 --locale=C >"$folder/initdb.log"
     fi
     cd "$folder"
-    as "$bin/pg_ctl" start -w -D "$folder/data" -l "$folder/log" \
-        -o "-c listen_addresses= -c unix_socket_directories=$folder $*" >/dev/null
+    # Shared memory that a killed server leaves is in its folder, too.
+    as "$bin/pg_ctl" start -w -D "$folder/data" -l "$folder/log" -o "-c listen_addresses= \
+        -c unix_socket_directories=$folder -c dynamic_shared_memory_type=mmap $*" >/dev/null
     ;;
 stop)
     cd "$folder"
@@ -38,6 +40,8 @@ stop)
     ;;
 kill)
     pid=$(head -n 1 "$folder/data/postmaster.pid")
+    # Stopped first, so that it has no further children.
+    kill -STOP "$pid"
     all="$pid $(pgrep -P "$pid" | tr '\n' ' ')"
     # shellcheck disable=SC2086
     kill -9 $all

@@ -1,5 +1,6 @@
 //! The host of examples/panel.rs, switched off and on between requests. Its power
 //! is taken at every system call by bindings/c/power.sh.
+#![cfg(feature = "alloc")]
 
 use cuckooormolu::{Event, Member, Monitor, Request};
 use std::fs;
