@@ -21,6 +21,8 @@ const MOST_TIME: Duration = Duration::from_secs(10);
 const MOST_CLIENTS: usize = 32;
 /// Formulas may stand deep in one another.
 const STACK: usize = 32 << 20;
+/// So long nobody is accepted after that failed.
+const PAUSE: Duration = Duration::from_millis(50);
 /// What a client still sends after a refusal is read for so long, and so far, so
 /// that it sees the answer rather than a broken connection.
 const LINGER: Duration = Duration::from_secs(1);
@@ -43,26 +45,31 @@ impl Request {
     }
 }
 
-/// Answers clients for ever, each in a thread of its own.
-pub fn serve<H>(listener: &TcpListener, handle: H) -> io::Result<()>
+/// Answers clients for ever, each in a thread of its own. Nothing that a client does
+/// keeps the others waiting.
+pub fn serve<H>(listener: &TcpListener, handle: H) -> !
 where
     H: Fn(&Request) -> Response + Send + Sync + 'static,
 {
     let handle = Arc::new(handle);
     let clients = Arc::new(AtomicUsize::new(0));
     loop {
-        // A client that is gone already is no reason to stop.
-        let Ok((stream, _)) = listener.accept() else { continue };
+        // A client that is gone already is no reason to stop, nor is a want of files.
+        let Ok((mut stream, _)) = listener.accept() else {
+            thread::sleep(PAUSE);
+            continue;
+        };
         let place = Place::take(&clients);
         if place.number >= MOST_CLIENTS {
-            let _ = send(&stream, &Response::of(BUSY));
+            let _ = stream.set_nonblocking(true);
+            let _ = stream.write_all(&Response::of(BUSY).bytes());
             continue;
         }
         let handle = Arc::clone(&handle);
-        thread::Builder::new().stack_size(STACK).spawn(move || {
+        let _ = thread::Builder::new().stack_size(STACK).spawn(move || {
             let _place = place;
             let _ = answer(&stream, MOST_TIME, &*handle);
-        })?;
+        });
     }
 }
 

@@ -163,6 +163,14 @@ fn hostile_clients() {
         assert!(page.sent(request.as_bytes()).starts_with("HTTP/1.1 400 "), "{:.20}", body);
     }
     assert!(page.told(SOURCE, "[]", 0, NOTHING).contains("\"moment\":0"));
+    // So many at a time are too many, until they are gone.
+    let idle: Vec<TcpStream> = (0..40).map(|_| TcpStream::connect(host).unwrap()).collect();
+    let get = format!("GET /{token}/ HTTP/1.1\r\nHost: {host}\r\n\r\n");
+    assert!(!page.sent(get.as_bytes()).starts_with("HTTP/1.1 200 "));
+    drop(idle);
+    while !page.sent(get.as_bytes()).starts_with("HTTP/1.1 200 ") {
+        assert!(began.elapsed() < Duration::from_secs(9));
+    }
     assert!(began.elapsed() < Duration::from_secs(9));
 }
 

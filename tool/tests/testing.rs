@@ -4,6 +4,8 @@ mod run_support;
 
 use run_support::{example, run, Folder};
 use std::fs;
+use std::io::{BufRead, BufReader};
+use std::process::{Command, Stdio};
 
 const SOURCE: &str = "members dora, pete, saw, pad\nrelations owns, bank\n\
     event share, withdraw by anyone\n\
@@ -129,6 +131,38 @@ fn tests_that_say_nothing() {
     assert_eq!(said.status, 3);
     assert!(said.err.contains("tests.say") && said.err.contains("--help"), "{}", said.err);
     assert_eq!(run(&["test"]).status, 2);
+}
+
+#[test]
+fn kinds_stand_for_their_members() {
+    let folder = folder("test kinds\n  people may share presets\n  only people may peek saw\n");
+    let source = SOURCE
+        .replace("members dora, pete, saw, pad", "members people: dora, pete; presets: saw, pad");
+    folder.write("terms.say", &source.replace("peek when me is bank", "peek when me is people"));
+    let said = run(&["test", folder.path()]);
+    assert_eq!((said.err.as_str(), said.status), ("", 0), "{}", said.out);
+    assert_eq!(said.out, "1 test with 8 answers: 1 passed, 0 failed\n");
+}
+
+#[test]
+fn watched() {
+    let folder = folder("test one\n  dora may share pete\n");
+    let mut child = Command::new(env!("CARGO_BIN_EXE_cuckooormolu"))
+        .args(["test", folder.path(), "--watch"])
+        .stdout(Stdio::piped())
+        .spawn()
+        .unwrap();
+    let mut lines = BufReader::new(child.stdout.take().unwrap()).lines();
+    let mut next = |wanted: &str| {
+        let line = lines.next().unwrap().unwrap();
+        assert!(line.contains(wanted), "{line}");
+    };
+    next("1 passed, 0 failed");
+    next("is watched; Ctrl-C ends");
+    folder.write("tests.say", "test another\n  dora may not share pete\n");
+    next("FAILED");
+    child.kill().unwrap();
+    child.wait().unwrap();
 }
 
 /// Stored terms keep their past; edges can't be given to them.

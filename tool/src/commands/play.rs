@@ -4,7 +4,7 @@ use crate::arguments::Arguments;
 use crate::http;
 use crate::play::files::Files;
 use crate::play::{listen, Play};
-use crate::stop::{Stop, WELL};
+use crate::stop::Stop;
 use std::io::Write;
 use std::path::Path;
 
@@ -22,7 +22,8 @@ network. Ctrl-C ends it.
 
   --port PORT   the port; else one that is free
 
-Exit status: 0, or 3 if the folder cannot be read or the port is taken.
+Exit status: 2 for a wrong command line, 3 if the folder cannot be read or the
+port is taken.
 ";
 
 pub fn main(arguments: &[String], out: &mut dyn Write) -> Result<i32, Stop> {
@@ -38,6 +39,5 @@ pub fn main(arguments: &[String], out: &mut dyn Write) -> Result<i32, Stop> {
     writeln!(out, "{}", play.address())?;
     writeln!(out, "Open this address in a browser on this machine. Ctrl-C ends it.")?;
     out.flush()?;
-    http::serve(&listener, move |request| play.answer(request)).map_err(failed)?;
-    Ok(WELL)
+    http::serve(&listener, move |request| play.answer(request))
 }
