@@ -1,7 +1,10 @@
 //! Every acceptance and every verdict, twice: from the proved library and from
 //! the keeper of the whole record. Where they differ, it is an error.
 
+mod revising;
 mod stored;
+
+pub use revising::Allowed;
 
 use crate::stop::Stop;
 use keeper::expect;

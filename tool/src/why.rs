@@ -1,9 +1,11 @@
 //! Why a request is granted or denied.
 //!
-//! * `reason`: one step of a justification, read off the keeper's record
+//! * `reason`: one step of a justification, read off the keeper's record; `begin`: from
+//!   where on it counts
 //! * `story`: what the steps come down to, as facts
 //! * `fact`: facts about the record, and sentences for them
 
+pub mod begin;
 pub mod fact;
 pub mod reason;
 pub mod story;

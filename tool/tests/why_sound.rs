@@ -7,7 +7,8 @@ use cuckooormolu_tool::why::reason::{has_edge, Claim, Place, Reason, Reasons};
 use cuckooormolu_tool::why::story::stories;
 use keeper::generate;
 use keeper::record::meaning::{Assigned, Meaning};
-use keeper::record::{Answer, Graph, Record};
+use keeper::record::{Answer, Call, Graph, Record};
+use keeper::step::Step;
 use keeper::terms::{self, Entry, Terms, VARIABLES};
 use std::collections::HashMap;
 
@@ -75,7 +76,8 @@ fn conclusion(reasons: &Reasons, place: Place, reason: &Reason, values: &[bool])
     let at = |entry, moment, member| Place { entry, moment, member, ..place };
     // Where a since may begin: its second operand, or itself as it was stored.
     let begins = |g, moment| {
-        let entry = if reasons.is_stored(at(g, moment, 0)) { place.entry } else { g };
+        let stored = reasons.is_stored(at(place.entry, moment, 0));
+        let entry = if stored { place.entry } else { g };
         at(entry, moment, place.member)
     };
     let Place { moment, member, .. } = place;
@@ -121,7 +123,7 @@ fn conclusion(reasons: &Reasons, place: Place, reason: &Reason, values: &[bool])
             false
         }
         (Entry::Prev(_), Reason::NoMomentBefore) => {
-            assert_eq!(moment, 0);
+            assert_eq!(moment, reasons.begin(place.entry).moment());
             false
         }
         (Entry::Prev(f), Reason::Before(claim)) => {
@@ -147,7 +149,8 @@ fn conclusion(reasons: &Reasons, place: Place, reason: &Reason, values: &[bool])
             false
         }
         (Entry::Since(_, g), Reason::Never(claims)) => {
-            let due: Vec<Place> = (0..=moment).map(|j| begins(g, j)).collect();
+            let first = reasons.begin(place.entry).moment();
+            let due: Vec<Place> = (first..=moment).map(|j| begins(g, j)).collect();
             assert_eq!(claims.iter().map(|claim| claim.place).collect::<Vec<_>>(), due);
             assert!(all(false));
             false
@@ -225,6 +228,10 @@ fn is_so(terms: &Terms, graphs: &[Graph], meaning: &mut Meaning, fact: Fact) -> 
         Fact::Same { member, .. } => member < terms.members,
         Fact::Differ { member, other } => member != other,
         Fact::NoMomentBefore | Fact::Always => true,
+        Fact::NotBefore(moment) | Fact::Counting(moment) => moment < graphs.len(),
+        Fact::NeverSince { place, first } => {
+            (first..=place.moment).all(|moment| !holds(place, moment))
+        }
         Fact::NoStep(place) => match terms.entries[place.entry] {
             Entry::Reach(x, f, _) => (0..terms.members).all(|other| {
                 let assigned = Assigned::default().with(x, other);
@@ -242,27 +249,29 @@ fn is_so(terms: &Terms, graphs: &[Graph], meaning: &mut Meaning, fact: Fact) -> 
     }
 }
 
-#[test]
-fn truth_is_rebuilt_from_reasons() {
-    let (mut nodes, mut grants, mut denials) = (0, 0, 0);
-    for seed in 0..CASES {
-        let case = generate::case(seed, 99_999);
-        let mut record = Record::of(terms::read(&case.text).unwrap());
-        let mut asked = Vec::new();
-        for call in case.calls() {
-            let moment = record.graphs().len() - 1;
-            match record.call(call.look, call.event, call.from, call.to, call.scratch_words) {
-                Answer::Refused(_) => {}
-                answer => asked.push((call, moment, answer == Answer::Grant)),
-            }
-        }
+/// What was asked under terms that were in use, and its answer.
+type Asked = (Call, usize, bool);
+
+/// How much was looked at.
+#[derive(Default)]
+struct Seen {
+    nodes: usize,
+    grants: usize,
+    denials: usize,
+    /// Facts that tell of a revision.
+    revised: usize,
+}
+
+impl Seen {
+    /// The reasons of all that was asked under the terms in use.
+    fn look(&mut self, record: &Record, asked: &[Asked], seed: u64) {
         let terms = record.terms();
-        let mut rebuilt = Rebuilt::new(&record);
-        for (call, moment, granted) in asked {
+        let mut rebuilt = Rebuilt::new(record);
+        for &(call, moment, granted) in asked {
             let place = Place::policy(terms, call.event, call.from, call.to, moment);
             let claim = rebuilt.reasons.claim(place);
             assert_eq!(claim.holds, granted, "seed {seed}");
-            *if granted { &mut grants } else { &mut denials } += 1;
+            *if granted { &mut self.grants } else { &mut self.denials } += 1;
             if let Some(truth) = rebuilt.truth(claim) {
                 assert_eq!(truth, granted, "seed {seed}");
             }
@@ -271,9 +280,42 @@ fn truth_is_rebuilt_from_reasons() {
             for fact in told.iter().flat_map(|story| &story.facts) {
                 let so = is_so(terms, record.graphs(), &mut rebuilt.meaning, *fact);
                 assert!(so, "seed {seed}: {fact:?}");
+                self.revised += usize::from(matches!(
+                    fact,
+                    Fact::NotBefore(_) | Fact::Counting(_) | Fact::NeverSince { .. }
+                ));
             }
         }
-        nodes += rebuilt.known.len();
+        self.nodes += rebuilt.known.len();
     }
+}
+
+#[test]
+fn truth_is_rebuilt_from_reasons() {
+    let mut seen = Seen::default();
+    for seed in 0..CASES {
+        let case = generate::case(seed, 99_999);
+        let mut record = Record::of(terms::read(&case.text).unwrap());
+        let mut asked = Vec::new();
+        for step in &case.steps {
+            match step {
+                Step::Call(call) => {
+                    let moment = record.graphs().len() - 1;
+                    match record.answer(call) {
+                        Answer::Refused(_) => {}
+                        answer => asked.push((*call, moment, answer == Answer::Grant)),
+                    }
+                }
+                Step::Revision(revision) => {
+                    seen.look(&record, &asked, seed);
+                    asked.clear();
+                    let _ = revision.answer(&mut record);
+                }
+            }
+        }
+        seen.look(&record, &asked, seed);
+    }
+    let Seen { nodes, grants, denials, revised } = seen;
     assert!(nodes > 60_000 && grants > 3_000 && denials > 3_000, "{nodes} {grants} {denials}");
+    assert!(revised > 100, "{revised}");
 }

@@ -1,5 +1,6 @@
 //! The words of reasons, shape by shape.
 
+use cuckooormolu_tool::both::Both;
 use cuckooormolu_tool::folder::Folder;
 use cuckooormolu_tool::names::Names;
 use cuckooormolu_tool::replay::Replay;
@@ -9,9 +10,9 @@ use cuckooormolu_tool::words::Words;
 const NAMES: &str = "member\t0\tann\nmember\t1\tben\nmember\t2\tcem\nmember\t3\tx\n\
                      relation\t0\tfriend\nevent\t0\task\nevent\t1\tdo\n";
 
-/// The reason of the last request in terms with a relation and two events: `ask` is always
-/// allowed and makes friends, `do` is decided by the last entry. Blanks stand for tabs.
-fn why(entries: &[&str], requests: &[&str]) -> Vec<String> {
+/// A folder of terms with a relation and two events: `ask` is always allowed and makes friends,
+/// `do` is decided by the last entry. Blanks stand for tabs.
+fn folder(entries: &[&str], requests: &[&str]) -> Folder {
     let mut text = String::from("M 4\nL 1 2\nF 0 top 0 0\nF 1 var 0 0\n");
     for (index, entry) in entries.iter().enumerate() {
         text.push_str(&format!("F {} {entry}\n", index + 2));
@@ -20,9 +21,27 @@ fn why(entries: &[&str], requests: &[&str]) -> Vec<String> {
     let requests: String = requests.iter().map(|request| format!("R {request}\n")).collect();
     let tabs = |text: &str| text.replace(' ', "\t").into_bytes();
     let names = Names::read(NAMES).unwrap();
-    let folder =
-        Folder { terms: tabs(&text), requests: tabs(&requests), names, ..Folder::default() };
-    let replay = Replay::of(&folder).unwrap();
+    Folder { terms: tabs(&text), requests: tabs(&requests), names, ..Folder::default() }
+}
+
+/// The reason of the last request.
+fn why(entries: &[&str], requests: &[&str]) -> Vec<String> {
+    let folder = folder(entries, requests);
+    last(&Replay::of(&folder).unwrap(), &folder)
+}
+
+/// The same where the first requests were made under other terms.
+fn why_revised(old: &[&str], before: &[&str], new: &[&str], after: &[&str]) -> Vec<String> {
+    let new = folder(new, after);
+    let mut replay = Replay::of(&folder(old, before)).unwrap();
+    replay.both.revise(&Both::accepted(&new.terms).unwrap()).unwrap().unwrap();
+    for request in new.requests() {
+        replay.make(request).unwrap();
+    }
+    last(&replay, &new)
+}
+
+fn last(replay: &Replay, folder: &Folder) -> Vec<String> {
     let words = Words::new(replay.both.terms(), &folder.names);
     let step = replay.steps.last().unwrap();
     let because = Reasons::new(replay.both.record()).of(&words, step, false).unwrap().unwrap();
@@ -83,6 +102,33 @@ fn since_a_moment() {
         kept,
         ["ben asked ann at moment 2, and at every moment since some member was a friend of ann"]
     );
+}
+
+/// What begins with new terms counts from there, and what goes on counts as before.
+#[test]
+fn since_the_terms_were_revised() {
+    let (none, asked) = (["not 0 0"], ["0 1 0", "0 2 2"]);
+    let once = ["in 1 1", "since 0 2"];
+    assert_eq!(
+        why_revised(&none, &asked, &once, &["1 0 1"]),
+        ["since the terms were revised at moment 2 ben has never asked ann"]
+    );
+    assert_eq!(why_revised(&none, &asked[..1], &once, &["1 0 1"]), ["ben asked ann at moment 1"]);
+    assert_eq!(why_revised(&once, &asked, &once, &["1 0 1"]), ["ben asked ann at moment 1"]);
+    let before = ["in 1 1", "prev 2 0"];
+    assert_eq!(
+        why_revised(&none, &asked, &before, &["1 0 1"]),
+        ["the terms were revised at moment 2, and none before it counts"]
+    );
+    assert_eq!(
+        why_revised(&none, &["0 1 0"], &before, &["0 2 2", "1 0 1"]),
+        ["ben asked ann at moment 1"]
+    );
+    // Somebody whom I once asked is a friend of the target: the step counts from there.
+    let step = ["var 1 0", "out 1 2", "since 0 3", "out 0 1", "reach 1 4 5"];
+    let told = why_revised(&none, &["0 0 1", "0 3 3"], &step, &["1 0 2"]);
+    let counts = "the past counts here from moment 2 on, when the terms were revised";
+    assert!(told.len() == 1 && told[0].ends_with(counts), "{told:?}");
 }
 
 #[test]

@@ -28,11 +28,19 @@ pub enum Fact {
     Differ { member: usize, other: usize },
     /// Moment 0 is the first.
     NoMomentBefore,
+    /// The terms were revised at this moment, and none before it counts for what is
+    /// asked.
+    NotBefore(usize),
     /// So a stored file says of moment 0.
     Stored(Claim),
     /// The place's entry held there at no moment up to the place's, from moment 0 on
     /// or after it.
     Never { place: Place, after: bool },
+    /// The place's entry held there at no moment from the first on, at which the terms
+    /// were revised, up to the place's.
+    NeverSince { place: Place, first: usize },
+    /// What was told last counts from this moment on, at which the terms were revised.
+    Counting(usize),
     /// The place's entry held there from a moment on, up to the place's.
     Since { place: Place, first: usize },
     /// The step of the place's reach leads to nobody.
@@ -107,6 +115,9 @@ impl Fact {
                 format!("{} is not {}", words.member(member), words.member(other))
             }
             Fact::NoMomentBefore => "there is no moment before moment 0".to_string(),
+            Fact::NotBefore(moment) => {
+                format!("the terms were revised at moment {moment}, and none before it counts")
+            }
             Fact::Stored(Claim { place, holds }) => {
                 format!("when it was stored, {}", telling.holds(whose(place), holds, true))
             }
@@ -114,6 +125,14 @@ impl Fact {
                 let stored = if after { "since then " } else { "" };
                 let never = telling.never(whose(place), then(place.moment));
                 format!("{stored}{never}{}", up_to(place.moment))
+            }
+            Fact::NeverSince { place, first } => {
+                let never = telling.never(whose(place), then(place.moment));
+                let revised = format!("since the terms were revised at moment {first}");
+                format!("{revised} {never}{}", up_to(place.moment))
+            }
+            Fact::Counting(moment) => {
+                format!("the past counts here from moment {moment} on, when the terms were revised")
             }
             Fact::Since { place, .. } => telling.since(whose(place), then(place.moment)),
             Fact::NoStep(place) => {

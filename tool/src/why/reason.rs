@@ -4,6 +4,7 @@
 //! its leaves it decides the policy without any further look at the formulas'
 //! meaning; edges are read off the graphs.
 
+use super::begin::{begins, revised, Begin};
 use keeper::record::meaning::{Assigned, Meaning};
 use keeper::record::{Graph, Record};
 use keeper::terms::{Entry, Terms, Variables};
@@ -61,7 +62,8 @@ pub enum Reason {
     Neighbour(Claim),
     /// `out` or `in` fails: at every neighbour, of whom there may be none.
     NoNeighbour(Vec<Claim>),
-    /// `prev` fails at moment 0.
+    /// `prev` fails at the moment where it begins; and what is about the past fails
+    /// at moments before that.
     NoMomentBefore,
     /// `prev` or `since` at moment 0 of a stored file, which says so.
     Stored,
@@ -73,8 +75,8 @@ pub enum Reason {
     /// `since` fails: it held last by such a beginning, the first operand failed
     /// after it, and the second has failed at every moment after it.
     Broken { began: Claim, broke: Claim, after: Vec<Claim> },
-    /// `since` fails: the second operand held at no moment. At moment 0 of a stored
-    /// file it is the since itself that did not.
+    /// `since` fails: the second operand held at no moment from where it begins. At
+    /// moment 0 of a stored file it is the since itself that did not.
     Never(Vec<Claim>),
     /// `reach` holds: by the first operand of this member, and the second there.
     Reached { step: Claim, there: Claim },
@@ -116,16 +118,17 @@ pub struct Reasons<'a> {
     graphs: &'a [Graph],
     free: Vec<Variables>,
     meaning: Meaning<'a>,
-    /// Whether moment 0 is that of a stored file.
-    stored: bool,
+    /// For each entry from where on it is judged.
+    begins: Vec<Begin>,
+    /// For each entry the last revision at which it, or something inside it, began.
+    revised: Vec<Option<usize>>,
 }
 
 impl<'a> Reasons<'a> {
     pub fn new(record: &'a Record) -> Reasons<'a> {
-        let (terms, graphs) = (record.terms(), record.graphs());
-        let free = terms.free();
-        let meaning = record.meaning();
-        Reasons { terms, graphs, free, meaning, stored: record.before().is_some() }
+        let (terms, graphs, begins) = (record.terms(), record.graphs(), begins(record));
+        let (free, revised) = (terms.free(), revised(record, &begins));
+        Reasons { terms, graphs, free, meaning: record.meaning(), begins, revised }
     }
 
     pub fn terms(&self) -> &'a Terms {
@@ -170,7 +173,8 @@ impl<'a> Reasons<'a> {
             Entry::Out(_, f) | Entry::In(_, f) => self.near(place, f),
             Entry::Many(_, f, count) => self.many(place, f, count),
             Entry::Prev(_) | Entry::Since(_, _) if self.is_stored(place) => Reason::Stored,
-            Entry::Prev(_) if place.moment == 0 => Reason::NoMomentBefore,
+            Entry::Prev(_) if place.moment <= self.first(place) => Reason::NoMomentBefore,
+            Entry::Since(_, _) if place.moment < self.first(place) => Reason::NoMomentBefore,
             Entry::Prev(f) => Reason::Before(self.claim(place.entry(f).moment(place.moment - 1))),
             Entry::Since(f, g) => self.since(place, f, g),
             Entry::Bind(x, f) => {
@@ -228,16 +232,31 @@ impl<'a> Reasons<'a> {
         Reason::NobodyReached(failing)
     }
 
-    /// Whether what is said of the past at a place is a stored file's.
+    /// From where on an entry is judged.
+    pub fn begin(&self, entry: usize) -> Begin {
+        self.begins[entry]
+    }
+
+    /// The first moment that counts for the entry of a place.
+    fn first(&self, place: Place) -> usize {
+        self.begins[place.entry].moment()
+    }
+
+    /// The last revision at which an entry, or something inside it, began.
+    pub fn revised_inside(&self, entry: usize) -> Option<usize> {
+        self.revised[entry]
+    }
+
+    /// Whether what a past-time entry says at a place is a stored file's.
     pub fn is_stored(&self, place: Place) -> bool {
-        self.stored && place.moment == 0
+        self.begins[place.entry] == Begin::Stored && place.moment == 0
     }
 
     /// The last moment of the second operand decides, and after it the first
     /// failure of the first.
     fn since(&mut self, place: Place, f: usize, g: usize) -> Reason {
         let mut failing = Vec::new();
-        let began = (0..=place.moment).rev().find_map(|moment| {
+        let began = (self.first(place)..=place.moment).rev().find_map(|moment| {
             let there = place.moment(moment);
             let claim = self.claim(if self.is_stored(there) { there } else { there.entry(g) });
             if claim.holds {

@@ -1,5 +1,6 @@
 //! Stories: the facts that a reason comes down to, in the order of telling.
 
+use super::begin::Begin;
 use super::fact::Fact;
 use super::reason::{neighbours, Claim, Place, Reason, Reasons};
 use crate::names::Names;
@@ -159,14 +160,17 @@ impl Teller<'_, '_> {
                 vec![story.then(stories)]
             }
             Reason::NobodyReached(failing) => self.nobody_reached(place, failing),
-            Reason::NoMomentBefore => vec![Story::of(Fact::NoMomentBefore)],
+            Reason::NoMomentBefore => vec![Story::of(match self.reasons.begin(place.entry) {
+                Begin::Revised(moment) => Fact::NotBefore(moment),
+                _ => Fact::NoMomentBefore,
+            })],
             Reason::Stored => vec![Story::of(Fact::Stored(claim))],
             Reason::Began { began, after } => vec![self.began(began, after)],
             Reason::Broken { began, broke, .. } => {
                 let story = Story::default().then(telling(self.tell(began)));
                 vec![story.but(telling(self.tell(broke)))]
             }
-            Reason::Never(failing) => self.never(failing),
+            Reason::Never(failing) => self.never(place, failing),
         }
     }
 
@@ -191,24 +195,40 @@ impl Teller<'_, '_> {
             return story;
         }
         let since = Fact::Since { place: last.place, first: first.place.moment };
-        story.then(vec![Story::of(since)])
+        story.then(vec![self.counting(Story::of(since), last.place.entry, None)])
+    }
+
+    /// A story that tells of an entry in one sentence, with from where on that
+    /// counts, if the terms were revised and it was not told yet.
+    fn counting(&self, story: Story, entry: usize, told: Option<usize>) -> Story {
+        match self.reasons.revised_inside(entry) {
+            Some(moment) if told != Some(moment) => {
+                story.then(vec![Story::of(Fact::Counting(moment))])
+            }
+            _ => story,
+        }
     }
 
     /// That it never was so; for a denial also the moments whose event came near.
-    fn never(&mut self, failing: Vec<Claim>) -> Vec<Story> {
+    fn never(&mut self, since: Place, failing: Vec<Claim>) -> Vec<Story> {
         let [first, .., last] = failing[..] else {
-            return failing.iter().map(|only| self.never_at(only.place, None)).collect();
+            return failing.iter().map(|only| self.never_at(since, only.place, None)).collect();
         };
-        let stored = self.reasons.is_stored(first.place).then_some(first);
+        let stored = (first.place.entry == since.entry).then_some(first);
         let mut stories = self.near(&failing[usize::from(stored.is_some())..]);
-        stories.push(self.never_at(last.place, stored));
+        stories.push(self.never_at(since, last.place, stored));
         stories
     }
 
-    /// That an entry held at no moment up to a place's; or that something was not
-    /// so as stored, and that the entry has not held since.
-    fn never_at(&self, place: Place, stored: Option<Claim>) -> Story {
-        let never = Story::of(Fact::Never { place, after: stored.is_some() });
+    /// That the second operand of a since held at no moment up to a place's, from
+    /// where the since begins; or that the since was not so as stored, and that the
+    /// operand has not held from then on.
+    fn never_at(&self, since: Place, place: Place, stored: Option<Claim>) -> Story {
+        let (never, first) = match self.reasons.begin(since.entry) {
+            Begin::Revised(first) => (Fact::NeverSince { place, first }, Some(first)),
+            _ => (Fact::Never { place, after: stored.is_some() }, None),
+        };
+        let never = self.counting(Story::of(never), place.entry, first);
         match stored {
             None => never,
             Some(claim) => Story::of(Fact::Stored(claim)).then(vec![never]),
@@ -254,7 +274,7 @@ impl Teller<'_, '_> {
         }
         if stories.is_empty() {
             stories = self.near(&failing);
-            stories.push(Story::of(Fact::NoStep(place)));
+            stories.push(self.counting(Story::of(Fact::NoStep(place)), f, None));
         }
         stories
     }
