@@ -5,6 +5,7 @@
 //! * `labels`, `wording`, `verbs`, `grammar`: how relations and events are said
 //! * `render`, `words`: clauses in words, in a line or as an outline
 //! * `stored`: what a stored file remembers; `told`: sentences about single members
+//! * `tables`: what the past-time entries say
 //! * `quote`: the sentences as a document quotes them
 
 pub mod clause;
@@ -16,6 +17,7 @@ pub mod quote;
 mod render;
 pub mod resolve;
 mod stored;
+pub mod tables;
 pub mod told;
 mod verbs;
 mod wording;

@@ -6,6 +6,7 @@ pub mod compile;
 pub mod new;
 pub mod play;
 pub mod report;
+pub mod revise;
 pub mod run;
 pub mod source;
 pub mod test;
@@ -28,7 +29,7 @@ pub struct Command {
 }
 
 /// All sub-commands, in the order in which a user meets them.
-pub const COMMANDS: [Command; 12] = [
+pub const COMMANDS: [Command; 13] = [
     Command {
         name: "new",
         summary: "make a folder with a source to start from",
@@ -94,6 +95,12 @@ pub const COMMANDS: [Command; 12] = [
         summary: "make the tests of folders and show where they fail",
         help: test::HELP,
         main: test::main,
+    },
+    Command {
+        name: "revise",
+        summary: "go on with new terms, and say what changes",
+        help: revise::HELP,
+        main: revise::main,
     },
     Command {
         name: "source",

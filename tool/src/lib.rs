@@ -9,6 +9,7 @@
 //! * `why`: why a request is granted or denied
 //! * `report`: a folder's story as one page
 //! * `requests`: requests by name
+//! * `revise`: a monitor that goes on with new terms
 //! * `trial`, `editing`: requests made and taken back at a prompt; a line edited at a terminal
 //! * `watch`: doing something again when files change
 //! * `testing`: tests that people write; `play`: a page to edit terms in and try them
@@ -34,6 +35,7 @@ pub mod play;
 pub mod replay;
 pub mod report;
 pub mod requests;
+pub mod revise;
 pub mod source;
 pub mod stop;
 pub mod storing;

@@ -13,7 +13,7 @@ pub mod ast;
 pub mod compile;
 pub mod decompile;
 mod entries;
-mod kinds;
+pub(crate) mod kinds;
 pub mod mistake;
 pub mod parse;
 pub mod print;

@@ -79,6 +79,13 @@ fn standing(assigned: Assigned) -> Named {
     named
 }
 
+/// What a past-time entry says at somebody with its free variable, if any,
+/// standing for somebody else. Both may be the guests 0 and 1.
+pub fn of_table(forms: &Forms, entry: usize, here: Who, other: Who) -> Clause {
+    let named = Named([other; VARIABLES]);
+    Resolver { forms, guests: 2 }.inside(forms.node(entry, true), here, named)
+}
+
 struct Resolver<'a> {
     forms: &'a Forms<'a>,
     guests: usize,

@@ -1,0 +1,58 @@
+//! `cuckooormolu revise`: a monitor goes on with new terms.
+
+use crate::arguments::Arguments;
+use crate::folder::Folder;
+use crate::json::Json;
+use crate::replay::Replay;
+use crate::revise::revise;
+use crate::stop::{Stop, WELL};
+use crate::storing::store;
+use std::io::Write;
+use std::path::Path;
+
+pub const HELP: &str = "\
+usage: cuckooormolu revise DIR NEW [--renamed] [--store FILE] [--json]
+
+Carries a monitor over to new terms: that of DIR, after its requests, to the terms
+of NEW. Nobody starts over. Relations stay as they are, the first edges and the
+requests of NEW count for nothing. It says
+
+- which sentences about the past go on, which begin now and which are dropped; a
+  sentence goes on if the old terms have the very same
+- who could do what and no longer can, and who now can
+
+Members, relations and events must be the same, in number and in order: numbers
+carry over. Policies, effects and kept events may be others.
+
+  --renamed      the names in NEW are other names of the same
+  --store FILE   store the monitor as it goes on, under the new terms, in FILE; its
+                 folder is made if need be. Called terms.tsv, it gets the names
+                 beside it, and its folder goes on from there
+  --json         one JSON object a line: moment; sentences; changes of answers
+
+Exit status: 0; 3 if it is refused, or a file cannot be read, written or compiled.
+";
+
+pub fn main(arguments: &[String], out: &mut dyn Write) -> Result<i32, Stop> {
+    let arguments = Arguments::read(arguments, &["--renamed", "--json"], &["--store"])?;
+    let [old, new] = &arguments.rest[..] else {
+        return Err(Stop::Usage("give DIR and NEW, the folder of the new terms".into()));
+    };
+    let (old, new) = (Folder::load(Path::new(old))?, Folder::load(Path::new(new))?);
+    let mut both = Replay::of(&old)?.both;
+    let revised = revise(&mut both, &old, &new, arguments.has("--renamed"))?;
+    let json = arguments.has("--json");
+    match json {
+        true => revised.json().iter().try_for_each(|line| writeln!(out, "{line}"))?,
+        false => write!(out, "{}", revised.text(&both))?,
+    }
+    if let Some(file) = arguments.option("--store") {
+        let from = Folder { names: revised.names, ..new };
+        store(Path::new(file), &both.store()?, &from)?;
+        match json {
+            true => writeln!(out, "{}", Json::Object(vec![("stored", file.into())]))?,
+            false => writeln!(out, "\n{file} written")?,
+        }
+    }
+    Ok(WELL)
+}

@@ -1,0 +1,228 @@
+//! `revise`: what it says, what it stores and what it refuses.
+
+mod run_support;
+
+use run_support::{example, run, Folder, Said};
+use std::fs;
+
+/// Runs `revise` from one folder to another, with further arguments.
+fn revise(old: &Folder, new: &Folder, more: &[&str]) -> Said {
+    run(&[&["revise", old.path(), new.path()], more].concat())
+}
+
+/// A folder with a source, and with requests by name.
+fn folder(source: &str, requests: &str) -> Folder {
+    let folder = Folder::new();
+    folder.write("terms.say", source);
+    folder.write("requests.say", requests);
+    folder
+}
+
+const OLD: &str = "members dora, pete, saw\nrelation owns\nevent share, withdraw by anyone\n\
+    event load when some x owns target: once x share me\nfirst dora owns saw\n";
+
+fn example_revised(more: &[&str]) -> Said {
+    let path = |name: &str| example(name).display().to_string();
+    run(&[&["revise", &path("revised"), &path("revised/new")], more].concat())
+}
+
+#[test]
+fn the_example_quotes_what_is_said() {
+    let readme = fs::read_to_string(example("revised").join("README.md")).unwrap();
+    let (_, block) = readme.split_once("```revise\n").expect("a block fenced as ```revise");
+    let (block, _) = block.split_once("```\n").unwrap();
+    let said = example_revised(&[]);
+    assert_eq!((said.status, said.err.as_str()), (0, ""));
+    assert_eq!(block, said.out);
+}
+
+#[test]
+fn the_example_stores_what_stands_under_later() {
+    let folder = Folder::new();
+    let file = folder.file("later/terms.tsv");
+    let said = example_revised(&["--store", file.to_str().unwrap()]);
+    assert_eq!((said.status, said.err.as_str()), (0, ""));
+    assert!(said.out.ends_with(&format!("\n{} written\n", file.display())), "{}", said.out);
+    for name in ["terms.tsv", "names.tsv"] {
+        let later = fs::read_to_string(example("revised/later").join(name)).unwrap();
+        assert_eq!(folder.read(&format!("later/{name}")), later);
+    }
+    folder.write("later/requests.tsv", "R\t2\t2\t3\nR\t2\t1\t3\n");
+    let later = folder.file("later").display().to_string();
+    assert_eq!(
+        run(&["run", &later]).out,
+        "1  load quin → pad  granted\n2  load pete → pad  denied\n"
+    );
+}
+
+#[test]
+fn for_programs() {
+    let lines: Vec<String> = example_revised(&["--json"]).out.lines().map(str::to_string).collect();
+    assert_eq!(lines[0], r#"{"moment":6,"renamed":[]}"#);
+    assert_eq!(
+        lines[1],
+        "{\"sentence\":\"you have at some time thanked A.\",\"start\":\"now\",\"entry\":3,\"was\":null,\
+         \"events\":[\"load\"],\"definition\":null}"
+    );
+    assert!(lines[2].contains(r#""start":"carried","entry":8,"was":5,"#), "{}", lines[2]);
+    assert!(lines[3].contains(r#""start":"dropped","entry":null,"was":10,"#), "{}", lines[3]);
+    assert_eq!(lines[4], r#"{"event":"load","from":"pete","no longer":["pad"],"now":[]}"#);
+    assert_eq!(lines.len(), 6);
+}
+
+/// A stored folder is carried over as it stands: what it remembers goes on.
+#[test]
+fn a_stored_monitor_goes_on() {
+    let old = folder(OLD, "share dora pete\n");
+    let stored = Folder::new();
+    let file = stored.file("terms.tsv").display().to_string();
+    assert_eq!(run(&["run", old.path(), "--store", &file]).status, 0);
+    let both = "me is not target and (some x owns target: once x share me)";
+    let new = folder(&OLD.replace("some x owns target: once x share me", both), "");
+    let said = revise(&stored, &new, &[]);
+    assert_eq!((said.status, said.err.as_str()), (0, ""));
+    let wanted =
+        "These sentences about the past go on:\n- load: A has at some time shared with you.\n\n\
+                  No answer changes now.\n";
+    assert_eq!(said.out, wanted);
+}
+
+#[test]
+fn the_definition_is_named() {
+    let defined = "members a, b\nevent ask, load when me is welcome\n\
+                   define x is welcome: never x ask someone\n";
+    let old = folder("members a, b\nevent ask, load by anyone\n", "ask a b\n");
+    let said = revise(&old, &folder(defined, ""), &[]);
+    let wanted = "These begin now, at moment 1, and its event, ask a → b, counts:\n\
+                  - ask and load, welcome: you have at some time asked some member.\n\n\
+                  These could and no longer can:\n- ask a → everybody\n- load a → everybody\n";
+    assert_eq!((said.out.as_str(), said.err.as_str()), (wanted, ""));
+}
+
+/// The variable of a name counts, though nobody hears it.
+#[test]
+fn what_reads_alike_and_is_not_the_same() {
+    let terms = |name: &str| {
+        let policy = format!("once (some {name} ask me: some y ask target: y is not {name})");
+        format!("members a, b\nevent ask by anyone\nevent go when {policy}\n")
+    };
+    let (old, new) = (folder(&terms("x2"), ""), folder(&terms("x3"), ""));
+    let said = revise(&old, &new, &[]).out;
+    assert!(
+        said.contains("in the same words is not the same formula: variables\ndiffer"),
+        "{said}"
+    );
+    assert!(!revise(&old, &old, &[]).out.contains("the same formula"));
+}
+
+#[test]
+fn many_changes_are_grouped_and_cut() {
+    let members: Vec<String> = (0..40).map(|number| format!("m{number}")).collect();
+    let terms = |policy: &str| {
+        let first = "first m0 knows m1, m2 knows m3 and m4";
+        format!("members {}\nrelation knows\nevent go {policy}\n{first}\n", members.join(", "))
+    };
+    let (old, new) = (folder(&terms("by anyone"), ""), folder(&terms("when me is target"), ""));
+    let said = revise(&old, &new, &[]).out;
+    assert!(
+        said.starts_with("Neither terms say anything about the past.\n\nThese could"),
+        "{said}"
+    );
+    assert!(said.contains("- go m0 → m1, m2, m3, m4, m5, m6 and 33 more\n"), "{said}");
+    assert!(said.ends_with("- and 1170 pairs more\n"), "{said}");
+    let said = revise(&new, &old, &[]).out;
+    assert!(said.contains("These could not and now can:\n- go m0 → m1, m2"), "{said}");
+    let none = folder(&terms("when false"), "");
+    let said = revise(&old, &none, &[]).out;
+    assert!(said.contains("no longer can:\n- go everybody → everybody\n"), "{said}");
+}
+
+#[test]
+fn other_sizes_are_refused() {
+    let old = folder(OLD, "share dora pete\n");
+    let new = folder(&OLD.replace("saw\nrelation owns", "saw, cleo\nrelations owns, likes"), "");
+    let said = revise(&old, &new, &["--store", "never.tsv"]);
+    assert_eq!((said.status, said.out.as_str()), (3, ""));
+    let shown = format!("{}/terms.say", new.path());
+    let old_path = old.path();
+    for part in [
+        format!("{shown}:1:26: refused with 13: 4 members here and 3 in {old_path}: cleo is new\n"),
+        " 1 | members dora, pete, saw, cleo\n   |                          ^^^^\n".to_string(),
+        "revising keeps the members, as many and in the same order: leave out cleo; with others \
+         start over, by the new terms alone"
+            .to_string(),
+        format!(
+            "{shown}:2:17: refused with 13: 2 relations here and 1 in {old_path}: likes is new"
+        ),
+    ] {
+        assert!(said.err.contains(&part), "{part}\n{}", said.err);
+    }
+    let said = revise(&new, &old, &["--json"]);
+    assert_eq!((said.status, said.err.as_str()), (3, ""));
+    assert!(said.out.contains("3 members here and 4 in"), "{}", said.out);
+    assert!(said.out.contains("cleo is missing"), "{}", said.out);
+    assert!(said.out.contains("put back cleo"), "{}", said.out);
+}
+
+/// A terms file has no lines of declarations: the file is named.
+#[test]
+fn terms_files_are_refused_by_their_name() {
+    let (old, new) = (Folder::new(), Folder::new());
+    old.write("terms.tsv", "M\t2\nL\t0\t1\nF\t0\ttop\t0\t0\nP\t0\t0\n");
+    new.write("terms.tsv", "M\t3\nL\t0\t1\nF\t0\ttop\t0\t0\nP\t0\t0\n");
+    let said = revise(&old, &new, &[]);
+    assert_eq!(said.status, 3);
+    let wanted = format!(
+        "cuckooormolu revise: {}/terms.tsv: refused with 13: 3 members here and 2 in {}\n  revising \
+         keeps the members, as many and in the same order; with others",
+        new.path(),
+        old.path()
+    );
+    assert!(said.err.starts_with(&wanted), "{}", said.err);
+}
+
+/// Numbers carry over: whoever has pete's number has what pete has done.
+#[test]
+fn other_names_are_refused_unless_renamed() {
+    let old = folder(OLD, "share dora pete\n");
+    let new = folder(&OLD.replace("pete", "cleo"), "");
+    let said = revise(&old, &new, &[]);
+    assert_eq!((said.status, said.out.as_str()), (3, ""));
+    let wanted = format!(":1:15: member 1 is cleo here and pete in {}\n", old.path());
+    assert!(said.err.contains(&wanted), "{}", said.err);
+    assert!(said.err.contains("cleo would go on as pete; keep the members of"), "{}", said.err);
+    assert!(said.err.contains("dora, pete, saw, or say --renamed"), "{}", said.err);
+    let said = revise(&old, &new, &["--renamed"]);
+    assert_eq!((said.status, said.err.as_str()), (0, ""));
+    let warning = "WARNING: renamed, with all that they have and have done:\n\
+                   - member 1, pete, is called cleo\n\n";
+    assert!(said.out.starts_with(warning), "{}", said.out);
+    let order = folder(&OLD.replace("share, withdraw", "withdraw, share"), "");
+    let said = revise(&old, &order, &[]);
+    assert_eq!(said.status, 3);
+    assert!(said.err.contains("the events stand in another order than in"), "{}", said.err);
+    assert!(said.err.contains("withdraw for share"), "{}", said.err);
+}
+
+/// What has no name in one of the two cannot be told apart: it is the same.
+#[test]
+fn names_may_be_missing() {
+    let (old, new) = (Folder::new(), folder("members ann, ben\nevent go by anyone\n", ""));
+    old.write("terms.tsv", "M\t2\nL\t0\t1\nF\t0\ttop\t0\t0\nP\t0\t0\n");
+    assert_eq!(revise(&old, &new, &[]).status, 0);
+    let file = new.file("later/terms.tsv").display().to_string();
+    assert_eq!(revise(&new, &old, &["--store", &file]).status, 0);
+    assert!(new.read("later/names.tsv").contains("member\t1\tben\n"));
+}
+
+#[test]
+fn wrong_command_lines() {
+    let old = folder(OLD, "");
+    assert_eq!(run(&["revise", old.path()]).status, 2);
+    assert_eq!(run(&["revise", old.path(), old.path(), "--strict"]).status, 2);
+    assert_eq!(run(&["revise", old.path(), "no-such-folder"]).status, 3);
+    let file = old.file("terms.tsv").display().to_string();
+    let said = revise(&old, &old, &["--store", &file]);
+    assert_eq!(said.status, 3);
+    assert!(said.err.contains("has a terms.say, which is what runs there"), "{}", said.err);
+}
