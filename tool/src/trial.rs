@@ -2,12 +2,13 @@
 
 pub mod typed;
 
-use crate::both::Verdict;
+use crate::both::{Both, Verdict};
 use crate::folder::{self, Folder, Request, REQUESTS, SPOKEN};
 use crate::matrix::Matrix;
 use crate::names::Kind;
 use crate::replay::{Replay, Step};
 use crate::requests;
+use crate::revise::revise;
 use crate::stop::Stop;
 use crate::why::reason::Reasons;
 use crate::words::{answered, Words};
@@ -31,13 +32,21 @@ pub struct Trial {
     last: Option<Step>,
     /// Whether the requests of the folder were made first.
     after: bool,
+    /// The terms that were gone on with, each after so many requests.
+    revisions: Vec<(usize, Folder)>,
 }
 
 impl Trial {
     /// Begins after the requests of the folder, or before them.
     pub fn new(folder: Folder, first: bool) -> Result<Trial, Stop> {
         let replay = if first { Replay::before(&folder)? } else { Replay::of(&folder)? };
-        Ok(Trial { last: replay.steps.last().copied(), folder, replay, after: !first })
+        Ok(Trial {
+            last: replay.steps.last().copied(),
+            folder,
+            replay,
+            after: !first,
+            revisions: Vec::new(),
+        })
     }
 
     /// What to say at the beginning.
@@ -52,12 +61,12 @@ impl Trial {
 
     /// The words that may stand where a typed line ends.
     pub fn next(&self, before: &str) -> Vec<String> {
-        typed::next(before, self.replay.both.terms(), &self.folder.names)
+        typed::next(before, self.replay.both.terms(), &self.present().names)
     }
 
     /// Does what a line asks for. An error stops the trial.
     pub fn line(&mut self, line: &str) -> Result<Reply, Stop> {
-        let typed = match typed::read(line, self.replay.both.terms(), &self.folder.names) {
+        let typed = match typed::read(line, self.replay.both.terms(), &self.present().names) {
             Ok(typed) => typed,
             Err(wrong) => return Ok(Reply::Wrong(wrong)),
         };
@@ -80,6 +89,7 @@ impl Trial {
             Typed::List => Ok(Reply::Said(self.list())),
             Typed::Members => Ok(Reply::Said(self.members())),
             Typed::Undo => self.undo(),
+            Typed::Revise(folder, renamed) => self.revise(&folder, renamed),
             Typed::Save(file) => Ok(self.save(file.as_deref())),
             Typed::Help => Ok(Reply::Said(typed::HELP.to_string())),
             Typed::Quit => Ok(Reply::Quit),
@@ -87,7 +97,12 @@ impl Trial {
     }
 
     fn words(&self) -> Words<'_> {
-        Words::new(self.replay.both.terms(), &self.folder.names)
+        Words::new(self.replay.both.terms(), &self.present().names)
+    }
+
+    /// The folder whose terms are in use.
+    fn present(&self) -> &Folder {
+        self.revisions.last().map_or(&self.folder, |(_, folder)| folder)
     }
 
     fn request(&mut self, (event, from, to): Call) -> Result<Reply, Stop> {
@@ -111,7 +126,8 @@ impl Trial {
 
     fn why(&self, all: bool) -> Result<Reply, Stop> {
         let Some(step) = self.last else {
-            return Ok(Reply::Wrong("nothing was asked yet".to_string()));
+            let under = if self.revisions.is_empty() { "" } else { " under the terms in use" };
+            return Ok(Reply::Wrong(format!("nothing was asked yet{under}")));
         };
         let words = self.words();
         let mut said = format!("{}: {}", words.request(step.request), answered(step.verdict));
@@ -132,24 +148,60 @@ impl Trial {
         Ok(Reply::Said(said))
     }
 
-    /// Makes all requests again but the last.
-    fn undo(&mut self) -> Result<Reply, Stop> {
-        let Some((last, before)) = self.replay.steps.split_last() else {
-            return Ok(Reply::Wrong("there is nothing to take back".to_string()));
+    /// Goes on with the terms of a folder.
+    fn revise(&mut self, folder: &str, renamed: bool) -> Result<Reply, Stop> {
+        let new = match Folder::load(Path::new(folder)) {
+            Ok(new) => new,
+            Err(stop) => return Ok(Reply::Wrong(stop.to_string())),
         };
-        let mut replay = Replay::before(&self.folder)?;
-        for step in before {
-            replay.make(step.request)?;
-        }
-        let said = format!(
-            "took back {}, which was {}; moment {}",
-            self.words().request(last.request),
-            answered(last.verdict),
-            replay.moment()
-        );
-        self.last = replay.steps.last().copied();
-        self.replay = replay;
+        let old = self.present().clone();
+        let revised = match revise(&mut self.replay.both, &old, &new, renamed) {
+            Err(stop @ (Stop::Failed(_) | Stop::Mistaken(_))) => {
+                return Ok(Reply::Wrong(stop.to_string()))
+            }
+            revised => revised?,
+        };
+        let said = revised.text(&self.replay.both).trim_end().to_string();
+        let new = Folder { names: revised.names, ..new };
+        self.revisions.push((self.replay.steps.len(), new));
+        self.last = None;
         Ok(Reply::Said(said))
+    }
+
+    /// Makes all again but the last request or revision.
+    fn undo(&mut self) -> Result<Reply, Stop> {
+        let count = self.replay.steps.len();
+        let revised = self.revisions.last().is_some_and(|(after, _)| *after == count);
+        let taken = match (self.replay.steps.last(), revised) {
+            (_, true) => format!("took back the terms of {}", self.present().path.display()),
+            (None, false) => {
+                return Ok(Reply::Wrong("there is nothing to take back".to_string()));
+            }
+            (Some(last), false) => {
+                let (asked, answer) = (self.words().request(last.request), answered(last.verdict));
+                format!("took back {asked}, which was {answer}")
+            }
+        };
+        if revised {
+            self.revisions.pop();
+        }
+        let mut replay = Replay::before(&self.folder)?;
+        let mut left = self.revisions.iter().peekable();
+        let kept = if revised { count } else { count - 1 };
+        for made in 0..=kept {
+            while let Some((_, terms)) = left.next_if(|(after, _)| *after == made) {
+                // It was done before, so it is not refused.
+                let _ = replay.both.revise(&Both::accepted(&terms.terms)?)?;
+            }
+            if made < kept {
+                replay.make(self.replay.steps[made].request)?;
+            }
+        }
+        // Only what was asked under the terms in use has a reason.
+        let since = self.revisions.last().map_or(0, |(after, _)| *after);
+        self.last = replay.steps[since..].last().copied();
+        self.replay = replay;
+        Ok(Reply::Said(format!("{taken}; moment {}", self.replay.moment())))
     }
 
     fn list(&self) -> String {
@@ -157,9 +209,13 @@ impl Trial {
         let line = |step: &Step| {
             format!("{:3}  {}: {}", step.line, words.request(step.request), answered(step.verdict))
         };
-        match self.replay.steps.is_empty() {
+        let mut lines: Vec<String> = self.replay.steps.iter().map(line).collect();
+        for (after, folder) in self.revisions.iter().rev() {
+            lines.insert(*after, format!("     the terms of {}", folder.path.display()));
+        }
+        match lines.is_empty() {
             true => "no requests so far".to_string(),
-            false => self.replay.steps.iter().map(line).collect::<Vec<_>>().join("\n"),
+            false => lines.join("\n"),
         }
     }
 
@@ -175,13 +231,18 @@ impl Trial {
     }
 
     fn all(&self, kind: Kind, count: usize) -> String {
-        let names = (0..count).map(|number| self.folder.names.name(kind, number));
+        let names = (0..count).map(|number| self.present().names.name(kind, number));
         names.collect::<Vec<_>>().join(", ")
     }
 
     /// Writes the requests. The folder's own file is written only where nothing
     /// of it would be lost.
     fn save(&self, file: Option<&str>) -> Reply {
+        if !self.revisions.is_empty() {
+            let said = "the terms were revised, and a file of requests has no word for that: undo it first, or \
+                        use `cuckooormolu revise` with --store";
+            return Reply::Wrong(said.to_string());
+        }
         let malformed = |step: &Step| step.request == Request::Malformed;
         let lost = self.replay.steps.iter().any(malformed)
             || !self.after && !self.folder.requests.is_empty();

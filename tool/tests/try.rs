@@ -2,7 +2,7 @@
 
 mod run_support;
 
-use run_support::{preset, run_with};
+use run_support::{example, preset, run_with};
 
 #[test]
 fn requests_looks_and_reasons() {
@@ -85,4 +85,72 @@ fn mistakes_are_answered() {
         assert!(said.out.contains(wanted), "{wanted}: {}", said.out);
     }
     assert_eq!(said.status, 2);
+}
+
+#[test]
+fn new_terms_at_the_prompt() {
+    let (old, new) = (example("revised"), example("revised/new"));
+    let (old, new) = (old.to_str().unwrap(), new.display());
+    let typed = format!(
+        "share dora pete\nrevise {new}\nwhy\nload pete pad\nwhy\nthank pete dora\nload pete pad\nwhy\nsave\n\
+         list\nundo\nundo\nundo\nundo\nwhy\nundo\n"
+    );
+    let said = run_with(&["try", old, "--first"], &typed);
+    let revised = "granted; moment 1
+These sentences about the past go on:
+- load: A has at some time shared with you and has not withdrawn from you since.
+
+These begin now, at moment 1, and its event, share dora → pete, counts:
+- load: you have at some time thanked A.
+
+These are dropped, with all that they remember:
+- star: you have at some time starred some member.
+
+These could and no longer can:
+- load pete → pad
+? nothing was asked yet under the terms in use
+denied
+load pete → pad: denied
+  dora owns pad, but since the terms were revised at moment 1 pete has never thanked dora
+granted; moment 2
+granted; moment 3
+load pete → pad: granted
+";
+    assert!(said.out.starts_with(revised), "{}", said.out);
+    let rest = format!(
+        "? the terms were revised, and a file of requests has no word for that: undo it first, or use \
+         `cuckooormolu revise` with --store
+  1  share dora → pete: granted
+     the terms of {new}
+  2  load pete → pad: denied
+  3  thank pete → dora: granted
+  4  load pete → pad: granted
+took back load pete → pad, which was granted; moment 2
+took back thank pete → dora, which was granted; moment 1
+took back load pete → pad, which was denied; moment 1
+took back the terms of {new}; moment 1
+share dora → pete: granted
+  it is always allowed
+took back share dora → pete, which was granted; moment 0
+"
+    );
+    assert!(said.out.ends_with(&rest), "{}", said.out);
+    assert_eq!(said.status, 2);
+}
+
+#[test]
+fn refused_terms_at_the_prompt() {
+    let folder = preset();
+    let said = run_with(
+        &["try", folder.path()],
+        &format!(
+            "revise {}\nrevise none\nrevise\nlook load pete saw\n",
+            example("revised").display()
+        ),
+    );
+    let out = &said.out;
+    assert!(out.contains("refused with 13: 4 members here and 3 in"), "{out}");
+    assert!(out.contains("? there is no file or folder none"), "{out}");
+    assert!(out.contains("? like this: revise DIR"), "{out}");
+    assert!(out.ends_with("would be denied\n"), "{out}");
 }

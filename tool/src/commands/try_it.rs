@@ -20,7 +20,8 @@ Reads lines from standard input and answers each:
   why load pete saw      why it would be granted or denied
   who load               who may do it to whom
   list, members          the requests so far; who and what there is
-  undo                   take the last request back
+  undo                   take the last request back, or revision
+  revise NEW             go on with the terms of NEW, and say what changes
   save [FILE]            write the requests to FILE, or to the folder's own file
   help, quit
 

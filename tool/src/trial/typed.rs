@@ -11,12 +11,14 @@ why EVENT FROM TO    why it would be granted or denied
 who EVENT            who may do it to whom
 list                 the requests so far, with their answers
 members              who and what there is
-undo                 take the last request back
+undo                 take the last request back, or revision
+revise DIR           go on with the terms of DIR, and say what changes
 save [FILE]          write the requests to FILE, or to the folder's requests.tsv
 help                 show this
 quit                 end";
 
-const WORDS: [&str; 9] = ["look", "why", "who", "undo", "list", "members", "save", "help", "quit"];
+const WORDS: [&str; 10] =
+    ["look", "why", "who", "undo", "list", "members", "revise", "save", "help", "quit"];
 
 /// The words that may stand where a line ends.
 pub fn next(before: &str, terms: &Terms, names: &Names) -> Vec<String> {
@@ -63,6 +65,9 @@ pub enum Typed {
     List,
     Members,
     Undo,
+    /// The folder of the new terms, and whether their names are other names of the
+    /// same.
+    Revise(String, bool),
     Save(Option<String>),
     Help,
     Quit,
@@ -88,6 +93,8 @@ pub fn read(line: &str, terms: &Terms, names: &Names) -> Result<Typed, String> {
         ["list"] => Typed::List,
         ["members"] => Typed::Members,
         ["undo"] => Typed::Undo,
+        ["revise", folder] => Typed::Revise(folder.to_string(), false),
+        ["revise", folder, "--renamed"] => Typed::Revise(folder.to_string(), true),
         ["save"] => Typed::Save(None),
         ["save", file] => Typed::Save(Some(file.to_string())),
         ["why"] => Typed::Why(false),
