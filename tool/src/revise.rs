@@ -95,6 +95,11 @@ impl Revised {
         if sentences::some_read_alike(&self.told) {
             parts.push(READ_ALIKE.to_string());
         }
+        if sentences::some_are_numbered(&self.told) {
+            parts.push(
+                "Clauses have the numbers that `cuckooormolu aloud` gives them.\n".to_string(),
+            );
+        }
         parts.extend(self.changes.parts(&words));
         parts.join("\n")
     }

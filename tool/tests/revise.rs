@@ -115,6 +115,20 @@ fn what_reads_alike_and_is_not_the_same() {
     assert!(!revise(&old, &old, &[]).out.contains("the same formula"));
 }
 
+/// What is long is said apart, under the number that it has read aloud.
+#[test]
+fn clauses_by_number() {
+    let chain: String = (1..14).map(|n| format!("p{} knows some p{n}: ", n - 1)).collect();
+    let policy = format!("once (as p0: {chain}p13 ask someone)");
+    let head = "members a, b\nrelation knows\nevent ask";
+    let old = folder(&format!("{head}, go by anyone\n"), "");
+    let new = folder(&format!("{head} by anyone\nevent go when {policy}\n"), "");
+    let said = revise(&old, &new, &[]).out;
+    let clause = "  - clause 1 held of D\n\nClauses have the numbers that `cuckooormolu aloud` gives them.\n";
+    assert!(said.contains(clause), "{said}");
+    assert!(run(&["aloud", new.path()]).out.contains("- clause 1 held of D\n"));
+}
+
 #[test]
 fn many_changes_are_grouped_and_cut() {
     let members: Vec<String> = (0..40).map(|number| format!("m{number}")).collect();

@@ -112,6 +112,11 @@ pub fn some_read_alike(told: &[Told]) -> bool {
     said(Start::Now).any(|begun| said(Start::Dropped).any(|dropped| begun == dropped))
 }
 
+/// Whether a sentence speaks of a clause by its number.
+pub fn some_are_numbered(told: &[Told]) -> bool {
+    told.iter().any(|told| told.table.sentence("").text().contains("clause "))
+}
+
 /// The sentences with one start under their heading, if there are any. What is
 /// the same in words is said once.
 pub fn part(told: &[Told], start: Start, head: &str) -> Option<String> {
