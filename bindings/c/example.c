@@ -10,6 +10,7 @@
  * as TERMS, later or elsewhere, it goes on from there.
  */
 #include "cuckooormolu.h"
+#include "request_line.h"
 
 #include <stdio.h>
 #include <stdlib.h>
@@ -38,40 +39,6 @@ static size_t contents(const char *name, uint8_t *bytes)
     return length;
 }
 
-/* Reads 1 to 5 digits, leading zeros among them, up to `end`, a tab or line
- * feed, and gives the place after it; NULL where there is no such number. */
-static const uint8_t *number(const uint8_t *at, const uint8_t *stop,
-                             uint8_t end, size_t *value)
-{
-    const uint8_t *first = at;
-    *value = 0;
-    while (at < stop && at - first < 6 && *at >= '0' && *at <= '9')
-        *value = *value * 10 + (size_t)(*at++ - '0');
-    size_t digits = (size_t)(at - first);
-    if (digits < 1 || digits > 5)
-        return NULL;
-    return at < stop && *at == end ? at + 1 : NULL;
-}
-
-/* Takes a line of requests, up to and with its line feed, as a record. */
-static bool take(const uint8_t *line, const uint8_t *stop,
-                 struct cuckooormolu_record *record)
-{
-    size_t event, from, to;
-    if (stop - line < 2 || line[0] != 'R' || line[1] != '\t')
-        return false;
-    const uint8_t *at = number(line + 2, stop, '\t', &event);
-    if (at != NULL)
-        at = number(at, stop, '\t', &from);
-    if (at != NULL)
-        at = number(at, stop, '\n', &to);
-    if (at != stop)
-        return false;
-    *record = cuckooormolu_record_of((uint32_t)event, (uint32_t)from,
-                                     (uint32_t)to);
-    return true;
-}
-
 /* Takes the lines of a text, and gives their count. A line that is no request
  * has no record. */
 static size_t take_all(const uint8_t *text, size_t length, size_t *count)
@@ -82,7 +49,7 @@ static size_t take_all(const uint8_t *text, size_t length, size_t *count)
     while (text < end) {
         const uint8_t *feed = memchr(text, '\n', (size_t)(end - text));
         const uint8_t *stop = feed == NULL ? end : feed + 1;
-        formed[lines] = take(text, stop, &records[*count]);
+        formed[lines] = request_line(text, stop, &records[*count]);
         *count += formed[lines++];
         text = stop;
     }

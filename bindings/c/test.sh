@@ -75,7 +75,7 @@ silent() {
 # linked with the archive.
 another_version() {
     mkdir -p "$work/other"
-    cp "$here/example.c" "$work/other"
+    cp "$here/example.c" "$here/request_line.h" "$work/other"
     sed 's/\(cuckooormolu_raw_version\)[0-9_]*/\1_0_0_0/' "$here/cuckooormolu.h" >"$work/other/cuckooormolu.h"
     echo cuckooormolu_raw_version_0_0_0 >"$work/wanted"
     if "$@" -o "$work/other/host" "$work/other/example.c" "$archive" 2>"$work/said"; then

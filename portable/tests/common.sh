@@ -19,8 +19,9 @@ work=$(mktemp -d)
 trap 'rm -rf "$work"' EXIT
 trap 'exit 1' HUP INT TERM
 chmod 755 "$work"
-# These include the header that stands beside them.
-cp "$folder/cuckooormolu.h" "$top/bindings/c/example.c" "$top/bindings/c/test.c" "$here"/*.[ch] "$work"
+# They include the header that stands beside them: here the C file's own.
+cp "$top"/bindings/c/*.[ch] "$here"/*.[ch] "$work"
+cp "$folder/cuckooormolu.h" "$work"
 sh "$here/seeds.sh" "$work/seeds"
 revise=$(sed -n 's/^size_t cuckooormolu_raw_revise(.*/-DREVISE/p' "$folder/cuckooormolu.h")
 
@@ -48,7 +49,7 @@ reference() {
     replayed "$1" "$work/proved"
 }
 
-# build NAME COMMAND...: the archive, the example host, test.c and the replay, by a compiler with its flags.
+# build NAME COMMAND...: the archive, the example host, the tests in C and the replay, by a compiler with its flags.
 build() {
     name=$1
     shift
@@ -56,18 +57,20 @@ build() {
     "$@" -std=c11 $warnings -c -o "$work/$name/cuckooormolu.o" "$folder/cuckooormolu.c"
     rm -f "$work/$name/libcuckooormolu.a"
     ar rcs "$work/$name/libcuckooormolu.a" "$work/$name/cuckooormolu.o"
-    for program in example test; do
-        "$@" -std=c11 $warnings -o "$work/$name/$program" "$work/$program.c" "$work/$name/cuckooormolu.o"
+    for source in "$work/example.c" "$work"/test*.c; do
+        "$@" -std=c11 $warnings -o "$work/$name/$(basename "$source" .c)" "$source" "$work/$name/cuckooormolu.o"
     done
     "$@" -std=c11 $warnings $revise -o "$work/$name/replay" "$work/invariants.c" "$work/replay.c" \
         "$work/$name/cuckooormolu.o"
 }
 
-# hold NAME COUNT DIGEST [EMULATOR]: a build passes test.c, answers the examples and the pages as the keeper does, and
-# says in the replay what the archive says.
+# hold NAME COUNT DIGEST [EMULATOR]: a build passes the tests in C, answers the examples and the pages as the keeper
+# does, and says in the replay what the archive says.
 hold() {
     name=$1 count=$2 wanted=$3 emulator=${4:-}
-    $emulator "$work/$name/test"
+    for source in "$work"/test*.c; do
+        $emulator "$work/$name/$(basename "$source" .c)"
+    done
     got=$(replayed "$count" $emulator "$work/$name/replay")
     if [ "$got" != "$wanted" ]; then
         echo "FAIL $name: the digest of the replay is $got, not $wanted"
@@ -78,7 +81,7 @@ hold() {
     chmod 755 "$work/$name/program"
     quietly sh "$top/tests/examples.sh" "$work/$name/program" "$keeper"
     quietly sh "$top/tests/pages.sh" "$work/$name/program" "$keeper"
-    echo "ok   $name: test.c, examples, pages, $count inputs replayed"
+    echo "ok   $name: tests in C, examples, pages, $count inputs replayed"
 }
 
 # differ NAME CALLS FILES [LINK...]: the library of a build against the keeper.

@@ -126,6 +126,12 @@ pub fn folder_of(path: &Path) -> PathBuf {
     }
 }
 
+/// The name of a folder, also of `.`.
+pub fn name(folder: &Path) -> String {
+    let whole = folder.canonicalize().unwrap_or_else(|_| folder.to_path_buf());
+    whole.file_name().map_or_else(|| "terms".into(), |name| name.to_string_lossy().into_owned())
+}
+
 /// The requests of a folder: those of requests.say, or else of requests.tsv.
 fn asked(folder: &Path, terms: &[u8], names: &Names) -> Result<Vec<u8>, Stop> {
     let spoken = folder.join(SPOKEN);
@@ -142,12 +148,6 @@ pub fn named(file: &str, text: &str, terms: &[u8], names: &Names) -> Result<Vec<
         Ok(read) => requests::read(file, text, &read.terms, names),
         Err(_) => Ok(Vec::new()),
     }
-}
-
-/// The name of a folder, also of `.`.
-pub fn name(folder: &Path) -> String {
-    let whole = folder.canonicalize().unwrap_or_else(|_| folder.to_path_buf());
-    whole.file_name().map_or_else(|| "terms".into(), |name| name.to_string_lossy().into_owned())
 }
 
 /// Why a folder has no terms; a file with nearly the right name is pointed at.

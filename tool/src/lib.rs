@@ -11,7 +11,7 @@
 //! * `requests`: requests by name
 //! * `trial`, `editing`: requests made and taken back at a prompt; a line edited at a terminal
 //! * `watch`: doing something again when files change
-//! * `testing`: tests that people write; `play`, `http`: a page to edit terms in and try them
+//! * `testing`: tests that people write; `play`: a page to edit terms in and try them
 //! * `aloud`: every policy and effect as a sentence
 //! * `check`: what is wrong with a terms file, and what may be
 //! * `commands`: one file for each sub-command

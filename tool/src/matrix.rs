@@ -102,7 +102,7 @@ impl Matrix {
 }
 
 /// The kind of a member, if it has one.
-fn kind(words: &Words, member: usize) -> Option<usize> {
+pub fn kind(words: &Words, member: usize) -> Option<usize> {
     words.names.kinds().iter().position(|(_, members)| members.contains(&member))
 }
 

@@ -10,13 +10,14 @@ use std::time::{Duration, SystemTime};
 /// How often files are looked at.
 const PAUSE: Duration = Duration::from_millis(200);
 
-/// Does something now, and again after every change of a source or a terms file
-/// beside a path, until it fails.
-pub fn watch(path: &Path, mut again: impl FnMut() -> Result<(), Stop>) -> Result<i32, Stop> {
+/// Does something now, and again after every change of a file of the tool's beside
+/// some paths, until it fails.
+pub fn watch(paths: &[&Path], mut again: impl FnMut() -> Result<(), Stop>) -> Result<i32, Stop> {
+    let stamps = || paths.iter().flat_map(|path| stamps(path)).collect::<Vec<_>>();
     loop {
-        let before = stamps(path);
+        let before = stamps();
         again()?;
-        while stamps(path) == before {
+        while stamps() == before {
             sleep(PAUSE);
         }
     }

@@ -129,8 +129,9 @@ fn drawn() {
 fn the_example_says_why() {
     let path = example("suspended");
     let why = |line: &str| run(&["why", path.to_str().unwrap(), line]).out;
-    assert!(
-        why("5").contains("     pete is suspended\n       pete tried in vain to load saw at moment 4, and pete was warned")
-    );
+    assert!(why("5").contains(
+        "     pete is suspended\n       pete tried in vain to load saw at moment 4, and pete \
+            was warned"
+    ));
     assert!(why("10").contains("but mint released pete at moment 8"));
 }

@@ -69,14 +69,14 @@ fn three_at_once() {
     let page = concat!(env!("CARGO_MANIFEST_DIR"), "/../docs/LANGUAGE.md");
     let page = std::fs::read_to_string(page).unwrap();
     let section = page.split_once("\n## Three at once\n").unwrap().1.split("\n## ").next().unwrap();
-    let block = |nth: usize| -> String {
-        let blocks = section.split("\n\n").filter(|part| part.starts_with("    "));
-        let block = blocks.into_iter().nth(nth).unwrap();
-        block.lines().map(|line| format!("{}\n", line.trim_start_matches("    "))).collect()
+    let (source, requests) = section.split_once("\nThree requests share").unwrap();
+    let code = |text: &str| -> String {
+        let lines = text.lines().filter_map(|line| line.strip_prefix("    "));
+        lines.map(|line| format!("{line}\n")).collect()
     };
     let folder = Folder::new();
-    folder.write("terms.say", &[block(0), block(1)].concat());
-    folder.write("requests.say", &block(2));
+    folder.write("terms.say", &code(source));
+    folder.write("requests.say", &code(requests));
     let said = run(&["run", folder.path(), "--json"]);
     assert_eq!(said.err, "");
     let answers: Vec<bool> =

@@ -233,8 +233,18 @@ fn saved_unless_others_have_written() {
     // Lines that name nothing can't be shown, and are not written over.
     folder.write("requests.tsv", "R\t9\t0\t0\nR\t0\t0\t1\n");
     let said = save(&kept(&changed, requests), &kept(SOURCE, requests), false);
-    assert!(said.contains("requests.tsv is left as it was"), "{said}");
+    assert!(said.contains("requests.tsv is left as it was: it has more"), "{said}");
     assert_eq!(folder.read("requests.tsv"), "R\t9\t0\t0\nR\t0\t0\t1\n");
+    // Requests by name are saved by name, and comments are not lost.
+    folder.write("requests.say", "share dora pete\n");
+    let said = save(&kept(&changed, "[]"), &kept(&changed, requests), false);
+    assert!(said.contains("requests.say with no requests."), "{said}");
+    let said = save(&kept(&changed, requests), &kept(&changed, "[]"), false);
+    assert!(said.contains("requests.say with 1 request."), "{said}");
+    assert_eq!(folder.read("requests.say"), "share dora pete\n");
+    folder.write("requests.say", "share dora pete # a gift\n");
+    let said = save(&kept(&changed, "[]"), &kept(&changed, requests), false);
+    assert!(said.contains("requests.say is left as it was"), "{said}");
     // A source with mistakes is kept as it is.
     let said = save(&kept("members", "[]"), &kept(&changed, requests), false);
     assert!(said.contains("the terms have mistakes"), "{said}");

@@ -89,7 +89,8 @@ fn why_of_one_line() {
     assert_eq!(run(&["why", folder.path(), "7"]).status, 2);
     assert_eq!(run(&["why", folder.path(), "x"]).status, 2);
     let said = run(&["why", folder.path(), "5", "--json"]);
-    assert!(said.out.contains(r#""moment":3,"because":["dora owns saw, and dora shared with pete at moment 1, but dora withdrew from pete at moment 3"],"more":0"#));
+    let because = "dora owns saw, and dora shared with pete at moment 1, but dora withdrew from pete at moment 3";
+    assert!(said.out.contains(&format!(r#""moment":3,"because":["{because}"],"more":0"#)));
 }
 
 /// The moments that the examples' READMEs name.

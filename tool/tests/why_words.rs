@@ -134,7 +134,11 @@ fn neighbours_that_are_counted() {
     // Once two friends: a part that is told in a clause.
     let once = ["many 0 0 2", "since 0 2"];
     let never = why(&once, &["1 1 0"]);
-    assert_eq!(never, ["there was no moment so far at which for at least 2 different members A, A was a friend of ben"]);
+    assert_eq!(
+        never,
+        ["there was no moment so far at which for at least 2 different members A, A was a friend \
+        of ben"]
+    );
 }
 
 #[test]

@@ -20,7 +20,10 @@ pub fn long(subject: &Subject) -> Option<Warning> {
     let members = subject.terms.members;
     let ways = members.saturating_pow(depth as u32);
     let told = |who: String, how: &str, few: &str| {
-        let what = format!("{who} of {depth} members that {how} one inside the other: up to {members} to the power of {depth} = {ways} ways to work it out");
+        let what = format!(
+            "{who} of {depth} members that {how} one inside the other: up to {members} to the \
+            power of {depth} = {ways} ways to work it out"
+        );
         (what, format!("a request may take long; fewer {few} or fewer members help"))
     };
     let in_terms = || told(format!("entry {entry} speaks"), "binders name", "nested binders");

@@ -36,7 +36,7 @@ pub fn main(arguments: &[String], out: &mut dyn Write) -> Result<i32, Stop> {
     if !arguments.has("--watch") {
         return checked(path, json, out);
     }
-    watch(path, || {
+    watch(&[path], || {
         match checked(path, json, out) {
             Err(Stop::Closed) => return Err(Stop::Closed),
             Err(stop) if json => stop.json().iter().try_for_each(|line| writeln!(out, "{line}"))?,

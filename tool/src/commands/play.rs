@@ -15,7 +15,7 @@ Prints the address of a page; open it in a browser. There the terms of FOLDER ar
 edited and read aloud while you type, with mistakes underlined; requests are made
 by choosing two members and an event, and answered by the proved library; the
 graph and what has happened are drawn, with why, and who may do what. You can go
-back to any moment. Save writes terms.say and requests.tsv.
+back to any moment. Save writes terms.say and the requests.
 
 The page is served on 127.0.0.1 only, to whoever has its address, and needs no
 network. Ctrl-C ends it.

@@ -10,6 +10,7 @@ use crate::stop::{Stop, FAILING, WELL};
 use crate::testing::read::read;
 use crate::testing::run::{run, Failure, Outcome};
 use crate::testing::Test;
+use crate::watch::watch;
 use std::fs;
 use std::io::Write;
 use std::path::Path;
@@ -18,7 +19,7 @@ use std::path::Path;
 const TESTS: &str = "tests.say";
 
 pub const HELP: &str = "\
-usage: cuckooormolu test FOLDER... [--all] [--json]
+usage: cuckooormolu test FOLDER... [--all] [--json] [--watch]
 
 Makes the tests of each FOLDER's tests.say under its terms:
 
@@ -37,16 +38,38 @@ Prints a diff for each answer that is not the expected one, and a summary.
 
   --all    list the tests that pass, too
   --json   one JSON object a line: each test, then the summary
+  --watch  again whenever a file of the folders changes, until it is stopped
 
 Exit status: 0 if all tests pass, 1 if one fails, 2 for a wrong command line, 3
 if a file cannot be read or has a mistake.
 ";
 
 pub fn main(arguments: &[String], out: &mut dyn Write) -> Result<i32, Stop> {
-    let arguments = Arguments::read(arguments, &["--all", "--json"], &[])?;
+    let arguments = Arguments::read(arguments, &["--all", "--json", "--watch"], &[])?;
     if arguments.rest.is_empty() {
         return Err(Stop::Usage("give FOLDER, one or more".into()));
     }
+    if !arguments.has("--watch") {
+        return tested(&arguments, out);
+    }
+    let json = arguments.has("--json");
+    let paths: Vec<&Path> = arguments.rest.iter().map(Path::new).collect();
+    watch(&paths, || {
+        match tested(&arguments, out) {
+            Err(Stop::Closed) => return Err(Stop::Closed),
+            Err(stop) if json => stop.json().iter().try_for_each(|line| writeln!(out, "{line}"))?,
+            Err(stop) => writeln!(out, "{stop}")?,
+            Ok(_) => {}
+        }
+        if !json {
+            writeln!(out, "-- {} is watched; Ctrl-C ends", arguments.rest.join(", "))?;
+        }
+        Ok(out.flush()?)
+    })
+}
+
+/// Makes all tests once.
+fn tested(arguments: &Arguments, out: &mut dyn Write) -> Result<i32, Stop> {
     let (json, all) = (arguments.has("--json"), arguments.has("--all"));
     let mut count = Count::default();
     for given in &arguments.rest {

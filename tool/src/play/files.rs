@@ -3,10 +3,11 @@
 use super::asked::{Kept, Named, Save};
 use super::page;
 use crate::both::Both;
-use crate::folder::{self, Folder, Request, REQUESTS, SOURCE};
+use crate::folder::{self, Folder, Request, REQUESTS, SOURCE, SPOKEN};
 use crate::json::Json;
 use crate::names::{Kind, Names};
 use crate::report::html::counted;
+use crate::requests;
 use crate::source::decompile::decompile;
 use crate::source::print::print;
 use crate::stop::Stop;
@@ -23,8 +24,8 @@ pub struct Files {
 /// What the folder has.
 pub struct Found {
     pub kept: Kept,
-    /// Whether requests.tsv has lines that name nothing, so that the page can't show
-    /// them and must not write over them.
+    /// Whether the file of requests has more than requests that the page can show, so
+    /// that it must not be written over.
     pub more: bool,
 }
 
@@ -41,13 +42,12 @@ impl Files {
         folder::name(&self.path)
     }
 
-    /// Reads the folder. Terms without a source are written as one; a source is taken as
-    /// it is, with its mistakes.
+    /// Reads the folder. Terms without a source are written as one.
     pub fn found(&self) -> Result<Found, Stop> {
         match Folder::load(&self.path) {
             Ok(folder) => {
                 let both = Both::accepted(&folder.terms)?;
-                let (requests, more) = named(&folder, both.terms());
+                let (requests, more) = named(&folder, both.terms(), &self.requests());
                 let source = match &folder.source {
                     Some(source) => source.text.clone(),
                     None if both.is_stored() => {
@@ -61,11 +61,27 @@ impl Files {
                 };
                 Ok(Found { kept: Kept { source, requests }, more })
             }
-            Err(Stop::Mistaken(mistaken)) => {
-                let more = fs::metadata(self.path.join(REQUESTS)).is_ok_and(|data| data.len() > 0);
-                Ok(Found { kept: Kept { source: mistaken.text, requests: Vec::new() }, more })
+            // A source is shown as it is, with its mistakes, or without requests that it has
+            // no names for.
+            Err(Stop::Mistaken(_) | Stop::Failed(_)) if self.path.join(SOURCE).is_file() => {
+                let file = self.path.join(SOURCE);
+                let source = fs::read_to_string(&file).map_err(|error| {
+                    Stop::Failed(format!("cannot read {}: {error}", file.display()))
+                })?;
+                let more = fs::metadata(self.requests()).is_ok_and(|data| data.len() > 0);
+                Ok(Found { kept: Kept { source, requests: Vec::new() }, more })
             }
             Err(stop) => Err(stop),
+        }
+    }
+
+    /// Where the requests are.
+    fn requests(&self) -> PathBuf {
+        let spoken = self.path.join(SPOKEN);
+        if spoken.is_file() {
+            spoken
+        } else {
+            self.path.join(REQUESTS)
         }
     }
 
@@ -99,37 +115,52 @@ impl Files {
             return Err((true, why.to_string()));
         }
         folder::write(&self.path.join(SOURCE), save.now.source.as_bytes()).map_err(failed)?;
-        let requests = match self.numbered(&save.now) {
-            Err(why) => return Ok(format!("{SOURCE} is saved, {REQUESTS} is not: {why}.")),
+        let path = self.requests();
+        let file = folder::name(&path);
+        let requests = match self.written(&save.now, &path) {
+            Err(why) => return Ok(format!("{SOURCE} is saved, {file} is not: {why}.")),
             Ok(_) if found.more => {
-                return Ok(format!(
-                "{SOURCE} is saved. {REQUESTS} is left as it was: it has lines that name nothing."
-            ))
+                let why = "it has more than requests that this page can show";
+                return Ok(format!("{SOURCE} is saved. {file} is left as it was: {why}."));
             }
             Ok(requests) => requests,
         };
-        let count = requests.lines().count();
-        if count == 0 && !self.path.join(REQUESTS).exists() {
+        let count = requests.len();
+        if count == 0 && !path.exists() {
             return Ok(format!("{SOURCE} is saved."));
         }
-        folder::write(&self.path.join(REQUESTS), requests.as_bytes()).map_err(failed)?;
-        Ok(format!("{SOURCE} is saved, and {REQUESTS} with {}.", counted(count, "request")))
+        folder::write(&path, requests.concat().as_bytes()).map_err(failed)?;
+        Ok(format!("{SOURCE} is saved, and {file} with {}.", counted(count, "request")))
     }
 
-    /// The text of requests.tsv, or why there is none.
-    fn numbered(&self, kept: &Kept) -> Result<String, String> {
+    /// The lines of a file of requests, or why there are none.
+    fn written(&self, kept: &Kept, path: &Path) -> Result<Vec<String>, String> {
         let folder = Folder { path: self.path.clone(), ..Folder::default() };
         let folder = folder.with_source(&kept.source).map_err(|_| "the terms have mistakes")?;
-        let line = |named: &Named| {
+        let ask = |named: &Named| {
             let (event, from, to) = numbers(named, &folder.names)?;
-            Ok(format!("R\t{event}\t{from}\t{to}\n"))
+            Ok(Request::Ask { event, from, to })
         };
-        kept.requests.iter().map(line).collect()
+        let requests = kept.requests.iter().map(ask).collect::<Result<Vec<_>, String>>()?;
+        Ok(lines(requests.into_iter(), &folder.names, path))
     }
 }
 
-/// The requests of a folder by name, and whether it has lines that name nothing.
-fn named(folder: &Folder, terms: &Terms) -> (Vec<Named>, bool) {
+/// Requests as lines of a file: with names in requests.say, else with numbers.
+fn lines(requests: impl Iterator<Item = Request>, names: &Names, path: &Path) -> Vec<String> {
+    if path.file_name().is_some_and(|name| name == SPOKEN) {
+        return requests::write(requests, names);
+    }
+    let line = |request: Request| match request {
+        Request::Ask { event, from, to } => Some(format!("R\t{event}\t{from}\t{to}\n")),
+        Request::Malformed => None,
+    };
+    requests.filter_map(line).collect()
+}
+
+/// The requests of a folder by name, and whether their file has more than these:
+/// lines that name nothing, or comments.
+fn named(folder: &Folder, terms: &Terms, file: &Path) -> (Vec<Named>, bool) {
     let requests = folder.requests();
     let name = |request: &Request| match *request {
         Request::Ask { event, from, to }
@@ -145,7 +176,9 @@ fn named(folder: &Folder, terms: &Terms) -> (Vec<Named>, bool) {
         _ => None,
     };
     let named: Vec<Named> = requests.iter().filter_map(name).collect();
-    let more = named.len() < requests.len();
+    let written = lines(requests.iter().copied(), &folder.names, file).concat();
+    let same = fs::read(file).map_or(requests.is_empty(), |text| text == written.as_bytes());
+    let more = named.len() < requests.len() || !same;
     (named, more)
 }
 

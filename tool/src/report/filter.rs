@@ -26,12 +26,14 @@ pub fn controls(replay: &Replay, words: &Words) -> String {
     let option = |value: &str, text: &str| format!("<option value=\"{value}\">{text}</option>");
     let members = taking_part(replay, words.terms.members).into_iter();
     let members = members.map(|n| option(&n.to_string(), &escaped(&words.member(n))));
+    let kinds = words.names.kinds().iter().enumerate();
+    let kinds = kinds.map(|(place, (kind, _))| option(&format!("k{place}"), &escaped(kind)));
     let answers = ANSWERS.iter().map(|answer| option(answer, answer));
     format!(
         "<div class=\"filter\"><label>Requests of <select id=\"by-member\" autocomplete=\"off\">{}{}</select></label> \
          <label>that were <select id=\"by-answer\" autocomplete=\"off\">{}{}</select></label></div>\n",
         option("all", "everybody"),
-        members.collect::<String>(),
+        kinds.chain(members).collect::<String>(),
         option("all", "answered"),
         answers.collect::<String>(),
     )
@@ -49,12 +51,17 @@ pub fn style(replay: &Replay, words: &Words) -> String {
     let members = taking_part(replay, words.terms.members)
         .into_iter()
         .map(|member| rule("by-member", &member.to_string(), &format!("[data-who~=\"{member}\"]")));
+    let kinds = words.names.kinds().iter().enumerate().map(|(place, (_, members))| {
+        let marks: Vec<String> =
+            members.iter().map(|member| format!("[data-who~=\"{member}\"]")).collect();
+        rule("by-member", &format!("k{place}"), &format!(":is({})", marks.join(",")))
+    });
     let answers = ANSWERS
         .iter()
         .map(|answer| rule("by-answer", answer, &format!("[data-answer=\"{answer}\"]")));
     format!(
         "@supports selector(:has(a)){{@media screen{{.filter{{display:flex}}\n{}}}}}\n",
-        members.chain(answers).collect::<String>()
+        kinds.chain(members).chain(answers).collect::<String>()
     )
 }
 

@@ -200,14 +200,22 @@ fn asked(
 }
 
 fn told(step: &Step, words: &Words, reasons: &mut Reasons) -> Result<String, Stop> {
-    let paragraph = |line: &String| format!("<p class=\"because\">{}</p>\n", unbroken(line));
+    // Why a definition holds or fails is told under it, with two blanks more.
+    let deep = |line: &str| match (line.len() - line.trim_start().len()) / 2 {
+        0 => String::new(),
+        depth => format!(" style=\"padding-left:{depth}.2rem\""),
+    };
+    let paragraph = |line: &String| {
+        format!("<p class=\"because\"{}>{}</p>\n", deep(line), unbroken(line.trim_start()))
+    };
     if let Verdict::Refused(number) = step.verdict {
         return Ok(paragraph(&words.refusal(step.request, number)));
     }
     let Some(because) = reasons.of(words, step, false)? else { return Ok(String::new()) };
     let mut text: String = because.lines.iter().map(paragraph).collect();
     if let (Some(rest), Some(all)) = (because.rest(), reasons.of(words, step, true)?) {
-        let item = |line: &String| format!("<li>{}</li>\n", unbroken(line));
+        let item =
+            |line: &String| format!("<li{}>{}</li>\n", deep(line), unbroken(line.trim_start()));
         let items: String = all.lines.iter().map(item).collect();
         text.push_str(&format!(
             "<details><summary>{rest}</summary>\n<ul>\n{items}</ul></details>\n"

@@ -1,7 +1,7 @@
 //! Who may do what to whom, as tables.
 
 use super::html::{counted, escaped};
-use crate::matrix::Matrix;
+use crate::matrix::{kind, Matrix};
 use crate::replay::Replay;
 use crate::stop::Stop;
 use crate::words::Words;
@@ -65,6 +65,8 @@ pub fn table(matrix: &Matrix, words: &Words) -> String {
         };
         (escaped(&shown[member]), title)
     };
+    // Where members have kinds, these stand apart.
+    let apart = |member: usize| member > 0 && kind(words, member - 1) != kind(words, member);
     for member in 0..members {
         let (shown, title) = name(member);
         text.push_str(&format!("<th scope=\"col\"{title}><div><span>{shown}</span></div></th>"));
@@ -72,9 +74,15 @@ pub fn table(matrix: &Matrix, words: &Words) -> String {
     text.push_str("</tr></thead>\n<tbody>\n");
     for (member, row) in matrix.rows.iter().enumerate() {
         let (shown, title) = name(member);
-        text.push_str(&format!("<tr><th scope=\"row\"{title}>{shown}</th>"));
-        for &may in row {
-            text.push_str(if may { "<td class=\"y\">✓</td>" } else { "<td></td>" });
+        let below = if apart(member) { " class=\"below\"" } else { "" };
+        text.push_str(&format!("<tr{below}><th scope=\"row\"{title}>{shown}</th>"));
+        for (other, &may) in row.iter().enumerate() {
+            text.push_str(match (may, apart(other)) {
+                (true, false) => "<td class=\"y\">✓</td>",
+                (true, true) => "<td class=\"y after\">✓</td>",
+                (false, false) => "<td></td>",
+                (false, true) => "<td class=\"after\"></td>",
+            });
         }
         text.push_str("</tr>\n");
     }

@@ -13,22 +13,25 @@ pub struct TooManyNames;
 /// The variables of the people free in a formula, in the order of its `free`.
 type Variables = Vec<usize>;
 
+/// The place of a definition, and for each of its people the variable; none for
+/// the member at which it is said.
+pub type Call = (usize, Vec<Option<usize>>);
+
 /// Where an entry comes from.
 #[derive(Clone, Debug, Default, PartialEq)]
 pub struct Origin {
     /// Where it is written. What a derived form is made of stands where the form
     /// does.
     pub span: Span,
-    /// The place of the definition that it is, and for each of its people the
-    /// variable; none for the member at which it is said.
-    pub called: Option<(usize, Vec<Option<usize>>)>,
+    /// The definition that it is.
+    pub called: Option<Call>,
 }
 
 #[derive(Default)]
 pub struct Entries {
     pub list: Vec<Entry>,
     /// For each entry where it comes from, as far as it is told.
-    origins: Vec<(Option<Span>, Option<(usize, Vec<Option<usize>>)>)>,
+    origins: Vec<(Option<Span>, Option<Call>)>,
     places: HashMap<(usize, [usize; 3]), usize>,
     known: HashMap<(*const Spelled, Variables), usize>,
     kept: Vec<Tree>,

@@ -201,11 +201,18 @@ impl<'a> Reader<'a> {
             return Ok(People::Nobody);
         }
         let only = self.take("only");
-        let mut some = vec![self.member()?];
+        let mut some = self.members()?;
         while self.take("and") {
-            some.push(self.member()?);
+            some.extend(self.members()?);
         }
         Ok(if only { People::Only(some) } else { People::These(some) })
+    }
+
+    /// A member, or all of a kind.
+    fn members(&mut self) -> Result<Vec<usize>, Mistake> {
+        let word = self.word("a member")?;
+        let found = self.known.names.members(word.text, self.known.terms.members);
+        found.map_err(|wrong| Mistake::new(word.span, wrong))
     }
 
     fn member(&mut self) -> Result<usize, Mistake> {

@@ -50,7 +50,7 @@ pub fn run(test: &Test, both: &Both, text: &[u8], names: &Names) -> Result<Outco
                 if (step.verdict == Verdict::Grant) != *granted {
                     let telling = Telling { replay: &replay, names };
                     let found = telling.made(*call, !granted);
-                    let found = format!("{found} because {}", telling.why(&step)?.sentence());
+                    let found = format!("{found} because {}", sentence(&telling.why(&step)?));
                     let expected = telling.made(*call, *granted);
                     outcome.failures.push(Failure { span: statement.span, expected, found });
                     outcome.skipped = test.statements.len() - index - 1;
@@ -140,7 +140,7 @@ impl Telling<'_> {
         Ok(Some(Failure {
             span,
             expected: self.asked(call, may) + &reason,
-            found: format!("{} because {}", self.asked(call, answer), because.sentence()),
+            found: format!("{} because {}", self.asked(call, answer), sentence(&because)),
         }))
     }
 
@@ -149,6 +149,12 @@ impl Telling<'_> {
         let because = Reasons::new(self.replay.both.record()).of(&self.words(), step, true)?;
         because.ok_or_else(|| Stop::Failed(format!("an answer without a reason: {}", step.verdict)))
     }
+}
+
+/// The reason in one line, without what is told under its definitions.
+fn sentence(because: &Because) -> String {
+    let lines = because.lines.iter().filter(|line| !line.starts_with(' '));
+    lines.map(String::as_str).collect::<Vec<_>>().join("; ")
 }
 
 /// Whether a line of the reason has the words, one after another.

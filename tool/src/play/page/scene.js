@@ -57,9 +57,18 @@ function look({ event, answer, because }) {
   button.onclick = () => ask(event);
   const words = make('div', 'reason');
   words.append(make('span', `answer ${kind(answer)}`, `${SIGNS[kind(answer)]} would be ${ANSWERS[kind(answer)]}`));
-  for (const line of because ?? []) words.append(make('div', '', line));
+  words.append(...(because ?? []).map(reason));
   item.append(button, words);
   return item;
+}
+
+/** A line of a reason. Why a definition holds or fails is told under it, with two blanks more. */
+function reason(line) {
+  const shown = make('div', '', line.trimStart());
+  const depth = (line.length - line.trimStart().length) / 2;
+  if (depth) shown.className = 'under';
+  shown.style.paddingLeft = `${depth * 1.1}rem`;
+  return shown;
 }
 
 /** Makes a request. What was taken back is gone. */

@@ -46,10 +46,8 @@ function drawWhy() {
   const name = kind(step.answer);
   const head = make('p', 'asked', `${step.event} ${step.from} → ${step.to} `);
   head.append(make('span', `answer ${name}`, `${SIGNS[name]} ${ANSWERS[name]}`));
-  const list = make('ul');
   const lines = told.why ?? (step.because ? [step.because] : []);
-  list.append(...lines.map((line) => make('li', '', line)));
-  $('why').replaceChildren(head, list);
+  $('why').replaceChildren(head, ...lines.map(reason));
 }
 
 /** Who may do the chosen event; a cell chooses its two members. */

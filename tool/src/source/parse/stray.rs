@@ -78,12 +78,14 @@ impl Parser {
         let advice = match (self.token(), self.word_ahead(0)) {
             (Token::Sign(')'), _) => "this `)` closes nothing: delete it, or put a `(` where the part begins",
             (Token::Sign(';'), _) => "delete it: nothing ends a statement, and parts of a list are separated by `,`",
-            (Token::Sign(':'), _) => "a `:` follows `some`, `every`, `at least`, `at`, `as` or the head of a definition",
+            (Token::Sign(':'), _) => "a `:` follows `some`, `every`, `at least`, `at`, `as` or the head of a \
+                definition",
             (_, Some("with" | "to" | "from" | "by")) => {
                 "a sentence is of two: who does it, its name as declared, and to whom: `owner share me`. \
                  For three at once see docs/LANGUAGE.md, Three at once"
             }
-            (_, Some("if" | "unless")) => "a condition begins with `when`, and its parts are joined with `and` and `or`",
+            (_, Some("if" | "unless")) => "a condition begins with `when`, and its parts are joined with `and` \
+                and `or`",
             _ if mistake.advice.is_some() => return mistake,
             _ => "a sentence is of three words, `me owns target`; join two sentences with `and` or `or`",
         };

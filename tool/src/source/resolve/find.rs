@@ -68,7 +68,10 @@ impl Resolver<'_> {
             let known = self.source.definitions.iter().map(|known| known.name.text.as_str());
             let hint = did_you_mean(text, known);
             let mistake = Mistake::unknown(name, format!("no definition `{text}`{hint}"));
-            mistake.advise(format!("a sentence says who, what and whom, `me owns target`; or write `define {text}: ...`"))
+            mistake.advise(format!(
+                "a sentence says who, what and whom, `me owns target`; or write `define \
+                {text}: ...`"
+            ))
         })
     }
 

@@ -1,0 +1,88 @@
+//! Reads a whole source, statement by statement, over mistakes.
+
+use super::*;
+use std::ops::Range;
+
+/// Reads a whole source, or tells all that is wrong with it.
+pub fn parse(text: &str) -> Result<Source, Vec<Mistake>> {
+    let read = read(text);
+    if read.mistakes.is_empty() {
+        Ok(read.source)
+    } else {
+        Err(read.mistakes)
+    }
+}
+
+/// What could be read of a source.
+#[derive(Default)]
+pub struct Read {
+    pub source: Source,
+    pub mistakes: Vec<Mistake>,
+    /// What is accepted and seldom meant.
+    pub warnings: Vec<Mistake>,
+    /// The words of statements that could not be read: any of them may be a name
+    /// that is missed elsewhere.
+    pub doubtful: HashSet<String>,
+    /// Where these statements stand.
+    passed: Vec<Range<usize>>,
+}
+
+/// Reads what can be read. A statement with a mistake is passed over.
+pub fn read(text: &str) -> Read {
+    let (tokens, unknown) = tokens(text);
+    let first = |span: &Span| {
+        let before = text[..span.start].rsplit('\n').next().unwrap_or("");
+        before.chars().all(char::is_whitespace)
+    };
+    let declared = declared(&tokens);
+    let begins = tokens.iter().map(|(_, span)| first(span)).collect();
+    let mut parser = Parser { tokens, begins, declared, ..Parser::default() };
+    let mut read = Read::default();
+    while *parser.token() != Token::End {
+        let (first, start) = (parser.next, parser.span());
+        let mut source = Source::default();
+        match parser.statement(&mut source) {
+            Ok(()) => read.source.add(source),
+            Err(mistake) => {
+                parser.pass_over(first);
+                let words = parser.tokens[first..parser.next].iter();
+                read.doubtful.extend(words.filter_map(|(token, _)| match token {
+                    Token::Word(word) => Some(word.clone()),
+                    _ => None,
+                }));
+                // One mistake a statement is enough.
+                let within = |other: &&Mistake| {
+                    (start.start..parser.span().start).contains(&other.span.start)
+                };
+                let earlier = unknown.iter().filter(within).cloned().chain([mistake]);
+                read.mistakes.extend(earlier.min_by_key(|mistake| mistake.span.start));
+                read.passed.push(start.start..parser.span().start);
+            }
+        }
+    }
+    for mistake in unknown {
+        let passed = read.passed.iter().any(|part| part.contains(&mistake.span.start));
+        let told = |other: &Mistake| other.advice == mistake.advice;
+        if !passed && !read.mistakes.iter().any(told) {
+            read.mistakes.push(mistake);
+        }
+    }
+    read.mistakes.sort_by_key(|mistake| mistake.span.start);
+    read.warnings = parser.warnings;
+    read
+}
+
+/// The words after `relation` and `event`, up to whatever is no list.
+fn declared(tokens: &[(Token, Span)]) -> HashSet<String> {
+    let mut declared = HashSet::new();
+    let mut within = false;
+    for (token, _) in tokens {
+        match token {
+            Token::Word(word) if STATEMENTS[2..6].contains(&word.as_str()) => within = true,
+            Token::Word(word) if WORDS.contains(&word.as_str()) => within = false,
+            Token::Word(word) if within => drop(declared.insert(word.clone())),
+            _ => {}
+        }
+    }
+    declared
+}
