@@ -32,7 +32,7 @@ pub struct Command {
 pub const COMMANDS: [Command; 13] = [
     Command {
         name: "new",
-        summary: "make a folder with a source to start from",
+        summary: "create a folder with a source to start from",
         help: new::HELP,
         main: new::main,
     },
@@ -50,13 +50,13 @@ pub const COMMANDS: [Command; 13] = [
     },
     Command {
         name: "check",
-        summary: "say whether a terms file is accepted, and what is wrong if not",
+        summary: "say whether terms are accepted, and what is wrong if not",
         help: check::HELP,
         main: check::main,
     },
     Command {
         name: "run",
-        summary: "answer the requests of a folder",
+        summary: "make the requests of a folder and print the answers",
         help: run::HELP,
         main: run::main,
     },
@@ -92,13 +92,13 @@ pub const COMMANDS: [Command; 13] = [
     },
     Command {
         name: "test",
-        summary: "make the tests of folders and show where they fail",
+        summary: "run the tests of folders and show what fails",
         help: test::HELP,
         main: test::main,
     },
     Command {
         name: "revise",
-        summary: "go on with new terms, and say what changes",
+        summary: "continue with new terms, and say what changes",
         help: revise::HELP,
         main: revise::main,
     },

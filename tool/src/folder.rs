@@ -189,7 +189,8 @@ fn text(path: &Path) -> Result<String, Stop> {
     String::from_utf8(bytes(path)?).map_err(|error| {
         let valid = &error.as_bytes()[..error.utf8_error().valid_up_to()];
         let line = valid.iter().filter(|&&byte| byte == b'\n').count() + 1;
-        Stop::Failed(format!("{} is no UTF-8 text: line {line}; save it as UTF-8", path.display()))
+        let path = path.display();
+        Stop::Failed(format!("{path}: line {line} is not UTF-8; save the file as UTF-8"))
     })
 }
 

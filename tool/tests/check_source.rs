@@ -24,7 +24,7 @@ fn warnings_stand_at_their_lines() {
     let cases = [
         (
             "event edit when me owns target and me likes target",
-            "terms.say:5:36: warning: `likes` never has an edge, so this looks in vain",
+            "terms.say:5:36: warning: `likes` never has an edge, so this is never true",
         ),
         (
             "event edit when me denied load target or me owns target",

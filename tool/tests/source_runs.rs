@@ -110,5 +110,5 @@ fn files_that_cannot_be_used_are_named() {
     fs::write(folder.file("terms.say"), b"members a\nevent caf\xe9 by anyone\n").unwrap();
     let said = run(&["run", folder.path()]);
     assert_eq!(said.status, 3);
-    assert!(said.err.contains("terms.say is no UTF-8 text: line 2"), "{}", said.err);
+    assert!(said.err.contains("terms.say: line 2 is not UTF-8"), "{}", said.err);
 }

@@ -80,7 +80,7 @@ fn mistakes_are_answered() {
         "? no event or command `whi`; did you mean `why`?",
         "? like this: who EVENT",
         "? like this: load FROM TO",
-        "take the last request back",
+        "take back the last request",
     ] {
         assert!(said.out.contains(wanted), "{wanted}: {}", said.out);
     }

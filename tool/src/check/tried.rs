@@ -21,7 +21,7 @@ const IN_FOR_OUT: &str =
     "is `in` written where `out` is meant, or `out` for `in`? `cuckooormolu aloud` reads it aloud";
 /// The same in a source.
 const TURNED: &str =
-    "is a sentence turned round, `a owns b` for `b owns a`? `cuckooormolu aloud` reads it aloud";
+    "is a sentence the wrong way round, `a owns b` for `b owns a`? `cuckooormolu aloud` reads it aloud";
 
 /// How often each event was granted and denied.
 #[derive(Clone, Copy, Default)]

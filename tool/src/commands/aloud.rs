@@ -15,20 +15,24 @@ use std::path::Path;
 pub const HELP: &str = "\
 usage: cuckooormolu aloud DIR|FILE [--json] [--verify DOCUMENT | --quote DOCUMENT]
 
-Reads every policy and every effect of a terms file aloud, as sentences about
-past events. \"You\" are the one who asks, \"the target\" is whom or what you ask
-about. Of a stored file it also says what was remembered when it was stored.
+Reads every policy and every effect aloud, as sentences about past events. \"You\"
+are the one who asks; \"the target\" is whom or what you ask about. For a stored file
+it also says what was remembered when the file was stored.
 
-Names are those of names.tsv beside it. Known verbs are inflected: own, owns. An
-edge of member-of from A to B says that A is a member of B; one of friend and the
-like, that B is a friend of A. Any other relation's edges are called by its name.
+Names come from the source, or from names.tsv beside the terms. Known verbs are
+inflected: own, owns. An edge of member-of from A to B means that A is a member of
+B; an edge of friend and the like, that B is a friend of A. Edges of any other
+relation are called by its name.
 
   --json             one line for each event: event, name, policy, effects, kept;
-                     for a stored file one: stored; then one for each numbered
+                     for a stored file one more: stored; then one for each numbered
                      clause: clause, text
-  --verify DOCUMENT  say whether the block fenced as ```aloud in a document is
-                     what is read aloud; exit status 1 if not
+  --verify DOCUMENT  check that the block fenced as ```aloud in DOCUMENT is what is
+                     read aloud
   --quote DOCUMENT   write what is read aloud into that block
+
+Exit status: 0; 1 if --verify finds another text; 3 if a file cannot be read, written
+or compiled.
 ";
 
 pub fn main(arguments: &[String], out: &mut dyn Write) -> Result<i32, Stop> {

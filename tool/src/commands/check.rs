@@ -16,17 +16,17 @@ use std::path::Path;
 pub const HELP: &str = "\
 usage: cuckooormolu check DIR|FILE [--json] [--watch]
 
-Says whether terms are accepted: those of a source, terms.say, by its lines; where
-there is none, those of a terms file. If not: the line with the place marked, what
-is wrong and what would be right. Of a terms file also the refusal's number; tabs
-are shown as → and carriage returns as ↵. If they are: what may be a mistake all
-the same.
+Says whether terms are accepted: those of the source, terms.say, or else those of
+a terms file. If they are not, shows each line with the mistake marked, what is
+wrong, and what would be right; for a terms file, the refusal's number too, with
+tabs shown as → and carriage returns as ↵. If they are, warns of what may be a
+mistake all the same.
 
-Exit status: 0 if the file is accepted, with warnings or without; 3 if not.
-
-  --watch  again whenever a file of the folder changes, until it is stopped
+  --watch  check again whenever a file of the folder changes, until stopped
   --json   one line: accepted, and number, line, from, to, what, right of the
-           fault; or counts. Then one for each warning: warning, line, what, right
+           mistake, or counts; then one for each warning: warning, line, what, right
+
+Exit status: 0 if the terms are accepted, with or without warnings; 3 if not.
 ";
 
 pub fn main(arguments: &[String], out: &mut dyn Write) -> Result<i32, Stop> {

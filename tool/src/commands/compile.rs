@@ -14,15 +14,17 @@ use std::path::{Path, PathBuf};
 pub const HELP: &str = "\
 usage: cuckooormolu compile FILE|DIR [-o DIR] [--print] [--json]
 
-Compiles a source (docs/LANGUAGE.md) to terms.tsv, and to names.tsv, which has
-the names of its members, relations and events. Of a folder it is terms.say.
-Both files are written beside the source.
+Compiles a source (docs/LANGUAGE.md), in a folder its terms.say, to terms.tsv and
+to names.tsv, which lists the names of members, relations and events. Both files
+are written next to the source.
 
   -o DIR    write them to DIR instead
   --print   print terms.tsv and write nothing
   --json    print one line of JSON: what was written, or what is wrong and where
 
-Exit status: 0, or 3 where the source cannot be read or has a mistake.";
+Exit status: 0; 3 if the source cannot be read or has a mistake, or a file cannot be
+written.
+";
 
 pub fn main(arguments: &[String], out: &mut dyn Write) -> Result<i32, Stop> {
     let arguments = Arguments::read(arguments, &["--print", "--json"], &["-o"])?;

@@ -10,10 +10,10 @@ use std::path::Path;
 pub const HELP: &str = "\
 usage: cuckooormolu new DIR
 
-Makes the folder DIR and writes a terms.say into it, with comments, to start from:
-who may load a preset, from docs/LANGUAGE.md. Nothing that is there is written over.
+Creates the folder DIR with a commented terms.say to start from: who may load a
+preset, the terms that docs/LANGUAGE.md begins with. Overwrites nothing.
 
-Exit status: 0, or 3 where DIR has terms already or cannot be written.
+Exit status: 0; 3 if DIR has terms already or cannot be written.
 ";
 
 /// The source to start from.

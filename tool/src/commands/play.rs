@@ -9,26 +9,25 @@ use std::io::Write;
 use std::path::Path;
 
 pub const HELP: &str = "\
-usage: cuckooormolu play FOLDER [--port PORT]
+usage: cuckooormolu play DIR [--port PORT]
 
-Prints the address of a page; open it in a browser. There the terms of FOLDER are
-edited and read aloud while you type, with mistakes underlined; requests are made
-by choosing two members and an event, and answered by the proved library; the
-graph and what has happened are drawn, with why, and who may do what. You can go
-back to any moment. Save writes terms.say and the requests.
+Prints the address of a page to open in a browser. On it you edit the terms of DIR,
+which are read aloud as you type, with mistakes underlined; make requests by
+choosing two members and an event, each answered by the proved library; and see the
+graph, what has happened and why, and who may do what. You can go back to any
+moment. Save writes terms.say and the requests.
 
 The page is served on 127.0.0.1 only, to whoever has its address, and needs no
 network. Ctrl-C ends it.
 
-  --port PORT   the port; else one that is free
+  --port PORT   the port, by default any free one
 
-Exit status: 2 for a wrong command line, 3 if the folder cannot be read or the
-port is taken.
+Exit status: 3 if the folder cannot be read or the port is taken.
 ";
 
 pub fn main(arguments: &[String], out: &mut dyn Write) -> Result<i32, Stop> {
     let arguments = Arguments::read(arguments, &[], &["--port"])?;
-    let files = Files::new(Path::new(arguments.one("FOLDER")?))?;
+    let files = Files::new(Path::new(arguments.one("DIR")?))?;
     let port = arguments.option("--port").unwrap_or("0");
     let port = port
         .parse()

@@ -11,14 +11,14 @@ use std::path::Path;
 pub const HELP: &str = "\
 usage: cuckooormolu report DIR -o FILE.html [--title TITLE]
 
-Writes one page of HTML that needs nothing else: the policies read aloud, a
-strip of moments, each moment's graph drawn, each request with its answer and
-reason, and who may do what in the end. It has no scripts and loads nothing.
+Writes the story of a folder as one self-contained page of HTML: the policies read
+aloud, a strip of moments, the graph of each moment, each request with its answer
+and the reason, and who may do what at the end. It has no scripts and loads nothing.
 
-  -o FILE         where the page is written; `-` is standard output
-  --title TITLE   the page's title; else the name of the folder
+  -o FILE         where to write the page; `-` is standard output
+  --title TITLE   the page's title, by default the name of the folder
 
-Exit status: 0.
+Exit status: 0; 3 if a file cannot be read, written or compiled.
 ";
 
 pub fn main(arguments: &[String], out: &mut dyn Write) -> Result<i32, Stop> {

@@ -13,24 +13,26 @@ use std::path::Path;
 pub const HELP: &str = "\
 usage: cuckooormolu revise DIR NEW [--renamed] [--store FILE] [--json]
 
-Carries a monitor over to new terms: that of DIR, after its requests, to the terms
-of NEW. Nobody starts over. Relations stay as they are, the first edges and the
-requests of NEW count for nothing. It says
+Carries a monitor over to new terms: the monitor of DIR, after its requests, to the
+terms of the folder NEW. Nobody starts over: relations stay as they are, and the
+first edges and requests of NEW are not used. It says
 
-- which sentences about the past go on, which begin now and which are dropped; a
-  sentence goes on if the old terms have the very same
+- which sentences about the past continue, which begin now, and which are dropped; a
+  sentence continues if the old terms contain exactly the same one
 - who could do what and no longer can, and who now can
 
-Members, relations and events must be the same, in number and in order: numbers
-carry over. Policies, effects and kept events may be others.
+Members, relations and events must be the same, in number and order, since numbers
+carry over. Policies, effects and kept events may differ.
 
-  --renamed      the names in NEW are other names of the same
-  --store FILE   store the monitor as it goes on, under the new terms, in FILE; its
-                 folder is made if need be. Called terms.tsv, it gets the names
-                 beside it, and its folder goes on from there
-  --json         one JSON object a line: moment; sentences; changes of answers
+  --renamed      the names in NEW are new names for the same members, relations
+                 and events
+  --store FILE   store the monitor under the new terms in FILE, creating its folder
+                 if need be; if FILE is called terms.tsv, the names are stored
+                 beside it and its folder can be run
+  --json         one JSON object per line: moment; sentences; changes of answers
 
-Exit status: 0; 3 if it is refused, or a file cannot be read, written or compiled.
+Exit status: 0; 3 if the new terms are refused, or a file cannot be read, written or
+compiled.
 ";
 
 pub fn main(arguments: &[String], out: &mut dyn Write) -> Result<i32, Stop> {

@@ -15,23 +15,23 @@ use std::path::Path;
 pub const HELP: &str = "\
 usage: cuckooormolu run DIR [-] [--strict] [--json] [--store FILE] [--write FILE]
 
-Makes the requests of DIR/requests.say, one a line by name, `load pete saw`, or
-else of DIR/requests.tsv, under the terms of DIR, and prints each with its answer.
-With `-` they come from standard input instead, in either form; `run -` is
-`run . -`. The terms are what DIR/terms.say compiles to; where there is
-none, DIR/terms.tsv, with the names of DIR/names.tsv if it is there. Terms that
-were stored go on from there.
+Makes the requests of a folder under its terms, and prints each with its answer.
+Requests are in DIR/requests.say, one per line by name, such as `load pete saw`, or
+else in DIR/requests.tsv. With `-` they are read from standard input, in either
+form; `run -` means `run . -`. The terms are those of DIR/terms.say, or else of
+DIR/terms.tsv, with the names of DIR/names.tsv if there is one. Stored terms
+continue where they were stored.
 
   --strict       exit with 1 if a request is denied or refused
-  --json         one JSON object a line; `made` is the moment that a request made
-  --store FILE   then store terms and state, with what has passed, in FILE; its
-                 folder is made if need be. Called terms.tsv, it gets the names
-                 beside it, and its folder goes on from there
-  --write FILE   then write the terms and relations, as terms to begin with; no
-                 such file is written where something has passed (refusal 12)
+  --json         one JSON object per line; `made` is the moment a request made
+  --store FILE   afterwards, store terms, state and what they remember in FILE,
+                 creating its folder if need be; if FILE is called terms.tsv, the
+                 names are stored beside it and its folder can be run
+  --write FILE   afterwards, write terms and relations as new terms to begin with;
+                 refused with 12 if anything has happened
 
-Exit status: 0, with --strict 1 if a request is denied or refused; 3 if a file
-cannot be read, written or compiled.
+Exit status: 0; 1 if --strict finds a request denied or refused; 3 if a file cannot
+be read, written or compiled.
 ";
 
 pub fn main(arguments: &[String], out: &mut dyn Write) -> Result<i32, Stop> {

@@ -12,13 +12,14 @@ use std::path::Path;
 pub const HELP: &str = "\
 usage: cuckooormolu source DIR|FILE [-o FILE]
 
-Writes terms.tsv, with the names of names.tsv if it is there, as a source
-(docs/LANGUAGE.md). Compiling that gives terms with the same formulas, effects
-and first edges. What a stored file remembers of the past is not in a source.
+Writes terms.tsv, with the names of names.tsv if there is one, as a source
+(docs/LANGUAGE.md). Compiling the source gives terms with the same formulas,
+effects and first edges. A source cannot say what a stored file remembers.
 
   -o FILE   write it to FILE instead of printing it
 
-Exit status: 0, or 3 where the terms are refused.";
+Exit status: 0; 3 if the terms are refused, or a file cannot be read or written.
+";
 
 pub fn main(arguments: &[String], out: &mut dyn Write) -> Result<i32, Stop> {
     let arguments = Arguments::read(arguments, &[], &["-o"])?;

@@ -19,35 +19,35 @@ use std::path::Path;
 const TESTS: &str = "tests.say";
 
 pub const HELP: &str = "\
-usage: cuckooormolu test FOLDER... [--all] [--json] [--watch]
+usage: cuckooormolu test DIR... [--all] [--json] [--watch]
 
-Makes the tests of each FOLDER's tests.say under its terms:
+Runs the tests in each folder's tests.say under its terms:
 
   test a share lasts until it is withdrawn
     given dora owns pad                first edges, besides those of the terms
-    given dora share pete              a request that is made, and granted
-    pete may load pad                  asked; makes no moment
-    then dora withdraw pete            more that happens
+    given dora share pete              a request, which must be granted
+    pete may load pad                  a question; makes no moment
+    then dora withdraw pete            another request
     pete may not load pad because withdraw dora
 
-Each test begins at moment 0, without the requests of the folder. `because` has
-words that stand in what `why --all` says. `nobody`, `anyone` and `only pete and
-quin` may stand for a member. `dora denied share pete` is made, and denied.
+Each test begins at moment 0, without the requests of the folder. After `because`
+come words that `why --all` must say. `nobody`, `anyone` and `only pete and quin`
+may stand for a member. `dora denied share pete` is a request that must be denied.
 
-Prints a diff for each answer that is not the expected one, and a summary.
+Prints a diff for each unexpected answer, and a summary.
 
-  --all    list the tests that pass, too
-  --json   one JSON object a line: each test, then the summary
-  --watch  again whenever a file of the folders changes, until it is stopped
+  --all    list passing tests too
+  --json   one JSON object per line: each test, then the summary
+  --watch  run again whenever a file of the folders changes, until stopped
 
-Exit status: 0 if all tests pass, 1 if one fails, 2 for a wrong command line, 3
-if a file cannot be read or has a mistake.
+Exit status: 0 if all tests pass; 1 if one fails; 3 if a file cannot be read or has a
+mistake.
 ";
 
 pub fn main(arguments: &[String], out: &mut dyn Write) -> Result<i32, Stop> {
     let arguments = Arguments::read(arguments, &["--all", "--json", "--watch"], &[])?;
     if arguments.rest.is_empty() {
-        return Err(Stop::Usage("give FOLDER, one or more".into()));
+        return Err(Stop::Usage("give DIR, one or more".into()));
     }
     if !arguments.has("--watch") {
         return tested(&arguments, out);

@@ -15,24 +15,24 @@ usage: cuckooormolu try DIR [--first]
 Reads lines from standard input and answers each:
 
   share dora pete        make a request
-  look load pete saw     what it would be answered; makes no moment
-  why                    why the last answer was as it was
+  look load pete saw     what the answer would be; makes no moment
+  why                    why the last answer is what it is
   why load pete saw      why it would be granted or denied
   who load               who may do it to whom
-  list, members          the requests so far; who and what there is
-  undo                   take the last request back, or revision
-  revise NEW             go on with the terms of NEW, and say what changes
-  save [FILE]            write the requests to FILE, or to the folder's own file
+  list, members          the requests so far; the names of members, relations, events
+  undo                   take back the last request or revision
+  revise NEW             continue with the terms of NEW, and say what changes
+  save [FILE]            write the requests to FILE, by default the folder's own
   help, quit
 
-It begins after the requests of DIR. A name of several words is put in double
-quotes. At a terminal Tab completes a word, the arrow keys move in the line and
-bring earlier ones back.
+It begins after the requests of DIR. Put a name of several words in double quotes.
+At a terminal, Tab completes a word, the left and right arrows move within the line,
+and up and down bring back earlier lines.
 
-  --first   begin at moment 0, before them
+  --first   begin at moment 0, before the requests
 
-Exit status: 0; where the lines do not come from a terminal, 2 if one could not
-be understood or done.
+Exit status: 0; if input is not a terminal, 2 if a line could not be understood or
+carried out.
 ";
 
 pub fn main(arguments: &[String], out: &mut dyn Write) -> Result<i32, Stop> {

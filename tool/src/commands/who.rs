@@ -14,16 +14,16 @@ use std::path::Path;
 pub const HELP: &str = "\
 usage: cuckooormolu who DIR EVENT [--from WHO] [--to WHO] [--first] [--json]
 
-Shows who may do EVENT to whom after all requests of DIR/requests.tsv: a row
-for each initiator, a column for each target. EVENT is a name or a number.
-Nothing is requested: the table looks only.
+Shows who may do EVENT to whom after the requests of a folder: a row for each
+initiator, a column for each target. EVENT is a name or a number. Nothing is
+requested, so nothing changes.
 
   --from WHO   only these initiators: a kind of members, or one member
   --to WHO     only these targets
   --first      at moment 0, before any request
-  --json       one JSON object a line: an initiator and its targets
+  --json       one JSON object per line: an initiator and its targets
 
-Exit status: 0.
+Exit status: 0; 3 if a file cannot be read or compiled.
 ";
 
 pub fn main(arguments: &[String], out: &mut dyn Write) -> Result<i32, Stop> {

@@ -14,16 +14,15 @@ use std::path::Path;
 pub const HELP: &str = "\
 usage: cuckooormolu why DIR [LINE] [--all] [--json]
 
-Says for each request of DIR/requests.tsv, or for the one at LINE, why it is
-granted or denied, with the moments that decide it. A grant makes a moment, and
-so does a denial of a kept event; the first edges are moment 0, or what was stored
-is. Of a denial every possibility is told that fails, the one that came nearest
-first.
+Says why each request of a folder, or the one on LINE of its file, is granted or
+denied, with the moments that decide it. Moment 0 is the first edges, or what was
+stored; each grant makes a moment, and so does each denial of a kept event. For a
+denial, lists each alternative that failed, nearest miss first.
 
   --all    every line and every fact, not only the first few
-  --json   one JSON object a line
+  --json   one JSON object per line
 
-Exit status: 0.
+Exit status: 0; 3 if a file cannot be read or compiled.
 ";
 
 pub fn main(arguments: &[String], out: &mut dyn Write) -> Result<i32, Stop> {

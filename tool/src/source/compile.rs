@@ -194,7 +194,7 @@ fn crowded(crowd: &Crowd, resolver: &Resolver, text: &str) -> Mistake {
             format!("say after the `:` what concerns others than `{to}` and whom it starts from");
         return Mistake::new(crowd.span, message).advise(advice);
     }
-    let message = format!("{speaks}; the past may speak of {MOST_PEOPLE}");
+    let message = format!("{speaks}; what is about the past may speak of {MOST_PEOPLE}");
     let advice = "split it with `and` or `or` into parts about two people each, or seek the third \
                   inside it with `some`";
     Mistake::new(crowd.span, message).advise(advice)

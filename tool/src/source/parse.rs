@@ -83,7 +83,7 @@ impl Parser {
                 return Err(match mistake.advice {
                     Some(_) => mistake,
                     None => mistake.advise(
-                        "every statement begins with one of these; `cuckooormolu new FOLDER` writes a source to \
+                        "every statement begins with one of these; `cuckooormolu new DIR` writes a source to \
                             start from",
                     ),
                 });

@@ -133,7 +133,7 @@ fn unknown(rest: &str, letter: char, place: usize) -> Mistake {
         );
     }
     if letter.is_control() {
-        let message = format!("a character that cannot be seen, U+{:04X}", letter as u32);
+        let message = format!("an invisible character, U+{:04X}", letter as u32);
         return Mistake::new(Span { start: place, end }, message).advise("delete it");
     }
     let found = ELSEWHERE.iter().find(|(sign, _)| rest.starts_with(sign));

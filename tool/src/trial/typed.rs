@@ -5,15 +5,15 @@ use keeper::terms::Terms;
 
 pub const HELP: &str = "\
 EVENT FROM TO        make a request:  share dora pete
-look EVENT FROM TO   what it would be answered; makes no moment
-why [all]            why the last answer was as it was; all of it
+look EVENT FROM TO   what the answer would be; makes no moment
+why [all]            why the last answer is what it is; with all, every fact
 why EVENT FROM TO    why it would be granted or denied
 who EVENT            who may do it to whom
 list                 the requests so far, with their answers
-members              who and what there is
-undo                 take the last request back, or revision
-revise DIR           go on with the terms of DIR, and say what changes
-save [FILE]          write the requests to FILE, or to the folder's requests.tsv
+members              the names of members, relations and events
+undo                 take back the last request or revision
+revise DIR           continue with the terms of DIR, and say what changes
+save [FILE]          write the requests to FILE, by default the folder's own
 help                 show this
 quit                 end";
 

@@ -48,12 +48,12 @@ fn named_precisely() {
             "4:52: `or` after `and`: which of the two goes first?",
         ),
         ("true since true since true", "`since` after `since`"),
-        ("dora owns target", "`dora` is a member; a formula can't speak of one member by name"),
+        ("dora owns target", "`dora` is a member; a formula cannot name a single member"),
         ("initiator owns target", "who makes the request is `me`"),
         ("me owns target && true", "write `and`"),
         ("me owns target -> true", "dora owns saw"),
         ("me owns", "expected whom"),
-        ("me target", "`target` is a word of the language and can be no name"),
+        ("me target", "`target` is reserved"),
         ("(me owns target", "4:17: this `(` is not closed"),
         ("me owns target an true", "found `an`; did you mean `and`?"),
         ("owns", "`owns` alone is no formula"),
@@ -62,9 +62,9 @@ fn named_precisely() {
         ("nonsense", "no definition `nonsense`"),
         ("me is friendly", "nobody, no attribute and no definition is called `friendly` here"),
         ("me likes target", "no relation or event `likes`"),
-        ("at least 0 owns of me", "expected a number from 1 on after `at least`, found `0`"),
-        ("at least 65 owns of me", "at least 65 are more than there can be"),
-        ("at least 16 owns me", "at least 16 from whom edges come take 16 names"),
+        ("at least 0 owns of me", "expected a number, 1 or more, after `at least`, found `0`"),
+        ("at least 65 owns of me", "at least 65 is more than there can be"),
+        ("at least 16 owns me", "counting 16 members from whom edges come takes 16 names"),
         (
             "some x such that once (me share x and target share x): true",
             "4:34: `once (me share x and target share x)` speaks of 3 people: me, x and target; what leads to `x` may speak of `x` and one other",
@@ -99,21 +99,21 @@ fn in_statements() {
         ("event load when me denied owns target", "no event `owns` that could be denied"),
         ("event load when me denied shrae target", "4:20: no event `shrae` that could be denied; did you mean `share`?"),
         ("event load when me denied some", "expected the name of an event after `denied`"),
-        ("event denied by anyone", "`denied` is a word of the language and can be no name"),
+        ("event denied by anyone", "`denied` is reserved"),
         ("event load by everyone", "expected `anyone` after `by`, found `everyone`"),
-        ("event first by anyone", "`first` is a word of the language and can be no name"),
+        ("event first by anyone", "`first` is reserved"),
         ("event load by anyone then add me own target", "no relation `own`; did you mean `owns`?"),
         ("event load by anyone then add dora owns target", "an effect is between `me` and `target`"),
         ("event load by anyone then give me owns target", "expected `add` or `remove`, found `give`"),
         ("first dora owns swa", "no member `swa`; did you mean `saw`?"),
         ("first dora owns saw both", "expected `ways` after `both`"),
-        ("members dora", "4:9: the member `dora` was declared before, in line 1"),
-        ("relation share", "4:10: `share` is the name of an event already, in line 3"),
+        ("members dora", "4:9: the member `dora` is already declared, in line 1"),
+        ("relation share", "4:10: `share` is already the name of an event, in line 3"),
         ("define x likes y: x owns y event load when me likes someone", "it is said of two people"),
         ("define x likes y: y likes x", "`likes` is defined by itself"),
         ("define x is odd: x is y", "nobody, no attribute and no definition is called `y`"),
         ("define x likes y: x owns y event load when some x likes me: true", "nobody can be sought along it"),
-        ("define x is odd: true event load when odd(me, target)", "`odd` is said of one person, here of 2 people"),
+        ("define x is odd: true event load when odd(me, target)", "`odd` is about one person, but has 2 people here"),
     ];
     let told = |(rest, part): &(&str, &str)| {
         let message = said(rest);
@@ -126,7 +126,7 @@ fn in_statements() {
 #[test]
 fn the_past_may_speak_of_two() {
     let message = policy("some x owns target: once (x share me and x share target)");
-    let part = "`once (x share me and x share target)` speaks of 3 people: x, me and target; the past may speak of 2";
+    let part = "`once (x share me and x share target)` speaks of 3 people: x, me and target; what is about the past may speak of 2";
     assert!(message.contains(part), "{message}");
     // Two are accepted wherever the part stands, and a third may be sought in it.
     for formula in [
@@ -146,11 +146,11 @@ fn limits() {
         names.join(", ")
     };
     assert!(said(&format!("members {}", numbered(62, "m")))
-        .contains("65 members are declared; 64 is the most"));
+        .contains("65 members are declared; at most 64 are allowed"));
     assert!(said(&format!("relation {}", numbered(16, "r")))
-        .contains("17 relations are declared; 16 is the most"));
+        .contains("17 relations are declared; at most 16 are allowed"));
     assert!(said(&format!("event {} by anyone", numbered(15, "e")))
-        .contains("17 events are declared; 16 is the most"));
+        .contains("17 events are declared; at most 16 are allowed"));
     let effects = ["add me owns target"; 5].join(", ");
     assert!(said(&format!("event load by anyone then {effects}"))
         .contains("`load` has more than 4 effects"));
@@ -164,7 +164,7 @@ fn limits() {
     let deep = "(".repeat(500) + "true" + &")".repeat(500);
     assert!(policy(&deep).contains("more than 200 deep"));
     let empty = compile("").unwrap_err();
-    assert_eq!(empty[0].message, "no member is declared; at least one is due");
+    assert_eq!(empty[0].message, "no member is declared; declare at least one");
 }
 
 /// Whatever is done to a source, it compiles or a place in it is shown.

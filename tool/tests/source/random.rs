@@ -26,7 +26,8 @@ fn compiled_terms_mean_what_is_written() {
         let compiled = match compile(&text) {
             Ok(compiled) => compiled,
             Err(mistakes) => {
-                let known = ["; the past may speak of", "; what leads to", "names at once"];
+                let known =
+                    ["; what is about the past may speak of", "; what leads to", "names at once"];
                 let expected =
                     |mistake: &Mistake| known.iter().any(|part| mistake.message.contains(part));
                 assert!(mistakes.iter().all(expected), "seed {seed}:\n{mistakes:?}\n{text}");

@@ -62,7 +62,7 @@ pub fn edgeless(subject: &Subject) -> Vec<Warning> {
         };
         let in_source = || {
             let name = names.relation(relation);
-            let what = format!("`{name}` never has an edge, so this looks in vain");
+            let what = format!("`{name}` never has an edge, so this is never true");
             (
                 what,
                 format!(

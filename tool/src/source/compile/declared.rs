@@ -20,23 +20,24 @@ pub fn declared(source: &Source, text: &str, whole: bool, notes: &mut Notes) -> 
     let mut names = Names::default();
     for (kind, given, least, most) in kinds {
         if given.len() < least && whole {
-            let message = format!("no {kind} is declared; at least one is due");
+            let message = format!("no {kind} is declared; declare at least one");
             let example =
                 if kind == Kind::Member { "members dora, pete" } else { "event share by anyone" };
             let advice = format!(
-                "like this: `{example}`; `cuckooormolu new FOLDER` writes a source to start from"
+                "like this: `{example}`; `cuckooormolu new DIR` writes a source to start from"
             );
             notes.mistakes.push(Mistake::new(end, message).advise(advice));
         }
         if let Some(name) = given.get(most) {
-            let message = format!("{} {kind}s are declared; {most} is the most", given.len());
+            let message =
+                format!("{} {kind}s are declared; at most {most} are allowed", given.len());
             let advice = format!("leave some out; {kind}s that are treated alike can be one");
             notes.mistakes.push(Mistake::new(name.span, message).advise(advice));
         }
         for (number, name) in given.iter().enumerate() {
             if let Some(first) = given[..number].iter().find(|other| other.text == name.text) {
                 let message = format!(
-                    "the {kind} `{}` was declared before, in line {}",
+                    "the {kind} `{}` is already declared, in line {}",
                     name.text,
                     line(first)
                 );
@@ -60,7 +61,7 @@ pub fn declared(source: &Source, text: &str, whole: bool, notes: &mut Notes) -> 
             continue;
         };
         let message = format!(
-            "`{}` is the name of a{} {what} already, in line {}",
+            "`{}` is already the name of a{} {what}, in line {}",
             name.text,
             if *what == "event" { "n" } else { "" },
             line(first)

@@ -104,13 +104,10 @@ impl Parser {
         let span = self.span();
         match self.token().clone() {
             Token::Word(word) if WORDS.contains(&word.as_str()) => {
-                let message = format!(
-                    "expected {what}; `{word}` is a word of the language and can be no name"
-                );
+                let message = format!("expected {what}; `{word}` is reserved");
                 let advice = match word.as_str() {
                     "me" | "target" | "here" => {
-                        "who that is is known only when a request is made; name a member"
-                            .to_string()
+                        "who that is depends on the request; name a member".to_string()
                     }
                     _ => format!("choose another name, such as `{word}-1`"),
                 };

@@ -26,7 +26,7 @@ impl Parser {
             if let Some(first) = before.filter(|first| *first != word || word == "since") {
                 let message = format!("`{word}` after `{first}`: which of the two goes first?");
                 let advice = format!(
-                    "put parentheses around one of them: `a {first} (b {word} c)` or `(a {first} b) {word} c`"
+                    "put parentheses around what goes first: `a {first} (b {word} c)` or `(a {first} b) {word} c`"
                 );
                 return Err(Mistake::new(self.span(), message).advise(advice));
             }
@@ -52,7 +52,7 @@ impl Parser {
     fn enter(&mut self) -> Result<(), Mistake> {
         self.depth += 1;
         if self.depth > DEEPEST {
-            let message = format!("formulas stand more than {DEEPEST} deep in one another");
+            let message = format!("formulas are nested more than {DEEPEST} deep");
             return Err(Mistake::new(self.span(), message).advise("give a part a name: define ..."));
         }
         Ok(())

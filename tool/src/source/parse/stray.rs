@@ -65,7 +65,7 @@ impl Parser {
     pub(super) fn stray(&self, also: &[&str]) -> Mistake {
         if self.bare == Some(self.next) && !matches!(self.token(), Token::Sign(_)) {
             let message = "a `:` is missing here";
-            let advice = "after whom `some`, `every` or `at least` seeks comes `:`, and then what holds of them";
+            let advice = "`some`, `every` and `at least` say whom they are about, then `:`, then what holds of them";
             return Mistake::new(self.last(), message).advise(advice);
         }
         if self.is_word("when") {
@@ -126,7 +126,7 @@ impl Parser {
     pub(super) fn no_number(&self) -> Mistake {
         const WORDS: [&str; 10] =
             ["one", "two", "three", "four", "five", "six", "seven", "eight", "nine", "ten"];
-        let mistake = self.expected("a number from 1 on after `at least`", &[]);
+        let mistake = self.expected("a number, 1 or more, after `at least`", &[]);
         let word = self.word_ahead(0).unwrap_or("");
         if let Some(place) = WORDS.iter().position(|known| *known == word) {
             return mistake.advise(format!("write it in digits: `at least {}`", place + 1));
@@ -143,9 +143,8 @@ impl Parser {
         let meant = QUANTIFIERS.iter().find(|(tried, _)| *tried == word)?.1;
         let three = self.name_ahead(1) && (self.name_ahead(2) || self.word_ahead(2) == Some("of"));
         three.then(|| {
-            let message = format!("nobody is sought by `{word}`");
-            let advice =
-                format!("write `{meant}`; `some` seeks one, `every` asks it of all of them");
+            let message = format!("`{word}` has no meaning here");
+            let advice = format!("write `{meant}`; `some` asks for one, `every` for all of them");
             Mistake::new(self.span(), message).advise(advice)
         })
     }

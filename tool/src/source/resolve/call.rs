@@ -23,7 +23,8 @@ impl Resolver<'_> {
                 n => format!("{n} people"),
             };
             let name = &definition.name.text;
-            let message = format!("`{name}` is said of {}, here of {}", count(due), count(given));
+            let message =
+                format!("`{name}` is about {}, but has {} here", count(due), count(given));
             let people: Vec<&str> =
                 definition.parameters.iter().map(|name| name.text.as_str()).collect();
             let head = match &people[..] {
@@ -85,7 +86,7 @@ impl Resolver<'_> {
         let way: Vec<&str> = around.iter().chain([&place]).map(name).collect();
         let way = way.join(" uses ");
         let message = format!("`{}` is defined by itself: {way}", name(&place));
-        let advice = "a definition can't use itself; say it by relations and events";
+        let advice = "a definition cannot use itself; say it by relations and events";
         let mistake = Mistake::new(span, message).advise(advice);
         self.cyclic.extend(around.into_iter().map(|place| (place, mistake.clone())));
         mistake

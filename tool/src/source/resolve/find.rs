@@ -26,9 +26,8 @@ impl Resolver<'_> {
     pub(super) fn unknown_person(&self, name: &Name, scope: &Scope, also_defined: bool) -> Mistake {
         let text = &name.text;
         if self.source.members.iter().any(|member| member.text == *text) {
-            let message =
-                format!("`{text}` is a member; a formula can't speak of one member by name");
-            let advice = "it can speak of me, target and whom it has named; to single a member out, \
+            let message = format!("`{text}` is a member; a formula cannot name a single member");
+            let advice = "it can speak of me, of target and of those it has named; to single a member out, \
                           give it an attribute: `relation chief`, `first dora is chief`, `x is chief`";
             return Mistake::new(name.span, message).advise(advice);
         }

@@ -26,8 +26,8 @@ impl Resolver<'_> {
             }
             Quantifier::AtLeast(count) if walk.outwards => {
                 if count > MOST_COUNTED {
-                    let message = format!("at least {count} are more than there can be");
-                    let advice = format!("at most {MOST_COUNTED} can be asked for");
+                    let message = format!("at least {count} is more than there can be");
+                    let advice = format!("ask for at most {MOST_COUNTED}");
                     return Err(Mistake::new(walk.label.span, message).advise(advice));
                 }
                 let (name, body) = self.neighbour(walk, scope)?;
@@ -43,10 +43,11 @@ impl Resolver<'_> {
                 Ok(said(Form::As { name, wanted: false, body }))
             }
             Quantifier::AtLeast(count) => {
-                let message = format!("at least {count} from whom edges come take {count} names");
+                let message =
+                    format!("counting {count} members from whom edges come takes {count} names");
                 let most = VARIABLES - 1;
                 let advice = format!(
-                    "there are at most {most} names at once; edges that lead away can be counted up to {MOST_COUNTED}"
+                    "at most {most} names can be in sight; edges that lead away can be counted up to {MOST_COUNTED}"
                 );
                 Err(Mistake::new(walk.label.span, message).advise(advice))
             }
