@@ -218,24 +218,30 @@ CUCKOOORMOLU_ASSERT(CUCKOOORMOLU_DENIED > CUCKOOORMOLU_DONE,
 CUCKOOORMOLU_ASSERT(CUCKOOORMOLU_GRANTED > CUCKOOORMOLU_DENIED,
                     "granted is no other code");
 
-static inline bool cuckooormolu_granted(struct cuckooormolu_result result)
+CUCKOOORMOLU_USED static inline bool
+cuckooormolu_granted(struct cuckooormolu_result result)
 {
     return result.cuckooormolu_private == CUCKOOORMOLU_GRANTED;
 }
 
-static inline bool cuckooormolu_denied(struct cuckooormolu_result result)
+/* False where a call was granted, and where it was refused: only
+ * cuckooormolu_granted says that it was granted. */
+CUCKOOORMOLU_USED static inline bool
+cuckooormolu_denied(struct cuckooormolu_result result)
 {
     return result.cuckooormolu_private == CUCKOOORMOLU_DENIED;
 }
 
-static inline bool cuckooormolu_done(struct cuckooormolu_result result)
+CUCKOOORMOLU_USED static inline bool
+cuckooormolu_done(struct cuckooormolu_result result)
 {
     return result.cuckooormolu_private == CUCKOOORMOLU_DONE;
 }
 
 /* The number by which a call was refused; 0 where it was not, which does not
  * say that it was granted. */
-static inline size_t cuckooormolu_refusal(struct cuckooormolu_result result)
+CUCKOOORMOLU_USED static inline size_t
+cuckooormolu_refusal(struct cuckooormolu_result result)
 {
     size_t code = result.cuckooormolu_private;
     return code < CUCKOOORMOLU_DONE ? code : 0;
@@ -289,17 +295,20 @@ static inline const char *cuckooormolu_words(struct cuckooormolu_result result)
     }
 }
 
-static inline bool cuckooormolu_answer_granted(struct cuckooormolu_answer answer)
+CUCKOOORMOLU_USED static inline bool
+cuckooormolu_answer_granted(struct cuckooormolu_answer answer)
 {
     return answer.cuckooormolu_private == CUCKOOORMOLU_ANSWER_GRANT;
 }
 
-static inline bool cuckooormolu_answer_denied(struct cuckooormolu_answer answer)
+CUCKOOORMOLU_USED static inline bool
+cuckooormolu_answer_denied(struct cuckooormolu_answer answer)
 {
     return answer.cuckooormolu_private == CUCKOOORMOLU_ANSWER_DENY;
 }
 
-static inline bool cuckooormolu_answer_refused(struct cuckooormolu_answer answer)
+CUCKOOORMOLU_USED static inline bool
+cuckooormolu_answer_refused(struct cuckooormolu_answer answer)
 {
     return answer.cuckooormolu_private == CUCKOOORMOLU_ANSWER_REFUSED;
 }

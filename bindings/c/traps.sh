@@ -48,12 +48,14 @@ compiling not "nor a comparison with a code" "if ($call == CUCKOOORMOLU_GRANTED)
 compiling not "nor a number that keeps it" "size_t code = $call; if (code) $then" "$@"
 compiling not "nor a predicate of a number" "if (cuckooormolu_granted(CUCKOOORMOLU_GRANTED)) $then" "$@"
 compiling not "nor a result that is not looked at" "$call;" "$@"
+compiling not "nor a predicate that is not looked at" "cuckooormolu_granted($call);" "$@"
 compiling ok "an answer that is asked for compiles" "if (cuckooormolu_answer_granted(r->answer)) $then" "$@"
 compiling not "an answer as a truth value does not" "if (r->answer) $then" "$@"
 compiling not "nor a comparison with its number" "if (r->answer == CUCKOOORMOLU_ANSWER_GRANT) $then" "$@"
 compiling not "nor a call's predicate of it" "if (cuckooormolu_granted(r->answer)) $then" "$@"
 compiling not "nor a call's words of it" "if (*cuckooormolu_words(r->answer)) $then" "$@"
 compiling not "nor an answer's predicate of a call" "if (cuckooormolu_answer_granted($call)) $then" "$@"
+compiling not "nor one that is not looked at" "cuckooormolu_answer_granted(r->answer);" "$@"
 
 # body NAME: the standard input as the body of a host.
 body() {

@@ -8,8 +8,8 @@ use crate::source::{compile, Compiled};
 use crate::stop::Stop;
 use crate::storing::fits;
 use keeper::terms::read;
-use std::fs;
-use std::io::ErrorKind;
+use std::fs::{self, File};
+use std::io::{self, ErrorKind, Write};
 use std::path::{Path, PathBuf};
 
 pub const TERMS: &str = "terms.tsv";
@@ -211,8 +211,35 @@ fn bytes(path: &Path) -> Result<Vec<u8>, Stop> {
 
 /// Writes a file, or says why it can't be written.
 pub fn write(path: &Path, bytes: &[u8]) -> Result<(), Stop> {
-    fs::write(path, bytes)
+    replace(path, bytes)
         .map_err(|error| Stop::Failed(format!("cannot write {}: {error}", path.display())))
+}
+
+/// Puts a new file in the place of an old one, so that a crash leaves one of the
+/// two whole. What is no plain file, such as a pipe, is written to.
+fn replace(path: &Path, bytes: &[u8]) -> io::Result<()> {
+    let path = fs::canonicalize(path).unwrap_or_else(|_| path.to_path_buf());
+    let old = fs::metadata(&path).ok();
+    if old.as_ref().is_some_and(|old| !old.is_file()) {
+        return fs::write(path, bytes);
+    }
+    let mut name = path.file_name().unwrap_or_default().to_os_string();
+    name.push(format!(".{}.new", std::process::id()));
+    let new = path.with_file_name(name);
+    let written = (|| {
+        let mut file = File::create(&new)?;
+        file.write_all(bytes)?;
+        if let Some(old) = old {
+            file.set_permissions(old.permissions())?;
+        }
+        file.sync_all()?;
+        fs::rename(&new, &path)?;
+        File::open(folder_of(&path))?.sync_all()
+    })();
+    if written.is_err() {
+        let _ = fs::remove_file(&new);
+    }
+    written
 }
 
 /// One line of requests.tsv.

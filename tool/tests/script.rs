@@ -158,4 +158,10 @@ fn installed_where_one_likes() {
     assert_eq!(status, 3);
     assert!(error.contains("cannot write /proc/none/bin/cuckooormolu"), "{error}");
     assert_eq!(said(&folder, &["install", "--there"]).0, 2);
+    for nowhere in [&["install", "--prefix", ""][..], &["install", "--prefix="]] {
+        let (status, out, error) = said(&folder, nowhere);
+        assert_eq!((status, out.as_str()), (2, ""));
+        assert!(error.contains("--prefix needs the name of a folder"), "{error}");
+    }
+    assert!(said(&folder, &["install", "--help"]).1.contains("by\ndefault ~/.local"));
 }

@@ -31,6 +31,22 @@ fn nothing_is_stored_where_it_would_not_run() {
     assert_eq!(said.status, 3);
     assert!(said.err.contains("has a terms.say, which is what runs there"), "{}", said.err);
     assert!(!other.file("terms.tsv").exists());
+    // Nor is an answer shown that is not stored.
+    assert_eq!(said.out, "");
+    assert_eq!(run(&["run", folder.path(), "--store", "/proc/none/terms.tsv"]).out, "");
+}
+
+#[test]
+fn a_new_file_takes_the_old_one_s_place() {
+    let (folder, other) = (preset(), Folder::new());
+    let (kept, linked) = (other.file("kept.tsv"), other.file("linked.tsv"));
+    std::os::unix::fs::symlink(&kept, &linked).unwrap();
+    for file in [&kept, &linked] {
+        let said = run(&["run", folder.path(), "--store", file.to_str().unwrap()]);
+        assert_eq!((said.status, said.err.as_str()), (0, ""));
+    }
+    assert!(kept.is_file() && linked.is_symlink());
+    assert_eq!(std::fs::read_dir(other.path()).unwrap().count(), 2);
 }
 
 /// 64 members, each of whom has shared with many.

@@ -49,7 +49,9 @@ impl Monitor {
     ///
     /// # Errors
     ///
-    /// [`Refusal::BadState`] where the state is not one of these terms.
+    /// [`Refusal::BadState`] where the state does not have the layout of these
+    /// terms. A state of other terms with the same layout is not noticed, and
+    /// answers would be wrong: keep terms and state together.
     pub fn resume(terms: Terms, state: State) -> Result<Monitor, Refusal> {
         raw::check(terms.words(), state.words())?;
         Ok(Monitor::with(terms, state))

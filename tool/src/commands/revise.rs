@@ -44,13 +44,16 @@ pub fn main(arguments: &[String], out: &mut dyn Write) -> Result<i32, Stop> {
     let mut both = Replay::of(&old)?.both;
     let revised = revise(&mut both, &old, &new, arguments.has("--renamed"))?;
     let json = arguments.has("--json");
+    let file = arguments.option("--store");
+    if let Some(file) = file {
+        let from = Folder { names: revised.names.clone(), ..new };
+        store(Path::new(file), &both.store()?, &from)?;
+    }
     match json {
         true => revised.json().iter().try_for_each(|line| writeln!(out, "{line}"))?,
         false => write!(out, "{}", revised.text(&both))?,
     }
-    if let Some(file) = arguments.option("--store") {
-        let from = Folder { names: revised.names, ..new };
-        store(Path::new(file), &both.store()?, &from)?;
+    if let Some(file) = file {
         match json {
             true => writeln!(out, "{}", Json::Object(vec![("stored", file.into())]))?,
             false => writeln!(out, "\n{file} written")?,

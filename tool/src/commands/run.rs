@@ -24,9 +24,10 @@ continue where they were stored.
 
   --strict       exit with 1 if a request is denied or refused
   --json         one JSON object per line; `made` is the moment a request made
-  --store FILE   afterwards, store terms, state and what they remember in FILE,
-                 creating its folder if need be; if FILE is called terms.tsv, the
-                 names are stored beside it and its folder can be run
+  --store FILE   store terms, state and what they remember in FILE, before any answer
+                 is printed, creating its folder if need be; if FILE is called
+                 terms.tsv, the names are stored beside it and its folder can be run.
+                 One run at a time: nothing locks the folder
   --write FILE   afterwards, write terms and relations as new terms to begin with;
                  refused with 12 if anything has happened
 
@@ -48,6 +49,10 @@ pub fn main(arguments: &[String], out: &mut dyn Write) -> Result<i32, Stop> {
         folder.requests = named("standard input", &text, &folder.terms, &folder.names)?;
     }
     let replay = Replay::of(&folder)?;
+    // An answer is shown once nothing can be lost any more.
+    if let Some(file) = arguments.option("--store") {
+        store(Path::new(file), &replay.both.store()?, &folder)?;
+    }
     let words = Words::new(replay.both.terms(), &folder.names);
     let widths = Widths::of(&replay.steps, &words);
     for step in &replay.steps {
@@ -56,9 +61,6 @@ pub fn main(arguments: &[String], out: &mut dyn Write) -> Result<i32, Stop> {
         } else {
             writeln!(out, "{}", widths.line(step, &words))?;
         }
-    }
-    if let Some(file) = arguments.option("--store") {
-        store(Path::new(file), &replay.both.store()?, &folder)?;
     }
     if let Some(file) = arguments.option("--write") {
         let text = replay.both.write()?.map_err(|refusal| Stop::Failed(no_fresh_start(refusal)))?;
