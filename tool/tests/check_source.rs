@@ -65,3 +65,17 @@ fn for_programs() {
     let second = said.lines().nth(1).unwrap();
     assert!(second.starts_with("{\"warning\":\"edgeless\",\"line\":5,"), "{said}");
 }
+
+/// The terms file that a host would open is older than the source.
+#[test]
+fn outdated_terms_are_told() {
+    let folder = Folder::new();
+    folder.write("terms.say", START);
+    assert_eq!(run(&["compile", folder.path()]).status, 0);
+    assert!(!run(&["check", folder.path()]).out.contains("terms.tsv"));
+    folder.write("terms.say", &format!("{START}first pete owns saw\n"));
+    let said = run(&["check", folder.path()]).out;
+    assert!(said.contains("terms.tsv is not what terms.say compiles to"), "{said}");
+    assert_eq!(run(&["compile", folder.path()]).status, 0);
+    assert!(!run(&["check", folder.path()]).out.contains("terms.tsv"));
+}

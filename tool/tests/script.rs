@@ -13,9 +13,9 @@ use std::process::{Command, Output};
 const SCRIPT: &str = concat!(env!("CARGO_MANIFEST_DIR"), "/../cuckooormolu");
 
 /// What the script calls, besides rt and cargo.
-const CALLED: [&str; 12] = [
-    "sh", "cat", "chmod", "dirname", "find", "head", "mkdir", "printf", "pwd", "readlink", "rm",
-    "touch",
+const CALLED: [&str; 13] = [
+    "sh", "cat", "chmod", "dirname", "find", "head", "mkdir", "mv", "printf", "pwd", "readlink",
+    "rm", "touch",
 ];
 
 /// A checkout with the script, and a path without rt and cargo.

@@ -3,8 +3,8 @@
 
 use crate::arguments::Arguments;
 use crate::both::Both;
-use crate::check::{check, Checked, Fault, Warning};
-use crate::folder::Folder;
+use crate::check::{check, About, Checked, Fault, Warning};
+use crate::folder::{Folder, SOURCE, TERMS};
 use crate::json::Json;
 use crate::source::mistake::Mistake;
 use crate::stop::{Stop, UNUSABLE, WELL};
@@ -23,8 +23,10 @@ tabs shown as → and carriage returns as ↵. If they are, warns of what may be
 mistake all the same.
 
   --watch  check again whenever a file of the folder changes, until stopped
-  --json   one line: accepted, and number, line, from, to, what, right of the
-           mistake, or counts; then one for each warning: warning, line, what, right
+  --json   one line for each mistake of a source: error, file, line, column, advice;
+           for a terms file one: accepted, number, line, from, to, what, right. If the
+           terms are accepted, one with the counts, and one for each warning: warning,
+           line, what, right
 
 Exit status: 0 if the terms are accepted, with or without warnings; 3 if not.
 ";
@@ -56,7 +58,8 @@ fn checked(path: &Path, json: bool, out: &mut dyn Write) -> Result<i32, Stop> {
     match check(&folder)? {
         Checked::Refused(fault) if json => writeln!(out, "{}", fault_json(&fault))?,
         Checked::Refused(fault) => refused(out, &fault, &folder.terms)?,
-        Checked::Accepted(both, warnings) => {
+        Checked::Accepted(both, mut warnings) => {
+            warnings.extend(outdated(&folder));
             if json {
                 writeln!(out, "{}", accepted_json(&both))?;
                 for warning in folder.source.iter().flat_map(|source| &source.compiled.warnings) {
@@ -77,6 +80,20 @@ fn checked(path: &Path, json: bool, out: &mut dyn Write) -> Result<i32, Stop> {
         }
     }
     Ok(UNUSABLE)
+}
+
+/// A terms.tsv beside a source that has changed since: hosts open the former.
+fn outdated(folder: &Folder) -> Option<Warning> {
+    let compiled = &folder.source.as_ref()?.compiled;
+    let terms = std::fs::read(folder.path.join(TERMS)).ok()?;
+    let what = format!("{TERMS} is not what {SOURCE} compiles to; a host opens {TERMS}");
+    (terms != compiled.text()).then(|| Warning {
+        kind: "outdated",
+        about: About::Nothing,
+        line: 0,
+        what,
+        right: format!("`cuckooormolu compile {}` writes it anew", folder.path.display()),
+    })
 }
 
 fn refused(out: &mut dyn Write, fault: &Fault, text: &[u8]) -> Result<(), Stop> {
