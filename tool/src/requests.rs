@@ -17,7 +17,7 @@ pub fn read(file: &str, text: &str, terms: &Terms, names: &Names) -> Result<Vec<
             lines.push_str(&format!("{line}\n"));
             continue;
         }
-        let words = split(line.split('#').next().unwrap_or(""));
+        let words = split(bare(line));
         let words: Vec<&str> = words.iter().map(String::as_str).collect();
         match ask(&words, terms, names) {
             Ok(Some([event, from, to])) => lines.push_str(&format!("R\t{event}\t{from}\t{to}\n")),
@@ -52,26 +52,52 @@ fn ask(words: &[&str], terms: &Terms, names: &Names) -> Result<Option<[usize; 3]
     Ok(Some([event, member(from)?, member(to)?]))
 }
 
-/// Requests as lines with names. What is no request is left out.
+/// A line without its comment. In double quotes `#` begins none.
+fn bare(line: &str) -> &str {
+    let mut quoted = false;
+    let comment = line.find(|letter| {
+        quoted ^= letter == '"';
+        letter == '#' && !quoted
+    });
+    &line[..comment.unwrap_or(line.len())]
+}
+
+/// Requests as lines with names, which are read as the same requests. What has no name
+/// has its numbers, and what is no request is left out.
 pub fn write(requests: impl Iterator<Item = Request>, names: &Names) -> Vec<String> {
-    let quoted = |name: String| match name.contains(char::is_whitespace) {
-        true => format!("\"{name}\""),
-        false => name,
-    };
-    let named = |kind: Kind, number: usize| match names.given(kind, number) {
-        Some(name) => quoted(name.to_string()),
-        None => number.to_string(),
-    };
-    let line = |request: Request| match request {
-        Request::Ask { event, from, to } => Some(format!(
-            "{} {} {}\n",
-            named(Kind::Event, event),
-            named(Kind::Member, from),
-            named(Kind::Member, to)
-        )),
+    let written = |request: Request| match request {
+        Request::Ask { event, from, to } => {
+            let member = |number: usize| names.given(Kind::Member, number);
+            let named = || line([names.given(Kind::Event, event)?, member(from)?, member(to)?]);
+            named().or_else(|| number(request))
+        }
         Request::Malformed => None,
     };
-    requests.filter_map(line).collect()
+    requests.filter_map(written).collect()
+}
+
+/// A request as a line with names, those of several words in double quotes; none for a
+/// name that cannot stand in such a line.
+pub fn line(names: [&str; 3]) -> Option<String> {
+    let word = |name: &str| match name.is_empty() || name.contains(['"', '\n', '\r']) {
+        true => None,
+        false if split(name) == [name] && !name.contains('#') => Some(name.to_string()),
+        false => Some(format!("\"{name}\"")),
+    };
+    let words = names.into_iter().map(word).collect::<Option<Vec<_>>>()?;
+    Some(format!("{}\n", words.join(" ")))
+}
+
+/// Requests as lines with numbers, those of requests.tsv.
+pub fn numbered(requests: impl Iterator<Item = Request>) -> Vec<String> {
+    requests.filter_map(number).collect()
+}
+
+fn number(request: Request) -> Option<String> {
+    match request {
+        Request::Ask { event, from, to } => Some(format!("R\t{event}\t{from}\t{to}\n")),
+        Request::Malformed => None,
+    }
 }
 
 #[cfg(test)]
@@ -92,6 +118,19 @@ mod tests {
         assert_eq!(read, b"R\t0\t0\t1\nR\t0\t1\t0\nR\t0\t1\t0\n");
         let ask = Request::Ask { event: 0, from: 0, to: 1 };
         assert_eq!(write([ask].into_iter(), &names), ["share dora \"the saw\"\n"]);
+    }
+
+    #[test]
+    fn what_is_written_is_read_again() {
+        let terms = Terms { members: 4, events: 1, ..Terms::default() };
+        let names = "member\t0\tsaw #2\nmember\t1\t->\nmember\t2\ta\"b\nevent\t0\tR\n";
+        let names = Names::read(names).unwrap();
+        let ask = |from, to| Request::Ask { event: 0, from, to };
+        let asked = [ask(0, 1), ask(2, 0), ask(3, 1), Request::Ask { event: 9, from: 0, to: 7 }];
+        let text = write(asked.into_iter(), &names).concat();
+        assert_eq!(text.lines().next(), Some("R \"saw #2\" \"->\""));
+        let read = read("f", &text, &terms, &names).unwrap();
+        assert_eq!(read, numbered(asked.into_iter()).concat().as_bytes());
     }
 
     #[test]

@@ -250,21 +250,30 @@ impl Trial {
             let said = "the folder's requests have more than this: give save a file name";
             return Reply::Wrong(said.to_string());
         }
-        let spoken = self.folder.path.join(SPOKEN);
-        let own = if spoken.exists() { spoken } else { self.folder.path.join(REQUESTS) };
+        let sourced = self.folder.source.is_some();
+        let (spoken, numbered) = (self.folder.path.join(SPOKEN), self.folder.path.join(REQUESTS));
+        let own = if sourced || spoken.exists() { &spoken } else { &numbered };
         let path = file.map_or(own.as_path(), Path::new);
-        let line = |step: &Step| match step.request {
-            Request::Ask { event, from, to } => Some(format!("R\t{event}\t{from}\t{to}\n")),
-            Request::Malformed => None,
+        // Names stay right when members are added to the source, numbers do not.
+        let by_name = match path.extension().and_then(|ending| ending.to_str()) {
+            Some("say") => true,
+            Some("tsv") => false,
+            _ => sourced,
         };
-        let steps = self.replay.steps.iter();
-        let by_name = path.extension().is_some_and(|ending| ending == "say");
-        let lines: Vec<String> = match by_name {
-            true => requests::write(steps.map(|step| step.request), &self.folder.names),
-            false => steps.filter_map(line).collect(),
+        let steps = self.replay.steps.iter().map(|step| step.request);
+        let lines = match by_name {
+            true => requests::write(steps, &self.folder.names),
+            false => requests::numbered(steps),
+        };
+        let instead = match file.is_none() && by_name && !spoken.exists() && numbered.exists() {
+            true => format!(", which is read instead of {REQUESTS} from now on"),
+            false => String::new(),
         };
         match folder::write(path, lines.concat().as_bytes()) {
-            Ok(()) => Reply::Said(format!("wrote {} requests to {}", lines.len(), path.display())),
+            Ok(()) => {
+                let (count, path) = (lines.len(), path.display());
+                Reply::Said(format!("wrote {count} requests to {path}{instead}"))
+            }
             Err(stop) => Reply::Wrong(stop.to_string()),
         }
     }

@@ -2,7 +2,7 @@
 
 mod run_support;
 
-use run_support::{example, preset, run_with};
+use run_support::{example, preset, run, run_with, Folder};
 
 #[test]
 fn requests_looks_and_reasons() {
@@ -67,6 +67,43 @@ fn saved_requests_are_run_again() {
     let said = run_with(&["try", folder.path()], "load pete saw\nsave\n");
     assert!(said.out.contains("wrote 2 requests to"), "{}", said.out);
     assert_eq!(folder.read("requests.tsv"), "R\t0\t0\t1\nR\t2\t1\t2\n");
+}
+
+/// Names stay right when a member is put before the others; numbers would not.
+#[test]
+fn requests_of_a_source_are_saved_by_name() {
+    const SOURCE: &str = "members dora, pete, saw\nrelation owns\nevent share by anyone\n\
+        event load when some owner owns target: once owner share me\nfirst dora owns saw\n";
+    let folder = Folder::new();
+    folder.write("terms.say", SOURCE);
+    let answers = || run(&["run", folder.path()]).out;
+    let typed = "share dora pete\nload pete saw\nsave\n";
+    let said = run_with(&["try", folder.path()], typed).out;
+    let file = folder.file("requests.say");
+    assert!(said.ends_with(&format!("wrote 2 requests to {}\n", file.display())), "{said}");
+    assert_eq!(folder.read("requests.say"), "share dora pete\nload pete saw\n");
+    assert!(!folder.file("requests.tsv").exists());
+    let before = answers();
+    assert_eq!(before.lines().count(), 2);
+    folder.write("terms.say", &SOURCE.replace("members dora", "members quin, dora"));
+    assert_eq!(answers(), before);
+    // Of a file the ending tells the form.
+    let files = ["a.tsv", "a.say", "a"].map(|name| folder.file(name).display().to_string());
+    let typed: String = files.iter().map(|file| format!("save {file}\n")).collect();
+    run_with(&["try", folder.path()], &typed);
+    assert_eq!(folder.read("a.tsv"), "R\t0\t1\t2\nR\t1\t2\t3\n");
+    assert_eq!(folder.read("a.say"), folder.read("requests.say"));
+    assert_eq!(folder.read("a"), folder.read("requests.say"));
+    // Requests with numbers are read, and saved with names beside them.
+    std::fs::remove_file(file).unwrap();
+    folder.write("requests.tsv", "R\t0\t1\t2\n");
+    let said = run_with(&["try", folder.path()], "load pete saw\nsave\nsave\n").out;
+    let replies: Vec<&str> = said.lines().skip(1).collect();
+    assert!(replies[0].ends_with("requests.say, which is read instead of requests.tsv from now on"));
+    assert!(replies[1].ends_with("requests.say"), "{said}");
+    assert_eq!(folder.read("requests.say"), "share dora pete\nload pete saw\n");
+    assert_eq!(folder.read("requests.tsv"), "R\t0\t1\t2\n");
+    assert_eq!(answers(), before);
 }
 
 #[test]

@@ -22,7 +22,8 @@ Reads lines from standard input and answers each:
   list, members          the requests so far; the names of members, relations, events
   undo                   take back the last request or revision
   revise NEW             continue with the terms of NEW, and say what changes
-  save [FILE]            write the requests to FILE, by default the folder's own
+  save [FILE]            write the requests to FILE, by default the folder's own:
+                         by name beside a terms.say or in a .say, else by number
   help, quit
 
 It begins after the requests of DIR. Put a name of several words in double quotes.

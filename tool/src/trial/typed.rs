@@ -13,7 +13,8 @@ list                 the requests so far, with their answers
 members              the names of members, relations and events
 undo                 take back the last request or revision
 revise DIR           continue with the terms of DIR, and say what changes
-save [FILE]          write the requests to FILE, by default the folder's own
+save [FILE]          write the requests to FILE, by default the folder's own:
+                     by name beside a terms.say or in a .say, else by number
 help                 show this
 quit                 end";
 
