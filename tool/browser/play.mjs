@@ -75,7 +75,7 @@ try {
 
   // Save, and nothing is left to be saved.
   await page.click('document.getElementById("save")');
-  await within('#said', 'terms.say is saved, and requests.tsv with 3 requests.');
+  await within('#said', 'terms.say is saved, and requests.say with 3 requests.');
   assert.equal(await page.value('document.getElementById("save").disabled'), true);
 
   for (const [name, options] of [['dark', { dark: true }], ['narrow', { width: 420, height: 1600 }]]) {

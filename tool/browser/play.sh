@@ -27,4 +27,4 @@ until [ -s "$work/address" ]; do
     sleep 0.1
 done
 node tool/browser/play.mjs "$browser" "$(head -n 1 "$work/address")" "$out"
-[ "$(wc -l <"$work/requests.tsv")" -eq 3 ] || { echo 'play: the requests were not saved' >&2; exit 1; }
+[ "$(wc -l <"$work/requests.say")" -eq 3 ] || { echo 'play: the requests were not saved' >&2; exit 1; }

@@ -15,7 +15,7 @@ Prints the address of a page to open in a browser. On it you edit the terms of D
 which are read aloud as you type, with mistakes underlined; make requests by
 choosing two members and an event, each answered by the proved library; and see the
 graph, what has happened and why, and who may do what. You can go back to any
-moment. Save writes terms.say and the requests.
+moment. Save writes terms.say, and the requests by name to requests.say.
 
 The page is served on 127.0.0.1 only, to whoever has its address, and needs no
 network. Ctrl-C ends it.

@@ -11,6 +11,7 @@ use crate::requests;
 use crate::source::decompile::decompile;
 use crate::source::print::print;
 use crate::stop::Stop;
+use crate::trial::typed::split;
 use keeper::terms::Terms;
 use std::fs;
 use std::path::{Path, PathBuf};
@@ -61,21 +62,24 @@ impl Files {
                 };
                 Ok(Found { kept: Kept { source, requests }, more })
             }
-            // A source is shown as it is, with its mistakes, or without requests that it has
-            // no names for.
+            // A source is shown as it is, with its mistakes, and requests that it may have no
+            // names for.
             Err(Stop::Mistaken(_) | Stop::Failed(_)) if self.path.join(SOURCE).is_file() => {
                 let file = self.path.join(SOURCE);
                 let source = fs::read_to_string(&file).map_err(|error| {
                     Stop::Failed(format!("cannot read {}: {error}", file.display()))
                 })?;
-                let more = fs::metadata(self.requests()).is_ok_and(|data| data.len() > 0);
-                Ok(Found { kept: Kept { source, requests: Vec::new() }, more })
+                let text = fs::read_to_string(self.path.join(SPOKEN)).ok();
+                let requests = text.as_deref().and_then(spoken);
+                let there = fs::metadata(self.requests()).is_ok_and(|data| data.len() > 0);
+                let more = there && requests.is_none();
+                Ok(Found { kept: Kept { source, requests: requests.unwrap_or_default() }, more })
             }
             Err(stop) => Err(stop),
         }
     }
 
-    /// Where the requests are.
+    /// Where the requests are read from.
     fn requests(&self) -> PathBuf {
         let spoken = self.path.join(SPOKEN);
         if spoken.is_file() {
@@ -85,8 +89,8 @@ impl Files {
         }
     }
 
-    /// Writes the source, and the requests where nothing of them would be lost. Says
-    /// what was done, and what the folder has then.
+    /// Writes the source, and the requests by name where nothing of them would be lost;
+    /// both or neither. Says what was done, and what the folder has then.
     pub fn save(&self, save: &Save) -> Json {
         match self.saved(save) {
             Ok(said) => {
@@ -114,48 +118,112 @@ impl Files {
             let why = "The folder was changed elsewhere after this page read it.";
             return Err((true, why.to_string()));
         }
-        folder::write(&self.path.join(SOURCE), save.now.source.as_bytes()).map_err(failed)?;
         let path = self.requests();
         let file = folder::name(&path);
-        let requests = match self.written(&save.now, &path) {
-            Err(why) => return Ok(format!("{SOURCE} is saved, {file} is not: {why}.")),
-            Ok(_) if found.more => {
-                let why = "it has more than requests that this page can show";
-                return Ok(format!("{SOURCE} is saved. {file} is left as it was: {why}."));
-            }
-            Ok(requests) => requests,
+        // A file that is left as it was has to be read under the new terms, too.
+        let (requests, advice) = match found.more {
+            true => (&found.kept.requests, format!("Take them out of {file}")),
+            false => (&save.now.requests, "Take them back with Undo".to_string()),
         };
-        let count = requests.len();
-        if count == 0 && !path.exists() {
+        if let Some(why) = self.unknown(&save.now.source, requests, &advice) {
+            return Err((false, why));
+        }
+        if found.more && path.ends_with(REQUESTS) && self.renumbered(&save.now.source, requests) {
+            let why = format!(
+                "Not saved: the numbers in {file} would mean others under these terms, and it has more than \
+                 requests that this page can show. Write its requests by name to {SPOKEN} first."
+            );
+            return Err((false, why));
+        }
+        let source = self.path.join(SOURCE);
+        let write = || folder::write(&source, save.now.source.as_bytes()).map_err(failed);
+        if found.more {
+            write()?;
+            let why = "it has more than requests that this page can show";
+            return Ok(format!("{SOURCE} is saved. {file} is left as it was: {why}."));
+        }
+        let lines = by_name(requests).ok_or((false, "Not saved: a name has a quote.".into()))?;
+        if lines.is_empty() && !path.exists() {
+            write()?;
             return Ok(format!("{SOURCE} is saved."));
         }
-        folder::write(&path, requests.concat().as_bytes()).map_err(failed)?;
-        Ok(format!("{SOURCE} is saved, and {file} with {}.", counted(count, "request")))
+        let spoken = self.path.join(SPOKEN);
+        let before = fs::read(&spoken).ok();
+        let written = folder::write(&spoken, lines.concat().as_bytes())
+            .map_err(failed)
+            .and_then(|()| write());
+        if let Err(why) = written {
+            let _ = match before {
+                Some(before) => fs::write(&spoken, before),
+                None => fs::remove_file(&spoken),
+            };
+            return Err(why);
+        }
+        let instead = match path != spoken && path.exists() {
+            true => format!(", which is read instead of {file} from now on"),
+            false => String::new(),
+        };
+        let count = counted(lines.len(), "request");
+        Ok(format!("{SOURCE} is saved, and {SPOKEN} with {count}{instead}."))
     }
 
-    /// The lines of a file of requests, or why there are none.
-    fn written(&self, kept: &Kept, path: &Path) -> Result<Vec<String>, String> {
+    /// Why requests can't be saved with a source: they speak of what it no longer has.
+    /// Of a source with mistakes nobody knows.
+    fn unknown(&self, source: &str, requests: &[Named], advice: &str) -> Option<String> {
         let folder = Folder { path: self.path.clone(), ..Folder::default() };
-        let folder = folder.with_source(&kept.source).map_err(|_| "the terms have mistakes")?;
-        let ask = |named: &Named| {
-            let (event, from, to) = numbers(named, &folder.names)?;
-            Ok(Request::Ask { event, from, to })
+        let names = folder.with_source(source).ok()?.names;
+        let unknown = |(kind, name): &(Kind, &str)| names.find(*kind, name).is_none();
+        let (kind, name) = requests.iter().flat_map(said).find(unknown)?;
+        let speak = |named: &&Named| said(named).contains(&(kind, name));
+        let count = requests.iter().filter(speak).count();
+        let speak = if count == 1 { "speaks" } else { "speak" };
+        let what = match kind {
+            Kind::Member => "who is no longer a member",
+            _ => "which is no longer an event",
         };
-        let requests = kept.requests.iter().map(ask).collect::<Result<Vec<_>, String>>()?;
-        Ok(lines(requests.into_iter(), &folder.names, path))
+        let advice = if count == 1 { advice.replace("them", "it") } else { advice.to_string() };
+        Some(format!(
+            "Not saved: {} {speak} of `{name}`, {what}. {advice}, or put `{name}` back.",
+            counted(count, "request")
+        ))
     }
+
+    /// Whether requests with numbers would mean others under a source.
+    fn renumbered(&self, source: &str, requests: &[Named]) -> bool {
+        let new = Folder::default().with_source(source);
+        let (Ok(old), Ok(new)) = (Folder::load(&self.path), new) else { return false };
+        requests.iter().any(|named| numbers(named, &old.names) != numbers(named, &new.names))
+    }
+}
+
+/// The names in a request.
+fn said(named: &Named) -> [(Kind, &str); 3] {
+    [(Kind::Event, &named.event), (Kind::Member, &named.from), (Kind::Member, &named.to)]
+        .map(|(kind, name)| (kind, name.as_str()))
+}
+
+/// Requests as lines of requests.say, if all names can stand there.
+fn by_name(requests: &[Named]) -> Option<Vec<String>> {
+    let line = |named: &Named| requests::line(said(named).map(|(_, name)| name));
+    requests.iter().map(line).collect()
+}
+
+/// The requests in a text of lines by name; none if it has anything else.
+fn spoken(text: &str) -> Option<Vec<Named>> {
+    let named = |line: &str| match <[String; 3]>::try_from(split(line)) {
+        Ok([event, from, to]) => Some(Named { event, from, to }),
+        Err(_) => None,
+    };
+    let requests = text.lines().map(named).collect::<Option<Vec<Named>>>()?;
+    (by_name(&requests)?.concat() == text).then_some(requests)
 }
 
 /// Requests as lines of a file: with names in requests.say, else with numbers.
 fn lines(requests: impl Iterator<Item = Request>, names: &Names, path: &Path) -> Vec<String> {
-    if path.file_name().is_some_and(|name| name == SPOKEN) {
-        return requests::write(requests, names);
+    match path.file_name().is_some_and(|name| name == SPOKEN) {
+        true => requests::write(requests, names),
+        false => requests::numbered(requests),
     }
-    let line = |request: Request| match request {
-        Request::Ask { event, from, to } => Some(format!("R\t{event}\t{from}\t{to}\n")),
-        Request::Malformed => None,
-    };
-    requests.filter_map(line).collect()
 }
 
 /// The requests of a folder by name, and whether their file has more than these:

@@ -81,6 +81,7 @@ async function save(anyway) {
   try {
     const reply = await post('save', { now, before: state.kept, anyway });
     $('said').textContent = reply.said;
+    $('said').className = reply.done ? '' : 'wrong';
     $('anyway').hidden = !reply.changed;
     if (reply.done) state.kept = reply.kept;
     markSaved();
