@@ -88,8 +88,9 @@ pub struct Names {
 }
 
 impl Names {
-    /// Reads names.tsv: lines of kind, number and name, separated by tabs; of an event
-    /// also how it is said, two fields. Blank lines are skipped. An error says which line is wrong and why.
+    /// Reads names.tsv: lines of kind, number and name, separated by tabs; of a member
+    /// also which kind of members it is one of, and of an event how it is said, two
+    /// fields. Blank lines are skipped. An error says which line is wrong and why.
     pub fn read(text: &str) -> Result<Names, String> {
         let mut names = Names::default();
         for (index, line) in text.lines().enumerate() {
@@ -98,9 +99,16 @@ impl Names {
             }
             let wrong = |why: String| format!("names.tsv line {}: {why}", index + 1);
             let fields: Vec<&str> = line.split('\t').collect();
-            let (kind, number, name, spoken) = match fields[..] {
-                [kind, number, name] => (kind, number, name, None),
-                ["event", number, name, may, has] => ("event", number, name, Some((may, has))),
+            let (kind, number, name, rest) = match fields[..] {
+                [kind, number, name, ref rest @ ..] if rest.is_empty() => {
+                    (kind, number, name, rest)
+                }
+                ["member", number, name, ref rest @ ..] if rest.len() == 1 => {
+                    ("member", number, name, rest)
+                }
+                ["event", number, name, ref rest @ ..] if rest.len() == 2 => {
+                    ("event", number, name, rest)
+                }
                 _ => return Err(wrong("kind, number and name are due, separated by tabs".into())),
             };
             let kind =
@@ -112,8 +120,13 @@ impl Names {
                 .parse()
                 .map_err(|_| wrong(format!("`{number}` is no number of a {kind}")))?;
             names.set(kind, number, name).map_err(wrong)?;
-            if let Some((may, has)) = spoken {
-                names.say(number, Spoken { may: may.into(), has: has.into() });
+            match *rest {
+                [group] if group.trim().is_empty() => {
+                    return Err(wrong(format!("the kind of {name} has an empty name")));
+                }
+                [group] => names.group(group, vec![number]),
+                [may, has] => names.say(number, Spoken { may: may.into(), has: has.into() }),
+                _ => {}
             }
         }
         Ok(names)
@@ -138,6 +151,11 @@ impl Names {
         self.defined.insert(entry, called);
     }
 
+    /// The same names without the kinds of members.
+    pub fn ungrouped(&self) -> Names {
+        Names { kinds: Vec::new(), ..self.clone() }
+    }
+
     /// Adds members to a kind.
     pub fn group(&mut self, kind: &str, members: Vec<usize>) {
         match self.kinds.iter_mut().find(|(known, _)| known == kind) {
@@ -157,9 +175,12 @@ impl Names {
             Some((_, members)) => Ok(members.clone()),
             None => Ok(vec![self.lookup(Kind::Member, word, count).map_err(|said| {
                 let kinds: Vec<&str> = self.kinds.iter().map(|(kind, _)| kind.as_str()).collect();
-                match kinds.is_empty() {
-                    true => said,
-                    false => format!("{said}; kinds: {}", kinds.join(", ")),
+                match (kinds.is_empty(), did_you_mean(word, kinds.iter().copied())) {
+                    (true, _) => said,
+                    (false, hint) if hint.is_empty() => {
+                        format!("{said}; kinds: {}", kinds.join(", "))
+                    }
+                    (false, hint) => format!("no member or kind `{word}`{hint}"),
                 }
             })?]),
         }
@@ -189,13 +210,17 @@ impl Names {
 
     /// The text of names.tsv.
     pub fn write(&self) -> String {
-        let said = |kind: Kind, number: &usize| match self.spoken(*number) {
-            Some(spoken) if kind == Kind::Event => format!("\t{}\t{}", spoken.may, spoken.has),
+        let rest = |kind: Kind, number: &usize| match (kind, self.spoken(*number)) {
+            (Kind::Event, Some(spoken)) => format!("\t{}\t{}", spoken.may, spoken.has),
+            (Kind::Member, _) => {
+                let group = self.kinds.iter().find(|(_, members)| members.contains(number));
+                group.map_or_else(String::new, |(group, _)| format!("\t{group}"))
+            }
             _ => String::new(),
         };
         let lines = self.names.iter();
         let line = |((kind, number), name): (&(Kind, usize), &String)| {
-            format!("{kind}\t{number}\t{name}{}\n", said(*kind, number))
+            format!("{kind}\t{number}\t{name}{}\n", rest(*kind, number))
         };
         lines.map(line).collect()
     }
@@ -276,6 +301,12 @@ mod tests {
         let names = Names::read(said).unwrap();
         assert_eq!(names.spoken(0), Some(&Spoken::of("peek", "peeked at")));
         assert_eq!(names.write(), said);
+        let kinds = "member\t0\tben\tplayers\nmember\t1\tpad\tpresets\nmember\t2\tnorth\n\
+                     member\t3\tcleo\tplayers\n";
+        let names = Names::read(kinds).unwrap();
+        assert_eq!(names.members("players", 4), Ok(vec![0, 3]));
+        assert_eq!(names.kinds()[1], ("presets".to_string(), vec![1]));
+        assert_eq!(names.write(), kinds);
     }
 
     #[test]
@@ -295,6 +326,8 @@ mod tests {
         assert!(said("membr\t0\ta\n").contains("did you mean `member`?"));
         assert!(said("member 0 a\n").contains("line 1"));
         assert!(said("member\tx\ta\n").contains("no number"));
+        assert!(said("member\t0\ta\t\n").contains("the kind of a has an empty name"));
+        assert!(said("relation\t0\ta\tb\n").contains("line 1"));
         assert!(said("member\t0\ta\nmember\t1\ta\n").contains("already"));
     }
 }

@@ -35,13 +35,15 @@ pub fn store(file: &Path, text: &[u8], from: &Folder) -> Result<(), Stop> {
     let names = from.names.write();
     let beside = place.join(NAMES);
     let there = fs::read_to_string(&beside).ok();
-    if own && there.as_ref().is_some_and(|there| *there != names) {
+    // Names that lack only the kinds of members get them.
+    let known = |there: &String| *there == names || *there == from.names.ungrouped().write();
+    if own && there.as_ref().is_some_and(|there| !known(there)) {
         let shown = beside.display();
         return Err(Stop::Failed(format!("{shown} has other names; store in another folder")));
     }
     fs::create_dir_all(&place)
         .map_err(|error| Stop::Failed(format!("cannot make {}: {error}", place.display())))?;
-    if own && there.is_none() {
+    if own && there.is_none_or(|there| there != names) {
         folder::write(&beside, names.as_bytes())?;
     }
     folder::write(file, text)

@@ -50,6 +50,37 @@ fn who_stands_by_kinds() {
     let said = run(&["who", folder.path(), "load", "--to", "nobody"]);
     assert_eq!(said.status, 2);
     assert!(said.err.contains("kinds: players, presets"), "{}", said.err);
+    let said = run(&["who", folder.path(), "load", "--from", "player"]);
+    assert_eq!(said.status, 2);
+    assert!(said.err.contains("`player`; did you mean `players`?"), "{}", said.err);
+}
+
+#[test]
+fn kinds_are_stored_with_the_names() {
+    let folder = folder();
+    let asked =
+        |path: &str| run(&["who", path, "load", "--from", "players", "--to", "presets"]).out;
+    let wanted = asked(folder.path());
+    let path = |name: &str| folder.file(name).display().to_string();
+    let (later, then) = (path("later"), path("then"));
+    let said = run(&["run", folder.path(), "--store", &path("later/terms.tsv")]);
+    assert_eq!(said.status, 0, "{}", said.err);
+    assert!(folder.read("later/names.tsv").contains("member\t0\tben\tplayers\n"));
+    assert!(folder.read("later/names.tsv").contains("member\t4\tnorth\n"));
+    assert_eq!(asked(&later), wanted);
+    let said = run(&["revise", &later, folder.path(), "--store", &path("then/terms.tsv")]);
+    assert_eq!(said.status, 0, "{}", said.err);
+    assert_eq!(asked(&then), wanted);
+    assert_eq!(run(&["compile", folder.path(), "-o", &path("compiled")]).status, 0);
+    assert_eq!(folder.read("compiled/names.tsv"), folder.read("later/names.tsv"));
+    // Names that were stored without the kinds get them; other names stay.
+    let bare = folder.read("later/names.tsv").replace("\tplayers", "").replace("\tpresets", "");
+    folder.write("later/names.tsv", &bare);
+    let again = ["run", folder.path(), "--store", &path("later/terms.tsv")];
+    assert_eq!(run(&again).status, 0);
+    assert_eq!(asked(&later), wanted);
+    folder.write("later/names.tsv", &bare.replace("cleo", "clea"));
+    assert_eq!(run(&again).status, 3);
 }
 
 #[test]

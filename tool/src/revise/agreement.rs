@@ -34,6 +34,9 @@ pub fn merged(terms: &Terms, old: &Names, new: &Names) -> Names {
             let _ = names.set(kind, number, name);
         }
     }
+    if new.kinds().is_empty() {
+        old.kinds().iter().for_each(|(kind, members)| names.group(kind, members.clone()));
+    }
     names
 }
 
