@@ -247,6 +247,11 @@ impl Names {
         self.name(Kind::Event, number)
     }
 
+    /// The names of all events.
+    pub fn events(&self, terms: &Terms) -> Vec<String> {
+        (0..terms.events).map(|event| self.event(event)).collect()
+    }
+
     /// The name of a label: `owns`, `share`, `denied share`.
     pub fn label(&self, terms: &Terms, label: usize) -> String {
         self.labelled(Labelled::of(terms, label))

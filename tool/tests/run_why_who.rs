@@ -169,3 +169,25 @@ fn mistakes_on_the_command_line() {
     assert_eq!(said.status, 3);
     assert!(said.err.contains("refused with 1 at line 2"), "{}", said.err);
 }
+
+/// What to do next is said where there is nothing to show.
+#[test]
+fn what_to_do_next() {
+    let folder = Folder::new();
+    folder.write("terms.say", "members dora\nevent share, load by anyone\n");
+    let hint = format!("no requests yet; `cuckooormolu try {}` makes some\n", folder.path());
+    for command in ["run", "why"] {
+        let said = run(&[command, folder.path()]);
+        assert_eq!((said.out.as_str(), said.err.as_str(), said.status), ("", hint.as_str(), 0));
+    }
+    assert_eq!(run(&["run", folder.path(), "-"]).err, "");
+    let said = run(&["who", folder.path()]);
+    assert_eq!(said.status, 2);
+    assert!(said.err.contains("give DIR and EVENT; events: share, load\n"), "{}", said.err);
+    let said = run(&["test", folder.path()]);
+    let wanted = format!(
+        "cuckooormolu test: {} has no tests.say yet; `cuckooormolu test --help` shows how to write one\n",
+        folder.path()
+    );
+    assert_eq!((said.err, said.status), (wanted, 3));
+}

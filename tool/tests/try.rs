@@ -115,7 +115,7 @@ fn mistakes_are_answered() {
         "? no event or command `laod`; did you mean `load`?",
         "? no member `swa`; did you mean `saw`?",
         "? no event or command `whi`; did you mean `why`?",
-        "? like this: who EVENT",
+        "? like this: who EVENT; events: share, withdraw, load\n",
         "? like this: load FROM TO",
         "take back the last request",
     ] {

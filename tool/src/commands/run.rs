@@ -62,11 +62,22 @@ pub fn main(arguments: &[String], out: &mut dyn Write) -> Result<i32, Stop> {
             writeln!(out, "{}", widths.line(step, &words))?;
         }
     }
+    let stored = arguments.option("--store").or(arguments.option("--write")).is_some();
+    if !input && !stored {
+        hint(&replay, directory);
+    }
     if let Some(file) = arguments.option("--write") {
         let text = replay.both.write()?.map_err(|refusal| Stop::Failed(no_fresh_start(refusal)))?;
         store(Path::new(file), &text, &folder)?;
     }
     Ok(if arguments.has("--strict") && !replay.all_granted() { FAILING } else { WELL })
+}
+
+/// Says on standard error what to do where there are no requests.
+pub fn hint(replay: &Replay, directory: &str) {
+    if replay.steps.is_empty() {
+        eprintln!("no requests yet; `cuckooormolu try {directory}` makes some");
+    }
 }
 
 /// Why the old form is not written.

@@ -12,7 +12,7 @@ use crate::testing::run::{run, Failure, Outcome};
 use crate::testing::Test;
 use crate::watch::watch;
 use std::fs;
-use std::io::Write;
+use std::io::{ErrorKind, Write};
 use std::path::Path;
 
 /// The tests of a folder.
@@ -102,9 +102,13 @@ impl Tested {
         let file = folder_of(path).join(TESTS);
         let name = file.display().to_string();
         let text = fs::read_to_string(&file).map_err(|error| {
-            Stop::Failed(format!(
-                "cannot read {name}: {error}; `cuckooormolu test --help` shows one"
-            ))
+            Stop::Failed(match error.kind() {
+                ErrorKind::NotFound => format!(
+                    "{} has no {TESTS} yet; `cuckooormolu test --help` shows how to write one",
+                    folder_of(path).display()
+                ),
+                _ => format!("cannot read {name}: {error}"),
+            })
         })?;
         let both = Both::accepted(&folder.terms)?;
         let tests = match read(&text, &both, &folder.names) {

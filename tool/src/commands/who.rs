@@ -1,6 +1,7 @@
 //! `cuckooormolu who`: who may do what to whom.
 
 use crate::arguments::Arguments;
+use crate::both::Both;
 use crate::folder::Folder;
 use crate::json::Json;
 use crate::matrix::Matrix;
@@ -28,8 +29,15 @@ Exit status: 0; 3 if a file cannot be read or compiled.
 
 pub fn main(arguments: &[String], out: &mut dyn Write) -> Result<i32, Stop> {
     let arguments = Arguments::read(arguments, &["--first", "--json"], &["--from", "--to"])?;
-    let [directory, event] = &arguments.rest[..] else {
-        return Err(Stop::Usage("give DIR and EVENT".into()));
+    let (directory, event) = match &arguments.rest[..] {
+        [directory, event] => (directory, event),
+        [directory] => {
+            let folder = Folder::load(Path::new(directory))?;
+            let both = Both::accepted(&folder.terms)?;
+            let events = folder.names.events(both.terms()).join(", ");
+            return Err(Stop::Usage(format!("give DIR and EVENT; events: {events}")));
+        }
+        _ => return Err(Stop::Usage("give DIR and EVENT".into())),
     };
     let folder = Folder::load(Path::new(directory))?;
     let replay = match arguments.has("--first") {

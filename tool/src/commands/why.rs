@@ -35,7 +35,10 @@ pub fn main(arguments: &[String], out: &mut dyn Write) -> Result<i32, Stop> {
     let folder = Folder::load(Path::new(directory))?;
     let replay = Replay::of(&folder)?;
     let chosen = match line {
-        None => &replay.steps[..],
+        None => {
+            run::hint(&replay, directory);
+            &replay.steps[..]
+        }
         Some(line) => one(&replay, line)?,
     };
     let words = Words::new(replay.both.terms(), &folder.names);

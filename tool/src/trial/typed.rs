@@ -79,7 +79,7 @@ pub fn read(line: &str, terms: &Terms, names: &Names) -> Result<Typed, String> {
     let words = split(line);
     let words: Vec<&str> = words.iter().map(String::as_str).collect();
     let event = |word: &str| {
-        let known = (0..terms.events).map(|event| names.event(event)).collect::<Vec<_>>();
+        let known = names.events(terms);
         names.lookup(Kind::Event, word, terms.events).map_err(|_| unknown(word, &known))
     };
     let call = |of: &str, from: &str, to: &str| {
@@ -103,6 +103,10 @@ pub fn read(line: &str, terms: &Terms, names: &Names) -> Result<Typed, String> {
         ["why", of, from, to] => Typed::WhyNot(call(of, from, to)?),
         ["who", of] => Typed::Who(event(of)?),
         ["look", of, from, to] => Typed::Look(call(of, from, to)?),
+        ["who"] => {
+            let events = names.events(terms).join(", ");
+            return Err(format!("{}; events: {events}", usage("who")));
+        }
         [word, ..] if WORDS.contains(&word) => return Err(usage(word)),
         [of, from, to] => Typed::Request(call(of, from, to)?),
         [word, ..] => {
@@ -186,7 +190,7 @@ mod tests {
         assert_eq!(wrong("shrae 0 1"), "no event or command `shrae`; did you mean `share`?");
         assert_eq!(wrong("share dorra 1"), "no member `dorra`; did you mean `dora`?");
         assert_eq!(wrong("whi"), "no event or command `whi`; did you mean `why`?");
-        assert_eq!(wrong("who"), "like this: who EVENT");
+        assert_eq!(wrong("who"), "like this: who EVENT; events: share");
         assert_eq!(wrong("why share"), "like this: why [all], or why EVENT FROM TO");
         assert_eq!(wrong("share dora"), "like this: share FROM TO");
         assert!(wrong("xyzzy").contains("events: share"));
