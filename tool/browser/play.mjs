@@ -49,9 +49,23 @@ try {
   assert.deepEqual(await texts('#aloud dt'), ['share', 'withdraw', 'load', 'preview']);
   await within('#aloud', 'You may preview');
 
+  // A warning stands where mistakes stand, and all goes on.
+  const typed = JSON.stringify(await page.value('document.getElementById("source").value'));
+  await page.value('document.getElementById("source").setSelectionRange(9999, 9999)');
+  await page.type('event knock\n  when once me denied load target\n');
+  await within('#mistakes', 'denied requests of `load` are not kept');
+  assert.ok((await text('#mistakes .warning b')).includes(', warning'));
+  assert.ok(!(await page.value('document.body.classList.contains("stale")')));
+  await page.picture(`${folder}/play-warning.png`);
+  await page.value(`(() => { const source = document.getElementById('source'); source.value = ${typed};
+    source.dispatchEvent(new Event('input')); })()`);
+  await page.until('!document.querySelector("#mistakes li")');
+
   // Three requests and their answers.
   await request('load', 'player', 'preset', 'denied');
   await request('share', 'designer', 'player', 'granted');
+  // The table is about the event last asked, until another is chosen.
+  await page.until('document.getElementById("event").value === "share"');
   await request('load', 'player', 'preset', 'granted');
   await within('#moment', 'Moment 2');
   await page.value('(() => { const who = document.getElementById("event"); who.value = "load"; who.onchange(); })()');

@@ -267,6 +267,21 @@ fn saved_unless_others_have_written() {
     assert!(said.contains("requests.say with no requests."), "{said}");
 }
 
+/// What `check` warns of is told with its place.
+#[test]
+fn warnings_are_told() {
+    let folder = folder();
+    let page = Page::of(&folder);
+    let source = format!("{SOURCE}event knock when once me denied load target\n");
+    let told = page.told(&source, "[]", 0, NOTHING);
+    let warnings = told.split_once("\"warnings\":[").unwrap().1.split("]").next().unwrap();
+    let why = "denied requests of `load` are not kept, so this is never true";
+    assert!(warnings.contains(why) && warnings.contains("\"line\":8,"), "{warnings}");
+    assert!(told.contains("\"mistakes\":[],"), "{told}");
+    folder.write("terms.say", &source);
+    assert!(run(&["check", folder.path()]).out.contains(why));
+}
+
 /// Terms and requests are saved together, or neither is.
 #[test]
 fn saved_together_or_not_at_all() {

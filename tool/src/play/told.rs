@@ -1,8 +1,9 @@
-//! What the page is told: mistakes, or the terms read aloud, the requests' answers, the
-//! present graph, why, and who may.
+//! What the page is told: mistakes, or warnings, the terms read aloud, the requests'
+//! answers, the present graph, why, and who may.
 
 use super::asked::{Asked, Named};
 use super::files::{numbers, Files};
+use crate::check::{check, Checked};
 use crate::folder::{Folder, Request};
 use crate::json::Json;
 use crate::matrix::Matrix;
@@ -10,6 +11,7 @@ use crate::names::{Kind, Names};
 use crate::replay::{Replay, Step};
 use crate::report::drawing::Drawing;
 use crate::report::{policies, tables};
+use crate::source::ast::Span;
 use crate::source::mistake::Mistake;
 use crate::stop::Stop;
 use crate::why::reason::Reasons;
@@ -32,6 +34,7 @@ pub fn told(files: &Files, asked: &Asked) -> Result<Json, Stop> {
     }
     let words = Words::new(replay.both.terms(), &folder.names);
     let mut fields = terms(&words);
+    fields.push(("warnings", warnings(&folder, &asked.source)?));
     fields.push(("aloud", policies::list(replay.both.record(), &words).into()));
     fields.extend(scene(&replay, &words));
     fields.push(("why", why(&replay, &words, &steps)?));
@@ -45,8 +48,27 @@ pub fn told(files: &Files, asked: &Asked) -> Result<Json, Stop> {
     Ok(Json::Object(fields))
 }
 
+/// What `check` warns of.
+fn warnings(folder: &Folder, text: &str) -> Result<Json, Stop> {
+    let Checked::Accepted(_, warnings) = check(folder)? else { return Ok(Json::List(Vec::new())) };
+    let compiled = folder.source.iter().flat_map(|source| &source.compiled.warnings);
+    let compiled = compiled.map(|warning| mistaken(warning, text));
+    let warned = warnings.iter().map(|warning| {
+        let place = folder.place(warning.about);
+        let span = place.map_or(Span { start: 0, end: 0 }, |(_, span)| span);
+        let told = Mistake::new(span, warning.what.as_str()).advise(warning.right.as_str());
+        at(&told, place.is_some(), text)
+    });
+    Ok(Json::List(compiled.chain(warned).collect()))
+}
+
 /// Where a mistake is, counted as a browser counts letters, and what it is.
 fn mistaken(mistake: &Mistake, text: &str) -> Json {
+    at(mistake, true, text)
+}
+
+/// The same; line 0 is no single one.
+fn at(mistake: &Mistake, placed: bool, text: &str) -> Json {
     let units = |place: usize| {
         let before = text.get(..place.min(text.len())).unwrap_or(text);
         before.encode_utf16().count()
@@ -55,7 +77,7 @@ fn mistaken(mistake: &Mistake, text: &str) -> Json {
     Json::Object(vec![
         ("start", units(mistake.span.start).into()),
         ("end", units(mistake.span.end).into()),
-        ("line", line.into()),
+        ("line", if placed { line } else { 0 }.into()),
         ("column", column.into()),
         ("message", mistake.message.as_str().into()),
         ("advice", mistake.advice.clone().into()),

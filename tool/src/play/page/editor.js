@@ -57,13 +57,16 @@ function follow() {
   $('numbers').scrollTop = scrollTop;
 }
 
-/** The mistakes below the text; each leads to its place. */
-function listMistakes(mistakes) {
-  $('mistakes').replaceChildren(...mistakes.map((mistake) => {
-    const item = make('li');
+/** The mistakes and warnings below the text; each leads to its place. */
+function listMistakes(mistakes, warnings = []) {
+  const marked = warnings.map((warning) => ({ ...warning, warns: true }));
+  $('mistakes').replaceChildren(...[...mistakes, ...marked].map((mistake) => {
+    const item = make('li', mistake.warns ? 'warning' : '');
     const button = make('button', '', '');
     button.type = 'button';
-    button.append(make('b', '', `Line ${mistake.line}`), ` ${mistake.message}`);
+    const place = mistake.line ? [`Line ${mistake.line}`] : [];
+    const head = mistake.warns ? [...place, 'warning'] : place;
+    button.append(make('b', '', head.join(', ')), ` ${mistake.message}`);
     if (mistake.advice) button.append(make('span', '', mistake.advice));
     button.onclick = () => {
       $('source').focus();

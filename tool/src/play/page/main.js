@@ -7,7 +7,8 @@ const state = {
   at: begin.kept.requests.length,
   from: null,
   to: null,
-  who: null,
+  who: null, // the event of the table
+  chosen: null, // the same, if it was chosen there
   told: null, // the last answer without mistakes
 };
 let asked = 0;
@@ -36,7 +37,7 @@ async function refresh() {
 function draw(source, told) {
   const { mistakes } = told;
   show(source, mistakes);
-  listMistakes(mistakes);
+  listMistakes(mistakes, told.warnings);
   document.body.classList.toggle('stale', mistakes.length > 0);
   for (const card of document.querySelectorAll('.graph-card, .asking, .story, .who')) card.inert = mistakes.length > 0;
   $('size').className = mistakes.length ? 'wrong' : '';
@@ -50,7 +51,8 @@ function draw(source, told) {
   // Who or what is no longer declared cannot stay chosen.
   const known = (name) => (told.members.includes(name) ? name : null);
   const chosen = [state.from, state.to].map(known);
-  const who = told.events.includes(state.who) ? state.who : told.events.at(-1);
+  const events = [state.chosen, state.requests[state.at - 1]?.[0], state.who, told.events.at(-1)];
+  const who = events.find((name) => told.events.includes(name)) ?? null;
   const again = who !== state.who || chosen[0] !== state.from || chosen[1] !== state.to;
   Object.assign(state, { from: chosen[0], to: chosen[0] === null ? null : chosen[1], who });
   $('aloud').innerHTML = told.aloud;
@@ -110,7 +112,7 @@ $('swap').onclick = () => {
   refresh();
 };
 $('event').onchange = () => {
-  state.who = $('event').value;
+  state.chosen = state.who = $('event').value;
   refresh();
 };
 $('table').onclick = chooseCell;
