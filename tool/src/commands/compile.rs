@@ -15,8 +15,8 @@ pub const HELP: &str = "\
 usage: cuckooormolu compile FILE|DIR [-o DIR] [--print] [--json]
 
 Compiles a source (docs/LANGUAGE.md), in a folder its terms.say, to terms.tsv and
-to names.tsv, which lists the names of members, relations and events. Both files
-are written next to the source.
+to names.tsv, which lists the names of members, with their kinds, relations and
+events. Both files are written next to the source.
 
   -o DIR    write them to DIR instead
   --print   print terms.tsv and write nothing
