@@ -110,7 +110,8 @@ impl Lines<'_, '_> {
         let stories = story::stories(self.reasons, self.words.names, claim, self.granted);
         let telling = stories.iter().filter(|story| !story.is_slight()).count();
         let count = if self.all || telling == 0 { stories.len() } else { telling };
-        let shown = if self.all { count } else { count.min(MOST_LINES) };
+        // To say that one is left out takes as much room as to tell it.
+        let shown = if self.all || count == MOST_LINES + 1 { count } else { count.min(MOST_LINES) };
         let always = if claim.holds { "it is always allowed" } else { "it is never allowed" };
         let mut lines = Vec::new();
         for story in &stories[..shown] {

@@ -93,6 +93,22 @@ fn why_of_one_line() {
     assert!(said.out.contains(&format!(r#""moment":3,"because":["{because}"],"more":0"#)));
 }
 
+/// The reason of a grant: no single line is left out, and what happened stands first.
+#[test]
+fn why_of_a_grant_by_four_conditions() {
+    let folder = Folder::new();
+    let terms = "members dora, pete\nevent share, block by anyone\nevent load when \
+                 never someone block me and never me block someone and \
+                 never someone block target and once target share me\n";
+    folder.write("terms.say", terms);
+    folder.write("requests.say", "share dora pete\nload pete dora\n");
+    let said = run(&["why", folder.path(), "2"]).out;
+    let lines: Vec<&str> = said.lines().skip(1).map(str::trim).collect();
+    assert_eq!(lines[0], "dora shared with pete at moment 1", "{said}");
+    assert_eq!(lines.len(), 4, "{said}");
+    assert!(lines[1..].iter().all(|line| line.contains("ever ")), "{said}");
+}
+
 /// The moments that the examples' READMEs name.
 #[test]
 fn why_in_the_examples() {

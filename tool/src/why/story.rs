@@ -60,6 +60,14 @@ impl Story {
         self.facts.last().is_none_or(|fact| fact.is_plain())
     }
 
+    /// Whether it says only what never was.
+    fn is_never(&self) -> bool {
+        let never = |fact: &Fact| {
+            matches!(fact, Fact::Never { .. } | Fact::NeverSince { .. } | Fact::Counting(_))
+        };
+        self.facts.iter().all(never)
+    }
+
     /// Whether an event of its own moment is in it.
     fn has_event(&self, relations: usize) -> bool {
         let event = |fact: &Fact| matches!(fact, Fact::Edge { label, .. } if *label >= relations);
@@ -69,12 +77,14 @@ impl Story {
 
 /// The stories of a claim, of a request that is granted or denied. The claim's own
 /// entry is told even if it is a definition. All stories are needed. Those of a denial that came
-/// nearest to a grant stand first, those that only say who is whom last.
+/// nearest to a grant stand first, those that only say who is whom last. Of a grant, what
+/// happened stands before what never did.
 pub fn stories(reasons: &mut Reasons, names: &Names, claim: Claim, granted: bool) -> Vec<Story> {
     let mut teller = Teller { reasons, names, granted, left: LONGEST };
     let mut stories = distinct(teller.inside(claim));
-    if !granted {
-        stories.sort_by_key(|story| std::cmp::Reverse(story.weight()));
+    match granted {
+        true => stories.sort_by_key(Story::is_never),
+        false => stories.sort_by_key(|story| std::cmp::Reverse(story.weight())),
     }
     stories.sort_by_key(Story::is_slight);
     let always = Story::of(Fact::Always);
