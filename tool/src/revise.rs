@@ -16,7 +16,7 @@ use crate::names::{Kind, Names};
 use crate::stop::Stop;
 use crate::words::Words;
 use changes::{Change, Changes};
-use keeper::terms::EventEdge;
+use keeper::terms::{EventEdge, Terms};
 pub use sentences::Start;
 use sentences::Told;
 
@@ -30,6 +30,8 @@ differ, or the order of parts. `cuckooormolu compile --print` shows them.
 pub struct Revised {
     /// The moment at which it is made.
     pub moment: usize,
+    /// Whether the new terms say the same as the old, first edges aside.
+    same: bool,
     /// The event of that moment, with which what begins now begins.
     last: Option<EventEdge>,
     /// What has another name in the new terms: kind, number and its name before.
@@ -51,11 +53,12 @@ pub fn revise(both: &mut Both, old: &Folder, new: &Folder, renamed: bool) -> Res
     if both.terms().is_same_size(next.terms()) && !renamed && !differing.is_empty() {
         return Err(agreement::other_names(both.terms(), old, new, &differing));
     }
-    if let Err(refusal) = both.revise(&next)? {
-        return Err(agreement::other_size(refusal.number, both.terms(), next.terms(), old, new));
+    if both.revise(&next)?.is_err() {
+        return Err(agreement::other_size(both.terms(), next.terms(), old, new));
     }
     let names = agreement::merged(both.terms(), &old.names, &new.names);
     Ok(Revised {
+        same: is_same(&before, both.terms()),
         moment: both.record().graphs().len() - 1,
         last: both.present().event,
         renamed: differing,
@@ -63,6 +66,12 @@ pub fn revise(both: &mut Both, old: &Folder, new: &Folder, renamed: bool) -> Res
         changes: Changes::of(&could, &both.allowed()?),
         names,
     })
+}
+
+/// Whether two terms are the same but for their first edges.
+fn is_same(old: &Terms, new: &Terms) -> bool {
+    let said = |terms: &Terms| keeper::terms::write(terms, &Default::default());
+    said(old) == said(new)
 }
 
 impl Revised {
@@ -80,6 +89,10 @@ impl Revised {
             let lines: String = self.renamed.iter().map(line).collect();
             parts
                 .push(format!("WARNING: renamed, with all that they have and have done:\n{lines}"));
+        }
+        if self.same {
+            parts.push("The terms are the same: nothing changes.\n".to_string());
+            return parts.join("\n");
         }
         let heads = [
             (Start::Carried, "These sentences about the past go on:".to_string()),
@@ -100,6 +113,7 @@ impl Revised {
                 "Clauses have the numbers that `cuckooormolu aloud` gives them.\n".to_string(),
             );
         }
+        parts.extend(sentences::letters(&self.told));
         parts.extend(self.changes.parts(&words));
         parts.join("\n")
     }

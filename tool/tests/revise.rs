@@ -82,9 +82,17 @@ fn a_stored_monitor_goes_on() {
     let said = revise(&stored, &new, &[]);
     assert_eq!((said.status, said.err.as_str()), (0, ""));
     let wanted =
-        "These sentences about the past go on:\n- load: A has at some time shared with you.\n\n\
+        "These sentences about the past go on:\n- in load: A has at some time shared with you.\n\n\
+                  A is any member whom the policy seeks.\n\n\
                   No answer changes now.\n";
     assert_eq!(said.out, wanted);
+}
+
+#[test]
+fn the_same_terms_change_nothing() {
+    let said = revise(&folder(OLD, "share dora pete\n"), &folder(OLD, ""), &[]);
+    let wanted = "The terms are the same: nothing changes.\n";
+    assert_eq!((said.out.as_str(), said.err.as_str()), (wanted, ""));
 }
 
 #[test]
@@ -94,7 +102,7 @@ fn the_definition_is_named() {
     let old = folder("members a, b\nevent ask, load by anyone\n", "ask a b\n");
     let said = revise(&old, &folder(defined, ""), &[]);
     let wanted = "These begin now, at moment 1, and its event, ask a → b, counts:\n\
-                  - ask and load, welcome: you have at some time asked some member.\n\n\
+                  - in ask and load, under welcome: you have at some time asked some member.\n\n\
                   These could and no longer can:\n- ask a → everybody\n- load a → everybody\n";
     assert_eq!((said.out.as_str(), said.err.as_str()), (wanted, ""));
 }
@@ -160,14 +168,12 @@ fn other_sizes_are_refused() {
     let shown = format!("{}/terms.say", new.path());
     let old_path = old.path();
     for part in [
-        format!("{shown}:1:26: refused with 13: 4 members here and 3 in {old_path}: cleo is new\n"),
+        format!("{shown}:1:26: refused: 4 members here and 3 in {old_path}: cleo is new\n"),
         " 1 | members dora, pete, saw, cleo\n   |                          ^^^^\n".to_string(),
         "revising keeps the members, as many and in the same order: leave out cleo; with others \
          start over, by the new terms alone"
             .to_string(),
-        format!(
-            "{shown}:2:17: refused with 13: 2 relations here and 1 in {old_path}: likes is new"
-        ),
+        format!("{shown}:2:17: refused: 2 relations here and 1 in {old_path}: likes is new"),
     ] {
         assert!(said.err.contains(&part), "{part}\n{}", said.err);
     }
@@ -187,7 +193,7 @@ fn terms_files_are_refused_by_their_name() {
     let said = revise(&old, &new, &[]);
     assert_eq!(said.status, 3);
     let wanted = format!(
-        "cuckooormolu revise: {}/terms.tsv: refused with 13: 3 members here and 2 in {}\n  revising \
+        "cuckooormolu revise: {}/terms.tsv: refused: 3 members here and 2 in {}\n  revising \
          keeps the members, as many and in the same order; with others",
         new.path(),
         old.path()

@@ -135,13 +135,15 @@ fn new_terms_at_the_prompt() {
     let said = run_with(&["try", old, "--first"], &typed);
     let revised = "granted; moment 1
 These sentences about the past go on:
-- load: A has at some time shared with you and has not withdrawn from you since.
+- in load: A has at some time shared with you and has not withdrawn from you since.
 
 These begin now, at moment 1, and its event, share dora → pete, counts:
-- load: you have at some time thanked A.
+- in load: you have at some time thanked A.
 
 These are dropped, with all that they remember:
-- star: you have at some time starred some member.
+- in star: you have at some time starred some member.
+
+A is any member whom the policy seeks.
 
 These could and no longer can:
 - load pete → pad
@@ -186,7 +188,7 @@ fn refused_terms_at_the_prompt() {
         ),
     );
     let out = &said.out;
-    assert!(out.contains("refused with 13: 4 members here and 3 in"), "{out}");
+    assert!(out.contains("refused: 4 members here and 3 in"), "{out}");
     assert!(out.contains("? there is no file or folder none"), "{out}");
     assert!(out.contains("? like this: revise DIR"), "{out}");
     assert!(out.ends_with("would be denied\n"), "{out}");

@@ -53,7 +53,7 @@ fn count(terms: &Terms, kind: Kind) -> usize {
 }
 
 /// Why terms with other numbers of members, relations or events are refused.
-pub fn other_size(number: u16, terms: &Terms, next: &Terms, old: &Folder, new: &Folder) -> Stop {
+pub fn other_size(terms: &Terms, next: &Terms, old: &Folder, new: &Folder) -> Stop {
     let mut mistakes = Vec::new();
     for kind in Kind::ALL {
         let (before, after) = (count(terms, kind), count(next, kind));
@@ -63,7 +63,7 @@ pub fn other_size(number: u16, terms: &Terms, next: &Terms, old: &Folder, new: &
         let missing = only(&old.names, &new.names, kind, before);
         let added = only(&new.names, &old.names, kind, after);
         let what = format!(
-            "refused with {number}: {after} {kind}s here and {before} in {}{}",
+            "refused: {after} {kind}s here and {before} in {}{}",
             old.path.display(),
             who(&missing, &added)
         );

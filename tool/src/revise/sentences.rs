@@ -84,9 +84,9 @@ impl Told {
     fn sentence(&self) -> Sentence {
         let place = match (&self.events[..], &self.definition) {
             ([], None) => "in no policy".to_string(),
-            ([], Some(definition)) => format!("{definition}, in no policy"),
-            (events, None) => listed(events),
-            (events, Some(definition)) => format!("{}, {definition}", listed(events)),
+            ([], Some(definition)) => format!("in no policy, under {definition}"),
+            (events, None) => format!("in {}", listed(events)),
+            (events, Some(definition)) => format!("in {}, under {definition}", listed(events)),
         };
         self.table.sentence(&format!("{place}:"))
     }
@@ -115,6 +115,19 @@ pub fn some_read_alike(told: &[Told]) -> bool {
 /// Whether a sentence speaks of a clause by its number.
 pub fn some_are_numbered(told: &[Told]) -> bool {
     told.iter().any(|told| told.table.sentence("").text().contains("clause "))
+}
+
+/// Who A and B are, if a sentence speaks of them.
+pub fn letters(told: &[Told]) -> Option<String> {
+    let said = |letter: &str| {
+        let mut texts = told.iter().map(|told| told.table.sentence("").text());
+        texts.any(|text| text.split(|c: char| !c.is_alphanumeric()).any(|word| word == letter))
+    };
+    match (said("A"), said("B")) {
+        (_, true) => Some("A and B are any members whom the policy seeks.\n".to_string()),
+        (true, false) => Some("A is any member whom the policy seeks.\n".to_string()),
+        _ => None,
+    }
 }
 
 /// The sentences with one start under their heading, if there are any. What is
