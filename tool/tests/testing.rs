@@ -79,6 +79,32 @@ fn what_fails_is_shown_as_a_diff() {
     assert_eq!(lines[4], "{\"tests\":4,\"passed\":1,\"failed\":3,\"answers\":6}");
 }
 
+#[test]
+fn words_that_the_reason_lacks_are_named() {
+    let folder = folder(
+        "test one\n  pete may not load saw because dora is suspended\n\
+         test two\n  pete may not load saw because saw owns dora\n",
+    );
+    let said = run(&["test", folder.path()]).out;
+    assert!(said.contains("; not found: is suspended\n"), "{said}");
+    assert!(said.contains("; not found in this order: saw owns dora\n"), "{said}");
+}
+
+#[test]
+fn a_definition_cannot_be_given() {
+    let folder = folder("test one\n  given pete is suspended\n  pete may not load max\n");
+    folder.write(
+        "terms.say",
+        "members max, pete\nevent suspend, lift by anyone\n\
+         define p is suspended: not someone lift p since someone suspend p\n\
+         event load when me is not suspended\n",
+    );
+    let said = run(&["test", folder.path()]).err;
+    assert!(said.contains("tests.say:2:17: `suspended` is a definition\n"), "{said}");
+    let advice = "= make it true by an event, as in `given max suspend pete`\n";
+    assert!(said.contains(advice), "{said}");
+}
+
 /// Each statement with the message and the cure that belong to it.
 #[test]
 fn mistakes_have_a_place_a_cause_and_a_cure() {

@@ -7,7 +7,7 @@ use crate::both::Both;
 use crate::names::{did_you_mean, Kind, Names};
 use crate::source::ast::Span;
 use crate::source::mistake::Mistake;
-use keeper::terms::{Edge, Terms};
+use keeper::terms::{Edge, Entry, Terms};
 
 /// What can begin a statement.
 const BEGINNINGS: [&str; 3] = ["test", "given", "then"];
@@ -100,6 +100,9 @@ impl<'a> Reader<'a> {
         let there = !self.take("not");
         let from = self.member()?;
         let said = if self.take("is") {
+            if let Some(mistake) = self.definition(from) {
+                return Err(mistake);
+            }
             let relation = self.relation()?;
             let (from, to) = if self.take("of") { (self.member()?, from) } else { (from, from) };
             Said::First { there, edges: vec![(relation, from, to)] }
@@ -127,6 +130,27 @@ impl<'a> Reader<'a> {
             _ => self.happened = true,
         }
         Ok(Statement { span, said })
+    }
+
+    /// What is said of `pete is suspended` if a definition is named.
+    fn definition(&self, member: usize) -> Option<Mistake> {
+        let Known { terms, names, .. } = *self.known;
+        let word = self.words.get(self.next)?;
+        if names.find(Kind::Relation, word.text).is_some() {
+            return None;
+        }
+        let defined =
+            |entry: &usize| names.defined(*entry).is_some_and(|called| called.name == word.text);
+        let entry = (0..terms.entries.len()).find(defined)?;
+        let message = format!("`{}` is a definition", word.text);
+        let example = made_by(terms, entry).map(|(label, out)| {
+            let other = (0..terms.members).find(|other| *other != member).unwrap_or(member);
+            let (from, to) = if out { (member, other) } else { (other, member) };
+            let label = names.label(terms, label);
+            format!(", as in `given {} {label} {}`", names.member(from), names.member(to))
+        });
+        let advice = format!("make it true by an event{}", example.unwrap_or_default());
+        Some(Mistake::new(word.span, message).advise(advice))
     }
 
     /// `pete and quin both ways`: edges from a member under a relation.
@@ -255,4 +279,23 @@ impl<'a> Reader<'a> {
             false => mistake,
         })
     }
+}
+
+/// The event that an entry is about, and whether it leads away from the member of whom
+/// the entry is said. Of a since it is the one that begins it.
+fn made_by(terms: &Terms, entry: usize) -> Option<(usize, bool)> {
+    let mut seen = vec![false; terms.entries.len()];
+    let mut left = vec![entry];
+    while let Some(entry) = left.pop() {
+        if std::mem::replace(&mut seen[entry], true) {
+            continue;
+        }
+        match terms.entries[entry] {
+            Entry::Out(label, _) if label >= terms.relations => return Some((label, true)),
+            Entry::In(label, _) if label >= terms.relations => return Some((label, false)),
+            // The second operand of a since is the next to be looked at.
+            other => left.extend(other.operands()),
+        }
+    }
+    None
 }

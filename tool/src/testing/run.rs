@@ -137,10 +137,12 @@ impl Telling<'_> {
             return Ok(None);
         }
         let reason = wanted.map_or(String::new(), |wanted| format!(" because {wanted}"));
+        let missing = wanted.filter(|_| answer == may).map(|wanted| missing(&because, wanted));
+        let found = format!("{} because {}", self.asked(call, answer), sentence(&because));
         Ok(Some(Failure {
             span,
             expected: self.asked(call, may) + &reason,
-            found: format!("{} because {}", self.asked(call, answer), sentence(&because)),
+            found: found + &missing.unwrap_or_default(),
         }))
     }
 
@@ -166,6 +168,17 @@ fn says(because: &Because, wanted: &str) -> bool {
     })
 }
 
+/// Which of the words no line of the reason has.
+fn missing(because: &Because, wanted: &str) -> String {
+    let said: Vec<String> = because.lines.iter().flat_map(|line| words(line)).collect();
+    let missing: Vec<String> =
+        words(wanted).into_iter().filter(|word| !said.contains(word)).collect();
+    match missing.is_empty() {
+        true => format!("; not found in this order: {wanted}"),
+        false => format!("; not found: {}", missing.join(" ")),
+    }
+}
+
 /// The words of a line, without signs, in small letters.
 fn words(line: &str) -> Vec<String> {
     let part = |letter: char| !(letter.is_alphanumeric() || letter == '-' || letter == '_');
@@ -183,5 +196,7 @@ mod tests {
         assert!(says(&because, "suspended") && says(&because, "never share dora pete"));
         assert!(!says(&because, "pend") && !says(&because, "share pete"));
         assert!(!says(&because, "pete is suspended again"));
+        assert_eq!(missing(&because, "Pete is banned again"), "; not found: banned again");
+        assert_eq!(missing(&because, "share pete"), "; not found in this order: share pete");
     }
 }
