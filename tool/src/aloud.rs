@@ -19,7 +19,7 @@ pub mod resolve;
 mod stored;
 pub mod tables;
 pub mod told;
-mod verbs;
+pub(crate) mod verbs;
 mod wording;
 mod words;
 

@@ -2,6 +2,7 @@
 //!
 //! * `tokens`, `parse`, `ast`: a text, read
 //! * `kinds`: kinds of members as attributes
+//! * `passing`: events of one moment where the past seems to be meant
 //! * `resolve`, `said`: names found, definitions and derived forms unfolded
 //! * `tree`: at which member each part is said
 //! * `entries`: variables numbered, equal parts made one entry
@@ -16,6 +17,7 @@ mod entries;
 pub(crate) mod kinds;
 pub mod mistake;
 pub mod parse;
+mod passing;
 pub mod print;
 mod resolve;
 mod said;

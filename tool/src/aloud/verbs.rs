@@ -25,15 +25,15 @@ impl Verb {
 /// Verbs that are said without a preposition and inflected by rule.
 const PLAIN: &str = "
     accept acknowledge add admit allow answer appoint approve archive assess attend ask audit
-    authorize back ban befriend block borrow browse call cancel certify change check claim clear close
+    assign assist authorize back ban befriend block borrow browse call cancel certify change check claim clear close
     confirm contact contain copy create decline delete deny disable discharge dismiss dominate
-    download drop edit employ enable endorse enter expel export fetch fire follow greet
-    guard help hire ignore import include inspect install invite join judge kick like list load
-    lock love manage mark mention mentor move mute name nominate notify open order own pass pin
-    play prescribe preview print promote publish query quote rate receive recommend record refer
-    refuse reject release remove rename remix repair replace report request reserve restore return
-    review save scan share sign sponsor star start stop store submit supervise support suspect
-    suspend tag thank touch track trust unfriend update upload use verify view visit watch
+    download drop edit employ enable endorse enter expel export fetch fire flag follow greet
+    guard help hire ignore import include inspect install invite join judge kick lift like list load
+    lock love manage mark mention mentor merge move mute name nominate notify open order own pass pause pin
+    play praise prescribe preview print promote publish query quote raise rate receive recommend record refer
+    refuse reject release remove rename remix rent repair replace report request reserve restore resume return
+    review revoke save scan seize share shield sign sponsor star start stop store submit supervise support suspect
+    suspend tag thank touch track trust unfriend update upload use verify view visit warn watch
 ";
 
 /// Verbs that are not inflected by rule: base, past, participle.
@@ -44,6 +44,7 @@ const IRREGULAR: &[(&str, &str, &str)] = &[
     ("find", "found", "found"),
     ("forget", "forgot", "forgotten"),
     ("forgive", "forgave", "forgiven"),
+    ("freeze", "froze", "frozen"),
     ("get", "got", "got"),
     ("give", "gave", "given"),
     ("have", "had", "had"),
@@ -75,8 +76,10 @@ const IRREGULAR: &[(&str, &str, &str)] = &[
 ];
 
 /// Verbs whose last letter is doubled before -ed.
-const DOUBLED: &[&str] =
-    &["admit", "ban", "drop", "expel", "pin", "scan", "star", "stop", "submit", "tag", "refer"];
+const DOUBLED: &[&str] = &[
+    "admit", "ban", "drop", "expel", "flag", "pin", "scan", "star", "stop", "submit", "tag",
+    "refer",
+];
 
 /// Verbs that are said with a preposition.
 const PREPOSITIONS: &[(&str, &str)] = &[
@@ -156,6 +159,26 @@ fn is_base(word: &str) -> bool {
     known(word) || undone.into_iter().any(known)
 }
 
+/// What may follow "has" for a name that is no known verb.
+pub fn guessed(name: &str) -> String {
+    let is_vowel = |letter: &char| "aeiou".contains(*letter);
+    let letters: Vec<char> = name.chars().collect();
+    // One short syllable: zap, zapped.
+    let doubled = match letters[..] {
+        [.., before, last] => {
+            letters.iter().filter(|letter| is_vowel(letter)).count() == 1
+                && is_vowel(&before)
+                && last.is_ascii_lowercase()
+                && !"hwxy".contains(last)
+        }
+        _ => false,
+    };
+    match letters.last().filter(|_| doubled) {
+        Some(last) => format!("{name}{last}ed"),
+        None => inflected(name).participle,
+    }
+}
+
 fn inflected(base: &str) -> Verb {
     let consonant_y = base.strip_suffix('y').filter(|stem| !stem.ends_with(['a', 'e', 'o', 'u']));
     let hisses = ["s", "x", "z", "ch", "sh", "o"].iter().any(|end| base.ends_with(end));
@@ -213,6 +236,15 @@ mod tests {
         assert_eq!(forms("teaches"), "teach teaches taught taught ");
         assert_eq!(forms("weak-view"), "weak-view weak-views weak-viewed weak-viewed ");
         assert_eq!(forms("part"), "part parts parted parted from");
+    }
+
+    #[test]
+    fn guesses() {
+        for (name, done) in
+            [("hoist", "hoisted"), ("nudge", "nudged"), ("pry", "pried"), ("zap", "zapped")]
+        {
+            assert_eq!(guessed(name), done);
+        }
     }
 
     #[test]

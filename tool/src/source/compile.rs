@@ -8,6 +8,7 @@ use super::entries::{Entries, Origin};
 use super::kinds;
 use super::mistake::Mistake;
 use super::parse::{read, Read};
+use super::passing::passing;
 use super::resolve::Resolver;
 use super::said::Said;
 use super::tree::{Crowd, Placer, MOST_PEOPLE};
@@ -54,6 +55,7 @@ pub fn compile(text: &str) -> Result<Compiled, Vec<Mistake>> {
     changes(&source, &names, &mut terms, &mut notes);
     let resolved = resolved(&source, &mut notes);
     warnings.extend(resolved.warnings);
+    warnings.extend(passing(&source, text));
     mistakes.extend(notes.without(&doubtful));
     if !mistakes.is_empty() {
         mistakes.sort_by_key(|mistake| mistake.span.start);

@@ -12,6 +12,7 @@ use super::tokens::{tokens, Token, WORDS};
 use std::collections::HashSet;
 
 pub use read::{parse, read, Read};
+pub(super) use stray::third;
 
 /// The deepest that formulas may stand in one another.
 const DEEPEST: usize = 200;
@@ -126,9 +127,9 @@ impl Parser {
         };
         let mut effects = Vec::new();
         if self.take("then") {
-            effects.push(self.effect()?);
+            effects.push(self.effect(&names[0].0.text)?);
             while self.take_sign(',') {
-                effects.push(self.effect()?);
+                effects.push(self.effect(&names[0].0.text)?);
             }
         }
         self.statement_ends(&["then"])?;
@@ -150,7 +151,7 @@ impl Parser {
         }
     }
 
-    fn effect(&mut self) -> Result<Effect, Mistake> {
+    fn effect(&mut self, event: &str) -> Result<Effect, Mistake> {
         let add = self.take("add");
         if !add && !self.take("remove") {
             let mistake = self.expected("`add` or `remove`", &["add", "remove"]);
@@ -160,13 +161,16 @@ impl Parser {
         if self.take("is") {
             let relation = self.name("the name of a relation")?;
             if !self.take("of") {
-                return Err(self.expected("`of`", &["of"]));
+                return Err(self.alone(add, &from, &relation, event));
             }
             let to = self.person("`me` or `target`")?;
             return Ok(Effect { add, from: to, relation, to: from });
         }
         let relation = self.name("the name of a relation")?;
         let to = self.person("`me` or `target`")?;
+        if from.who == to.who && matches!(from.who, Who::Me | Who::Target) {
+            return Err(self.alone(add, &from, &relation, event));
+        }
         Ok(Effect { add, from, relation, to })
     }
 

@@ -207,7 +207,7 @@ impl<'a> Resolver<'a> {
             };
             return self.call(place, &[from.clone(), to.clone()], span, scope);
         }
-        let label = self.label(word)?;
+        let label = self.label(word).map_err(|mistake| self.also_me(mistake, from, scope))?;
         let end = |person: &Option<Person>| {
             person.as_ref().map(|person| self.person(person, scope)).transpose()
         };

@@ -53,7 +53,14 @@ pub fn tokens(text: &str) -> (Vec<(Token, Span)>, Vec<Mistake>) {
                     return (vec![(Token::End, mistake.span)], vec![mistake]);
                 }
                 Err(mistake) => {
-                    let length = mistake.span.end - mistake.span.start;
+                    let marked = mistake.span.end - mistake.span.start;
+                    // Words that are not closed go to the end of their line.
+                    let open = said && marked == 1;
+                    let length =
+                        if open { rest.lines().next().map_or(1, str::len) } else { marked };
+                    if said {
+                        found.push((Token::Quoted(String::new()), mistake.span));
+                    }
                     mistakes.push(mistake);
                     length
                 }
@@ -97,10 +104,8 @@ fn quoted(rest: &str, place: usize) -> Result<(Token, usize), Mistake> {
         }
         Some(_) => Err(Mistake::new(Span { start: place, end: place + 2 }, "nothing is said here")
             .advise("like this: `event peek said \"peeked at\"`")),
-        None => {
-            Err(Mistake::new(Span { start: place, end: place + 1 }, "this quote is not closed")
-                .advise("put a `\"` after the words, on the same line"))
-        }
+        None => Err(Mistake::new(Span { start: place, end: place + 1 }, "this `\"` is not closed")
+            .advise("put a `\"` after the words, on the same line")),
     }
 }
 

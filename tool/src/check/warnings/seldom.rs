@@ -3,6 +3,7 @@
 use super::{About, Subject, Warning};
 use crate::aloud::labels::Labels;
 use crate::aloud::listed;
+use crate::aloud::verbs::guessed;
 use crate::check::entries::labels;
 use crate::names::{Kind, Labelled, Names};
 use keeper::terms::{Entry, Terms};
@@ -158,23 +159,31 @@ pub fn uncountable(subject: &Subject) -> Vec<Warning> {
     for index in (0..subject.reached.len()).filter(|&index| subject.reached[index]) {
         let Entry::Many(label, _, count) = terms.entries[index] else { continue };
         let event = event_named(terms, names, label).filter(|_| count > 1);
+        let counted = match Labelled::of(terms, label) {
+            // What is denied has no effects.
+            Labelled::Denied(event) => {
+                let step = format!("me denied {} someone", names.event(event));
+                format!(
+                    "say it step by step: `{step} and previously once {step}`; see docs/LANGUAGE.md, Denied tries"
+                )
+            }
+            _ => "count along a relation that the event's effects add to".to_string(),
+        };
         let (why, right) = match event {
             Some(_) if subject.sourced => {
                 let name = names.label(terms, label);
-                let why = format!("of `{name}`, and a moment has one event at most");
-                (why, "count along a relation that the event's effects add to")
+                (format!("of `{name}`, and a moment has one event at most"), counted)
             }
             Some(shown) => {
-                let why = format!("edges of {shown}, and a moment has one event edge at most");
-                (why, "count along a relation that the event's effects add to")
+                (format!("edges of {shown}, and a moment has one event edge at most"), counted)
             }
             None if count > terms.members => {
                 let why = format!("members, and there are {}", terms.members);
-                (why, "it never holds; ask for fewer")
+                (why, "it never holds; ask for fewer".to_string())
             }
             None => continue,
         };
-        let told = |who: String| (format!("{who} for at least {count} {why}"), right.to_string());
+        let told = |who: String| (format!("{who} for at least {count} {why}"), right.clone());
         let about = About::Entry(index);
         let in_terms = || told(format!("entry {index} asks"));
         warnings.push(subject.warn("count", about, in_terms, || told("this asks".to_string())));
@@ -191,7 +200,8 @@ pub fn unsaid(subject: &Subject) -> Vec<Warning> {
         let name = names.event(event);
         let what =
             format!("`{name}` is no verb that is known here: it is read as \"do {name} to\"");
-        let right = format!("tell what follows `has`, once: `event {name} said \"peeked at\"`");
+        let done = guessed(&name);
+        let right = format!("tell what follows `has`, once: `event {name} said \"{done}\"`");
         Warning { kind: "verb", about: About::Policy(event), line: 0, what, right }
     };
     unsaid.filter(|_| sourced).map(warn).collect()

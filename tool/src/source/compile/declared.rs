@@ -4,6 +4,7 @@ use super::notes::Notes;
 use crate::names::{did_you_mean, Kind, Names};
 use crate::source::ast::{Effect, Name, Source, Span, Who};
 use crate::source::mistake::Mistake;
+use crate::source::parse::third;
 use keeper::terms::{self, Terms};
 use keeper::terms::{MOST_EFFECTS, MOST_EVENTS, MOST_MEMBERS, MOST_RELATIONS};
 
@@ -110,12 +111,7 @@ fn changed(effect: &Effect, names: &Names) -> Result<terms::Effect, Mistake> {
     let back = match (&effect.from.who, &effect.to.who) {
         (Who::Me, Who::Target) => false,
         (Who::Target, Who::Me) => true,
-        _ => {
-            let message = "an effect is between `me` and `target`, one way or the other";
-            let advice = "an event changes nothing about third members; let them ask themselves, by an event of \
-                their own";
-            return Err(Mistake::new(effect.from.span.to(effect.to.span), message).advise(advice));
-        }
+        _ => return Err(third(effect.from.span.to(effect.to.span))),
     };
     Ok(terms::Effect { add: effect.add, relation, back })
 }

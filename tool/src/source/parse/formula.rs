@@ -132,7 +132,7 @@ impl Parser {
         if !self.name_ahead(0) {
             return Err(self.no_formula(&BEGINNINGS));
         }
-        if let Some(mistake) = self.other_quantifier() {
+        if let Some(mistake) = self.other_quantifier().or_else(|| self.article()) {
             return Err(mistake);
         }
         if self.word_ahead(1) == Some("is") || self.label_ahead(1) {

@@ -2,6 +2,15 @@
 
 use super::*;
 
+/// The mistake that an effect is about somebody other than `me` and `target`.
+pub fn third(span: Span) -> Mistake {
+    let message = "an effect is between `me` and `target`, one way or the other";
+    let advice =
+        "an event changes nothing about third members; let them ask themselves, by an event of \
+        their own";
+    Mistake::new(span, message).advise(advice)
+}
+
 /// Words that one may try for `some` and `every`, and what is written here.
 pub(super) const QUANTIFIERS: [(&str, &str); 5] =
     [("any", "some"), ("exists", "some"), ("all", "every"), ("each", "every"), ("forall", "every")];
@@ -9,6 +18,9 @@ pub(super) const QUANTIFIERS: [(&str, &str); 5] =
 /// Words that are put before an event in English, and not here.
 pub(super) const AUXILIARIES: [&str; 8] =
     ["has", "have", "had", "was", "were", "did", "does", "do"];
+
+/// Words that are put before a noun in English, and not here.
+const ARTICLES: [&str; 3] = ["the", "a", "an"];
 
 impl Parser {
     /// Whether a statement begins here, or the source ends.
@@ -63,6 +75,13 @@ impl Parser {
 
     /// What is said of a token that can't follow a formula.
     pub(super) fn stray(&self, also: &[&str]) -> Mistake {
+        if let Some(mistake) = self.article_before() {
+            return mistake;
+        }
+        if self.is_word("until") {
+            let advice = "`a until b` is written `not b since a`";
+            return Mistake::new(self.span(), "`until` has no meaning here").advise(advice);
+        }
         if self.bare == Some(self.next) && !matches!(self.token(), Token::Sign(_)) {
             let message = "a `:` is missing here";
             let advice = "`some`, `every` and `at least` say whom they are about, then `:`, then what holds of them";
@@ -75,6 +94,9 @@ impl Parser {
         let words = ["and", "or", "since"].into_iter().chain(also.iter().copied());
         let known: Vec<&str> = words.chain(STATEMENTS).collect();
         let mistake = self.expected("`and`, `or`, `since` or the next statement", &known);
+        if let Some(sought) = self.sought().filter(|_| self.is_sign(':')) {
+            return mistake.advise(format!("did you mean `{sought}: ...`?"));
+        }
         let advice = match (self.token(), self.word_ahead(0)) {
             (Token::Sign(')'), _) => "this `)` closes nothing: delete it, or put a `(` where the part begins",
             (Token::Sign(';'), _) => "delete it: nothing ends a statement, and parts of a list are separated by `,`",
@@ -84,12 +106,117 @@ impl Parser {
                 "a sentence is of two: who does it, its name as declared, and to whom: `owner share me`. \
                  For three at once see docs/LANGUAGE.md, Three at once"
             }
-            (_, Some("if" | "unless")) => "a condition begins with `when`, and its parts are joined with `and` \
+            (_, Some("unless")) => "write `and not` in place of `unless`",
+            (_, Some("if")) => "a condition begins with `when`, and its parts are joined with `and` \
                 and `or`",
             _ if mistake.advice.is_some() => return mistake,
             _ => "a sentence is of three words, `me owns target`; join two sentences with `and` or `or`",
         };
         mistake.advise(advice)
+    }
+
+    /// The word some places before the next token.
+    fn word_before(&self, places: usize) -> Option<&str> {
+        match &self.tokens[self.next.checked_sub(places)?].0 {
+            Token::Word(word) => Some(word),
+            _ => None,
+        }
+    }
+
+    /// The sentence just read, with the `some` that a `:` after it asks for.
+    fn sought(&self) -> Option<String> {
+        let [from, label, to] = [3, 2, 1].map(|places| self.word_before(places));
+        let (from, label, to) = (from?, label?, to?);
+        let named = |word: &str| !WORDS.contains(&word);
+        let somebody = |word: &str| ["me", "target", "here"].contains(&word);
+        if !self.declared.contains(label) {
+            return None;
+        }
+        if named(from) && (named(to) || somebody(to)) {
+            return Some(format!("some {from} {label} {to}"));
+        }
+        (somebody(from) && named(to)).then(|| format!("{from} {label} some {to}"))
+    }
+
+    /// `me owns the preset` or `me is a friend of target`, after the article.
+    fn article_before(&self) -> Option<Mistake> {
+        let word = self.word_before(1).filter(|word| ARTICLES.contains(word))?;
+        let noun = self.word_ahead(0).filter(|_| self.name_ahead(0))?;
+        let being = match (self.word_before(4), self.word_before(3), self.word_before(2)) {
+            (_, Some(who), Some("is")) => Some(format!("{who} is")),
+            (Some(who), Some("is"), Some("not")) => Some(format!("{who} is not")),
+            _ => None,
+        };
+        let whose = self.word_ahead(2).filter(|_| self.word_ahead(1) == Some("of"));
+        let advice = match (being, whose.filter(|whose| !ARTICLES.contains(whose))) {
+            (Some(being), Some(whose)) => format!("`{being} {noun} of {whose}`"),
+            (Some(being), None) => format!("`{being} {noun}`"),
+            (None, _) => "the one who asks is `me`, the other is `target`".to_string(),
+        };
+        let message = format!("`{word}` has no meaning here");
+        Some(Mistake::new(self.last(), message).advise(format!("leave out `{word}`: {advice}")))
+    }
+
+    /// `the player owns target`, where nobody can be called `the player`.
+    pub(super) fn article(&self) -> Option<Mistake> {
+        let noun = self.word_ahead(1).filter(|_| self.is_word("the") && self.name_ahead(1))?;
+        let verb = self.word_ahead(2)?;
+        let declared = |word: &str| self.declared.contains(word);
+        let told = ["is", "of", "denied"].contains(&verb) || declared(verb) && !declared(noun);
+        told.then(|| {
+            let advice = "leave out `the`: the one who asks is `me`, the other is `target`";
+            Mistake::new(self.span(), "`the` has no meaning here").advise(advice)
+        })
+    }
+
+    /// What is said of an effect on one alone: `add target is suspended`.
+    pub(super) fn alone(&self, add: bool, who: &Person, relation: &Name, event: &str) -> Mistake {
+        if !matches!(who.who, Who::Me | Who::Target) {
+            return third(who.span.to(self.last()));
+        }
+        let own = who.who == Who::Me;
+        let whom = if own { "`me`" } else { "the target" };
+        let does = |event: &str| match own {
+            true => format!("p {event} someone"),
+            false => format!("someone {event} p"),
+        };
+        let other = self.opposite(add, &relation.text).map(does);
+        let body = match (add, other) {
+            (true, Some(ends)) => format!("not {ends} since {}", does(event)),
+            (true, None) => format!("once {}", does(event)),
+            (false, Some(begins)) => format!("not {} since {begins}", does(event)),
+            (false, None) => format!("never {}", does(event)),
+        };
+        let name = &relation.text;
+        let instead = match self.declared.contains(name) {
+            true => format!(", without `relation {name}`"),
+            false => String::new(),
+        };
+        let advice =
+            format!("remember it from the event instead{instead}: `define p is {name}: {body}`");
+        let message = format!("an effect cannot change something about {whom} alone");
+        Mistake::new(who.span.to(self.last()), message).advise(advice)
+    }
+
+    /// The event that has the contrary effect on one alone.
+    fn opposite(&self, add: bool, relation: &str) -> Option<&str> {
+        let word = |place: usize| match self.tokens.get(place) {
+            Some((Token::Word(word), _)) => Some(word.as_str()),
+            _ => None,
+        };
+        let contrary = if add { "remove" } else { "add" };
+        let effect = (0..self.tokens.len()).find(|place| {
+            word(*place) == Some(contrary) && {
+                let said = [1, 2, 3].map(|after| word(place + after));
+                said[1] == Some(relation) && said[0] == said[2]
+                    || said[1] == Some("is")
+                        && said[2] == Some(relation)
+                        && word(place + 4) != Some("of")
+            }
+        })?;
+        let declares = |place: &usize| matches!(word(*place), Some("event" | "events"));
+        let event = (0..effect).rev().find(declares)?;
+        word(event + 1)
     }
 
     /// What is said of a parenthesis that is not closed, where it opened.

@@ -5,6 +5,7 @@ use super::super::mistake::Mistake;
 use super::super::said::{Who, ME, TARGET};
 use super::{Resolver, Scope};
 use crate::names::did_you_mean;
+use crate::source::kinds::singular;
 
 /// Other words for `me` that one may try.
 const WHO_ASKS: [&str; 7] = ["i", "you", "self", "initiator", "asker", "requester", "subject"];
@@ -45,9 +46,35 @@ impl Resolver<'_> {
         } else {
             "nobody"
         };
+        let kinds = &self.source.kinds;
+        if also_defined && kinds.iter().any(|kind| kind.name.text == *text) {
+            let one = singular(text);
+            let message = format!("{what} is called `{text}` here; did you mean `{one}`?");
+            let advice = format!("a kind is tested in the singular: `is {one}`");
+            return Mistake::unknown(name, message).advise(advice);
+        }
         let hint = did_you_mean(text, all);
         let mistake = Mistake::unknown(name, format!("{what} is called `{text}` here{hint}"));
-        mistake.advise(format!("names in sight: {}", known.join(", ")))
+        let known = format!("names in sight: {}", known.join(", "));
+        match also_defined && hint.is_empty() {
+            true => mistake.advise(format!(
+                "{known}; or declare it: `relation {text}`, or `define p is {text}: ...`"
+            )),
+            false => mistake.advise(known),
+        }
+    }
+
+    /// Adds to the advice of a mistake that `I` is written `me`.
+    pub(super) fn also_me(&self, mistake: Mistake, who: &Option<Person>, scope: &Scope) -> Mistake {
+        let Some(Person { who: Written::Named(text), .. }) = who else { return mistake };
+        let asks = WHO_ASKS.contains(&text.to_lowercase().as_str());
+        match (&mistake.advice, asks && !scope.iter().any(|(known, _)| known == text)) {
+            (Some(advice), true) => {
+                let advice = format!("{advice}; `{text}` is written `me`");
+                mistake.advise(advice)
+            }
+            _ => mistake,
+        }
     }
 
     pub(super) fn find_definition(&self, text: &str) -> Option<usize> {
