@@ -101,7 +101,9 @@ fn stored_and_gone_on() {
     assert!(aloud.contains("- pete has just tried in vain to load saw\n"), "{aloud}");
     let why = run(&["why", &later]).out;
     assert!(
-        why.contains("when it was stored, pete had at some time tried in vain to load saw"),
+        why.contains(
+            "as far as the stored file remembers, pete had at some time tried in vain to load saw"
+        ),
         "{why}"
     );
 }

@@ -25,12 +25,12 @@ fn it_goes_on_and_says_why() {
     assert_eq!(
         run(&["why", folder.path()]).out,
         "1  load pete → saw       granted
-     dora owns saw, and when it was stored, dora had at some time shared with pete and had not \
+     dora owns saw, and as far as the stored file remembers, dora had at some time shared with pete and had not \
          withdrawn from pete since
 2  withdraw dora → pete  granted
      it is always allowed
 3  load pete → saw       denied
-     dora owns saw, and when it was stored, dora had at some time shared with pete and had not \
+     dora owns saw, and as far as the stored file remembers, dora had at some time shared with pete and had not \
          withdrawn from pete since, but dora withdrew from pete at moment 2
 "
     );
@@ -43,7 +43,7 @@ fn what_was_not_so_has_not_become_so() {
     folder.write("terms.tsv", &forgotten);
     folder.write("requests.tsv", "R\t1\t2\t1\nR\t2\t1\t2\n");
     let why = run(&["why", folder.path(), "2"]).out;
-    let said = "dora owns saw, but when it was stored, it was not the case that dora had at some \
+    let said = "dora owns saw, but as far as the stored file remembers, it was not the case that dora had at some \
                 time shared with pete and had not withdrawn from pete since, and since then dora \
                 has never shared with pete";
     assert!(why.contains(said), "{why}");

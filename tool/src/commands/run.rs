@@ -22,7 +22,7 @@ form; `run -` means `run . -`. The terms are those of DIR/terms.say, or else of
 DIR/terms.tsv, with the names of DIR/names.tsv if there is one. Stored terms
 continue where they were stored.
 
-  --strict       exit with 1 if a request is denied or refused
+  --strict       exit with 1 if a request is denied or refused, with 3 if there is none
   --json         one JSON object per line; `made` is the moment a request made
   --store FILE   store terms, state and what they remember in FILE, before any answer
                  is printed, creating its folder if need be; if FILE is called
@@ -61,6 +61,11 @@ pub fn main(arguments: &[String], out: &mut dyn Write) -> Result<i32, Stop> {
         } else {
             writeln!(out, "{}", widths.line(step, &words))?;
         }
+    }
+    if arguments.has("--strict") && !input && replay.steps.is_empty() {
+        return Err(Stop::Failed(format!(
+            "there are no requests in {directory}; `-` reads them from standard input"
+        )));
     }
     let stored = arguments.option("--store").or(arguments.option("--write")).is_some();
     if !input && !stored {

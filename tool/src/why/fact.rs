@@ -119,7 +119,10 @@ impl Fact {
                 format!("the terms were revised at moment {moment}, and none before it counts")
             }
             Fact::Stored(Claim { place, holds }) => {
-                format!("when it was stored, {}", telling.holds(whose(place), holds, true))
+                format!(
+                    "as far as the stored file remembers, {}",
+                    telling.holds(whose(place), holds, true)
+                )
             }
             Fact::Never { place, after } => {
                 let stored = if after { "since then " } else { "" };

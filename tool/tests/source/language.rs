@@ -44,7 +44,9 @@ fn the_tutorial_can_be_followed() {
     let folder = Path::new(env!("CARGO_TARGET_TMPDIR")).join("tutorial");
     fs::create_dir_all(folder.join("mine")).unwrap();
     fs::write(folder.join("mine/terms.say"), &blocks[0]).unwrap();
-    let _ = fs::remove_file(folder.join("mine/requests.tsv"));
+    for older in ["mine/requests.say", "mine/requests.tsv"] {
+        let _ = fs::remove_file(folder.join(older));
+    }
     let run = |arguments: &[&str], input: &str| {
         let mut command = Command::new(env!("CARGO_BIN_EXE_cuckooormolu"));
         command.args(arguments).current_dir(&folder).stdin(Stdio::piped()).stdout(Stdio::piped());
