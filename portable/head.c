@@ -2,6 +2,14 @@
 
 #include <string.h>
 
+/* A function with a large array is not inlined: two such arrays would share a
+ * frame, and both would be on the stack where one is needed. */
+#ifdef __GNUC__
+#define OUT_OF_LINE __attribute__((noinline))
+#else
+#define OUT_OF_LINE
+#endif
+
 /* The place of the least bit that is set, counted from 0; 64 where none is. */
 static uint32_t trailing_zeros(uint64_t word)
 {

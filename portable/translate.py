@@ -10,8 +10,22 @@ from c import U64, Body
 from kinds import LENT, Types, declared, identifier
 from mir import Program, Refused
 
-EXPORTS = "cuckooormolu::cuckooormolu_"
+# What hosts call: functions of this crate, in any of its modules, whose names begin so.
+LIBRARY, EXPORTED = "cuckooormolu::", "cuckooormolu_"
 HEAD = pathlib.Path(__file__).with_name("head.c").read_text()
+# Bytes of an array from which on a function that has it is not inlined.
+LARGE = 4096
+
+
+def own_name(name):
+    return name.rpartition("::")[2]
+
+
+def is_large(kind):
+    match kind:
+        case ("tyArray", ("tyInt", width), ("lenLit", count)):
+            return int(width) // 8 * int(count) >= LARGE
+    return False
 
 
 def translated(types, functions, function):
@@ -19,8 +33,9 @@ def translated(types, functions, function):
     body = Body(types, functions, function).lines
     kinds = [types.of(kind) for kind in function.kinds]
     parameters = ", ".join(declared(kinds[i], f"l{i}") for i in function.arguments) or "void"
-    head = f"static {declared(kinds[0], identifier(function.name))}({parameters})"
     own = [i for i in sorted(function.live) if i not in function.arguments and kinds[i] != "void"]
+    static = "static OUT_OF_LINE" if any(is_large(function.kinds[i]) for i in own) else "static"
+    head = f"{static} {declared(kinds[0], identifier(function.name))}({parameters})"
     lines = [f"    {declared(kinds[i], f'l{i}')};" for i in own]
     lines += [f"    (void)l{i};" for i in function.arguments if i not in function.live]
     return f"{head};", "\n".join([f"/* {function.name} */", head, "{", *lines, *body, "}", ""])
@@ -49,7 +64,7 @@ def exported(types, function):
                 raise Refused(f"in {function.name}: argument {i} of type {types.of(kind)}")
     if function.kinds[0] != U64:
         raise Refused(f"in {function.name}: a result of type {types.of(function.kinds[0])}")
-    head = f"size_t {function.name.split('::')[1]}({', '.join(parameters) or 'void'})"
+    head = f"size_t {own_name(function.name)}({', '.join(parameters) or 'void'})"
     call = f"    size_t code = (size_t){identifier(function.name)}({', '.join(given)});"
     return "\n".join([head, "{", *before, call, *after, "    return code;", "}", ""])
 
@@ -57,7 +72,7 @@ def exported(types, function):
 def main():
     program = Program(sys.stdin.read())
     types = Types(program.types)
-    roots = [name for name in program.functions if name.startswith(EXPORTS)]
+    roots = [name for name in program.functions if name.startswith(LIBRARY) and own_name(name).startswith(EXPORTED)]
     functions = program.reached(roots)
     if not roots or len({identifier(function.name) for function in functions}) < len(functions):
         raise Refused("nothing is exported, or two functions would have one name")

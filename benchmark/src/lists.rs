@@ -8,7 +8,7 @@ use std::hint::black_box;
 use std::time::Duration;
 
 /// Requests of a batch, and the records of each list in turn.
-const REQUESTS: usize = 64;
+pub const REQUESTS: usize = 64;
 const LENGTHS: [usize; 3] = [1, 8, REQUESTS];
 /// The goal: a record of the longest list, in single requests.
 const MOST: f64 = 0.6;
@@ -36,13 +36,22 @@ pub fn print() {
 
 /// Requests that are granted one after another. A denied one makes no moment,
 /// so it can be left out.
-fn granted(workload: &Workload) -> Vec<Request> {
+pub fn granted(workload: &Workload) -> Vec<Request> {
     let mut monitor = workload.monitor();
     let mut requests = workload.requests(11, 2 * REQUESTS);
     requests.retain(|&request| monitor.request(named(request)).is_ok_and(|a| a.is_grant()));
     requests.truncate(REQUESTS);
     assert_eq!(requests.len(), REQUESTS);
     requests
+}
+
+/// The records of requests.
+pub fn recorded(requests: &[Request]) -> Vec<raw::Record> {
+    let record = |request: &Request| {
+        let [event, from, to] = request.map(|number| number as u32);
+        raw::Record { event, from, to, answer: 0 }
+    };
+    requests.iter().map(record).collect()
 }
 
 fn single<'a>(terms: &'a [u16], start: &'a [u64], requests: &[Request]) -> Batch<'a> {
@@ -66,11 +75,7 @@ fn listed<'a>(
     requests: &[Request],
     length: usize,
 ) -> Batch<'a> {
-    let record = |request: &Request| {
-        let [event, from, to] = request.map(|number| number as u32);
-        raw::Record { event, from, to, answer: 0 }
-    };
-    let mut records: Vec<raw::Record> = requests.iter().map(record).collect();
+    let mut records = recorded(requests);
     let (mut state, mut scratch) = (start.to_vec(), vec![0; SCRATCH_WORDS]);
     let work = move || {
         state.copy_from_slice(start);

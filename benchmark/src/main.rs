@@ -11,15 +11,18 @@
 //! * `texts`: reading and writing
 //! * `counts`: at least so many, counted and spelled out
 //! * `revisions`: new terms beside an opening
-//! * `stack`: the stack that one call takes
+//! * `banks`: two banks beside a monitor
+//! * `stack`, `bank_stack`: the stack that one call takes
 //! * `archives`, `compare`: archives beside each other
 //!
-//! `benchmark pieces`, `lists`, `texts`, `counts`, `revisions` and `stack` measure
-//! that only, `benchmark compare ARCHIVE...` times the calls of those archives and of the
-//! one that is built in turn, `benchmark loop` makes many requests for a
-//! profiler.
+//! `benchmark pieces`, `lists`, `texts`, `counts`, `revisions`, `banks` and `stack`
+//! measure that only, `benchmark compare ARCHIVE...` times the calls of those
+//! archives and of the one that is built in turn, `benchmark loop` makes many
+//! requests for a profiler.
 
 mod archives;
+mod bank_stack;
+mod banks;
 mod compare;
 mod counts;
 mod floor;
@@ -51,24 +54,31 @@ fn main() {
             texts::print();
             counts::print();
             revisions::print();
-            println!();
-            stack::print(&Archive::open(&archives::built())[0]);
+            banks::print();
+            print_stack();
         }
         Some("pieces") => pieces::print(),
         Some("lists") => lists::print(),
         Some("texts") => texts::print(),
         Some("counts") => counts::print(),
         Some("revisions") => revisions::print(),
-        Some("stack") => stack::print(&Archive::open(&archives::built())[0]),
+        Some("banks") => banks::print(),
+        Some("stack") => print_stack(),
         Some("compare") => compare::print(&words[1..]),
         Some("loop") => repeat(),
         Some(other) => {
             eprintln!(
-                "{other}: not known; pieces, lists, texts, counts, revisions, stack, compare, loop \
-                 or nothing"
+                "{other}: not known; pieces, lists, texts, counts, revisions, banks, stack, \
+                 compare, loop or nothing"
             )
         }
     }
+}
+
+fn print_stack() {
+    println!();
+    stack::print(&Archive::open(&archives::built())[0]);
+    bank_stack::print();
 }
 
 fn table() {

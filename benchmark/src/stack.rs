@@ -11,7 +11,7 @@ use std::ptr::{null, null_mut};
 const STACK: usize = 8 << 20;
 const PAINT: u8 = 0xa5;
 /// The goal, in bytes.
-const MOST: usize = 512 << 10;
+pub const MOST: usize = 512 << 10;
 
 /// Room for a pthread_attr_t.
 #[repr(C, align(16))]
@@ -33,7 +33,7 @@ extern "C" {
 struct Page([u8; 4096]);
 
 /// Work for a thread, over memory that is not on its stack.
-type Work<'a> = Box<dyn FnMut() + 'a>;
+pub type Work<'a> = Box<dyn FnMut() + 'a>;
 
 extern "C" fn run(argument: *mut c_void) -> *mut c_void {
     let work = unsafe { &mut *argument.cast::<Work>() };
@@ -42,7 +42,7 @@ extern "C" fn run(argument: *mut c_void) -> *mut c_void {
 }
 
 /// The bytes of stack that a thread with this work touches.
-fn touched(mut work: Work) -> usize {
+pub fn touched(mut work: Work) -> usize {
     let mut stack: Vec<Page> = Vec::new();
     stack.resize_with(STACK / 4096, || Page([PAINT; 4096]));
     let mut attributes = Attributes([0; 128]);
@@ -59,7 +59,7 @@ fn touched(mut work: Work) -> usize {
 }
 
 /// Terms of the same size with one entry, top, which is every event's policy.
-fn without_past(text: &[u8]) -> Vec<u8> {
+pub fn without_past(text: &[u8]) -> Vec<u8> {
     let text = std::str::from_utf8(text).expect("a text");
     let kept = text.lines().filter_map(|line| match line.split('\t').collect::<Vec<_>>()[..] {
         ["M" | "L", ..] => Some(format!("{line}\n")),

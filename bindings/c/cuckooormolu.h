@@ -3,13 +3,16 @@
  *
  * Machine   the archive is machine code for x86-64 Linux. cuckooormolu.c, which
  *           `./amalgamate` writes with a header of its own, is for any machine.
- * RAM       terms 2,504 bytes, state 24,584 bytes, scratch 16,384 bytes. The
- *           library allocates nothing and has no state of its own.
+ * RAM       terms 2,504 bytes, state 24,584 bytes, scratch 16,384 bytes; two
+ *           banks 76,248 bytes in all. The library allocates nothing and has
+ *           no state of its own.
  * Stack     measured, not proved: reading takes 198 KiB, writing a terms text
  *           or asking for its size 193 KiB, an opening, revision, look, request
  *           or set list 169 KiB, and each 1.16 KiB more for every level by
  *           which entries nest, at most 494 KiB; storing and the other calls
- *           take 4 KiB. Provide CUCKOOORMOLU_STACK_BYTES.
+ *           take 4 KiB. Those of banks take little more, but a request or a set
+ *           list of a bank 164 KiB more, at most 631 KiB. Provide
+ *           CUCKOOORMOLU_STACK_BYTES.
  * Time      measured, not proved. Entries that share others take no more than
  *           a memo's time; what can still take long is nested binds over
  *           entries that read their variables: about N to the depth of such
@@ -21,7 +24,8 @@
  * Threads   calls over distinct memory may run at the same time; calls over
  *           the same memory must not, unless none of them may write it. Each
  *           struct cuckooormolu has a scratch of its own, so that two of them
- *           share nothing.
+ *           share nothing. Two banks share memory: a call of either is over
+ *           that of both.
  *
  * Link target/staticlib/libcuckooormolu.a, which `rt staticlib cuckooormolu`
  * writes, or compile cuckooormolu.c. They need nothing but memcpy and memset.
@@ -69,13 +73,16 @@ extern "C" {
 #endif
 
 #define CUCKOOORMOLU_VERSION_MAJOR 0
-#define CUCKOOORMOLU_VERSION_MINOR 10
+#define CUCKOOORMOLU_VERSION_MINOR 11
 #define CUCKOOORMOLU_VERSION_PATCH 0
-#define CUCKOOORMOLU_VERSION "0.10.0"
+#define CUCKOOORMOLU_VERSION "0.11.0"
 
-/* The named words of each memory. */
+/* The named words of each memory. A bank's state is the relations, which two
+ * banks share, and then its own words. */
 #define CUCKOOORMOLU_TERMS_WORDS 1252
 #define CUCKOOORMOLU_STATE_WORDS 3073
+#define CUCKOOORMOLU_RELATION_WORDS 1024
+#define CUCKOOORMOLU_OWN_WORDS 2049
 #define CUCKOOORMOLU_SCRATCH_WORDS 2048
 
 /* No text of the old form that is written is longer than this many bytes, and
@@ -84,7 +91,7 @@ extern "C" {
 #define CUCKOOORMOLU_STORED_BYTES 2169916
 
 /* More stack than any call was measured to take. */
-#define CUCKOOORMOLU_STACK_BYTES (512 * 1024)
+#define CUCKOOORMOLU_STACK_BYTES (640 * 1024)
 
 /*
  * The codes of calls. No code is 0, and a refusal's is below 100; granted and
@@ -154,6 +161,17 @@ struct cuckooormolu {
     uint64_t scratch[CUCKOOORMOLU_SCRATCH_WORDS];
 };
 
+/* All the memory of two banks over one circle. Where it is zeroed, or was never
+ * read into, every request is refused. */
+struct cuckooormolu_banks {
+    uint16_t terms[CUCKOOORMOLU_TERMS_WORDS];
+    uint64_t relations[CUCKOOORMOLU_RELATION_WORDS];
+    uint64_t left[CUCKOOORMOLU_OWN_WORDS];
+    uint64_t right[CUCKOOORMOLU_OWN_WORDS];
+    uint64_t left_scratch[CUCKOOORMOLU_SCRATCH_WORDS];
+    uint64_t right_scratch[CUCKOOORMOLU_SCRATCH_WORDS];
+};
+
 /* The number that a set list writes as the answer of a record. It is no code of
  * a call. */
 enum cuckooormolu_answer_number {
@@ -209,6 +227,12 @@ CUCKOOORMOLU_ASSERT(sizeof(size_t) == 8, "lengths and codes have 64 bits");
 #endif
 CUCKOOORMOLU_ASSERT(sizeof(struct cuckooormolu) == 2504 + 24584 + 16384,
                     "no padding between the memories");
+CUCKOOORMOLU_ASSERT(sizeof(struct cuckooormolu_banks) ==
+                        2504 + 8192 + 2 * 16392 + 2 * 16384,
+                    "nor between those of banks");
+CUCKOOORMOLU_ASSERT(CUCKOOORMOLU_RELATION_WORDS + CUCKOOORMOLU_OWN_WORDS ==
+                        CUCKOOORMOLU_STATE_WORDS,
+                    "relations and own words are a state");
 CUCKOOORMOLU_ASSERT(CUCKOOORMOLU_REFUSED_FORM > 0, "no code is 0");
 CUCKOOORMOLU_ASSERT(CUCKOOORMOLU_REFUSED_SIZE < 100,
                     "refusals are below 100");
@@ -338,7 +362,7 @@ cuckooormolu_answer_words(struct cuckooormolu_answer answer)
  * may be null, not even where its length is 0, and memory that a call may write,
  * the number behind the last pointer too, must not overlap any other.
  */
-size_t cuckooormolu_raw_version_0_10_0(void);
+size_t cuckooormolu_raw_version_0_11_0(void);
 size_t cuckooormolu_raw_read(const uint8_t *text, size_t text_length,
                              uint16_t *terms, size_t terms_length,
                              uint64_t *state, size_t state_length,
@@ -381,13 +405,56 @@ size_t cuckooormolu_raw_set_list(const uint16_t *terms, size_t terms_length,
                                  uint64_t *scratch, size_t scratch_length,
                                  struct cuckooormolu_record *records,
                                  size_t records_length, size_t *count);
+size_t cuckooormolu_raw_banks_read(const uint8_t *text, size_t text_length,
+                                   uint16_t *terms, size_t terms_length,
+                                   uint64_t *relations,
+                                   size_t relations_length,
+                                   uint64_t *own, size_t own_length,
+                                   uint64_t *other, size_t other_length,
+                                   size_t *line);
+size_t cuckooormolu_raw_banks_open(const uint16_t *terms, size_t terms_length,
+                                   const uint64_t *relations,
+                                   size_t relations_length,
+                                   uint64_t *own, size_t own_length,
+                                   uint64_t *other, size_t other_length);
+size_t cuckooormolu_raw_banks_revise(
+    const uint16_t *old_terms, size_t old_terms_length,
+    const uint64_t *old_relations, size_t old_relations_length,
+    const uint64_t *old_own, size_t old_own_length,
+    const uint64_t *old_other, size_t old_other_length,
+    const uint16_t *new_terms, size_t new_terms_length,
+    uint64_t *relations, size_t relations_length,
+    uint64_t *own, size_t own_length, uint64_t *other, size_t other_length);
+size_t cuckooormolu_raw_banks_look(
+    const uint16_t *terms, size_t terms_length,
+    const uint64_t *relations, size_t relations_length,
+    const uint64_t *own, size_t own_length,
+    const uint64_t *other, size_t other_length,
+    const uint64_t *scratch, size_t scratch_length,
+    const uint64_t *spare, size_t spare_length,
+    size_t event, size_t from, size_t to);
+size_t cuckooormolu_raw_banks_request(
+    const uint16_t *terms, size_t terms_length,
+    uint64_t *relations, size_t relations_length,
+    uint64_t *own, size_t own_length, uint64_t *other, size_t other_length,
+    uint64_t *scratch, size_t scratch_length,
+    uint64_t *spare, size_t spare_length,
+    size_t event, size_t from, size_t to);
+size_t cuckooormolu_raw_banks_set_list(
+    const uint16_t *terms, size_t terms_length,
+    uint64_t *relations, size_t relations_length,
+    uint64_t *own, size_t own_length, uint64_t *other, size_t other_length,
+    uint64_t *scratch, size_t scratch_length,
+    uint64_t *spare, size_t spare_length,
+    struct cuckooormolu_record *records, size_t records_length,
+    size_t *count);
 
 /* Header and archive belong together: the version stands in a function's name,
  * so that an archive of another version does not link. The function gives it as
- * one number, 10000 for 0.10.0. */
+ * one number, 11000 for 0.11.0. */
 #ifdef __GNUC__
 __attribute__((used)) CUCKOOORMOLU_RETAINED static size_t (
-    *const cuckooormolu_archive)(void) = cuckooormolu_raw_version_0_10_0;
+    *const cuckooormolu_archive)(void) = cuckooormolu_raw_version_0_11_0;
 #endif
 
 /*
@@ -680,10 +747,256 @@ cuckooormolu_set_list(const uint16_t *terms, size_t terms_length,
     return cuckooormolu_told(code, number, count);
 }
 
+/*
+ * Two banks over one circle: they share terms and relations, and each has its
+ * own words, for past-time tables and event, and its own scratch. A moment made
+ * in one is a moment in the other too, without an event edge there. So a call of
+ * either takes the memory of both, and two threads must not call them at the
+ * same time.
+ *
+ * The bank that is called is named by the order alone: its own words and scratch
+ * come first, then the other's, `other` and `spare`. The calls over struct
+ * cuckooormolu_banks, below, cannot confuse them.
+ *
+ * Here no memory may overlap another, not even one that is only read, else the
+ * call is refused with 6; but the old and the new terms may be the same.
+ */
+#define CUCKOOORMOLU_LENT_BANKS                              \
+    CUCKOOORMOLU_LENT(uint16_t, terms, terms_length)         \
+    CUCKOOORMOLU_LENT(uint64_t, relations, relations_length) \
+    CUCKOOORMOLU_LENT(uint64_t, own, own_length)             \
+    CUCKOOORMOLU_LENT(uint64_t, other, other_length)
+#define CUCKOOORMOLU_LENT_SCRATCHES                      \
+    CUCKOOORMOLU_LENT(uint64_t, scratch, scratch_length) \
+    CUCKOOORMOLU_LENT(uint64_t, spare, spare_length)
+
+/* A memory: where it begins, and its bytes. */
+struct cuckooormolu_span {
+    const void *start;
+    size_t bytes;
+};
+
+#define CUCKOOORMOLU_SPAN(a) {(a), a##_length * sizeof *(a)}
+#define CUCKOOORMOLU_SPANS_OF_BANKS                       \
+    CUCKOOORMOLU_SPAN(relations), CUCKOOORMOLU_SPAN(own), \
+        CUCKOOORMOLU_SPAN(other)
+#define CUCKOOORMOLU_SPANS_OF_A_CALL                       \
+    CUCKOOORMOLU_SPAN(terms), CUCKOOORMOLU_SPANS_OF_BANKS, \
+        CUCKOOORMOLU_SPAN(scratch), CUCKOOORMOLU_SPAN(spare)
+
+#define CUCKOOORMOLU_COUNTED(spans) (spans), sizeof(spans) / sizeof *(spans)
+
+/* Whether a memory has no byte in common with any of the others. */
+static inline bool
+cuckooormolu_apart_from_each(struct cuckooormolu_span a,
+                             const struct cuckooormolu_span *others,
+                             size_t count)
+{
+    for (size_t i = 0; i < count; i++)
+        if (!cuckooormolu_apart(a.start, a.bytes, others[i].start,
+                                others[i].bytes))
+            return false;
+    return true;
+}
+
+/* Whether no two memories have a byte in common. */
+static inline bool
+cuckooormolu_each_apart(const struct cuckooormolu_span *spans, size_t count)
+{
+    for (size_t i = 1; i < count; i++)
+        if (!cuckooormolu_apart_from_each(spans[i], spans, i))
+            return false;
+    return true;
+}
+
+/*
+ * Reads a text of the old form into both banks, which start together at moment
+ * 0. Done: the named words of terms, of relations and of both banks' own words
+ * are filled, and *line is 0. Refused as cuckooormolu_read, and with 1 at line 1
+ * where the text begins with an S line: a stored text is one monitor's. `line`
+ * may be null.
+ */
+CUCKOOORMOLU_USED static inline struct cuckooormolu_result
+cuckooormolu_banks_read(const uint8_t *text, size_t text_length,
+                        uint16_t *terms, size_t terms_length,
+                        uint64_t *relations, size_t relations_length,
+                        uint64_t *own, size_t own_length,
+                        uint64_t *other, size_t other_length, size_t *line)
+{
+    CUCKOOORMOLU_LENT(uint8_t, text, text_length)
+    CUCKOOORMOLU_LENT_BANKS
+    const struct cuckooormolu_span spans[] = {CUCKOOORMOLU_SPAN(text),
+                                              CUCKOOORMOLU_SPAN(terms),
+                                              CUCKOOORMOLU_SPANS_OF_BANKS};
+    size_t number = 0;
+    size_t code = CUCKOOORMOLU_REFUSED_SHORT;
+    if (cuckooormolu_each_apart(CUCKOOORMOLU_COUNTED(spans)))
+        code = cuckooormolu_raw_banks_read(
+            text, text_length, terms, terms_length, relations,
+            relations_length, own, own_length, other, other_length, &number);
+    return cuckooormolu_told(code, number, line);
+}
+
+/*
+ * Makes moment 0 of the relations in both banks; what their own words held is
+ * lost. Done, 6, 7 or 8.
+ */
+CUCKOOORMOLU_USED static inline struct cuckooormolu_result
+cuckooormolu_banks_open(const uint16_t *terms, size_t terms_length,
+                        const uint64_t *relations, size_t relations_length,
+                        uint64_t *own, size_t own_length,
+                        uint64_t *other, size_t other_length)
+{
+    CUCKOOORMOLU_LENT_BANKS
+    const struct cuckooormolu_span spans[] = {CUCKOOORMOLU_SPAN(terms),
+                                              CUCKOOORMOLU_SPANS_OF_BANKS};
+    size_t code = CUCKOOORMOLU_REFUSED_SHORT;
+    if (cuckooormolu_each_apart(CUCKOOORMOLU_COUNTED(spans)))
+        code = cuckooormolu_raw_banks_open(
+            terms, terms_length, relations, relations_length, own, own_length,
+            other, other_length);
+    return cuckooormolu_result_of(code);
+}
+
+/*
+ * Revises the terms of both banks together, each as cuckooormolu_revise does:
+ * fills in second relations and second own words of each, in the same order.
+ * Done: from then on the new terms are lent with those. Refused with 6, 7
+ * (either terms), 8 (either bank's old state) or 13: all memory is as lent.
+ */
+CUCKOOORMOLU_USED static inline struct cuckooormolu_result
+cuckooormolu_banks_revise(
+    const uint16_t *old_terms, size_t old_terms_length,
+    const uint64_t *old_relations, size_t old_relations_length,
+    const uint64_t *old_own, size_t old_own_length,
+    const uint64_t *old_other, size_t old_other_length,
+    const uint16_t *new_terms, size_t new_terms_length,
+    uint64_t *relations, size_t relations_length,
+    uint64_t *own, size_t own_length, uint64_t *other, size_t other_length)
+{
+    CUCKOOORMOLU_LENT(uint16_t, old_terms, old_terms_length)
+    CUCKOOORMOLU_LENT(uint64_t, old_relations, old_relations_length)
+    CUCKOOORMOLU_LENT(uint64_t, old_own, old_own_length)
+    CUCKOOORMOLU_LENT(uint64_t, old_other, old_other_length)
+    CUCKOOORMOLU_LENT(uint16_t, new_terms, new_terms_length)
+    CUCKOOORMOLU_LENT(uint64_t, relations, relations_length)
+    CUCKOOORMOLU_LENT(uint64_t, own, own_length)
+    CUCKOOORMOLU_LENT(uint64_t, other, other_length)
+    const struct cuckooormolu_span before = CUCKOOORMOLU_SPAN(old_terms);
+    const struct cuckooormolu_span after = CUCKOOORMOLU_SPAN(new_terms);
+    const struct cuckooormolu_span spans[] = {
+        CUCKOOORMOLU_SPAN(old_relations), CUCKOOORMOLU_SPAN(old_own),
+        CUCKOOORMOLU_SPAN(old_other), CUCKOOORMOLU_SPANS_OF_BANKS};
+    size_t code = CUCKOOORMOLU_REFUSED_SHORT;
+    if (cuckooormolu_each_apart(CUCKOOORMOLU_COUNTED(spans)) &&
+        cuckooormolu_apart_from_each(before, CUCKOOORMOLU_COUNTED(spans)) &&
+        cuckooormolu_apart_from_each(after, CUCKOOORMOLU_COUNTED(spans)))
+        code = cuckooormolu_raw_banks_revise(
+            old_terms, old_terms_length, old_relations, old_relations_length,
+            old_own, old_own_length, old_other, old_other_length, new_terms,
+            new_terms_length, relations, relations_length, own, own_length,
+            other, other_length);
+    return cuckooormolu_result_of(code);
+}
+
+/*
+ * What a request of the bank would be answered; makes no moment and writes
+ * nothing. Granted, denied, 6, 7, 8 or 9.
+ */
+CUCKOOORMOLU_USED static inline struct cuckooormolu_result
+cuckooormolu_banks_look(const uint16_t *terms, size_t terms_length,
+                        const uint64_t *relations, size_t relations_length,
+                        const uint64_t *own, size_t own_length,
+                        const uint64_t *other, size_t other_length,
+                        const uint64_t *scratch, size_t scratch_length,
+                        const uint64_t *spare, size_t spare_length,
+                        size_t event, size_t from, size_t to)
+{
+    CUCKOOORMOLU_LENT_BANKS
+    CUCKOOORMOLU_LENT_SCRATCHES
+    const struct cuckooormolu_span spans[] = {CUCKOOORMOLU_SPANS_OF_A_CALL};
+    size_t code = CUCKOOORMOLU_REFUSED_SHORT;
+    if (cuckooormolu_each_apart(CUCKOOORMOLU_COUNTED(spans)))
+        code = cuckooormolu_raw_banks_look(
+            terms, terms_length, relations, relations_length, own, own_length,
+            other, other_length, scratch, scratch_length, spare, spare_length,
+            event, from, to);
+    return cuckooormolu_result_of(code);
+}
+
+/*
+ * Answers a request of the bank. Granted: both banks are at the next moment, the
+ * other without an event edge, and the named words of both scratches are 0.
+ * Denied: the same, without effects, if the terms have a K line for the event,
+ * else all memory is as lent. Refused with 6, 7, 8 or 9: all memory is as lent.
+ */
+CUCKOOORMOLU_USED static inline struct cuckooormolu_result
+cuckooormolu_banks_request(const uint16_t *terms, size_t terms_length,
+                           uint64_t *relations, size_t relations_length,
+                           uint64_t *own, size_t own_length,
+                           uint64_t *other, size_t other_length,
+                           uint64_t *scratch, size_t scratch_length,
+                           uint64_t *spare, size_t spare_length,
+                           size_t event, size_t from, size_t to)
+{
+    CUCKOOORMOLU_LENT_BANKS
+    CUCKOOORMOLU_LENT_SCRATCHES
+    const struct cuckooormolu_span spans[] = {CUCKOOORMOLU_SPANS_OF_A_CALL};
+    size_t code = CUCKOOORMOLU_REFUSED_SHORT;
+    if (cuckooormolu_each_apart(CUCKOOORMOLU_COUNTED(spans)))
+        code = cuckooormolu_raw_banks_request(
+            terms, terms_length, relations, relations_length, own, own_length,
+            other, other_length, scratch, scratch_length, spare, spare_length,
+            event, from, to);
+    return cuckooormolu_result_of(code);
+}
+
+/*
+ * Answers a list of records in order, each as a single request of the bank would
+ * be. Done and refused as cuckooormolu_set_list.
+ */
+CUCKOOORMOLU_USED static inline struct cuckooormolu_result
+cuckooormolu_banks_set_list(const uint16_t *terms, size_t terms_length,
+                            uint64_t *relations, size_t relations_length,
+                            uint64_t *own, size_t own_length,
+                            uint64_t *other, size_t other_length,
+                            uint64_t *scratch, size_t scratch_length,
+                            uint64_t *spare, size_t spare_length,
+                            struct cuckooormolu_record *records,
+                            size_t records_length, size_t *count)
+{
+    CUCKOOORMOLU_LENT_BANKS
+    CUCKOOORMOLU_LENT_SCRATCHES
+    struct cuckooormolu_record no_records = cuckooormolu_record_of(0, 0, 0);
+    if (records == NULL) {
+        records = &no_records;
+        records_length = 0;
+    }
+    const struct cuckooormolu_span list = CUCKOOORMOLU_SPAN(records);
+    const struct cuckooormolu_span spans[] = {CUCKOOORMOLU_SPANS_OF_A_CALL};
+    size_t number = 0;
+    size_t code = CUCKOOORMOLU_REFUSED_SHORT;
+    if (cuckooormolu_apart_from_each(list, CUCKOOORMOLU_COUNTED(spans))) {
+        cuckooormolu_unanswer(records, records_length);
+        if (cuckooormolu_each_apart(CUCKOOORMOLU_COUNTED(spans)))
+            code = cuckooormolu_raw_banks_set_list(
+                terms, terms_length, relations, relations_length, own,
+                own_length, other, other_length, scratch, scratch_length,
+                spare, spare_length, records, records_length, &number);
+    }
+    return cuckooormolu_told(code, number, count);
+}
+
 #undef CUCKOOORMOLU_LENT
 #undef CUCKOOORMOLU_APART
 #undef CUCKOOORMOLU_ALL_APART
 #undef CUCKOOORMOLU_APART_FROM
+#undef CUCKOOORMOLU_LENT_BANKS
+#undef CUCKOOORMOLU_LENT_SCRATCHES
+#undef CUCKOOORMOLU_SPAN
+#undef CUCKOOORMOLU_SPANS_OF_BANKS
+#undef CUCKOOORMOLU_SPANS_OF_A_CALL
+#undef CUCKOOORMOLU_COUNTED
 
 /*
  * The same over a monitor's memory, so that no length is typed. A null monitor
@@ -788,10 +1101,109 @@ cuckooormolu_monitor_set_list(struct cuckooormolu *m,
                                  count);
 }
 
+/*
+ * The same over the memory of two banks: a call of one bank says left or right,
+ * and reading, opening and revising are for both. Null banks are refused with 6.
+ */
+#define CUCKOOORMOLU_OWN(b, bank) \
+    CUCKOOORMOLU_PART(b, bank), CUCKOOORMOLU_OWN_WORDS
+#define CUCKOOORMOLU_SHARED(b)                              \
+    CUCKOOORMOLU_TERMS(b), CUCKOOORMOLU_PART(b, relations), \
+        CUCKOOORMOLU_RELATION_WORDS
+#define CUCKOOORMOLU_BOTH(b)                           \
+    CUCKOOORMOLU_SHARED(b), CUCKOOORMOLU_OWN(b, left), \
+        CUCKOOORMOLU_OWN(b, right)
+#define CUCKOOORMOLU_BANK(b, bank, beside)                                  \
+    CUCKOOORMOLU_SHARED(b), CUCKOOORMOLU_OWN(b, bank),                      \
+        CUCKOOORMOLU_OWN(b, beside), CUCKOOORMOLU_PART(b, bank##_scratch),  \
+        CUCKOOORMOLU_SCRATCH_WORDS, CUCKOOORMOLU_PART(b, beside##_scratch), \
+        CUCKOOORMOLU_SCRATCH_WORDS
+
+CUCKOOORMOLU_USED static inline struct cuckooormolu_result
+cuckooormolu_both_read(struct cuckooormolu_banks *b, const void *text,
+                       size_t length, size_t *line)
+{
+    return cuckooormolu_banks_read((const uint8_t *)text, length,
+                                   CUCKOOORMOLU_BOTH(b), line);
+}
+
+CUCKOOORMOLU_USED static inline struct cuckooormolu_result
+cuckooormolu_both_open(struct cuckooormolu_banks *b)
+{
+    return cuckooormolu_banks_open(CUCKOOORMOLU_BOTH(b));
+}
+
+/*
+ * The new terms are those that were read into `next`, other banks. Done: they go
+ * on with what is filled in there, and `next` is used in the place of `b`, which
+ * is as lent. Where both are the same banks, it is refused with 6.
+ */
+CUCKOOORMOLU_USED static inline struct cuckooormolu_result
+cuckooormolu_both_revise(const struct cuckooormolu_banks *b,
+                         struct cuckooormolu_banks *next)
+{
+    return cuckooormolu_banks_revise(CUCKOOORMOLU_BOTH(b),
+                                     CUCKOOORMOLU_BOTH(next));
+}
+
+CUCKOOORMOLU_USED static inline struct cuckooormolu_result
+cuckooormolu_left_look(const struct cuckooormolu_banks *b, size_t event,
+                       size_t from, size_t to)
+{
+    return cuckooormolu_banks_look(CUCKOOORMOLU_BANK(b, left, right), event,
+                                   from, to);
+}
+
+CUCKOOORMOLU_USED static inline struct cuckooormolu_result
+cuckooormolu_right_look(const struct cuckooormolu_banks *b, size_t event,
+                        size_t from, size_t to)
+{
+    return cuckooormolu_banks_look(CUCKOOORMOLU_BANK(b, right, left), event,
+                                   from, to);
+}
+
+CUCKOOORMOLU_USED static inline struct cuckooormolu_result
+cuckooormolu_left_request(struct cuckooormolu_banks *b, size_t event,
+                          size_t from, size_t to)
+{
+    return cuckooormolu_banks_request(CUCKOOORMOLU_BANK(b, left, right), event,
+                                      from, to);
+}
+
+CUCKOOORMOLU_USED static inline struct cuckooormolu_result
+cuckooormolu_right_request(struct cuckooormolu_banks *b, size_t event,
+                           size_t from, size_t to)
+{
+    return cuckooormolu_banks_request(CUCKOOORMOLU_BANK(b, right, left), event,
+                                      from, to);
+}
+
+CUCKOOORMOLU_USED static inline struct cuckooormolu_result
+cuckooormolu_left_set_list(struct cuckooormolu_banks *b,
+                           struct cuckooormolu_record *records, size_t length,
+                           size_t *count)
+{
+    return cuckooormolu_banks_set_list(CUCKOOORMOLU_BANK(b, left, right),
+                                       records, length, count);
+}
+
+CUCKOOORMOLU_USED static inline struct cuckooormolu_result
+cuckooormolu_right_set_list(struct cuckooormolu_banks *b,
+                            struct cuckooormolu_record *records, size_t length,
+                            size_t *count)
+{
+    return cuckooormolu_banks_set_list(CUCKOOORMOLU_BANK(b, right, left),
+                                       records, length, count);
+}
+
 #undef CUCKOOORMOLU_PART
 #undef CUCKOOORMOLU_TERMS
 #undef CUCKOOORMOLU_STATE
 #undef CUCKOOORMOLU_SCRATCH
+#undef CUCKOOORMOLU_OWN
+#undef CUCKOOORMOLU_SHARED
+#undef CUCKOOORMOLU_BOTH
+#undef CUCKOOORMOLU_BANK
 #undef CUCKOOORMOLU_ASSERT
 #undef CUCKOOORMOLU_USED
 #undef CUCKOOORMOLU_RETAINED

@@ -23,14 +23,14 @@ judge() {
     fi
 }
 
-# compiling WANTED NAME STATEMENT COMPILER...: so of a statement over a monitor m
-# and a record r.
+# compiling WANTED NAME STATEMENT COMPILER...: so of a statement over a monitor m,
+# banks b and a record r.
 compiling() {
+    heading='void host(struct cuckooormolu *m, struct cuckooormolu_banks *b, struct cuckooormolu_record *r)'
     {
         echo '#include "cuckooormolu.h"'
-        echo 'void host(struct cuckooormolu *m, struct cuckooormolu_record *r);'
-        echo 'void host(struct cuckooormolu *m, struct cuckooormolu_record *r)'
-        echo "{ m->state[0] = r->event; $3 }"
+        printf '%s;\n%s\n' "$heading" "$heading"
+        echo "{ m->state[0] = b->left[0] = r->event; $3 }"
     } >"$work/host.c"
     wanted=$1 name=$2
     shift 3
@@ -56,6 +56,30 @@ compiling not "nor a call's predicate of it" "if (cuckooormolu_granted(r->answer
 compiling not "nor a call's words of it" "if (*cuckooormolu_words(r->answer)) $then" "$@"
 compiling not "nor an answer's predicate of a call" "if (cuckooormolu_answer_granted($call)) $then" "$@"
 compiling not "nor one that is not looked at" "cuckooormolu_answer_granted(r->answer);" "$@"
+
+left='cuckooormolu_left_request(b, 0, 0, 0)'
+compiling ok "a grant of a bank that is asked for compiles" "if (cuckooormolu_granted($left)) $then" "$@"
+compiling not "a bank's call as a truth value does not" "if ($left) $then" "$@"
+for call in "$left" 'cuckooormolu_right_request(b, 0, 0, 0)' 'cuckooormolu_left_look(b, 0, 0, 0)' \
+    'cuckooormolu_right_set_list(b, r, 1, NULL)' 'cuckooormolu_both_read(b, "", 0, NULL)' \
+    'cuckooormolu_both_open(b)' 'cuckooormolu_both_revise(b, b)'; do
+    compiling ok "${call%%(*} that is looked at compiles" "if (cuckooormolu_refusal($call)) $then" "$@"
+    compiling not "and one that is not looked at does not" "$call;" "$@"
+done
+compiling not "nor a request that names no bank" \
+    "if (cuckooormolu_granted(cuckooormolu_both_request(b, 0, 0, 0))) $then" "$@"
+compiling not "nor a bank by its number" \
+    "if (cuckooormolu_granted(cuckooormolu_left_request(b, 1, 0, 0, 0))) $then" "$@"
+compiling not "nor one bank's words as banks" \
+    "if (cuckooormolu_granted(cuckooormolu_left_request(b->left, 0, 0, 0))) $then" "$@"
+compiling not "nor a monitor as banks" "if (cuckooormolu_granted(cuckooormolu_left_request(m, 0, 0, 0))) $then" "$@"
+compiling not "nor banks as a monitor" "if (cuckooormolu_granted(cuckooormolu_monitor_request(b, 0, 0, 0))) $then" "$@"
+compiling not "nor a monitor as the new terms of banks" \
+    "if (cuckooormolu_done(cuckooormolu_both_revise(b, m))) $then" "$@"
+compiling not "nor a request of banks that may only be read" "const struct cuckooormolu_banks *c = b;
+    if (cuckooormolu_granted(cuckooormolu_left_request(c, 0, 0, 0))) $then" "$@"
+compiling ok "a look at them compiles" "const struct cuckooormolu_banks *c = b;
+    if (cuckooormolu_granted(cuckooormolu_left_look(c, 0, 0, 0))) $then" "$@"
 
 # body NAME: the standard input as the body of a host.
 body() {

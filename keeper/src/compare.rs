@@ -1,5 +1,6 @@
 //! Holds another implementation against the record, call by call.
 
+pub mod banks;
 mod lists;
 mod revisions;
 mod written;

@@ -1,5 +1,6 @@
 //! Seeded cases: sound texts with calls, damaged texts, damaged memory.
 
+pub mod banks;
 pub mod damage;
 pub mod formulas;
 pub mod kept;
@@ -9,6 +10,8 @@ pub mod revised;
 pub mod size;
 pub mod stored;
 pub mod strangers;
+pub mod two_runs;
+mod wakeful;
 pub mod words;
 
 use crate::record::{Call, Record};
@@ -58,10 +61,10 @@ impl Rng {
 
 /// A text and what is done after reading it.
 #[derive(Clone, Debug, PartialEq, Eq)]
-pub struct Case {
+pub struct Case<S = Step> {
     pub seed: u64,
     pub text: Vec<u8>,
-    pub steps: Vec<Step>,
+    pub steps: Vec<S>,
 }
 
 impl Case {
@@ -74,7 +77,7 @@ impl Case {
     }
 }
 
-impl fmt::Display for Case {
+impl<S: fmt::Display> fmt::Display for Case<S> {
     fn fmt(&self, out: &mut fmt::Formatter<'_>) -> fmt::Result {
         writeln!(out, "seed {}", self.seed)?;
         for line in self.text.split_inclusive(|&byte| byte == b'\n') {

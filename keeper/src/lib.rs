@@ -9,6 +9,7 @@
 //!   and the meaning of a formula over it; new terms while it goes on
 //! * `set_list`: many requests in one call
 //! * `step`: calls, and new terms among them
+//! * `banks`: two banks with a record each, their memory and their steps
 //! * `expect`: what each call over lent memory must give
 //! * `program`: what the program must print
 //! * `cases`: what the program of cases must print
@@ -16,6 +17,7 @@
 //! * `compare`: holds another implementation against all this
 //! * `shrink`: makes a failing case small
 
+pub mod banks;
 pub mod cases;
 pub mod compare;
 pub mod expect;

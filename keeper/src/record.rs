@@ -131,6 +131,11 @@ impl Record {
         self.call(call.look, call.event, call.from, call.to, call.scratch_words)
     }
 
+    /// A moment that was made elsewhere: these relations, and no event edge.
+    pub fn pass(&mut self, edges: BTreeSet<Edge>) {
+        self.graphs.push(Graph { edges, event: None });
+    }
+
     /// Whether the event's policy holds now, at the initiator, with variable 0
     /// standing for the target.
     pub fn permits(&self, event: usize, from: usize, to: usize) -> bool {

@@ -1,6 +1,6 @@
 //! A set list: a lent list of request records, answered in order.
 
-use crate::record::{Answer, Record};
+use crate::record::{Answer, Call, Record};
 use crate::terms::memory::SCRATCH_WORDS;
 use crate::terms::Refusal;
 
@@ -23,8 +23,8 @@ pub fn number(answer: Answer) -> u32 {
     }
 }
 
-/// Fills in each answer in order and gives how many were granted. The checks
-/// come first: short scratch leaves every item as it is.
+/// Answers the items by a record. The checks come first: short scratch leaves
+/// every item as it is.
 pub fn answer(
     record: &mut Record,
     items: &mut [Item],
@@ -33,12 +33,17 @@ pub fn answer(
     if scratch_words < SCRATCH_WORDS {
         return Err(Refusal::plain(6));
     }
+    Ok(fill(items, |call| record.answer(call)))
+}
+
+/// Fills in each answer in order and gives how many were granted.
+pub fn fill(items: &mut [Item], mut ask: impl FnMut(&Call) -> Answer) -> usize {
     let mut granted = 0;
     for item in items {
         let [event, from, to] = [item.event, item.from, item.to].map(|number| number as usize);
-        let answer = record.call(false, event, from, to, scratch_words);
+        let answer = ask(&Call::request(event, from, to));
         granted += usize::from(answer == Answer::Grant);
         item.answer = number(answer);
     }
-    Ok(granted)
+    granted
 }

@@ -1,19 +1,21 @@
 //! Makes a failing case small.
 
+mod plainer;
 mod smaller;
 
-use crate::record::Call;
-use crate::step::{Revision, Step};
-use crate::terms::memory::SCRATCH_WORDS;
-use crate::terms::{self, File, Terms};
-use smaller::{candidates, Less};
+pub use plainer::Shrinks;
+pub use smaller::Less;
+
+use crate::terms;
+use smaller::candidates;
 
 /// Drops steps, lines and leading zeros, makes readable terms smaller and steps
 /// plainer, as long as `fails` stays true of what is left. The given case must
 /// fail.
-pub fn shrink<F>(text: &[u8], steps: &[Step], mut fails: F) -> (Vec<u8>, Vec<Step>)
+pub fn shrink<S, F>(text: &[u8], steps: &[S], mut fails: F) -> (Vec<u8>, Vec<S>)
 where
-    F: FnMut(&[u8], &[Step]) -> bool,
+    S: Shrinks,
+    F: FnMut(&[u8], &[S]) -> bool,
 {
     let (mut text, mut steps) = (text.to_vec(), steps.to_vec());
     loop {
@@ -60,15 +62,10 @@ fn drop_zeros(lines: &mut Vec<Vec<u8>>, fails: impl FnMut(&[Vec<u8>]) -> bool) -
     each(lines, fails, |line| vec![terms::normal(line)])
 }
 
-/// Puts the smallest numbers into calls and less into revisions as long as
-/// `fails` stays true. Says whether any step was changed.
-fn plainer_steps(steps: &mut Vec<Step>, fails: impl FnMut(&[Step]) -> bool) -> bool {
-    each(steps, fails, |step| match step {
-        Step::Call(call) => plainer_calls(call).map(Step::Call).to_vec(),
-        Step::Revision(revision) => {
-            smaller_revisions(revision).into_iter().map(Step::Revision).collect()
-        }
-    })
+/// Makes steps plainer as long as `fails` stays true. Says whether any step was
+/// changed.
+fn plainer_steps<S: Shrinks>(steps: &mut Vec<S>, fails: impl FnMut(&[S]) -> bool) -> bool {
+    each(steps, fails, S::plainer)
 }
 
 /// Goes through the items and puts plainer ones in their places, as long as
@@ -96,26 +93,6 @@ fn each<T: Clone + PartialEq>(
     changed
 }
 
-fn plainer_calls(call: &Call) -> [Call; 5] {
-    [
-        Call { event: 0, ..*call },
-        Call { from: 0, ..*call },
-        Call { to: 0, ..*call },
-        Call { look: false, ..*call },
-        Call { scratch_words: SCRATCH_WORDS, ..*call },
-    ]
-}
-
-/// Revisions that lend just what is named, and those of smaller terms.
-fn smaller_revisions(revision: &Revision) -> Vec<Revision> {
-    let Some(terms) = revision.said() else { return Vec::new() };
-    let lengths = Revision { terms: revision.terms.clone(), ..Revision::to(&terms) };
-    let mut all = vec![lengths, revision.with_terms(&terms)];
-    let smaller = candidates(&File { terms, past: None }).into_iter().map(|file| file.terms);
-    all.extend(smaller.filter(Terms::is_sound).map(|terms| revision.with_terms(&terms)));
-    all
-}
-
 /// Takes the first smaller readable text that still fails, again and again.
 fn smaller_terms(text: &mut Vec<u8>, mut fails: impl FnMut(&[u8]) -> bool) -> bool {
     let mut changed = false;
@@ -135,15 +112,16 @@ fn smaller_terms(text: &mut Vec<u8>, mut fails: impl FnMut(&[u8]) -> bool) -> bo
 
 /// Takes members, events and relations out of the text and out of every
 /// revision at once, again and again.
-fn smaller_sizes<F>(text: &mut Vec<u8>, steps: &mut Vec<Step>, fails: &mut F) -> bool
+fn smaller_sizes<S, F>(text: &mut Vec<u8>, steps: &mut Vec<S>, fails: &mut F) -> bool
 where
-    F: FnMut(&[u8], &[Step]) -> bool,
+    S: Shrinks,
+    F: FnMut(&[u8], &[S]) -> bool,
 {
     let mut changed = false;
     'again: while let Ok(file) = terms::read(text) {
         for less in Less::ALL {
             let Some(smaller) = less.file(&file).map(|file| file.text()) else { continue };
-            let others: Vec<Step> = steps.iter().map(|step| less.step(step)).collect();
+            let others: Vec<S> = steps.iter().map(|step| step.with_less(less)).collect();
             if terms::read(&smaller).is_ok() && fails(&smaller, &others) {
                 (*text, *steps) = (smaller, others);
                 changed = true;

@@ -14,7 +14,7 @@ use std::collections::BTreeSet;
 pub use event::EventEdge;
 pub use file::{File, Past, Tables};
 pub use normal::normal;
-pub use read::read;
+pub use read::{read, read_old};
 pub use write::{store, write};
 
 pub const MOST_MEMBERS: usize = 64;

@@ -23,6 +23,7 @@ chmod 755 "$work"
 cp "$top"/bindings/c/*.[ch] "$here"/*.[ch] "$work"
 cp "$folder/cuckooormolu.h" "$work"
 sh "$here/seeds.sh" "$work/seeds"
+invariants="$work/invariants.c $work/banks.c"
 revise=$(sed -n 's/^size_t cuckooormolu_raw_revise(.*/-DREVISE/p' "$folder/cuckooormolu.h")
 
 # has COMMAND...: whether the words compile a program; else the build is left out.
@@ -45,7 +46,7 @@ replayed() {
 
 # reference COUNT: the same of the proved archive.
 reference() {
-    cc -std=c11 -O2 $revise -o "$work/proved" "$work/invariants.c" "$work/replay.c" "$proved"
+    cc -std=c11 -O2 $revise -o "$work/proved" $invariants "$work/replay.c" "$proved"
     replayed "$1" "$work/proved"
 }
 
@@ -60,8 +61,7 @@ build() {
     for source in "$work/example.c" "$work"/test*.c; do
         "$@" -std=c11 $warnings -o "$work/$name/$(basename "$source" .c)" "$source" "$work/$name/cuckooormolu.o"
     done
-    "$@" -std=c11 $warnings $revise -o "$work/$name/replay" "$work/invariants.c" "$work/replay.c" \
-        "$work/$name/cuckooormolu.o"
+    "$@" -std=c11 $warnings $revise -o "$work/$name/replay" $invariants "$work/replay.c" "$work/$name/cuckooormolu.o"
 }
 
 # hold NAME COUNT DIGEST [EMULATOR]: a build passes the tests in C, answers the examples and the pages as the keeper

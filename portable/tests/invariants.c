@@ -1,10 +1,12 @@
 /*
  * An input is a terms text of either form, a byte 0, and calls of four bytes
- * each: what to do, an event, an initiator and a target. Only the archive's own
- * functions are called, on memory of the exact length.
+ * each: what to do, and in which of two banks, an event, an initiator and a
+ * target. Only the archive's own functions are called, on memory of the exact
+ * length.
  */
 #include "invariants.h"
 
+#include "banks.h"
 #include "memory.h"
 
 /* Time grows with the members to the power of nested binds, so a text with more
@@ -18,7 +20,7 @@
 uint64_t digest = 1;
 
 /* Keeps to 31 bits of each factor, so that no product leaves its 64 bits. */
-static void tell(uint64_t number)
+void tell(uint64_t number)
 {
     for (int half = 0; half < 2; half++) {
         uint64_t mixed = (digest >> 32 ^ (number >> 32 * half)) & INT32_MAX;
@@ -262,6 +264,7 @@ int LLVMFuzzerTestOneInput(const uint8_t *input, size_t length)
 {
     const uint8_t *end = length == 0 ? NULL : (const uint8_t *)memchr(input, 0, length);
     size_t text_length = end == NULL ? length : (size_t)(end - input);
+    const uint8_t *first = end == NULL ? input : end + 1;
     size_t calls = end == NULL ? 0 : (length - text_length - 1) / 4;
     if (is_slow(input, text_length))
         return 0;
@@ -272,9 +275,11 @@ int LLVMFuzzerTestOneInput(const uint8_t *input, size_t length)
     tell(code);
     tell(line);
     HOLDS(stays_beyond(m));
+    calls = calls < MOST_CALLS ? calls : MOST_CALLS;
+    hold_banks(text, text_length, m, code, line, first, calls);
     if (code == CUCKOOORMOLU_DONE) {
         HOLDS(line == 0 && check(m) == code);
-        make(m, end + 1, calls < MOST_CALLS ? calls : MOST_CALLS, text[0] != 'S');
+        make(m, first, calls, text[0] != 'S');
     } else {
         HOLDS(line > 0 && code != CUCKOOORMOLU_REFUSED_SHORT && same(before, m));
     }

@@ -11,6 +11,9 @@
  * machine. */
 extern uint64_t digest;
 
+/* Takes a number into the digest. */
+void tell(uint64_t number);
+
 /* Makes the calls of an input, and stops the program where something does not
  * hold. The name is libFuzzer's. */
 int LLVMFuzzerTestOneInput(const uint8_t *input, size_t length);

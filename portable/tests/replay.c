@@ -51,8 +51,8 @@ static void change(struct input *input)
     default:
         if (input->bytes[at] >= '0' && input->bytes[at] <= '9')
             input->bytes[at] = (uint8_t)('0' + chance(10));
-        else if (input->bytes[at] < 8)
-            input->bytes[at] = (uint8_t)chance(8);
+        else if (input->bytes[at] < 16)
+            input->bytes[at] = (uint8_t)chance(16);
         break;
     }
 }

@@ -1,9 +1,12 @@
 //! Every acceptance and every verdict, twice: from the proved library and from
 //! the keeper of the whole record. Where they differ, it is an error.
 
+mod banks;
 mod revising;
 mod stored;
 
+pub use banks::Banks;
+use revising::allowed;
 pub use revising::Allowed;
 
 use crate::stop::Stop;
@@ -147,16 +150,19 @@ impl Both {
     }
 
     fn relations_agree(&self) -> bool {
-        let (state, graph) = (self.monitor.state(), self.record.last());
-        let event = state.event().map(|edge| {
-            let proved::Request { event, from, to } = edge.request;
-            let denied = edge.answer == proved::Answer::Deny;
-            EventEdge { event: event.into(), from: from.into(), to: to.into(), denied }
-        });
-        let edges =
-            state.edges().map(|edge| (edge.relation.into(), edge.from.into(), edge.to.into()));
-        event == graph.event && edges.eq(graph.edges.iter().copied())
+        same_graph(self.monitor.state(), self.record.last())
     }
+}
+
+/// Whether a state has the relations and the event of a graph.
+fn same_graph(state: &proved::State, graph: &Graph) -> bool {
+    let event = state.event().map(|edge| {
+        let proved::Request { event, from, to } = edge.request;
+        let denied = edge.answer == proved::Answer::Deny;
+        EventEdge { event: event.into(), from: from.into(), to: to.into(), denied }
+    });
+    let edges = state.edges().map(|edge| (edge.relation.into(), edge.from.into(), edge.to.into()));
+    event == graph.event && edges.eq(graph.edges.iter().copied())
 }
 
 /// A request as the binding takes it; a number that is too large for it names

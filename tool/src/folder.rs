@@ -1,8 +1,9 @@
 //! The files of a folder: terms.say or terms.tsv, requests.say or requests.tsv,
 //! names.tsv.
 
+use crate::bank::Bank;
 use crate::names::Names;
-use crate::requests;
+use crate::requests::{self, Requests};
 use crate::source::mistake::{Mistake, Mistaken};
 use crate::source::{compile, Compiled};
 use crate::stop::Stop;
@@ -32,7 +33,11 @@ pub struct Folder {
     pub source: Option<Sourced>,
     /// The text of the terms, of either form.
     pub terms: Vec<u8>,
+    /// Where the requests come from, and their lines.
+    pub asked: PathBuf,
     pub requests: Vec<u8>,
+    /// The bank of each request; empty if they name none.
+    pub banks: Vec<Bank>,
     pub names: Names,
 }
 
@@ -67,20 +72,18 @@ impl Folder {
             up_to_date(&terms, &file, &source)?;
         }
         let names = Names::read(&text(&folder.join(NAMES))?).map_err(Stop::Failed)?;
-        let requests = asked(&folder, &terms, &names)?;
-        Ok(Folder { path: folder, file, source: None, terms, requests, names })
+        Folder { path: folder, file, terms, names, ..Folder::default() }.with_requests()
     }
 
     /// The same folder with another text of its source, which stands in no file.
     pub fn with_source(&self, text: &str) -> Result<Folder, Vec<Mistake>> {
         let compiled = compile(text)?;
         Ok(Folder {
-            path: self.path.clone(),
             file: self.path.join(SOURCE),
             terms: compiled.text(),
-            requests: self.requests.clone(),
             names: compiled.names.clone(),
             source: Some(Sourced { text: text.to_string(), compiled }),
+            ..self.clone()
         })
     }
 
@@ -92,8 +95,51 @@ impl Folder {
         let folder = folder.with_source(&text).map_err(|mistakes| {
             Stop::Mistaken(Mistaken { file: file.display().to_string(), text, mistakes })
         })?;
-        let requests = asked(&folder.path, &folder.terms, &folder.names)?;
-        Ok(Folder { file: file.to_path_buf(), requests, ..folder })
+        Folder { file: file.to_path_buf(), ..folder }.with_requests()
+    }
+
+    /// With the folder's own requests: those of requests.say, or else of requests.tsv.
+    fn with_requests(self) -> Result<Folder, Stop> {
+        let spoken = self.path.join(SPOKEN);
+        if spoken.is_file() {
+            let text = text(&spoken)?;
+            return self.asking(spoken, &text);
+        }
+        let asked = self.path.join(REQUESTS);
+        Ok(Folder { requests: opened(&asked)?, asked, ..self })
+    }
+
+    /// With requests by name instead of its own, which come from somewhere. Under terms
+    /// that are refused nothing is asked.
+    pub fn asking(self, asked: PathBuf, text: &str) -> Result<Folder, Stop> {
+        let Requests { lines, banks } = match keeper::terms::read(&self.terms) {
+            Ok(read) => {
+                requests::read(&asked.display().to_string(), text, &read.terms, &self.names)?
+            }
+            Err(_) => Requests::default(),
+        };
+        Ok(Folder { asked, requests: lines, banks, ..self })
+    }
+
+    /// With the requests of a file instead of its own.
+    pub fn asking_file(self, file: &Path) -> Result<Folder, Stop> {
+        if !file.is_file() {
+            return Err(Stop::Failed(format!("there is no file {}", file.display())));
+        }
+        let text = text(file)?;
+        self.asking(file.to_path_buf(), &text)
+    }
+
+    /// Stops what works with one bank where the requests name two.
+    pub fn of_one_bank(&self) -> Result<(), Stop> {
+        if self.banks.is_empty() {
+            return Ok(());
+        }
+        Err(Stop::Failed(format!(
+            "{} names banks, and this works with one bank only; `cuckooormolu run`, `why` and `try` work with \
+             two, and at the prompt of `try` there are `who` and `revise`, too",
+            self.asked.display()
+        )))
     }
 
     /// What compiling warns of, at its place in the source.
@@ -130,24 +176,6 @@ pub fn folder_of(path: &Path) -> PathBuf {
 pub fn name(folder: &Path) -> String {
     let whole = folder.canonicalize().unwrap_or_else(|_| folder.to_path_buf());
     whole.file_name().map_or_else(|| "terms".into(), |name| name.to_string_lossy().into_owned())
-}
-
-/// The requests of a folder: those of requests.say, or else of requests.tsv.
-fn asked(folder: &Path, terms: &[u8], names: &Names) -> Result<Vec<u8>, Stop> {
-    let spoken = folder.join(SPOKEN);
-    if !spoken.is_file() {
-        return opened(&folder.join(REQUESTS));
-    }
-    named(&spoken.display().to_string(), &text(&spoken)?, terms, names)
-}
-
-/// Requests by name as lines of requests.tsv. Under terms that are refused nothing
-/// is asked.
-pub fn named(file: &str, text: &str, terms: &[u8], names: &Names) -> Result<Vec<u8>, Stop> {
-    match keeper::terms::read(terms) {
-        Ok(read) => requests::read(file, text, &read.terms, names),
-        Err(_) => Ok(Vec::new()),
-    }
 }
 
 /// Why a folder has no terms; a file with nearly the right name is pointed at.

@@ -2,10 +2,11 @@
 //! explained and drawn.
 //!
 //! * `both`: every acceptance and verdict, from the proved library and from the
-//!   keeper of the whole record
+//!   keeper of the whole record; `bank`: the banks that a request may be of
 //! * `names`, `folder`, `storing`: the names of members, relations and events; a folder's files
 //! * `source`: the source language, compiled and written back
 //! * `replay`, `words`, `matrix`: the requests made one by one; words for them; who may do what
+//! * `session`: the same for two banks, too
 //! * `why`: why a request is granted or denied
 //! * `report`: a folder's story as one page
 //! * `requests`: requests by name
@@ -21,6 +22,7 @@
 
 pub mod aloud;
 pub mod arguments;
+pub mod bank;
 pub mod both;
 pub mod check;
 pub mod commands;
@@ -36,6 +38,7 @@ pub mod replay;
 pub mod report;
 pub mod requests;
 pub mod revise;
+pub mod session;
 pub mod source;
 pub mod stop;
 pub mod storing;

@@ -36,10 +36,22 @@ impl Matrix {
         from: Vec<usize>,
         to: Vec<usize>,
     ) -> Result<Matrix, Stop> {
-        let may = |asks, asked| Ok(both.look(event, asks, asked)? == Verdict::Grant);
+        let moment = both.record().graphs().len() - 1;
+        Matrix::looked(event, moment, from, to, |asks, asked| both.look(event, asks, asked))
+    }
+
+    /// The same by any looks at the event.
+    pub fn looked(
+        event: usize,
+        moment: usize,
+        from: Vec<usize>,
+        to: Vec<usize>,
+        look: impl Fn(usize, usize) -> Result<Verdict, Stop>,
+    ) -> Result<Matrix, Stop> {
+        let may = |asks, asked| Ok(look(asks, asked)? == Verdict::Grant);
         let row = |asks: &usize| to.iter().map(|asked| may(*asks, *asked)).collect();
         let rows = from.iter().map(row).collect::<Result<_, Stop>>()?;
-        Ok(Matrix { event, moment: both.record().graphs().len() - 1, rows, from, to })
+        Ok(Matrix { event, moment, rows, from, to })
     }
 
     /// How many pairs are allowed.

@@ -1,5 +1,6 @@
 //! The requests of a folder, made one after the other.
 
+use crate::bank::Bank;
 use crate::both::{Both, Verdict};
 use crate::folder::{Folder, Request};
 use crate::stop::Stop;
@@ -9,6 +10,8 @@ use crate::stop::Stop;
 pub struct Step {
     /// Its line, from 1.
     pub line: usize,
+    /// Its bank, where there are two.
+    pub bank: Option<Bank>,
     pub request: Request,
     pub verdict: Verdict,
     /// The moment at which it was asked.
@@ -24,8 +27,9 @@ pub struct Replay {
 }
 
 impl Replay {
-    /// Reads the terms and makes all requests.
+    /// Reads the terms and makes all requests. Requests of two banks are refused.
     pub fn of(folder: &Folder) -> Result<Replay, Stop> {
+        folder.of_one_bank()?;
         let mut replay = Replay::before(folder)?;
         for request in folder.requests() {
             replay.make(request)?;
@@ -46,7 +50,8 @@ impl Replay {
             Request::Malformed => Verdict::Refused(1),
         };
         let made = self.moment() > moment;
-        let step = Step { line: self.steps.len() + 1, request, verdict, moment, made };
+        let line = self.steps.len() + 1;
+        let step = Step { line, bank: None, request, verdict, moment, made };
         self.steps.push(step);
         Ok(step)
     }
@@ -61,10 +66,5 @@ impl Replay {
         let first = self.steps.partition_point(|step| step.moment < moment);
         let end = self.steps.partition_point(|step| step.moment <= moment);
         &self.steps[first..end]
-    }
-
-    /// Whether every request was granted.
-    pub fn all_granted(&self) -> bool {
-        self.steps.iter().all(|step| step.verdict == Verdict::Grant)
     }
 }

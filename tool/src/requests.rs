@@ -1,35 +1,82 @@
 //! Requests by name, one a line: `load ben warm-pad`. So they stand in
-//! requests.say, and come from standard input.
+//! requests.say, and come from standard input. Each may name its bank first, or none
+//! does: `left load ben warm-pad`.
 
+use crate::bank::Bank;
 use crate::folder::Request;
 use crate::names::{did_you_mean, Kind, Names};
 use crate::stop::Stop;
 use crate::trial::typed::split;
 use keeper::terms::Terms;
 
-/// The lines of requests.tsv that lines with names stand for. `#` begins a comment,
-/// blank lines are passed over, and lines of requests.tsv stay what they are. Every
-/// line that can't be read is told.
-pub fn read(file: &str, text: &str, terms: &Terms, names: &Names) -> Result<Vec<u8>, Stop> {
-    let (mut lines, mut wrong) = (String::new(), Vec::new());
+/// What a file of requests asks for.
+#[derive(Clone, Debug, Default, PartialEq, Eq)]
+pub struct Requests {
+    /// Lines of requests.tsv.
+    pub lines: Vec<u8>,
+    /// The bank of each line; empty if they name none.
+    pub banks: Vec<Bank>,
+}
+
+/// The requests that lines with names stand for. `#` begins a comment, blank lines are
+/// passed over, and lines of requests.tsv stay what they are. Every line that can't be
+/// read is told, and the first that names a bank where the first of all does not, or
+/// the other way round.
+pub fn read(file: &str, text: &str, terms: &Terms, names: &Names) -> Result<Requests, Stop> {
+    let (mut requests, mut wrong) = (Requests::default(), Vec::new());
+    let (mut first, mut mixed) = (None, false);
     for (index, line) in text.lines().enumerate() {
-        if line.starts_with("R\t") {
-            lines.push_str(&format!("{line}\n"));
-            continue;
-        }
-        let words = split(bare(line));
-        let words: Vec<&str> = words.iter().map(String::as_str).collect();
-        match ask(&words, terms, names) {
-            Ok(Some([event, from, to])) => lines.push_str(&format!("R\t{event}\t{from}\t{to}\n")),
+        let asked = match line.starts_with("R\t") {
+            true => Ok(Some((None, format!("{line}\n")))),
+            false => spoken(line, terms, names),
+        };
+        match asked {
+            Ok(Some((bank, line))) => {
+                let why = mistaken(*first.get_or_insert((index + 1, bank)), bank);
+                // One line that differs is enough to be told.
+                let why = why.filter(|_| !mixed);
+                mixed |= why.is_some();
+                wrong.extend(why.map(|why| (index + 1, why)));
+                requests.lines.extend(line.into_bytes());
+                requests.banks.extend(bank);
+            }
             Ok(None) => {}
-            Err(why) => wrong.push(format!("{file}:{}: {why}", index + 1)),
+            Err(why) => wrong.push((index + 1, why)),
         }
     }
     if wrong.is_empty() {
-        Ok(lines.into_bytes())
-    } else {
-        Err(Stop::Failed(wrong.join("\n")))
+        return Ok(requests);
     }
+    let lines = wrong.iter().map(|(line, why)| format!("{file}:{line}: {why}"));
+    Err(Stop::Failed(lines.collect::<Vec<_>>().join("\n")))
+}
+
+/// What is wrong where a bank, or none, is named after a first request with none, or one.
+fn mistaken((line, first): (usize, Option<Bank>), bank: Option<Bank>) -> Option<String> {
+    match (first, bank) {
+        (Some(_), None) => Some(format!(
+            "no bank is named here, but one is in line {line}: put left or right before the event, or \
+             name a bank in no line"
+        )),
+        (None, Some(bank)) => Some(format!(
+            "the bank {bank} is named here, but none in line {line}: name a bank in every line, or in none"
+        )),
+        _ => None,
+    }
+}
+
+/// The bank of a line with names and the line of requests.tsv that it stands for; none
+/// for a line without words.
+fn spoken(
+    line: &str,
+    terms: &Terms,
+    names: &Names,
+) -> Result<Option<(Option<Bank>, String)>, String> {
+    let words = split(bare(line));
+    let words: Vec<&str> = words.iter().map(String::as_str).collect();
+    let (bank, words) = Bank::before(&words, 3);
+    let asked = ask(words, terms, names)?;
+    Ok(asked.map(|[event, from, to]| (bank, format!("R\t{event}\t{from}\t{to}\n"))))
 }
 
 /// The numbers of a request by name; none for a line without words.
@@ -37,13 +84,21 @@ fn ask(words: &[&str], terms: &Terms, names: &Names) -> Result<Option<[usize; 3]
     let [event, from, to] = words[..] else {
         return match words {
             [] => Ok(None),
-            _ => Err("a request is an event, who asks and who is asked: `load pete saw`".into()),
+            [bank, ..] => Err(match did_you_mean(bank, Bank::BOTH.map(Bank::word)) {
+                hint if words.len() == 4 && !hint.is_empty() => format!("no bank `{bank}`{hint}"),
+                _ => "a request is an event, who asks and who is asked: `load pete saw`; its bank may \
+                      come first: `left load pete saw`"
+                    .into(),
+            }),
         };
     };
     let event = names.lookup(Kind::Event, event, terms.events).map_err(|said| {
         let events: Vec<String> = (0..terms.events).map(|event| names.event(event)).collect();
         let turned = did_you_mean(from, events.iter().map(String::as_str)).contains(from);
         match turned {
+            _ if Bank::named(event).is_some() => {
+                format!("after the bank come an event, who asks and who is asked: `{event} load pete saw`")
+            }
             true => format!("{said}; the event comes first: `{from} {event} {to}`"),
             false => said,
         }
@@ -76,16 +131,43 @@ pub fn write(requests: impl Iterator<Item = Request>, names: &Names) -> Vec<Stri
     requests.filter_map(written).collect()
 }
 
+/// The same with the bank of each request; none if one cannot be written so that it is
+/// read as the same.
+pub fn write_banked(
+    requests: impl Iterator<Item = (Bank, Request)>,
+    terms: &Terms,
+    names: &Names,
+) -> Option<Vec<String>> {
+    let known = |kind: Kind, number: usize, count: usize| {
+        let plain = number.to_string();
+        let plain = (names.lookup(kind, &plain, count) == Ok(number)).then_some(plain);
+        names.given(kind, number).and_then(word).or(plain)
+    };
+    let member = |number: usize| known(Kind::Member, number, terms.members);
+    let written = |(bank, request): (Bank, Request)| match request {
+        Request::Ask { event, from, to } => {
+            let event = known(Kind::Event, event, terms.events)?;
+            Some(format!("{bank} {event} {} {}\n", member(from)?, member(to)?))
+        }
+        Request::Malformed => None,
+    };
+    requests.map(written).collect()
+}
+
 /// A request as a line with names, those of several words in double quotes; none for a
 /// name that cannot stand in such a line.
 pub fn line(names: [&str; 3]) -> Option<String> {
-    let word = |name: &str| match name.is_empty() || name.contains(['"', '\n', '\r']) {
+    let words = names.into_iter().map(word).collect::<Option<Vec<_>>>()?;
+    Some(format!("{}\n", words.join(" ")))
+}
+
+/// A name as it stands in a line; none if it cannot.
+fn word(name: &str) -> Option<String> {
+    match name.is_empty() || name.contains(['"', '\n', '\r']) {
         true => None,
         false if split(name) == [name] && !name.contains('#') => Some(name.to_string()),
         false => Some(format!("\"{name}\"")),
-    };
-    let words = names.into_iter().map(word).collect::<Option<Vec<_>>>()?;
-    Some(format!("{}\n", words.join(" ")))
+    }
 }
 
 /// Requests as lines with numbers, those of requests.tsv.
@@ -115,7 +197,8 @@ mod tests {
         let (terms, names) = names();
         let text = "# first\n\nshare dora \"the saw\"  # a gift\nR\t0\t1\t0\nshare 1 -> dora\n";
         let read = read("f", text, &terms, &names).unwrap();
-        assert_eq!(read, b"R\t0\t0\t1\nR\t0\t1\t0\nR\t0\t1\t0\n");
+        assert_eq!(read.lines, b"R\t0\t0\t1\nR\t0\t1\t0\nR\t0\t1\t0\n");
+        assert_eq!(read.banks, []);
         let ask = Request::Ask { event: 0, from: 0, to: 1 };
         assert_eq!(write([ask].into_iter(), &names), ["share dora \"the saw\"\n"]);
     }
@@ -130,7 +213,24 @@ mod tests {
         let text = write(asked.into_iter(), &names).concat();
         assert_eq!(text.lines().next(), Some("R \"saw #2\" \"->\""));
         let read = read("f", &text, &terms, &names).unwrap();
-        assert_eq!(read, numbered(asked.into_iter()).concat().as_bytes());
+        assert_eq!(read.lines, numbered(asked.into_iter()).concat().as_bytes());
+    }
+
+    #[test]
+    fn banks() {
+        let terms = Terms { members: 4, events: 2, ..Terms::default() };
+        let names = "member\t0\tsaw #2\nmember\t1\tleft\nmember\t2\ta\"b\nevent\t0\tleft\n";
+        let names = Names::read(names).unwrap();
+        // The count of words tells a bank from an event of that name.
+        let single = read("f", "left left 3\n", &terms, &names).unwrap();
+        assert_eq!((&single.lines[..], &single.banks[..]), (&b"R\t0\t1\t3\n"[..], &[][..]));
+        let text = "left left left \"saw #2\"\n# then\nright 1 2 -> 3\n";
+        let asked = read("f", text, &terms, &names).unwrap();
+        assert_eq!(asked.lines, b"R\t0\t1\t0\nR\t1\t2\t3\n");
+        assert_eq!(asked.banks, Bank::BOTH);
+        let requests = asked.lines.split_inclusive(|&byte| byte == b'\n').map(Request::read);
+        let lines = write_banked(asked.banks.iter().copied().zip(requests), &terms, &names);
+        assert_eq!(lines.unwrap().concat(), text.replace("# then\n", "").replace("-> ", ""));
     }
 
     #[test]
@@ -142,5 +242,16 @@ mod tests {
         assert_eq!(lines[0], "f:1: no event `shrae`; did you mean `share`?");
         assert!(lines[1].starts_with("f:2: a request is an event, who asks"), "{said}");
         assert!(lines[2].contains("the event comes first: `share dora dora`"), "{said}");
+        let said = |text: &str| read("f", text, &terms, &names).unwrap_err().to_string();
+        assert_eq!(said("lefft share dora dora\n"), "f:1: no bank `lefft`; did you mean `left`?");
+        assert!(said("right dora dora\n").starts_with("f:1: after the bank come an event"));
+        let some = "\nleft share 0 0\nshare 0 0\nshare 0 0\n";
+        let why = "f:3: no bank is named here, but one is in line 2: put left or right before the event, \
+                   or name a bank in no line";
+        assert_eq!(said(some), why);
+        let why =
+            "f:2: the bank right is named here, but none in line 1: name a bank in every line, or \
+                   in none";
+        assert_eq!(said("R\t0\t0\t0\nright share 0 0\n"), why);
     }
 }

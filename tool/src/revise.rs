@@ -9,14 +9,15 @@ mod agreement;
 mod changes;
 mod sentences;
 
-use crate::both::Both;
+use crate::bank::Bank;
+use crate::both::{Allowed, Banks, Both};
 use crate::folder::Folder;
 use crate::json::Json;
 use crate::names::{Kind, Names};
 use crate::stop::Stop;
 use crate::words::Words;
 use changes::{Change, Changes};
-use keeper::terms::{EventEdge, Terms};
+use keeper::terms::{EventEdge, Refusal, Terms};
 pub use sentences::Start;
 use sentences::Told;
 
@@ -26,18 +27,40 @@ What begins and what is dropped in the same words is not the same formula: varia
 differ, or the order of parts. `cuckooormolu compile --print` shows them.
 ";
 
+/// What can go on with new terms: one state, or two banks together.
+pub trait Revisable {
+    fn terms(&self) -> &Terms;
+
+    /// The present moment.
+    fn moment(&self) -> usize;
+
+    /// What there is now: one view, or one of each bank.
+    fn views(&self) -> Result<Vec<View>, Stop>;
+
+    /// Goes on with the terms of another; or it is refused, and all is as it was.
+    fn go_on(&mut self, new: &Both) -> Result<Result<(), Refusal>, Stop>;
+}
+
+/// The present event and all that is allowed now, in a bank where there are two.
+pub struct View {
+    pub bank: Option<Bank>,
+    pub event: Option<EventEdge>,
+    pub allowed: Allowed,
+}
+
 /// What a revision comes to.
 pub struct Revised {
     /// The moment at which it is made.
     pub moment: usize,
     /// Whether the new terms say the same as the old, first edges aside.
     same: bool,
-    /// The event of that moment, with which what begins now begins.
-    last: Option<EventEdge>,
+    /// The event of that moment, with which what begins now begins, and its bank.
+    last: Option<(Option<Bank>, EventEdge)>,
     /// What has another name in the new terms: kind, number and its name before.
     renamed: Vec<(Kind, usize, String)>,
     pub told: Vec<Told>,
-    changes: Changes,
+    /// The changes in each bank.
+    changes: Vec<(Option<Bank>, Changes)>,
     /// The names from here on: those of the new terms, and where these have none
     /// those of the old.
     pub names: Names,
@@ -46,24 +69,32 @@ pub struct Revised {
 /// Goes on with the terms of a folder. It is refused, and nothing is changed, where
 /// these have other numbers of members, relations or events, or, unless they were
 /// `renamed` on purpose, other names of them.
-pub fn revise(both: &mut Both, old: &Folder, new: &Folder, renamed: bool) -> Result<Revised, Stop> {
+pub fn revise(
+    revised: &mut impl Revisable,
+    old: &Folder,
+    new: &Folder,
+    renamed: bool,
+) -> Result<Revised, Stop> {
     let next = Both::accepted(&new.terms)?;
-    let (before, could) = (both.terms().clone(), both.allowed()?);
-    let differing = agreement::renamed(both.terms(), &old.names, &new.names);
-    if both.terms().is_same_size(next.terms()) && !renamed && !differing.is_empty() {
-        return Err(agreement::other_names(both.terms(), old, new, &differing));
+    let (before, could) = (revised.terms().clone(), revised.views()?);
+    let differing = agreement::renamed(&before, &old.names, &new.names);
+    if before.is_same_size(next.terms()) && !renamed && !differing.is_empty() {
+        return Err(agreement::other_names(&before, old, new, &differing));
     }
-    if both.revise(&next)?.is_err() {
-        return Err(agreement::other_size(both.terms(), next.terms(), old, new));
+    if revised.go_on(&next)?.is_err() {
+        return Err(agreement::other_size(&before, next.terms(), old, new));
     }
-    let names = agreement::merged(both.terms(), &old.names, &new.names);
+    let can = revised.views()?;
+    let change =
+        |(could, can): (&View, &View)| (can.bank, Changes::of(&could.allowed, &can.allowed));
+    let names = agreement::merged(revised.terms(), &old.names, &new.names);
     Ok(Revised {
-        same: is_same(&before, both.terms()),
-        moment: both.record().graphs().len() - 1,
-        last: both.present().event,
+        same: is_same(&before, revised.terms()),
+        moment: revised.moment(),
+        last: can.iter().find_map(|view| Some((view.bank, view.event?))),
         renamed: differing,
-        told: sentences::told((&before, &old.names), (both.terms(), &names)),
-        changes: Changes::of(&could, &both.allowed()?),
+        told: sentences::told((&before, &old.names), (revised.terms(), &names)),
+        changes: could.iter().zip(&can).map(change).collect(),
         names,
     })
 }
@@ -74,10 +105,50 @@ fn is_same(old: &Terms, new: &Terms) -> bool {
     said(old) == said(new)
 }
 
+impl Revisable for Both {
+    fn terms(&self) -> &Terms {
+        Both::terms(self)
+    }
+
+    fn moment(&self) -> usize {
+        self.record().graphs().len() - 1
+    }
+
+    fn views(&self) -> Result<Vec<View>, Stop> {
+        Ok(vec![View { bank: None, event: self.present().event, allowed: self.allowed()? }])
+    }
+
+    fn go_on(&mut self, new: &Both) -> Result<Result<(), Refusal>, Stop> {
+        self.revise(new)
+    }
+}
+
+impl Revisable for Banks {
+    fn terms(&self) -> &Terms {
+        Banks::terms(self)
+    }
+
+    fn moment(&self) -> usize {
+        Banks::moment(self)
+    }
+
+    fn views(&self) -> Result<Vec<View>, Stop> {
+        let view = |bank: Bank| {
+            let event = self.record(bank).last().event;
+            Ok(View { bank: Some(bank), event, allowed: self.allowed(bank)? })
+        };
+        Bank::BOTH.into_iter().map(view).collect()
+    }
+
+    fn go_on(&mut self, new: &Both) -> Result<Result<(), Refusal>, Stop> {
+        self.revise(new)
+    }
+}
+
 impl Revised {
     /// All of it for people.
-    pub fn text(&self, both: &Both) -> String {
-        let words = Words::new(both.terms(), &self.names);
+    pub fn text(&self, terms: &Terms) -> String {
+        let words = Words::new(terms, &self.names);
         let mut parts = Vec::new();
         if !self.renamed.is_empty() {
             let line = |(kind, number, before): &(Kind, usize, String)| {
@@ -114,15 +185,21 @@ impl Revised {
             );
         }
         parts.extend(sentences::letters(&self.told));
-        parts.extend(self.changes.parts(&words));
+        for (bank, changes) in &self.changes {
+            let of = bank.map_or(String::new(), |bank| format!("In the {bank} bank:\n\n"));
+            parts.push(of + &changes.parts(&words).join("\n"));
+        }
         parts.join("\n")
     }
 
     fn begins(&self, words: &Words) -> String {
         let now = format!("These begin now, at moment {}", self.moment);
-        match self.last.map(|event| words.happened(event)) {
+        match self.last.map(|(bank, event)| (bank, words.happened(event))) {
             None => format!("{now}:"),
-            Some(event) => format!("{now}, and its event, {event}, counts:"),
+            Some((None, event)) => format!("{now}, and its event, {event}, counts:"),
+            Some((Some(bank), event)) => {
+                format!("{now}, and its event, {event}, counts in the {bank} bank:")
+            }
         }
     }
 
@@ -142,7 +219,8 @@ impl Revised {
             ("renamed", Json::List(renamed)),
         ])];
         lines.extend(self.told.iter().map(Told::json));
-        lines.extend(self.changes.list.iter().map(|change: &Change| change.json(&self.names)));
+        let changes = self.changes.iter().flat_map(|(_, changes)| &changes.list);
+        lines.extend(changes.map(|change: &Change| change.json(&self.names)));
         lines
     }
 }

@@ -1,16 +1,15 @@
 //! Requests made, looked at and taken back, one line typed at a time.
 
+mod saving;
 pub mod typed;
 
+use crate::bank::Bank;
 use crate::both::{Both, Verdict};
-use crate::folder::{self, Folder, Request, REQUESTS, SPOKEN};
-use crate::matrix::Matrix;
+use crate::folder::{Folder, Request};
 use crate::names::Kind;
-use crate::replay::{Replay, Step};
-use crate::requests;
-use crate::revise::revise;
+use crate::replay::Step;
+use crate::session::Session;
 use crate::stop::Stop;
-use crate::why::reason::Reasons;
 use crate::words::{answered, Words};
 use std::path::Path;
 use typed::{Call, Typed};
@@ -28,7 +27,7 @@ pub enum Reply {
 /// The requests so far, and what was asked last.
 pub struct Trial {
     folder: Folder,
-    replay: Replay,
+    session: Session,
     last: Option<Step>,
     /// Whether the requests of the folder were made first.
     after: bool,
@@ -39,11 +38,14 @@ pub struct Trial {
 impl Trial {
     /// Begins after the requests of the folder, or before them.
     pub fn new(folder: Folder, first: bool) -> Result<Trial, Stop> {
-        let replay = if first { Replay::before(&folder)? } else { Replay::of(&folder)? };
+        let session = match first {
+            true => Session::before(&folder, !folder.banks.is_empty())?,
+            false => Session::of(&folder)?,
+        };
         Ok(Trial {
-            last: replay.steps.last().copied(),
+            last: session.steps().last().copied(),
             folder,
-            replay,
+            session,
             after: !first,
             revisions: Vec::new(),
         })
@@ -51,40 +53,56 @@ impl Trial {
 
     /// What to say at the beginning.
     pub fn greeting(&self) -> String {
-        let events = self.all(Kind::Event, self.replay.both.terms().events);
-        let (count, moment) = (self.replay.steps.len(), self.replay.moment());
+        let events = self.all(Kind::Event, self.session.terms().events);
+        let (count, moment) = (self.session.steps().len(), self.session.moment());
+        let (banks, bank) = match self.session.is_banked() {
+            false => ("", "an event"),
+            true => (
+                "Banks: left, right; a moment made in one is a moment in the other too, without the event there.\n",
+                "a bank, an event",
+            ),
+        };
         format!(
-            "Moment {moment}, after {count} requests. Events: {events}.\n\
-             Type an event, who asks and who is asked; or help."
+            "Moment {moment}, after {count} requests. Events: {events}.\n{banks}\
+             Type {bank}, who asks and who is asked; or help."
         )
     }
 
     /// The words that may stand where a typed line ends.
     pub fn next(&self, before: &str) -> Vec<String> {
-        typed::next(before, self.replay.both.terms(), &self.present().names)
+        typed::next(before, self.session.terms(), &self.present().names)
     }
 
     /// Does what a line asks for. An error stops the trial.
     pub fn line(&mut self, line: &str) -> Result<Reply, Stop> {
-        let typed = match typed::read(line, self.replay.both.terms(), &self.present().names) {
+        let typed = match typed::read(line, self.session.terms(), &self.present().names) {
             Ok(typed) => typed,
             Err(wrong) => return Ok(Reply::Wrong(wrong)),
         };
+        if let Typed::Request(Call { bank, .. })
+        | Typed::Look(Call { bank, .. })
+        | Typed::WhyNot(Call { bank, .. })
+        | Typed::Who(bank, _) = typed
+        {
+            if let Some(wrong) = self.at_odds(bank)? {
+                return Ok(Reply::Wrong(wrong));
+            }
+        }
         match typed {
             Typed::Nothing => Ok(Reply::Said(String::new())),
             Typed::Request(call) => self.request(call),
             Typed::Look(call) => {
                 let step = self.look(call)?;
-                Ok(Reply::Said(format!("would be {}", answered(step.verdict))))
+                Ok(Reply::Said(of(step.bank, format!("would be {}", answered(step.verdict)))))
             }
             Typed::Why(all) => self.why(all),
             Typed::WhyNot(call) => {
                 self.look(call)?;
                 self.why(false)
             }
-            Typed::Who(event) => {
-                let matrix = Matrix::now(&self.replay.both, event)?;
-                Ok(Reply::Said(matrix.table(&self.words()).trim_end().to_string()))
+            Typed::Who(bank, event) => {
+                let matrix = self.session.matrix(bank, event)?;
+                Ok(Reply::Said(of(bank, matrix.table(&self.words()).trim_end().to_string())))
             }
             Typed::List => Ok(Reply::Said(self.list())),
             Typed::Members => Ok(Reply::Said(self.members())),
@@ -96,8 +114,33 @@ impl Trial {
         }
     }
 
+    /// Why a bank, or none, cannot be named after the requests so far. Where nothing was
+    /// asked yet, the first line decides.
+    fn at_odds(&mut self, bank: Option<Bank>) -> Result<Option<String>, Stop> {
+        if bank.is_some() == self.session.is_banked() {
+            return Ok(None);
+        }
+        if self.session.steps().is_empty() && self.revisions.is_empty() {
+            return match Session::before(&self.folder, bank.is_some()) {
+                Ok(session) => {
+                    (self.session, self.last) = (session, None);
+                    Ok(None)
+                }
+                Err(Stop::Failed(why)) => Ok(Some(why)),
+                Err(stop) => Err(stop),
+            };
+        }
+        Ok(Some(match bank {
+            None => "there are two banks: name one before the event, left or right".to_string(),
+            Some(bank) => format!(
+                "the requests so far are of one bank, so that there is no bank {bank}; two banks begin \
+                 together at moment 0: `undo` them all, or begin with --first"
+            ),
+        }))
+    }
+
     fn words(&self) -> Words<'_> {
-        Words::new(self.replay.both.terms(), &self.present().names)
+        Words::new(self.session.terms(), &self.present().names)
     }
 
     /// The folder whose terms are in use.
@@ -105,21 +148,27 @@ impl Trial {
         self.revisions.last().map_or(&self.folder, |(_, folder)| folder)
     }
 
-    fn request(&mut self, (event, from, to): Call) -> Result<Reply, Stop> {
-        let step = self.replay.make(Request::Ask { event, from, to })?;
+    fn request(&mut self, Call { bank, event, from, to }: Call) -> Result<Reply, Stop> {
+        let step = self.session.make(bank, Request::Ask { event, from, to })?;
         self.last = Some(step);
         let answer = answered(step.verdict);
-        Ok(Reply::Said(match step.verdict {
-            _ if step.made => format!("{answer}; moment {}", step.moment + 1),
-            _ => answer.to_string(),
-        }))
+        let without = bank.map_or(String::new(), |bank| {
+            format!(", in the {} bank without the event", bank.other())
+        });
+        Ok(Reply::Said(of(
+            bank,
+            match step.made {
+                true => format!("{answer}; moment {}{without}", step.moment + 1),
+                false => answer.to_string(),
+            },
+        )))
     }
 
-    fn look(&mut self, (event, from, to): Call) -> Result<Step, Stop> {
-        let verdict = self.replay.both.look(event, from, to)?;
-        let (request, moment) = (Request::Ask { event, from, to }, self.replay.moment());
-        let line = self.replay.steps.len() + 1;
-        let step = Step { line, request, verdict, moment, made: false };
+    fn look(&mut self, Call { bank, event, from, to }: Call) -> Result<Step, Stop> {
+        let verdict = self.session.look(bank, event, from, to)?;
+        let (request, moment) = (Request::Ask { event, from, to }, self.session.moment());
+        let line = self.session.steps().len() + 1;
+        let step = Step { line, bank, request, verdict, moment, made: false };
         self.last = Some(step);
         Ok(step)
     }
@@ -130,14 +179,11 @@ impl Trial {
             return Ok(Reply::Wrong(format!("nothing was asked yet{under}")));
         };
         let words = self.words();
-        let mut said = format!("{}: {}", words.request(step.request), answered(step.verdict));
-        match Reasons::new(self.replay.both.record()).of(&words, &step, all)? {
+        let mut said = format!("{}: {}", self.asked(&step), answered(step.verdict));
+        match self.session.reasons(step.bank)?.of(&words, &step, all)? {
             Some(because) => {
-                because.lines.iter().for_each(|line| said.push_str(&format!("\n  {line}")));
-                because
-                    .rest()
-                    .iter()
-                    .for_each(|rest| said.push_str(&format!("\n  {rest} (why all)")));
+                let lines = because.told("why all");
+                lines.iter().for_each(|line| said.push_str(&format!("\n  {line}")));
             }
             None => {
                 if let Verdict::Refused(number) = step.verdict {
@@ -155,61 +201,60 @@ impl Trial {
             Err(stop) => return Ok(Reply::Wrong(stop.to_string())),
         };
         let old = self.present().clone();
-        let revised = match revise(&mut self.replay.both, &old, &new, renamed) {
+        let revised = match self.session.revise(&old, &new, renamed) {
             Err(stop @ (Stop::Failed(_) | Stop::Mistaken(_))) => {
                 return Ok(Reply::Wrong(stop.to_string()))
             }
             revised => revised?,
         };
-        let said = revised.text(&self.replay.both).trim_end().to_string();
+        let said = revised.text(self.session.terms()).trim_end().to_string();
         let new = Folder { names: revised.names, ..new };
-        self.revisions.push((self.replay.steps.len(), new));
+        self.revisions.push((self.session.steps().len(), new));
         self.last = None;
         Ok(Reply::Said(said))
     }
 
     /// Makes all again but the last request or revision.
     fn undo(&mut self) -> Result<Reply, Stop> {
-        let count = self.replay.steps.len();
+        let count = self.session.steps().len();
         let revised = self.revisions.last().is_some_and(|(after, _)| *after == count);
-        let taken = match (self.replay.steps.last(), revised) {
+        let taken = match (self.session.steps().last(), revised) {
             (_, true) => format!("took back the terms of {}", self.present().path.display()),
             (None, false) => {
                 return Ok(Reply::Wrong("there is nothing to take back".to_string()));
             }
             (Some(last), false) => {
-                let (asked, answer) = (self.words().request(last.request), answered(last.verdict));
+                let (asked, answer) = (self.asked(last), answered(last.verdict));
                 format!("took back {asked}, which was {answer}")
             }
         };
         if revised {
             self.revisions.pop();
         }
-        let mut replay = Replay::before(&self.folder)?;
+        let mut session = Session::before(&self.folder, self.session.is_banked())?;
         let mut left = self.revisions.iter().peekable();
         let kept = if revised { count } else { count - 1 };
         for made in 0..=kept {
             while let Some((_, terms)) = left.next_if(|(after, _)| *after == made) {
-                // It was done before, so it is not refused.
-                let _ = replay.both.revise(&Both::accepted(&terms.terms)?)?;
+                session.revise_again(&Both::accepted(&terms.terms)?)?;
             }
             if made < kept {
-                replay.make(self.replay.steps[made].request)?;
+                let Step { bank, request, .. } = self.session.steps()[made];
+                session.make(bank, request)?;
             }
         }
         // Only what was asked under the terms in use has a reason.
         let since = self.revisions.last().map_or(0, |(after, _)| *after);
-        self.last = replay.steps[since..].last().copied();
-        self.replay = replay;
-        Ok(Reply::Said(format!("{taken}; moment {}", self.replay.moment())))
+        self.last = session.steps()[since..].last().copied();
+        self.session = session;
+        Ok(Reply::Said(format!("{taken}; moment {}", self.session.moment())))
     }
 
     fn list(&self) -> String {
-        let words = self.words();
         let line = |step: &Step| {
-            format!("{:3}  {}: {}", step.line, words.request(step.request), answered(step.verdict))
+            format!("{:3}  {}: {}", step.line, self.asked(step), answered(step.verdict))
         };
-        let mut lines: Vec<String> = self.replay.steps.iter().map(line).collect();
+        let mut lines: Vec<String> = self.session.steps().iter().map(line).collect();
         for (after, folder) in self.revisions.iter().rev() {
             lines.insert(*after, format!("     the terms of {}", folder.path.display()));
         }
@@ -219,8 +264,14 @@ impl Trial {
         }
     }
 
+    /// A request, with its bank where there are two.
+    fn asked(&self, step: &Step) -> String {
+        let request = self.words().request(step.request);
+        step.bank.map_or_else(|| request.clone(), |bank| format!("{bank} {request}"))
+    }
+
     fn members(&self) -> String {
-        let terms = self.replay.both.terms();
+        let terms = self.session.terms();
         let kinds = [
             (Kind::Member, terms.members),
             (Kind::Relation, terms.relations),
@@ -234,47 +285,9 @@ impl Trial {
         let names = (0..count).map(|number| self.present().names.name(kind, number));
         names.collect::<Vec<_>>().join(", ")
     }
+}
 
-    /// Writes the requests. The folder's own file is written only where nothing
-    /// of it would be lost.
-    fn save(&self, file: Option<&str>) -> Reply {
-        if !self.revisions.is_empty() {
-            let said = "the terms were revised, and a file of requests has no word for that: undo it first, or \
-                        use `cuckooormolu revise` with --store";
-            return Reply::Wrong(said.to_string());
-        }
-        let malformed = |step: &Step| step.request == Request::Malformed;
-        let lost = self.replay.steps.iter().any(malformed)
-            || !self.after && !self.folder.requests.is_empty();
-        if file.is_none() && lost {
-            let said = "the folder's requests have more than this: give save a file name";
-            return Reply::Wrong(said.to_string());
-        }
-        let sourced = self.folder.source.is_some();
-        let (spoken, numbered) = (self.folder.path.join(SPOKEN), self.folder.path.join(REQUESTS));
-        let own = if sourced || spoken.exists() { &spoken } else { &numbered };
-        let path = file.map_or(own.as_path(), Path::new);
-        // Names stay right when members are added to the source, numbers do not.
-        let by_name = match path.extension().and_then(|ending| ending.to_str()) {
-            Some("say") => true,
-            Some("tsv") => false,
-            _ => sourced,
-        };
-        let steps = self.replay.steps.iter().map(|step| step.request);
-        let lines = match by_name {
-            true => requests::write(steps, &self.folder.names),
-            false => requests::numbered(steps),
-        };
-        let instead = match file.is_none() && by_name && !spoken.exists() && numbered.exists() {
-            true => format!(", which is read instead of {REQUESTS} from now on"),
-            false => String::new(),
-        };
-        match folder::write(path, lines.concat().as_bytes()) {
-            Ok(()) => {
-                let (count, path) = (lines.len(), path.display());
-                Reply::Said(format!("wrote {count} requests to {path}{instead}"))
-            }
-            Err(stop) => Reply::Wrong(stop.to_string()),
-        }
-    }
+/// What is said, with the bank that it is said of where there are two.
+fn of(bank: Option<Bank>, said: String) -> String {
+    bank.map_or_else(|| said.clone(), |bank| format!("{bank}: {said}"))
 }

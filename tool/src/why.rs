@@ -4,11 +4,13 @@
 //!   where on it counts
 //! * `story`: what the steps come down to, as facts
 //! * `fact`: facts about the record, and sentences for them
+//! * `unseen`: the events of the other bank that would count
 
 pub mod begin;
 pub mod fact;
 pub mod reason;
 pub mod story;
+pub mod unseen;
 
 use crate::aloud::told::Telling;
 use crate::both::Verdict;
@@ -20,20 +22,39 @@ use fact::Fact;
 use reason::{Claim, Place, Reasons};
 use story::Story;
 
-/// So many lines and so many facts in a line are told unless all are asked for.
+/// So many lines, so many facts in a line and so many moments of the other bank are told
+/// unless all are asked for.
 const MOST_LINES: usize = 3;
 const MOST_FACTS: usize = 6;
+const MOST_UNSEEN: usize = 3;
 
 /// The reason of one answer, in lines.
-#[derive(Clone, Debug, PartialEq, Eq)]
+#[derive(Clone, Debug, Default, PartialEq, Eq)]
 pub struct Because {
     pub granted: bool,
     pub lines: Vec<String>,
     /// How many lines were left out.
     pub more: usize,
+    /// Of a bank, the moments made in the other bank whose events would count, the last
+    /// ones, and how many were left out.
+    pub unseen: Vec<String>,
+    pub more_unseen: usize,
 }
 
 impl Because {
+    /// All lines to print, and how to ask for what was left out.
+    pub fn told(&self, how: &str) -> Vec<String> {
+        let rest = self.rest().map(|rest| format!("{rest} ({how})"));
+        let more = match self.more_unseen {
+            0 => None,
+            1 => Some("1 moment more was".to_string()),
+            more => Some(format!("{more} moments more were")),
+        };
+        let more = more.map(|more| format!("{more} made in the other bank, before these ({how})"));
+        let unseen = self.unseen.iter().cloned().chain(more);
+        self.lines.iter().cloned().chain(rest).chain(unseen).collect()
+    }
+
     /// What to say of the lines left out.
     pub fn rest(&self) -> Option<String> {
         let what = if self.granted { "condition" } else { "possibility" };
@@ -86,9 +107,13 @@ fn because(
 ) -> Because {
     let claim = reasons.claim(Place::policy(words.terms, event, from, to, moment));
     let telling = Telling::new(words.terms, words.names);
+    let moments = reasons.unseen(claim);
+    let more_unseen = if all { 0 } else { moments.len().saturating_sub(MOST_UNSEEN) };
+    let last = moments.iter().skip(more_unseen);
+    let unseen = last.filter_map(|moment| reasons.made_beside(&telling, words, *moment)).collect();
     let mut teller = Lines { reasons, words, telling, now: moment, all, granted: claim.holds };
     let (lines, more) = teller.of(claim, 0);
-    Because { granted: claim.holds, lines, more }
+    Because { granted: claim.holds, lines, more, unseen, more_unseen }
 }
 
 /// Definitions are told inside definitions down to this depth.

@@ -1,5 +1,5 @@
-//! The mistakes that people make: each folder has a terms file with one, and
-//! what is said of it.
+//! The mistakes that people make: each folder has a terms file or requests with one,
+//! and what is said of it.
 
 use cuckooormolu_tool::commands::check;
 use cuckooormolu_tool::stop::{UNUSABLE, WELL};
@@ -33,7 +33,7 @@ fn said(folder: &str, json: bool) -> (String, i32) {
 #[test]
 fn each_mistake_is_named() {
     let folders = folders();
-    assert_eq!(folders.len(), 43);
+    assert_eq!(folders.len(), 48);
     for folder in folders {
         let name = folder.file_name().unwrap().to_string_lossy().into_owned();
         let (text, status) = said(folder.to_str().unwrap(), false);

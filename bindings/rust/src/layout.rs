@@ -4,5 +4,13 @@
 pub const TERMS_WORDS: usize = 1_252;
 /// Words of 64 bits that a state fills.
 pub const STATE_WORDS: usize = 3_073;
+/// Words of 64 bits at the front of a state that relations fill; two banks share
+/// them.
+pub const RELATION_WORDS: usize = 1_024;
+/// Words of 64 bits that past-time tables and event fill, the rest of a state;
+/// each of two banks has its own.
+pub const OWN_WORDS: usize = 2_049;
 /// Words of 64 bits that a call is lent besides.
 pub const SCRATCH_WORDS: usize = 2_048;
+
+const _: () = assert!(RELATION_WORDS + OWN_WORDS == STATE_WORDS);

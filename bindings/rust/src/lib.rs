@@ -1,8 +1,9 @@
 //! The sharing-terms reference monitor.
 //!
 //! * **x86-64 Linux only.** The static library is machine code for it.
-//! * **Memory**: terms have 2,504 bytes, a state 24,584, scratch 16,384. This
-//!   crate puts them on the heap; the library allocates nothing.
+//! * **Memory**: terms have 2,504 bytes, a state 24,584, scratch 16,384; two banks
+//!   need 76,248 in all. This crate puts them on the heap; the library allocates
+//!   nothing.
 //! * **Stack**: measured, not proved. Reading takes 198 KiB, writing 193 KiB, an
 //!   opening, revision, look, request or set list 169 KiB, and each 1.16 KiB more
 //!   for every level by which entries nest, at most 494 KiB. Storing takes 4 KiB.
@@ -34,6 +35,7 @@
 //! ```
 //!
 //! * [`Monitor`], [`Terms`] and [`State`] own their memory.
+//! * [`Banks`] are two monitors over one circle: they share terms and relations.
 //! * [`Record`] is a request of a set list: many requests in one call.
 //! * [`Refusal`] and [`TextError`] say in words why nothing was decided.
 //! * [`raw`] has the library's functions over slices of any length.
@@ -42,8 +44,8 @@
 //! those of the terms file and of the memory layout.
 //!
 //! The feature `alloc`, on by default, has what owns memory: [`Monitor`],
-//! [`Terms`], [`State`], [`Record`] and [`TextError`]. Without it there is
-//! [`raw`], over memory that the host has.
+//! [`Banks`], [`Terms`], [`State`], [`Record`] and [`TextError`]. Without it there
+//! is [`raw`], over memory that the host has.
 #![no_std]
 #![deny(missing_docs, clippy::missing_errors_doc, clippy::missing_panics_doc)]
 
@@ -57,6 +59,8 @@ mod names;
 pub mod raw;
 mod refusal;
 
+#[cfg(feature = "alloc")]
+mod banks;
 #[cfg(feature = "alloc")]
 mod entry;
 #[cfg(feature = "alloc")]
@@ -73,12 +77,13 @@ mod terms;
 mod text_error;
 
 pub use answer::Answer;
-pub use layout::{SCRATCH_WORDS, STATE_WORDS, TERMS_WORDS};
+pub use layout::{OWN_WORDS, RELATION_WORDS, SCRATCH_WORDS, STATE_WORDS, TERMS_WORDS};
 pub use names::{Edge, Event, EventEdge, Member, Relation, Request, Variable};
 pub use refusal::Refusal;
 
 #[cfg(feature = "alloc")]
 pub use {
+    banks::{Bank, BankStates, Banks},
     entry::{Entry, Label},
     monitor::Monitor,
     record::Record,

@@ -126,4 +126,102 @@ extern "C" {
         output_length: usize,
         count: *mut usize,
     ) -> usize;
+
+    pub fn cuckooormolu_raw_banks_read(
+        text: *const u8,
+        text_length: usize,
+        terms: *mut u16,
+        terms_length: usize,
+        relations: *mut u64,
+        relations_length: usize,
+        own: *mut u64,
+        own_length: usize,
+        other: *mut u64,
+        other_length: usize,
+        line: *mut usize,
+    ) -> usize;
+
+    pub fn cuckooormolu_raw_banks_open(
+        terms: *const u16,
+        terms_length: usize,
+        relations: *const u64,
+        relations_length: usize,
+        own: *mut u64,
+        own_length: usize,
+        other: *mut u64,
+        other_length: usize,
+    ) -> usize;
+
+    pub fn cuckooormolu_raw_banks_revise(
+        old_terms: *const u16,
+        old_terms_length: usize,
+        old_relations: *const u64,
+        old_relations_length: usize,
+        old_own: *const u64,
+        old_own_length: usize,
+        old_other: *const u64,
+        old_other_length: usize,
+        new_terms: *const u16,
+        new_terms_length: usize,
+        relations: *mut u64,
+        relations_length: usize,
+        own: *mut u64,
+        own_length: usize,
+        other: *mut u64,
+        other_length: usize,
+    ) -> usize;
+
+    pub fn cuckooormolu_raw_banks_look(
+        terms: *const u16,
+        terms_length: usize,
+        relations: *const u64,
+        relations_length: usize,
+        own: *const u64,
+        own_length: usize,
+        other: *const u64,
+        other_length: usize,
+        scratch: *const u64,
+        scratch_length: usize,
+        spare: *const u64,
+        spare_length: usize,
+        event: usize,
+        from: usize,
+        to: usize,
+    ) -> usize;
+
+    pub fn cuckooormolu_raw_banks_request(
+        terms: *const u16,
+        terms_length: usize,
+        relations: *mut u64,
+        relations_length: usize,
+        own: *mut u64,
+        own_length: usize,
+        other: *mut u64,
+        other_length: usize,
+        scratch: *mut u64,
+        scratch_length: usize,
+        spare: *mut u64,
+        spare_length: usize,
+        event: usize,
+        from: usize,
+        to: usize,
+    ) -> usize;
+
+    pub fn cuckooormolu_raw_banks_set_list(
+        terms: *const u16,
+        terms_length: usize,
+        relations: *mut u64,
+        relations_length: usize,
+        own: *mut u64,
+        own_length: usize,
+        other: *mut u64,
+        other_length: usize,
+        scratch: *mut u64,
+        scratch_length: usize,
+        spare: *mut u64,
+        spare_length: usize,
+        records: *mut Record,
+        records_length: usize,
+        count: *mut usize,
+    ) -> usize;
 }

@@ -33,6 +33,9 @@
 
 use crate::{library, Answer, Refusal};
 
+mod banks;
+pub use banks::{banks_look, banks_open, banks_read, banks_request, banks_revise, banks_set_list};
+
 /// A request by any numbers, whether or not there are such an event and
 /// members.
 #[derive(Clone, Copy, Debug, PartialEq, Eq, Hash)]
@@ -104,7 +107,7 @@ fn decided(code: usize) -> Result<Answer, Refusal> {
     }
 }
 
-/// The version of the archive as one number, 10,000 for 0.10.0. It is the crate's:
+/// The version of the archive as one number, 11,000 for 0.11.0. It is the crate's:
 /// an archive of another version does not link.
 pub fn version() -> usize {
     // Safety: the function takes nothing and gives a number.

@@ -6,7 +6,7 @@ use crate::{raw, Answer, Event, Member, Refusal, Request};
 const UNANSWERED: u32 = u32::MAX;
 
 /// A record of a set list: a request, and its answer once
-/// [`crate::Monitor::set_list`] has filled it in.
+/// [`crate::Monitor::set_list`] or [`crate::Bank::set_list`] has filled it in.
 #[derive(Clone, Copy, Debug, PartialEq, Eq, Hash)]
 #[repr(transparent)]
 pub struct Record(raw::Record);
@@ -25,8 +25,8 @@ impl Record {
         Request { event: Event(event as u8), from: Member(from as u8), to: Member(to as u8) }
     }
 
-    /// What [`crate::Monitor::request`] would have answered at the record's
-    /// place in the list; none as long as no set list has answered.
+    /// What a single request would have been answered at the record's place in
+    /// the list; none as long as no set list has answered.
     #[must_use = "a request that is decided may be denied"]
     pub fn answer(&self) -> Option<Result<Answer, Refusal>> {
         self.0.answered()

@@ -2,7 +2,7 @@
 
 use crate::places::*;
 use crate::{raw, Answer, Edge, Event, EventEdge, Member, Refusal, Relation, Request};
-use crate::{Terms, STATE_WORDS};
+use crate::{Terms, OWN_WORDS, RELATION_WORDS, STATE_WORDS};
 use alloc::boxed::Box;
 
 /// The present moment: relations, past-time tables and the event edge.
@@ -91,6 +91,14 @@ impl State {
 
     pub(crate) fn blank() -> State {
         State(Box::new([0; STATE_WORDS]))
+    }
+
+    /// A bank's state: the relations, and then its own words.
+    pub(crate) fn joined(relations: &[u64; RELATION_WORDS], own: &[u64; OWN_WORDS]) -> State {
+        let mut state = State::blank();
+        state.0[..RELATION_WORDS].copy_from_slice(relations);
+        state.0[RELATION_WORDS..].copy_from_slice(own);
+        state
     }
 }
 

@@ -2,7 +2,7 @@
 //! tested with the feature `alloc` and without it.
 
 use cuckooormolu::{raw, Answer, Event, Member, Refusal, Request};
-use cuckooormolu::{SCRATCH_WORDS, STATE_WORDS, TERMS_WORDS};
+use cuckooormolu::{OWN_WORDS, RELATION_WORDS, SCRATCH_WORDS, STATE_WORDS, TERMS_WORDS};
 
 /// Event 0 makes an edge from initiator to target, event 1 asks for one.
 const TEXT: &[u8] = b"M\t3\nL\t1\t2\nF\t0\tvar\t0\t0\nF\t1\tout\t0\t0\nF\t2\ttop\t0\t0\n\
@@ -57,6 +57,23 @@ fn a_state_is_stored_and_read() {
     assert_eq!(raw::store(&host.terms, &host.state, &mut output), Ok(size));
     let later = Host::read(&output[..size]).unwrap();
     assert!(later.terms == host.terms && later.state == host.state);
+}
+
+#[test]
+fn two_banks_share_relations() {
+    let (mut terms, mut relations) = ([0; TERMS_WORDS], [0; RELATION_WORDS]);
+    let (mut left, mut right) = ([0; OWN_WORDS], [0; OWN_WORDS]);
+    let (mut scratch, mut spare) = ([0; SCRATCH_WORDS], [0; SCRATCH_WORDS]);
+    let (t, r) = (&mut terms, &mut relations);
+    assert_eq!(raw::banks_read(TEXT, t, r, &mut left, &mut right), Ok(()));
+    let make = raw::Request { event: 0, from: 0, to: 2 };
+    let ask = raw::Request { event: 1, ..make };
+    let (own, other) = (&mut left, &mut right);
+    let made = raw::banks_request(t, r, own, other, &mut scratch, &mut spare, make);
+    assert_eq!(made, Ok(Answer::Grant));
+    let looked = raw::banks_look(&terms, &relations, &right, &left, &spare, &scratch, ask);
+    assert_eq!(looked, Ok(Answer::Grant));
+    assert_eq!((left[OWN_WORDS - 1], right[OWN_WORDS - 1]), (3, 0));
 }
 
 #[test]

@@ -42,11 +42,11 @@ use Rattle.calls.proofs.InStep.{step}
 use Rattle.calls.proofs.ListChecks.{list-short, list-checked}
 use Rattle.calls.proofs.Singly.{answer-back, after-scratch}
 
-or-false-left : (a b : Bool) → (a || b) ≡ false → a ≡ false
+pub or-false-left : (a b : Bool) → (a || b) ≡ false → a ≡ false
 or-false-left false b e = refl
 or-false-left true b e = e
 
-or-false-right : (a b : Bool) → (a || b) ≡ false → b ≡ false
+pub or-false-right : (a b : Bool) → (a || b) ≡ false → b ≡ false
 or-false-right false b e = e
 or-false-right true b e = absurd (true≢false e)
 
@@ -299,7 +299,7 @@ pub playing-agrees : (B : Book) (L : Lent) → Playing B L → Agrees (termsOf (
 playing-agrees B L p = agrees (termsOf (L .terms)) (B .start) (good (L .terms) (p .good-memory)) (L .before) (L .state) (B .moments) (p .room) (p .held)
 
 -- The memory that opening leaves holds what the keeper begins with.
-opened-held : (terms state : List ℕ) (fine : Good (termsOf terms)) → Opens terms state → opens terms state ≡ passed →
+pub opened-held : (terms state : List ℕ) (fine : Good (termsOf terms)) → Opens terms state → opens terms state ≡ passed →
     Held (termsOf terms) fromFirst fine state (openedState terms state) (first (stateOf state .now .edge) ∷ [])
 unfolding openedState opening
 opened-held terms state fine o e =

@@ -66,7 +66,7 @@ module _ (e : ℕ) (good : goodMemory (manyTerms e) ≡ true)
             ∷ []
 
 -- words of 0 are blank
-zeros-blank : (w : List ℕ) (from n : ℕ) (rest : List ℕ) → drop from w ≡ replicate n 0 ++ rest → blank w from n ≡ true
+pub zeros-blank : (w : List ℕ) (from n : ℕ) (rest : List ℕ) → drop from w ≡ replicate n 0 ++ rest → blank w from n ≡ true
 unfolding blank
 zeros-blank w from n rest e = all-true n (λ k l.
     ap (λ (v : ℕ). eqb v 0)

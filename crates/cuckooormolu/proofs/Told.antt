@@ -39,12 +39,12 @@ use Rattle.cuckooormolu.specs.Codes.{doneCode, Low, ToldAnswer, ToldOutc
 
 -- ---- a low number for each refusal
 
-abbrev LowAnswer : Answer → Type 0
+abbrev pub LowAnswer : Answer → Type 0
 LowAnswer (decided v) = Unit {0}
 LowAnswer revised = Unit {0}
 LowAnswer (refused n l) = Low n
 
-abbrev LowOutcome : Outcome → Type 0
+abbrev pub LowOutcome : Outcome → Type 0
 LowOutcome passed = Unit {0}
 LowOutcome (failed n l) = Low n
 
@@ -52,11 +52,11 @@ abbrev LowWriting : Writing → Type 0
 LowWriting (bytes n) = Unit {0}
 LowWriting (unwritten n l) = Low n
 
-abbrev LowListing : Listing → Type 0
+abbrev pub LowListing : Listing → Type 0
 LowListing (counted n) = Unit {0}
 LowListing (unlisted n l) = Low n
 
-told-answer : (a : Answer) → LowAnswer a → ToldAnswer a
+pub told-answer : (a : Answer) → LowAnswer a → ToldAnswer a
 told-answer (decided grant) h = record {
   grants = ((λ e. refl), (λ e. refl));
   denies = ((λ e. absurd (omega arith)), (λ e. let z : _≡_ {A = ℕ} 0 1 = cc in absurd (omega arith)));
@@ -78,7 +78,7 @@ told-answer (refused n l) h = record {
   refuses = λ m k e. let z : n ≡ m = cc in (omega arith, omega arith);
 }
 
-told-outcome : (o : Outcome) → LowOutcome o → ToldOutcome o
+pub told-outcome : (o : Outcome) → LowOutcome o → ToldOutcome o
 told-outcome passed h = record {
   done = ((λ e. refl), (λ e. refl));
   refuses = λ n l e. let z : _≡_ {A = ℕ} 0 1 = cc in absurd (omega arith);
@@ -98,7 +98,7 @@ told-writing (unwritten n l) h = record {
   refuses = λ m k e. let z : n ≡ m = cc in (omega arith, omega arith);
 }
 
-told-listing : (x : Listing) → LowListing x → ToldListing x
+pub told-listing : (x : Listing) → LowListing x → ToldListing x
 told-listing (counted n) h = record {
   done = ((λ e. refl), (λ e. refl));
   refuses = λ n l e. let z : _≡_ {A = ℕ} 0 1 = cc in absurd (omega arith);
@@ -110,10 +110,10 @@ told-listing (unlisted n l) h = record {
 
 -- ---- the calls over memory
 
-low : (n : ℕ) → (ltb 0 n && ltb n doneCode) ≡ true → Low n
+pub low : (n : ℕ) → (ltb 0 n && ltb n doneCode) ≡ true → Low n
 low n e = (ltb-true 0 n (and-left (ltb 0 n) (ltb n doneCode) e), ltb-true n doneCode (and-right (ltb 0 n) (ltb n doneCode) e))
 
-low-checked : (a b c : Bool) → LowOutcome (cond a (failed 6 0) (cond b (failed 7 0) (cond c (failed 8 0) passed)))
+pub low-checked : (a b c : Bool) → LowOutcome (cond a (failed 6 0) (cond b (failed 7 0) (cond c (failed 8 0) passed)))
 low-checked true b c = low 6 refl
 low-checked false true c = low 7 refl
 low-checked false false true = low 8 refl
@@ -129,7 +129,7 @@ unfolding opens
 low-opens terms state =
     low-checked (ltb (length terms) termsWords || ltb (length state) stateWords) (not (goodMemory terms)) (not (goodRelations (termsOf terms) state))
 
-low-revising : (a b c d : Bool) → LowOutcome (cond a (failed 6 0) (cond b (failed 7 0) (cond c (failed 8 0) (cond d (failed 13 0) passed))))
+pub low-revising : (a b c d : Bool) → LowOutcome (cond a (failed 6 0) (cond b (failed 7 0) (cond c (failed 8 0) (cond d (failed 13 0) passed))))
 low-revising true b c d = low 6 refl
 low-revising false true c d = low 7 refl
 low-revising false false true d = low 8 refl
@@ -157,7 +157,7 @@ low-answer terms state scratch j u v =
     low-decided (ltb (length terms) termsWords || (ltb (length state) stateWords || ltb (length scratch) scratchWords)) (not (goodMemory terms))
     (not (goodState T state)) (not (named T j u v)) (cond (decideNow T (stateOf state) j u v) grant deny)
 
-low-short : (b : Bool) (o : Outcome) → LowOutcome o → LowOutcome (cond b (failed 6 0) o)
+pub low-short : (b : Bool) (o : Outcome) → LowOutcome o → LowOutcome (cond b (failed 6 0) o)
 low-short true o h = low 6 refl
 low-short false o h = h
 
@@ -165,7 +165,7 @@ low-list-checks : (terms state scratch : List ℕ) → LowOutcome (listChecks te
 unfolding listChecks
 low-list-checks terms state scratch = low-short (ltb (length scratch) scratchWords) (checks terms state) (low-checks terms state)
 
-low-listing : (o : Outcome) (n : ℕ) → LowOutcome o → LowListing (listing o n)
+pub low-listing : (o : Outcome) (n : ℕ) → LowOutcome o → LowListing (listing o n)
 low-listing passed n h = tt
 low-listing (failed k l) n h = h
 
@@ -181,7 +181,7 @@ low-fresh false passed w h = low 12 refl
 
 -- ---- reading
 
-abbrev LowReading : Reading → Type 0
+abbrev pub LowReading : Reading → Type 0
 LowReading (file.accepted f) = Unit {0}
 LowReading (file.refused n l) = Low n
 
@@ -204,7 +204,7 @@ low-tests f (EventEdge j u v) = refl
 low-tests f (Mark j) = refl
 low-tests f Malformed = refl
 
-low-either : (b : Bool) (x y : Reading) → LowReading x → LowReading y → LowReading (cond b x y)
+pub low-either : (b : Bool) (x y : Reading) → LowReading x → LowReading y → LowReading (cond b x y)
 low-either true x y p q = p
 low-either false x y p q = q
 
@@ -230,15 +230,18 @@ low-levelled ls (file.accepted f) h =
     low-either (eqb (partlyAt f 1 ls) 0) (file.accepted f) (file.refused 11 (partlyAt f 1 ls)) tt (low 11 refl)
 low-levelled ls (file.refused n l) h = h
 
-low-outcome : (b : Bool) (r : Reading) → LowReading r → LowOutcome (cond b (failed 6 0) (outcome r))
+pub low-outcome : (b : Bool) (r : Reading) → LowReading r → LowOutcome (cond b (failed 6 0) (outcome r))
 low-outcome true r h = low 6 refl
 low-outcome false (file.accepted f) h = tt
 low-outcome false (file.refused n l) h = h
 
+pub low-text : (text : List ℕ) → LowReading (reading text)
+unfolding reading
+low-text text = low-levelled (lines text) (readOn nothing 1 (lines text)) (low-read nothing 1 (lines text))
+
 low-reading : (text terms state : List ℕ) → LowOutcome (readGives text terms state)
-unfolding readGives reading
-low-reading text terms state =
-    low-outcome (short terms state) (reading text) (low-levelled (lines text) (readOn nothing 1 (lines text)) (low-read nothing 1 (lines text)))
+unfolding readGives
+low-reading text terms state = low-outcome (short terms state) (reading text) (low-text text)
 
 -- ---- the theorems
 

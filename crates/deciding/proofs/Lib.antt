@@ -16,3 +16,5 @@ pub mod Remembering
 pub mod ReadSets
 pub mod Steps
 pub mod Starting
+pub mod Apart
+pub mod Parts

@@ -14,7 +14,7 @@ use Rattle.theory.specs.Meaning.{assign}
 use Rattle.theory.specs.Terms.{Terms, Effect}
 use Rattle.theory.specs.Moment.{Relations, graph, affect, affectAll}
 use Rattle.theory.specs.Moment.Event.{happened, tried}
-use Rattle.memory.specs.Layout.{termsWords, stateWords, relationAt, effectAt, effectsFrom, eventAt, eventOf, termsOf, stateOf}
+use Rattle.memory.specs.Layout.{termsWords, stateWords, ownWords, relationAt, effectAt, effectsFrom, eventAt, eventOf, termsOf, stateOf}
 use Rattle.theory.specs.Terms.{tables}
 use Rattle.memory.specs.Checks.{goodMemory, goodEvent, stateTests, goodState}
 use Rattle.theory.specs.Tables.{named, Tables, State, decideNow, prevBits, sinceBits, prevStep, prevTables, sinceTables, made, advance}
@@ -95,8 +95,9 @@ module _ {terms plan m : List ℕ} (c : Movable terms plan m) (n : ℕ) (nl : n 
     there : number (T .entry) n < tables T
     there = number-lt (T .entry) n (T .entries) nl past
 
-    pub place-fits : place + 64 ≤ length m
-    place-fits = rw (c .planned .table n nl past .0) (omega (arith, there, fine c .few-tables, long c))
+    -- its place in a bank's own words
+    pub own-fits : 64 * (getD plan n 0 / 16) + 64 ≤ ownWords
+    own-fits = rw (c .planned .table n nl past .0) (omega (arith, there, fine c .few-tables))
 
   pub prev-stays : (T .entry n .op ≡ 6 → ⊥) → Becomes terms (prevAt n) m m
   prev-stays h = record { each = λ S rest has. rw (ne-eqb (T .entry n .op) 6 h) has }

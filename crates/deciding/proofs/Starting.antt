@@ -1,39 +1,33 @@
 -- New terms begin: relations and event word carried over, and each turn of the sweep that fills in the tables.
-use Prim.Native.Nat.{ℕ, zero, suc, _+_, _*_, _/_, _≤_, _<_}
+use Prim.Native.Nat.{ℕ, _+_, _*_, _/_, _≤_, _<_}
 use native.Mathlib.Omega.{arith}
 use native.Mathlib.Numerals.{add-one}
 use mathlib.Core.Path.{_≡_, refl, sym, ap, ap₂, subst, _∙_}
-use mathlib.Core.Logic.{_⊎_, inl, inr}
 use mathlib.Core.Bool.{Bool, true, false, cond, not, _&&_, _||_}
-use mathlib.Core.List.{List, _++_}
+use mathlib.Core.List.{List, [], _++_, append-nil}
 use lib.Dec.{eqb, ltb}
-use lib.ListN.{length, getD, take, drop, set, length-set, length-drop, List·getD-eq-default}
-use lib.Seq.{getD-take, getD-drop, getD-set-same, getD-set-other, drop-set-lt, length-take-le}
-use borrow.Author.Tests.{eqb-true, ne-eqb, lt-ltb, le-ltb, ltb-true, ltb-false}
+use lib.ListN.{length, getD, take, drop, length-drop, drop-of-length-le, List·getD-eq-default}
+use lib.Seq.{getD-take, getD-drop, length-take-le}
+use borrow.Author.Tests.{eqb-true, lt-ltb, le-ltb, ltb-true, ltb-false}
 use Rattle.sets.specs.Sets.{bit, pack}
-use Rattle.sets.proofs.Finite.{and-left, and-right, last-or-below}
 use Rattle.sets.proofs.Bits.{bit-zero}
 use Rattle.sets.proofs.Pack.{pack-none}
-use Rattle.theory.specs.Formula.{number, isPast, bare}
-use Rattle.theory.specs.Terms.{Terms, formula, tables, sameSize, firstSame}
-use Rattle.theory.specs.Moment.{Event, Moment, graph}
+use Rattle.theory.specs.Formula.{number, isPast}
+use Rattle.theory.specs.Terms.{Terms, formula, tables, sameSize}
+use Rattle.theory.specs.Moment.{Event, graph}
 use Rattle.theory.specs.Moment.Event.{none as eventless, happened, tried}
 use Rattle.theory.specs.Tables.{Tables, State, store, operandNow, sinceBits, sinceStep, named, taken, startBits, startStep, startTables, revised}
-use Rattle.theory.specs.Classes.{Classed}
-use Rattle.memory.specs.Layout.{stateWords, relationAt, tableAt, eventAt, eventWord, row, termsOf, stateOf, wordsOf}
-use Rattle.memory.specs.Checks.{goodState}
-use Rattle.memory.specs.Plan.{Planned}
-use Rattle.deciding.specs.Rows.{Table}
+use Rattle.memory.specs.Layout.{stateWords, relationWords, relationAt, tableAt, eventAt, row, termsOf, stateOf, wordsOf}
+use Rattle.deciding.specs.Rows.{Table, tableWords}
 use Rattle.deciding.specs.Moving.{known, HasState, Movable, Becomes, put, tabled, sinceAt}
 use Rattle.deciding.specs.Memo.{MemoOf, Fresh}
-use Rattle.deciding.specs.Starting.{carriedWord, Carried, Revising, startBelow, Begun, Taken}
+use Rattle.deciding.specs.Starting.{Revising, startBelow, Begun}
 use Rattle.theory.proofs.Spelled.{number-lt}
 use Rattle.theory.proofs.Good.{Good}
 use Rattle.theory.proofs.Renumbered.{past-same}
 use Rattle.theory.proofs.Size.{same-members, same-relations, same-events}
 use Rattle.theory.proofs.Taken.{first-has}
 use Rattle.theory.proofs.Revised.{start-untouched, start-since}
-use Rattle.theory.proofs.Now.{Same}
 use Rattle.memory.proofs.Accepted.{good}
 use Rattle.memory.proofs.Row.{bit-row, row-cong}
 use Rattle.memory.proofs.Words.{words-by}
@@ -41,22 +35,6 @@ use Rattle.deciding.proofs.Seen.{has-long, has-relation, has-table, has
 use Rattle.deciding.proofs.Stored.{table-stored, has-rest}
 use Rattle.deciding.proofs.Moves.{held}
 use Rattle.deciding.proofs.Steps.{memo-step-all}
-
--- ---- carried over
-
-pub carried-none : (state m₀ : List ℕ) → Carried state m₀ 0 m₀
-carried-none state m₀ = record { long = refl; words = λ i l. absurd (omega arith); further = refl }
-
-pub carried-more : (state m₀ m : List ℕ) (n w : ℕ) → Carried state m₀ n m → n < stateWords → stateWords ≤ length m₀ → w ≡ carriedWord state n → Carried state m₀ (n + 1) (set m n w)
-carried-more state m₀ m n w c l long e = record {
-  long = length-set m n w ∙ c .long;
-  words = λ i il. go i (last-or-below i n (omega arith));
-  further = drop-set-lt stateWords m n w l ∙ c .further;
-}
-  where
-    go : (i : ℕ) → (i < n) ⊎ (i ≡ n) → getD (set m n w) i 0 ≡ carriedWord state i
-    go i (inl il) = getD-set-other m n i w 0 (λ z. omega arith) ∙ c .words i il
-    go i (inr z) = rw z (getD-set-same m n w 0 (omega (arith, c .long)) ∙ e)
 
 -- ---- sizes
 
@@ -103,41 +81,36 @@ module _ {old before state new plan : List ℕ} (r : Revising old before state n
   old-has : HasState T S (drop stateWords state) state
   old-has = held T state (r .long-state) (r .good-state)
 
-  -- the words that carry over, and empty tables
-  pub begun-none : (m₀ m : List ℕ) → stateWords ≤ length m₀ → Carried state m₀ stateWords m → Begun old state new 0 (drop stateWords m₀) m
+  -- relations and event word carried over, and empty tables
+  pub begun-none : (m : List ℕ) → length m ≡ stateWords → ((i : ℕ) → i < relationWords → getD m i 0 ≡ getD state i 0) →
+      ((i : ℕ) → i < tableWords → getD m (relationWords + i) 0 ≡ 0) → getD m eventAt 0 ≡ getD state eventAt 0 → Begun old state new 0 [] m
   unfolding startTables
-  begun-none m₀ m long c = record {
-    words = words-by U (startBelow old state 0 U) m (omega (arith, c .long)) relation table event
-        ∙ ap (λ z. wordsOf U (startBelow old state 0 U) ++ z) (c .further);
+  begun-none m long same none last = record {
+    words = words-by U (startBelow old state 0 U) m (omega (arith, long)) relation table (last ∙ has-event old-has)
+        ∙ ap (λ z. wordsOf U (startBelow old state 0 U) ++ z) (drop-of-length-le m {i = stateWords} (omega (arith, long)));
     event = sym (same-known T U (r .same) (S .now .event)) ∙ old-has .event;
   }
     where
       relation : (k a : ℕ) → k < 16 → a < 64 → getD m (relationAt k a) 0 ≡ cond (ltb k (U .relations)) (row (U .members) (S .now .edge k) a) 0
       relation k a kl al =
-          c .words (relationAt k a) (omega arith)
-          ∙ ap (λ (b : Bool). cond (b || eqb (relationAt k a) eventAt) (getD state (relationAt k a) 0) 0) (lt-ltb (relationAt k a) 1024 (omega arith))
+          same (relationAt k a) (omega arith)
           ∙ has-relation old-has k a kl al
           ∙ ap₂ (λ (n N : ℕ). cond (ltb k n) (row N (S .now .edge k) a) 0) (same-relations T U (r .same)) (same-members T U (r .same))
 
       table : (t a : ℕ) → t < 32 → a < 64 → getD m (tableAt t a) 0 ≡ cond (ltb t (tables U)) (row (U .members) (λ a b. false) a) 0
       table t a tl al =
-          c .words (tableAt t a) (omega arith)
-          ∙ ap₂ (λ (x y : Bool). cond (x || y) (getD state (tableAt t a) 0) 0) (le-ltb (tableAt t a) 1024 (omega arith)) (ne-eqb (tableAt t a) eventAt (λ z. omega arith))
-          ∙ sym (empty (ltb t (tables U)) (ltb a (U .members)))
+          let at : relationWords + (64 * t + a) ≡ tableAt t a = omega arith in
+          subst (λ (i : ℕ). getD m i 0 ≡ 0) at (none (64 * t + a) (omega arith)) ∙ sym (empty (ltb t (tables U)) (ltb a (U .members)))
         where
           empty : (x y : Bool) → cond x (cond y (pack (U .members) (λ b. false)) 0) 0 ≡ 0
           empty true true = pack-none (U .members)
           empty true false = refl
           empty false y = refl
 
-      event : getD m eventAt 0 ≡ eventWord (S .now .event)
-      event = c .words eventAt (omega arith) ∙ has-event old-has
-
   -- all tables are filled in
-  pub begun-all : (m₀ m : List ℕ) (n : ℕ) → n ≡ U .entries → Begun old state new n (drop stateWords m₀) m →
-      m ≡ wordsOf U (revised T S U) ++ drop stateWords m₀
+  pub begun-all : (m : List ℕ) → Begun old state new (U .entries) [] m → m ≡ wordsOf U (revised T S U)
   unfolding revised
-  begun-all m₀ m n e has = subst (λ (k : ℕ). m ≡ wordsOf U (startBelow old state k U) ++ drop stateWords m₀) e (has .words)
+  begun-all m has = has .words ∙ append-nil (wordsOf U (startBelow old state (U .entries) U))
 
   pub begun-movable : (n : ℕ) {rest m : List ℕ} → Begun old state new n rest m → Movable new plan m
   begun-movable n {rest} has = record {
@@ -148,9 +121,6 @@ module _ {old before state new plan : List ℕ} (r : Revising old before state n
     rest = rest;
     has = has;
   }
-
-  pub begun-again : (n : ℕ) {rest m : List ℕ} → Begun old state new n rest m → Begun old state new n (drop stateWords m) m
-  begun-again n {rest} {m} has = subst (λ (z : List ℕ). Begun old state new n z m) (sym (has-rest U new-fine has)) has
 
   -- ---- one turn
 

@@ -1,27 +1,16 @@
 -- What the private functions that begin new terms ask of, and leave in, the second state.
-use Prim.Native.Nat.{ℕ, _<_, _≤_}
+use Prim.Native.Nat.{ℕ, _≤_}
 use mathlib.Core.Path.{_≡_}
-use mathlib.Core.Bool.{Bool, true, false, cond, _||_}
+use mathlib.Core.Bool.{true, false}
 use mathlib.Core.List.{List}
-use lib.Dec.{eqb, ltb}
-use lib.ListN.{length, getD, drop}
+use lib.ListN.{length}
 use Rattle.theory.specs.Terms.{Terms, sameSize}
 use Rattle.theory.specs.Tables.{State, startTables}
 use Rattle.theory.specs.Classes.{Classed}
-use Rattle.memory.specs.Layout.{termsWords, stateWords, relationWords, eventAt, termsOf, stateOf}
+use Rattle.memory.specs.Layout.{termsWords, stateWords, termsOf, stateOf}
 use Rattle.memory.specs.Checks.{goodMemory, goodState}
 use Rattle.memory.specs.Plan.{Planned}
 use Rattle.deciding.specs.Moving.{HasState, tabled}
-
--- Word i of the second state where no table is filled in yet: relations and event word carry over.
-abbrev pub carriedWord : (state : List ℕ) → ℕ → ℕ
-carriedWord state i = cond (ltb i relationWords || eqb i eventAt) (getD state i 0) 0
-
--- The words below n of m are these, and the others those of m₀.
-pub record Carried (state m₀ : List ℕ) (n : ℕ) (m : List ℕ) : Type 0 where
-  pub long : length m ≡ length m₀
-  pub words : (i : ℕ) → i < n → getD m i 0 ≡ carriedWord state i
-  pub further : drop stateWords m ≡ drop stateWords m₀
 
 -- Old terms, the state under them and new terms that have passed the checks, with the plans of both.
 pub record Revising (old before state new plan : List ℕ) : Type 0 where

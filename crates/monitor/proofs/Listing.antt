@@ -1,46 +1,23 @@
--- The loop of `set_list`, with no program in it: what holds of the index, the count, the records and the memory at the loop's head, that a turn keeps it,
--- and what it says at the end.
+-- The loop of a set list, with no program and no memory in it: what holds of the index, the count, the records and what is left of the memory at the loop's head,
+-- that a turn keeps it, and what it says at the end. It is over what an answer is (`ask`) and what it leaves (`after`).
 use mathlib.Core.Path.{_≡_, refl, sym, ap, _∙_, subst}
 use Prim.Native.Nat.{ℕ, suc, _+_, _<_, _≤_, _^_}
+use native.Mathlib.Nat.{zero-add, add-zero, add-assoc}
 use native.Mathlib.Omega.{arith}
-use mathlib.Core.Bool.{Bool, true, false, cond, false≢true}
+use mathlib.Core.Bool.{Bool, true, false, cond}
 use mathlib.Core.List.{List, [], _∷_, _++_, append-nil}
 use lib.Dec.{eqb, lit≤}
 use lib.ListN.{length, getD, set, length-append, length-set}
-use Rattle.memory.specs.Outcome.{Outcome, outcomeOf, hasPassed}
+use Rattle.theory.specs.Keeper.{Answer}
+use Rattle.memory.specs.Outcome.{Outcome, hasPassed}
 use Rattle.memory.specs.Outcome.Outcome.{passed, failed}
-use Rattle.memory.proofs.Outcomes.{Checked}
-use Rattle.calls.specs.Monitor.{answer, granted}
-use Rattle.calls.specs.SetList.{listingOf, Run, singly, listing, listed, left}
+use Rattle.calls.specs.Monitor.{granted}
+use Rattle.calls.specs.SetList.{numberOf, filled, listing}
 use Rattle.calls.specs.SetList.Listing.{counted}
-use Rattle.calls.specs.Listing.{Passed, turnsOf, gainOf}
-use Rattle.monitor.specs.Inspecting.{Seen}
+use Rattle.calls.specs.Listing.{turnsOf, gainOf}
 use Rattle.calls.specs.declared.Record.{Record}
-use Rattle.calls.specs.declared.Listed.{Listed}
-use Rattle.monitor.specs.declared.set_list.Inspected.{Inspected}
 use Rattle.monitor.proofs.Records.{put-answer}
-use Rattle.calls.proofs.ListChecks.{list-passed}
-use Rattle.calls.proofs.Singly.{blank, more, singly-more, one-granted, AsRequest, after-passed}
-
--- ---- the checks
-
-module _ (terms state scratch : List ℕ) where
-  is-passed : (o : Outcome) → hasPassed o ≡ true → passed ≡ o
-  is-passed passed e = refl
-  is-passed (failed n l) e = absurd (false≢true e)
-
-  pub passed-all : (c : Inspected) → Seen terms state scratch c → hasPassed (outcomeOf (c .outcome)) ≡ true → Passed terms (c .plan) state scratch
-  passed-all c seen e =
-      let p = list-passed terms state scratch (is-passed (outcomeOf (c .outcome)) e ∙ seen .outcome) in
-      let k : Checked terms state = p .1 in
-      record {
-        long-terms = k .long-terms;
-        good-terms = k .good-terms;
-        planned = seen .planned e;
-        long-state = k .long-state;
-        good-state = k .good-state;
-        long-scratch = p .0;
-      }
+use Rattle.calls.proofs.Singly.{blank}
 
 -- ---- one element between two lists
 
@@ -88,7 +65,7 @@ turns-within o n = at (hasPassed o)
     at false = omega arith
 
 -- a turn is made only where the checks pass
-turns-passed : (o : Outcome) (i n : ℕ) → i < turnsOf o n → hasPassed o ≡ true
+pub turns-passed : (o : Outcome) (i n : ℕ) → i < turnsOf o n → hasPassed o ≡ true
 unfolding turnsOf
 turns-passed o i n = at (hasPassed o)
   where
@@ -96,149 +73,163 @@ turns-passed o i n = at (hasPassed o)
     at true l = refl
     at false l = absurd (omega (arith, l))
 
-module _ (t : List ℕ) (ys₀ : List Record) (st₀ sc₀ : List ℕ) (c : Inspected) (seen : Seen t st₀ sc₀ c) where
-  abbrev outcome : Outcome
-  outcome = outcomeOf (c .outcome)
+-- ---- requests one after another
 
-  -- where i records are answered: g were granted, ys are the records, st and sc the state and the scratch
-  pub record Facts (i g : ℕ) (ys : List Record) (st sc : List ℕ) : Type 0 where
-    pub before : List Record
-    pub done : List Record
-    pub rest : List Record
-    pub whole : ys₀ ≡ before ++ rest
-    pub parts : ys ≡ done ++ rest
-    pub passed : length before ≡ i
-    pub place : length done ≡ i
-    pub size : length ys ≡ length ys₀
-    pub words : length st ≡ length st₀
-    pub scraps : length sc ≡ length sc₀
-    pub small : g ≤ i
-    pub run : record { records = done; grants = g; state = st; scratch = sc } ≡ singly t st₀ sc₀ before
-    pub ready : hasPassed outcome ≡ true → Passed t (c .plan) st sc
+-- the records at the end, how many were granted, and what is left of the memory
+pub record Ran (Mem : Type 0) : Type 0 where
+  pub records : List Record
+  pub grants : ℕ
+  pub mem : Mem
 
-  pub begins : Facts 0 0 ys₀ st₀ sc₀
-  unfolding singly
-  begins = record {
-    before = [];
-    done = [];
-    rest = ys₀;
-    whole = refl;
-    parts = refl;
-    passed = refl;
-    place = refl;
-    size = refl;
-    words = refl;
-    scraps = refl;
-    small = lit≤ tt;
-    run = refl;
-    ready = passed-all t st₀ sc₀ c seen;
-  }
+module _ {Mem : Type 0} (ask : Mem → Record → Answer) (after : Mem → Record → Mem) where
+  abbrev gain : Mem → Record → ℕ
+  gain m r = cond (granted (ask m r)) 1 0
 
-  module _ (i g : ℕ) (ys : List Record) (st sc : List ℕ) (F : Facts i g ys st sc) where
-    -- what `step` asks
-    pub asks : i < turnsOf outcome (length ys₀) → Passed t (c .plan) st sc
-    asks l = F .ready (turns-passed outcome i (length ys₀) l)
+  unfoldable pub each : Mem → List Record → Ran Mem
+  each m [] = record { records = []; grants = 0; mem = m }
+  each m (r ∷ rs) =
+      let later = each (after m r) rs in
+      record { records = filled r (ask m r) ∷ later .records; grants = gain m r + later .grants; mem = later .mem }
 
-  -- what `step` ensures of the record e
-  abbrev pub Said : List ℕ → List ℕ → Record → ℕ → List ℕ → List ℕ → Type 0
-  Said st sc e r st′ sc′ = AsRequest t st sc (e .event) (e .from) (e .to) r st′ sc′
+  -- one record more
+  abbrev more : Ran Mem → Record → Ran Mem
+  more X z = record { records = X .records ++ (filled z (ask (X .mem) z) ∷ []); grants = X .grants + gain (X .mem) z; mem = after (X .mem) z }
 
-  module _ (i g : ℕ) (ys : List Record) (st sc : List ℕ) (r : ℕ) (st′ sc′ : List ℕ) (said : Said st sc (getD ys i blank) r st′ sc′)
-      (len : length st′ ≡ length st) (len′ : length sc′ ≡ length sc)
-    where
-      abbrev ys′ : List Record
-      ys′ = set ys i (put-answer (getD ys i blank) r)
+  each-more : (m : Mem) (rs : List Record) (z : Record) → each m (rs ++ (z ∷ [])) ≡ more (each m rs) z
+  unfolding each
+  each-more m [] z =
+      ap (λ (k : ℕ). record { records = filled z (ask m z) ∷ []; grants = k; mem = after m z }) (add-zero (gain m z) ∙ sym (zero-add (gain m z)))
+  each-more m (r ∷ rs) z =
+      let later : Ran Mem = each (after m r) rs in
+      ap (λ (X : Ran Mem). record { records = filled r (ask m r) ∷ X .records; grants = gain m r + X .grants; mem = X .mem }) (each-more (after m r) rs z)
+      ∙ ap (λ (k : ℕ). record { records = filled r (ask m r) ∷ more later z .records; grants = k; mem = more later z .mem })
+      (sym (add-assoc (gain m r) (later .grants) (gain (later .mem) z)))
 
-      turn-in : (F : Facts i g ys st sc) (rest : List Record) → F .rest ≡ rest → i < length ys → Facts (i + 1) (g + gainOf r) ys′ st′ sc′
-      turn-in F [] none-left l = absurd (no (ap length (F .parts) ∙ length-append (F .done) (F .rest)) (ap length none-left) (F .place) l)
-        where
-          no : length ys ≡ length (F .done) + length (F .rest) → length (F .rest) ≡ 0 → length (F .done) ≡ i → i < length ys → ⊥
-          no p q k l = omega (arith, p, q, k, l)
-      turn-in F (z ∷ rest) more-left l = record {
-        before = F .before ++ (z ∷ []);
-        done = F .done ++ (put-answer z r ∷ []);
-        rest = rest;
-        whole = F .whole ∙ ap (λ (l : List Record). F .before ++ l) more-left ∙ more-done (F .before) z rest;
-        parts = (λ j. set (cut j) (sym (F .place) j) (put-answer (found j) r)) ∙ set-is (F .done) z (put-answer z r) rest;
-        passed = length-append (F .before) (z ∷ []) ∙ ap (λ (k : ℕ). k + 1) (F .passed);
-        place = length-append (F .done) (put-answer z r ∷ []) ∙ ap (λ (k : ℕ). k + 1) (F .place);
-        size = length-set ys i (put-answer (getD ys i blank) r) ∙ F .size;
-        words = len ∙ F .words;
-        scraps = len′ ∙ F .scraps;
-        small = omega (arith, F .small, gain-small r);
-        run = steps ∙ ap (λ (R : Run). more t R z) (F .run) ∙ sym (singly-more t st₀ sc₀ (F .before) z);
-        ready = λ e. subst (λ (m : List ℕ × List ℕ). Passed t (c .plan) (m .0) (m .1)) (λ j. (sym (said-z .1) j, sym (said-z .2) j))
-            (after-passed t st sc (z .event) (z .from) (z .to) (c .plan) (F .ready e));
-      }
-        where
-          cut : ys ≡ F .done ++ (z ∷ rest)
-          cut = F .parts ∙ ap (λ (l : List Record). F .done ++ l) more-left
+  -- ---- the loop, from the records ys₀ and the memory m₀; `Kept` is what else it keeps of the memory
+  module _ (ys₀ : List Record) (m₀ : Mem) (Kept : Mem → Type 0) where
+    -- where i records are answered: g were granted, ys are the records, m is what is left of the memory
+    pub record Facts (i g : ℕ) (ys : List Record) (m : Mem) : Type 0 where
+      pub before : List Record
+      pub done : List Record
+      pub rest : List Record
+      pub whole : ys₀ ≡ before ++ rest
+      pub parts : ys ≡ done ++ rest
+      pub passed : length before ≡ i
+      pub place : length done ≡ i
+      pub size : length ys ≡ length ys₀
+      pub small : g ≤ i
+      pub run : record { records = done; grants = g; mem = m } ≡ each m₀ before
+      pub kept : Kept m
 
-          found : getD ys i blank ≡ z
-          found = (λ j. getD (cut j) (sym (F .place) j) blank) ∙ elem-is (F .done) z blank rest
+    pub begins : Kept m₀ → Facts 0 0 ys₀ m₀
+    unfolding each
+    begins k = record {
+      before = [];
+      done = [];
+      rest = ys₀;
+      whole = refl;
+      parts = refl;
+      passed = refl;
+      place = refl;
+      size = refl;
+      small = lit≤ tt;
+      run = refl;
+      kept = k;
+    }
 
-          said-z : Said st sc z r st′ sc′
-          said-z = subst (λ (e : Record). Said st sc e r st′ sc′) found said
-
-          gained : gainOf r ≡ cond (granted (answer t st sc (z .event) (z .from) (z .to))) 1 0
-          gained = ap gainOf (said-z .0) ∙ one-granted t st sc (z .event) (z .from) (z .to)
-
-          steps : record { records = F .done ++ (put-answer z r ∷ []); grants = g + gainOf r; state = st′; scratch = sc′ }
-              ≡ more t (record { records = F .done; grants = g; state = st; scratch = sc }) z
-          steps = λ j. record { records = F .done ++ (put-answer z (said-z .0 j) ∷ []); grants = g + gained j; state = said-z .1 j; scratch = said-z .2 j }
-
-      pub turn : Facts i g ys st sc → i < length ys → Facts (i + 1) (g + gainOf r) ys′ st′ sc′
-      turn F l = turn-in F (F .rest) refl l
-
-  -- ---- at the end
-
-  abbrev pub Ended : Listed → List Record → List ℕ → List ℕ → Type 0
-  Ended r ys st sc =
-      (listingOf r ≡ listed t st₀ sc₀ ys₀) × (ys ≡ left t st₀ sc₀ ys₀ .records) × (st ≡ left t st₀ sc₀ ys₀ .state) × (sc ≡ left t st₀ sc₀ ys₀ .scratch)
-
-  module _ (g : ℕ) (ys : List Record) (st sc : List ℕ) where
-    abbrev now : Run
-    now = record { records = ys; grants = g; state = st; scratch = sc }
-
-    end-by : (o : Outcome) → Facts (cond (hasPassed o) (length ys₀) 0) g ys st sc →
-        (listing o g ≡ listing o (singly t st₀ sc₀ ys₀ .grants))
-        × (now ≡ cond (hasPassed o) (singly t st₀ sc₀ ys₀) (record { records = ys₀; grants = 0; state = st₀; scratch = sc₀ }))
-    unfolding singly
-    end-by passed F = (ap (λ (R : Run). counted (R .grants)) ran, ran)
+    module _ (one-granted : (m : Mem) (r : Record) → gainOf (numberOf (ask m r)) ≡ gain m r) (i g : ℕ) (ys : List Record) (m : Mem) (r : ℕ) (m′ : Mem)
+        (said : r ≡ numberOf (ask m (getD ys i blank))) (left : m′ ≡ after m (getD ys i blank)) (kept′ : Kept m′)
       where
-        zero-left : length ys ≡ length (F .done) + length (F .rest) → length (F .done) ≡ length ys₀ → length ys ≡ length ys₀ → length (F .rest) ≡ 0
-        zero-left p k e = omega (arith, p, k, e)
+        abbrev ys′ : List Record
+        ys′ = set ys i (put-answer (getD ys i blank) r)
 
-        none-left : F .rest ≡ []
-        none-left = none (F .rest) (zero-left (ap length (F .parts) ∙ length-append (F .done) (F .rest)) (F .place) (F .size))
+        turn-in : (F : Facts i g ys m) (rest : List Record) → F .rest ≡ rest → i < length ys → Facts (i + 1) (g + gainOf r) ys′ m′
+        turn-in F [] none-left l = absurd (no (ap length (F .parts) ∙ length-append (F .done) (F .rest)) (ap length none-left) (F .place) l)
+          where
+            no : length ys ≡ length (F .done) + length (F .rest) → length (F .rest) ≡ 0 → length (F .done) ≡ i → i < length ys → ⊥
+            no p q k l = omega (arith, p, q, k, l)
+        turn-in F (z ∷ rest) more-left l = record {
+          before = F .before ++ (z ∷ []);
+          done = F .done ++ (put-answer z r ∷ []);
+          rest = rest;
+          whole = F .whole ∙ ap (λ (l : List Record). F .before ++ l) more-left ∙ more-done (F .before) z rest;
+          parts = (λ j. set (cut j) (sym (F .place) j) (put-answer (found j) r)) ∙ set-is (F .done) z (put-answer z r) rest;
+          passed = length-append (F .before) (z ∷ []) ∙ ap (λ (k : ℕ). k + 1) (F .passed);
+          place = length-append (F .done) (put-answer z r ∷ []) ∙ ap (λ (k : ℕ). k + 1) (F .place);
+          size = length-set ys i (put-answer (getD ys i blank) r) ∙ F .size;
+          small = omega (arith, F .small, gain-small r);
+          run = steps ∙ ap (λ (X : Ran Mem). more X z) (F .run) ∙ sym (each-more m₀ (F .before) z);
+          kept = kept′;
+        }
+          where
+            cut : ys ≡ F .done ++ (z ∷ rest)
+            cut = F .parts ∙ ap (λ (l : List Record). F .done ++ l) more-left
 
-        all : F .before ≡ ys₀
-        all = sym (F .whole ∙ ap (λ (l : List Record). F .before ++ l) none-left ∙ append-nil (F .before))
+            found : getD ys i blank ≡ z
+            found = (λ j. getD (cut j) (sym (F .place) j) blank) ∙ elem-is (F .done) z blank rest
 
-        ended : ys ≡ F .done
-        ended = F .parts ∙ ap (λ (l : List Record). F .done ++ l) none-left ∙ append-nil (F .done)
+            number : r ≡ numberOf (ask m z)
+            number = said ∙ ap (λ (e : Record). numberOf (ask m e)) found
 
-        ran : now ≡ singly t st₀ sc₀ ys₀
-        ran = ap (λ (l : List Record). record { records = l; grants = g; state = st; scratch = sc }) ended ∙ F .run ∙ ap (singly t st₀ sc₀) all
-    end-by (failed n l) F = (refl, λ j. record { records = kept j; grants = ran j .grants; state = ran j .state; scratch = ran j .scratch })
-      where
-        first : F .before ≡ []
-        first = none (F .before) (F .passed)
+            gained : gainOf r ≡ gain m z
+            gained = ap gainOf number ∙ one-granted m z
 
-        kept : ys ≡ ys₀
-        kept = F .parts ∙ ap (λ (l : List Record). l ++ F .rest) (none (F .done) (F .place)) ∙ sym (F .whole ∙ ap (λ (l : List Record). l ++ F .rest) first)
+            leaves : m′ ≡ after m z
+            leaves = left ∙ ap (after m) found
 
-        ran : _≡_ {A = Run} (record { records = F .done; grants = g; state = st; scratch = sc }) (record { records = []; grants = 0; state = st₀; scratch = sc₀ })
-        ran = F .run ∙ ap (singly t st₀ sc₀) first
+            steps : record { records = F .done ++ (put-answer z r ∷ []); grants = g + gainOf r; mem = m′ } ≡ more (record { records = F .done; grants = g; mem = m }) z
+            steps = λ j. record { records = F .done ++ (put-answer z (number j) ∷ []); grants = g + gained j; mem = leaves j }
 
-    pub ends : (r : Listed) → listingOf r ≡ listing outcome g → Facts (turnsOf outcome (length ys₀)) g ys st sc → Ended r ys st sc
-    unfolding listed left turnsOf
-    ends r said F =
-        let d = end-by outcome F in
-        let o = seen .outcome in
-        let q = d .1 ∙ ap (λ (o : Outcome). cond (hasPassed o) (singly t st₀ sc₀ ys₀) (record { records = ys₀; grants = 0; state = st₀; scratch = sc₀ })) o in (
-          said ∙ d .0 ∙ ap (λ (o : Outcome). listing o (singly t st₀ sc₀ ys₀ .grants)) o,
-          ap (λ (R : Run). R .records) q,
-          ap (λ (R : Run). R .state) q,
-          ap (λ (R : Run). R .scratch) q,
-        )
+        pub turn : Facts i g ys m → i < length ys → Facts (i + 1) (g + gainOf r) ys′ m′
+        turn F l = turn-in F (F .rest) refl l
+
+    -- ---- at the end
+
+    module _ (g : ℕ) (ys : List Record) (m : Mem) where
+      abbrev now : Ran Mem
+      now = record { records = ys; grants = g; mem = m }
+
+      abbrev lent : Ran Mem
+      lent = record { records = ys₀; grants = 0; mem = m₀ }
+
+      -- all records were answered
+      ran : Facts (length ys₀) g ys m → now ≡ each m₀ ys₀
+      ran F = ap (λ (l : List Record). record { records = l; grants = g; mem = m }) ended ∙ F .run ∙ ap (each m₀) all
+        where
+          zero-left : length ys ≡ length (F .done) + length (F .rest) → length (F .done) ≡ length ys₀ → length ys ≡ length ys₀ → length (F .rest) ≡ 0
+          zero-left p k e = omega (arith, p, k, e)
+
+          none-left : F .rest ≡ []
+          none-left = none (F .rest) (zero-left (ap length (F .parts) ∙ length-append (F .done) (F .rest)) (F .place) (F .size))
+
+          all : F .before ≡ ys₀
+          all = sym (F .whole ∙ ap (λ (l : List Record). F .before ++ l) none-left ∙ append-nil (F .before))
+
+          ended : ys ≡ F .done
+          ended = F .parts ∙ ap (λ (l : List Record). F .done ++ l) none-left ∙ append-nil (F .done)
+
+      -- none was
+      stayed : Facts 0 g ys m → now ≡ lent
+      unfolding each
+      stayed F = λ j. record { records = kept j; grants = begun j .grants; mem = begun j .mem }
+        where
+          first : F .before ≡ []
+          first = none (F .before) (F .passed)
+
+          kept : ys ≡ ys₀
+          kept = F .parts ∙ ap (λ (l : List Record). l ++ F .rest) (none (F .done) (F .place)) ∙ sym (F .whole ∙ ap (λ (l : List Record). l ++ F .rest) first)
+
+          begun : record { records = F .done; grants = g; mem = m } ≡ each m₀ []
+          begun = F .run ∙ ap (each m₀) first
+
+      -- by the outcome of the checks: what is counted, and what is left, as seen in another form
+      pub counts : (o : Outcome) (k : ℕ) → each m₀ ys₀ .grants ≡ k → Facts (turnsOf o (length ys₀)) g ys m → listing o g ≡ listing o k
+      unfolding turnsOf
+      counts passed k e F = ap counted (ap (λ (X : Ran Mem). X .grants) (ran F) ∙ e)
+      counts (failed n l) k e F = refl
+
+      pub leaves : {Out : Type 0} (see : Ran Mem → Out) (all : Out) → see (each m₀ ys₀) ≡ all → (o : Outcome) → Facts (turnsOf o (length ys₀)) g ys m →
+          see now ≡ cond (hasPassed o) all (see lent)
+      unfolding turnsOf
+      leaves see all e passed F = ap see (ran F) ∙ e
+      leaves see all e (failed n l) F = ap see (stayed F)

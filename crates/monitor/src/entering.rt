@@ -1,22 +1,25 @@
 // The moment itself, in place: the effects of the event, if it is granted, and the event edge.
 ghost use mathlib.Core.Path.{_≡_};
 ghost use mathlib.Core.Bool.{true, cond};
+ghost use mathlib.Core.List.{List, _++_};
 ghost use Prim.Native.Nat.{ℕ, _+_, _<_, _≤_};
 ghost use lib.Dec.{eqb};
 ghost use lib.ListN.{length, getD};
 ghost use Rattle.sets.specs.Sets.{bit};
 ghost use Rattle.theory.specs.Limits.{maxMembers, maxEvents, maxEffects};
-ghost use Rattle.memory.specs.Layout.{stateWords, triedFrom, effectAt, termsOf};
+ghost use Rattle.memory.specs.Layout.{stateWords, relationWords, ownWords, triedFrom, effectAt, termsOf};
 ghost use Rattle.memory.specs.Checks.{goodMemory};
 ghost use Rattle.theory.specs.Tables.{named};
 ghost use Rattle.deciding.specs.Moving.{Becomes, effectOf, affected, allAffected, occurring, evented, entered};
 use memory::layout;
 use memory::limits::EFFECTS;
 
-// The rows of a relation, and the event word with its units.
+// Where the tables begin, the rows of a relation, and the event word, of a bank's own words, with its units.
+const TABLES: usize = layout::TABLES_AT;
+
 const ROWS: usize = layout::BLOCK;
 
-const EVENT: usize = layout::EVENT_AT;
+const EVENT: usize = layout::OWN_EVENT_AT;
 
 const EVENT_UNIT: usize = layout::EVENT_UNIT as usize;
 
@@ -44,14 +47,18 @@ fn end(back: bool, x: usize, y: usize) -> usize
 }
 
 // The effect in three words of terms from `at` on: an edge is added or deleted.
-fn make_effect(terms: &[u16], state: &mut [u64], at: usize, from: usize, to: usize)
+fn make_effect(terms: &[u16], relations: &mut [u64], at: usize, from: usize, to: usize)
     requires { ⌜ (goodMemory (now terms) ≡ true) × (at < 65536) × (getD (now terms) (at + 1) 0 < termsOf (now terms) .relations) ⌝ }
-    requires { ⌜ (from < termsOf (now terms) .members) × (to < termsOf (now terms) .members) × (stateWords ≤ length (now state)) ⌝ }
-    ensures { λ _. ⌜ Becomes (now (terms .entry)) (affected from to (effectOf (now (terms .entry)) at)) (now (state .entry)) (now (state .exit)) ⌝ }
+    requires { ⌜ (from < termsOf (now terms) .members) × (to < termsOf (now terms) .members) × (length (now relations) ≡ relationWords) ⌝ }
+    ensures { λ _. ⌜ ((own : List ℕ) → Becomes (now (terms .entry)) (affected from to (effectOf (now (terms .entry)) at)) (now (relations .entry) ++ own) (now (relations .exit) ++ own)) ⌝ }
 {
     let back = layout::word(terms, at + 2) == 1;
     let i = ROWS * layout::word(terms, at + 1) + end(back, from, to);
-    state[i] = changed(state[i], layout::word(terms, at) == 1, end(back, to, from));
+    relations[i] = changed(
+        relations[i],
+        layout::word(terms, at) == 1,
+        end(back, to, from),
+    );
 }
 
 // The first word of effect i of an event.
@@ -63,13 +70,19 @@ fn effect_at(event: usize, i: usize) -> usize
 }
 
 // The effects of the event, in listed order.
-fn make_effects(terms: &[u16], state: &mut [u64], event: usize, from: usize, to: usize)
-    requires { ⌜ (goodMemory (now terms) ≡ true) × (named (termsOf (now terms)) event from to ≡ true) × (stateWords ≤ length (now state)) ⌝ }
-    ensures { λ _. ⌜ Becomes (now (terms .entry)) (allAffected event from to) (now (state .entry)) (now (state .exit)) ⌝ }
+pub(crate) fn make_effects(
+    terms: &[u16],
+    relations: &mut [u64],
+    event: usize,
+    from: usize,
+    to: usize,
+)
+    requires { ⌜ (goodMemory (now terms) ≡ true) × (named (termsOf (now terms)) event from to ≡ true) × (length (now relations) ≡ relationWords) ⌝ }
+    ensures { λ _. ⌜ ((own : List ℕ) → Becomes (now (terms .entry)) (allAffected event from to) (now (relations .entry) ++ own) (now (relations .exit) ++ own)) ⌝ }
 {
     let mut i: usize = 0;
     while i < EFFECTS && layout::word(terms, effect_at(event, i)) != 0 {
-        make_effect(terms, state, effect_at(event, i), from, to);
+        make_effect(terms, relations, effect_at(event, i), from, to);
         i += 1;
     }
 }
@@ -83,12 +96,19 @@ fn held(granted: bool, event: usize) -> usize
 }
 
 // The one event edge is then the event's, granted or denied.
-fn put_event(terms: &[u16], state: &mut [u64], granted: bool, event: usize, from: usize, to: usize)
-    requires { ⌜ (goodMemory (now terms) ≡ true) × (named (termsOf (now terms)) event from to ≡ true) × (stateWords ≤ length (now state)) ⌝ }
-    ensures { λ _. ⌜ Becomes (now (terms .entry)) (evented (occurring granted event from to)) (now (state .entry)) (now (state .exit)) ⌝ }
+pub(crate) fn put_event(
+    terms: &[u16],
+    own: &mut [u64],
+    granted: bool,
+    event: usize,
+    from: usize,
+    to: usize,
+)
+    requires { ⌜ (goodMemory (now terms) ≡ true) × (named (termsOf (now terms)) event from to ≡ true) × (ownWords ≤ length (now own)) ⌝ }
+    ensures { λ _. ⌜ ((relations : List ℕ) → length relations ≡ relationWords → Becomes (now (terms .entry)) (evented (occurring granted event from to)) (relations ++ now (own .entry)) (relations ++ now (own .exit))) ⌝ }
 {
     let number = held(granted, event);
-    state[EVENT] = (1 + number * EVENT_UNIT + from * FROM_UNIT + to) as u64;
+    own[EVENT] = (1 + number * EVENT_UNIT + from * FROM_UNIT + to) as u64;
 }
 
 // The moment itself: the effects, if the request is granted, and the event edge.
@@ -104,9 +124,14 @@ pub(crate) fn enter(
     ensures { λ _. ⌜ Becomes (now (terms .entry)) (entered granted event from to) (now (state .entry)) (now (state .exit)) ⌝ }
 {
     if granted {
-        make_effects(terms, state, event, from, to);
-        put_event(terms, state, true, event, from, to);
-    } else {
-        put_event(terms, state, false, event, from, to);
+        make_effects(terms, &mut state[0..TABLES], event, from, to);
     }
+    put_event(
+        terms,
+        &mut state[TABLES..layout::STATE],
+        granted,
+        event,
+        from,
+        to,
+    );
 }

@@ -1,19 +1,20 @@
-// New terms while playing (docs/SCOPE.md, New terms): a second state is filled in for them from the old one.
+// New terms while playing (docs/SCOPE.md, New terms): a second state is filled in for them from the old one. Its tables are filled in over relations and own words apart, of one state or of a bank.
 ghost use mathlib.Core.Path.{_≡_};
-ghost use mathlib.Core.Bool.{true};
-ghost use mathlib.Core.List.{_++_};
+ghost use mathlib.Core.List.{[], _++_};
 ghost use Prim.Native.Nat.{_+_, _*_, _/_, _<_, _≤_};
 ghost use lib.ListN.{length, getD, take, drop};
 ghost use Rattle.theory.specs.Limits.{variables};
 ghost use Rattle.theory.specs.Tables.{revised};
-ghost use Rattle.memory.specs.Layout.{stateWords, relationWords, blockWords, termsOf, stateOf, wordsOf};
+ghost use Rattle.memory.specs.Layout.{relationWords, ownWords, blockWords, termsOf, stateOf, wordsOf};
 ghost use Rattle.memory.specs.Outcome.{outcomeOf, revises};
 ghost use Rattle.calls.specs.Revising.{revisedState};
 ghost use Rattle.deciding.specs.Memo.{MemoOf, Fresh};
 ghost use Rattle.deciding.specs.Moving.{put};
-ghost use Rattle.deciding.specs.Starting.{carriedWord, Carried, Revising, Begun, Taken};
+ghost use Rattle.deciding.specs.Starting.{Revising, Begun, Taken};
+use crate::apart;
 use crate::memo;
-use crate::moment;
+use crate::moment::clear;
+use crate::moment::put_table;
 use memory::Outcome;
 use memory::layout;
 use memory::limits::ENTRIES;
@@ -24,38 +25,28 @@ const TABLES: usize = layout::TABLES_AT;
 
 const ROWS: usize = layout::BLOCK;
 
-// Word i of the second state before any table is filled in.
-fn carried_word(state: &[u64], i: usize) -> u64
-    requires { ⌜ i < length (now state) ⌝ }
-    ensures { λ r. ⌜ r ≡ carriedWord (now (state .entry)) i ⌝ }
-{
-    if (i < TABLES) | (i == layout::EVENT_AT) {
-        state[i]
-    } else {
-        0
-    }
-}
+const EVENT: usize = layout::OWN_EVENT_AT;
 
-// Carries relations and event word over, and leaves the tables empty.
-fn carry(state: &[u64], second: &mut [u64])
-    requires { ⌜ (stateWords ≤ length (now state)) × (stateWords ≤ length (now second)) ⌝ }
-    ensures { λ _. ⌜ Carried (now (state .entry)) (now (second .entry)) stateWords (now (second .exit)) ⌝ }
+// Copies as many words as there is room for.
+pub(crate) fn copy(to: &mut [u64], from: &[u64])
+    requires { ⌜ length (now to) ≤ length (now from) ⌝ }
+    ensures { λ _. ⌜ now (to .exit) ≡ take (length (now (to .entry))) (now (from .entry)) ⌝ }
 {
     let mut i: usize = 0;
-    while i < layout::STATE {
-        second[i] = carried_word(state, i);
+    while i < to.len() {
+        to[i] = from[i];
         i += 1;
     }
 }
 
 // Fills in the table of new entry n with that of old entry k.
-fn take_table(before: &[u16], state: &[u64], plan: &[u16], second: &mut [u64], k: usize, n: usize)
-    requires { ⌜ relationWords + blockWords * (getD (now before) k 0 / variables) + blockWords ≤ length (now state) ⌝ }
-    requires { ⌜ relationWords + blockWords * (getD (now plan) n 0 / variables) + blockWords ≤ length (now second) ⌝ }
-    ensures { λ _. ⌜ now (second .exit) ≡ put (relationWords + blockWords * (getD (now (plan .entry)) n 0 / variables)) (take blockWords (drop (relationWords + blockWords * (getD (now (before .entry)) k 0 / variables)) (now (state .entry)))) (now (second .entry)) ⌝ }
+fn take_table(before: &[u16], own: &[u64], plan: &[u16], second: &mut [u64], k: usize, n: usize)
+    requires { ⌜ blockWords * (getD (now before) k 0 / variables) + blockWords ≤ length (now own) ⌝ }
+    requires { ⌜ blockWords * (getD (now plan) n 0 / variables) + blockWords ≤ length (now second) ⌝ }
+    ensures { λ _. ⌜ now (second .exit) ≡ put (blockWords * (getD (now (plan .entry)) n 0 / variables)) (take blockWords (drop (blockWords * (getD (now (before .entry)) k 0 / variables)) (now (own .entry)))) (now (second .entry)) ⌝ }
 {
-    let t = TABLES + ROWS * (layout::word(before, k) / VARIABLES);
-    moment::put_table(plan, second, &state[t..t + ROWS], n);
+    let t = ROWS * (layout::word(before, k) / VARIABLES);
+    put_table(plan, second, &own[t..t + ROWS], n);
 }
 
 // Fills in the table of new entry n, if that is a prev or a since: with the table of the first old entry with the same formula; or else a prev stays empty, and a since is what its second
@@ -63,7 +54,8 @@ fn take_table(before: &[u16], state: &[u64], plan: &[u16], second: &mut [u64], k
 fn start_turn(
     old: &[u16],
     before: &[u16],
-    state: &[u64],
+    relations: &[u64],
+    own: &[u64],
     new: &[u16],
     plan: &[u16],
     taken: &[u16],
@@ -73,20 +65,21 @@ fn start_turn(
     rows: &mut [u64],
     n: usize,
 )
-    requires { ⌜ Revising (now old) (now before) (now state) (now new) (now plan) × Taken (now old) (now new) (now taken) ⌝ }
+    requires { ⌜ Revising (now old) (now before) (now relations ++ now own) (now new) (now plan) × Taken (now old) (now new) (now taken) ⌝ }
+    requires { ⌜ (length (now relations) ≡ relationWords) × (length (now own) ≡ ownWords) × (length (now second) ≡ ownWords) ⌝ }
     requires { ⌜ (n < termsOf (now new) .entries) × (length (now rows) ≡ blockWords) × (length (now f) ≡ blockWords) ⌝ }
-    requires { ⌜ Begun (now old) (now state) (now new) n (drop stateWords (now second)) (now second) ⌝ }
-    requires { ⌜ MemoOf (termsOf (now new)) (now second) (termsOf (now new) .entries) (now memo) × Fresh (termsOf (now new) .entries) n (now memo) ⌝ }
-    ensures { λ _. ⌜ Begun (now (old .entry)) (now (state .entry)) (now (new .entry)) (n + 1) (drop stateWords (now (second .entry))) (now (second .exit)) ⌝ }
-    ensures { λ _. ⌜ MemoOf (termsOf (now (new .entry))) (now (second .exit)) (termsOf (now (new .entry)) .entries) (now (memo .exit)) × Fresh (termsOf (now (new .entry)) .entries) n (now (memo .exit)) ⌝ }
+    requires { ⌜ Begun (now old) (now relations ++ now own) (now new) n [] (now relations ++ now second) ⌝ }
+    requires { ⌜ MemoOf (termsOf (now new)) (now relations ++ now second) (termsOf (now new) .entries) (now memo) × Fresh (termsOf (now new) .entries) n (now memo) ⌝ }
+    ensures { λ _. ⌜ Begun (now (old .entry)) (now (relations .entry) ++ now (own .entry)) (now (new .entry)) (n + 1) [] (now (relations .entry) ++ now (second .exit)) ⌝ }
+    ensures { λ _. ⌜ MemoOf (termsOf (now (new .entry))) (now (relations .entry) ++ now (second .exit)) (termsOf (now (new .entry)) .entries) (now (memo .exit)) × Fresh (termsOf (now (new .entry)) .entries) n (now (memo .exit)) ⌝ }
 {
     let k = layout::word(taken, n);
     if k < layout::entries(old) {
         if is_past(layout::op_of(new, n)) {
-            take_table(before, state, plan, second, k, n);
+            take_table(before, own, plan, second, k, n);
         }
     } else {
-        moment::since_turn(new, plan, second, memo, f, rows, n);
+        apart::since_turn(new, plan, relations, second, memo, f, rows, n);
     }
 }
 
@@ -94,15 +87,17 @@ fn start_turn(
 fn start_tables(
     old: &[u16],
     before: &[u16],
-    state: &[u64],
+    relations: &[u64],
+    own: &[u64],
     new: &[u16],
     plan: &[u16],
     taken: &[u16],
     second: &mut [u64],
 )
-    requires { ⌜ Revising (now old) (now before) (now state) (now new) (now plan) × Taken (now old) (now new) (now taken) ⌝ }
-    requires { ⌜ Begun (now old) (now state) (now new) 0 (drop stateWords (now second)) (now second) ⌝ }
-    ensures { λ _. ⌜ Begun (now (old .entry)) (now (state .entry)) (now (new .entry)) (termsOf (now (new .entry)) .entries) (drop stateWords (now (second .entry))) (now (second .exit)) ⌝ }
+    requires { ⌜ Revising (now old) (now before) (now relations ++ now own) (now new) (now plan) × Taken (now old) (now new) (now taken) ⌝ }
+    requires { ⌜ (length (now relations) ≡ relationWords) × (length (now own) ≡ ownWords) × (length (now second) ≡ ownWords) ⌝ }
+    requires { ⌜ Begun (now old) (now relations ++ now own) (now new) 0 [] (now relations ++ now second) ⌝ }
+    ensures { λ _. ⌜ Begun (now (old .entry)) (now (relations .entry) ++ now (own .entry)) (now (new .entry)) (termsOf (now (new .entry)) .entries) [] (now (relations .entry) ++ now (second .exit)) ⌝ }
 {
     let entries = layout::entries(new);
     let mut memo = [0u64; memo::WORDS];
@@ -114,7 +109,8 @@ fn start_tables(
         start_turn(
             old,
             before,
-            state,
+            relations,
+            own,
             new,
             plan,
             taken,
@@ -128,15 +124,24 @@ fn start_tables(
     }
 }
 
-// The state that the new terms begin with.
-fn begin(old: &[u16], before: &[u16], state: &[u64], new: &[u16], plan: &[u16], second: &mut [u64])
-    requires { ⌜ Revising (now old) (now before) (now state) (now new) (now plan) × (stateWords ≤ length (now second)) ⌝ }
-    ensures { λ _. ⌜ now (second .exit) ≡ wordsOf (termsOf (now (new .entry))) (revised (termsOf (now (old .entry))) (stateOf (now (state .entry))) (termsOf (now (new .entry)))) ++ drop stateWords (now (second .entry)) ⌝ }
+// The own words that the new terms begin with: the event word carries over, and the tables, empty at first, are filled in.
+pub(crate) fn begin(
+    old: &[u16],
+    before: &[u16],
+    relations: &[u64],
+    own: &[u64],
+    new: &[u16],
+    plan: &[u16],
+    taken: &[u16],
+    second: &mut [u64],
+)
+    requires { ⌜ Revising (now old) (now before) (now relations ++ now own) (now new) (now plan) × Taken (now old) (now new) (now taken) ⌝ }
+    requires { ⌜ (length (now relations) ≡ relationWords) × (length (now own) ≡ ownWords) × (length (now second) ≡ ownWords) ⌝ }
+    ensures { λ _. ⌜ now (relations .entry) ++ now (second .exit) ≡ wordsOf (termsOf (now (new .entry))) (revised (termsOf (now (old .entry))) (stateOf (now (relations .entry) ++ now (own .entry))) (termsOf (now (new .entry)))) ⌝ }
 {
-    let mut taken = [0u16; ENTRIES];
-    classes::find_classes(old, new, &mut taken);
-    carry(state, second);
-    start_tables(old, before, state, new, plan, &taken, second);
+    clear(second);
+    second[EVENT] = own[EVENT];
+    start_tables(old, before, relations, own, new, plan, taken, second);
 }
 
 // From old terms, the state under them and new terms, fills in the second state, with which the new terms go on. A refusal leaves it as lent.
@@ -150,7 +155,19 @@ pub fn revise(old: &[u16], state: &[u64], new: &[u16], second: &mut [u64]) -> Ou
     match checked {
         Outcome::Refused(n, l) => Outcome::Refused(n, l),
         Outcome::Done => {
-            begin(old, &before, state, new, &after, second);
+            let mut taken = [0u16; ENTRIES];
+            classes::find_classes(old, new, &mut taken);
+            copy(&mut second[0..TABLES], state);
+            begin(
+                old,
+                &before,
+                &state[0..TABLES],
+                &state[TABLES..layout::STATE],
+                new,
+                &after,
+                &taken,
+                &mut second[TABLES..layout::STATE],
+            );
             Outcome::Done
         }
     }

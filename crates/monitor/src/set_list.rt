@@ -80,7 +80,7 @@ fn step(
 }
 
 // The count, with one more for a grant.
-fn tally(count: usize, answer: u32) -> usize
+pub(crate) fn tally(count: usize, answer: u32) -> usize
     requires { ⌜ count + 1 < 2 ^ 64 ⌝ }
     ensures { λ r. ⌜ r ≡ count + gainOf answer ⌝ }
 {

@@ -3,9 +3,11 @@ use Prim.Native.Nat.{ℕ, _≤_, _<_}
 use native.Mathlib.Omega.{arith}
 use mathlib.Core.Path.{_≡_, refl, sym, ap, _∙_}
 use mathlib.Core.Bool.{Bool, true, false, cond}
-use mathlib.Core.List.{List, _++_}
+use mathlib.Core.List.{List, [], _∷_, _++_}
 use lib.ListN.{length, drop}
 use borrow.Author.Tests.{eq-eqb, ne-eqb, lt-ltb, le-ltb}
+use denote.Enum.Declared.{tagOf}
+use types.Run.{OneOf, miss}
 use Rattle.memory.specs.Layout.{termsWords, stateWords, wordsOf}
 use Rattle.memory.proofs.Words.{length-words}
 use Rattle.fields.specs.Split.{lines}
@@ -13,13 +15,16 @@ use Rattle.file.specs.File.{File, stateSaid}
 use Rattle.file.specs.Reading.{Reading, partlyAt, levelled, reading}
 use Rattle.file.specs.Reading.Reading.{accepted, refused}
 use Rattle.reader.specs.Memory.{memoryOf}
-use Rattle.reader.specs.Read.{Filling, filling, fillGives, readTerms, readWords}
+use Rattle.reader.specs.Read.{Filling, fillingOf, filling, fillGives, readTerms, readWords}
 use Rattle.reader.specs.Read.Filling.{old, stored, unfilled}
 use Rattle.reader.specs.Storing.{allRead, Holds, Reads}
 use Rattle.reader.specs.Partly.{Found}
+use Rattle.reader.specs.declared.Filled.{Filled}
+use Rattle.reader.specs.declared.Filled.the-variants.{Old, Stored, Refused}
+use Rattle.reader.proofs.Filled.{the-type}
 use Rattle.reader.proofs.TermsMemory.{length-memory}
 
-was-refused : (r : Reading) (k n : ℕ) → filling r ≡ unfilled k n → r ≡ refused k n
+pub was-refused : (r : Reading) (k n : ℕ) → filling r ≡ unfilled k n → r ≡ refused k n
 was-refused (accepted f) k n e = absurd (go (f .stored) e)
   where
     go : (c : Bool) → cond c stored old ≡ unfilled k n → ⊥
@@ -33,11 +38,17 @@ Unrefused old = Unit {0}
 Unrefused stored = Unit {0}
 Unrefused (unfilled k n) = ⊥
 
-was-accepted : (r : Reading) (o : Filling) → o ≡ filling r → Unrefused o → (f : File) × (r ≡ accepted f)
+pub was-accepted : (r : Reading) (o : Filling) → o ≡ filling r → Unrefused o → (f : File) × (r ≡ accepted f)
 was-accepted (accepted f) o e t = (f, refl)
 was-accepted (refused i j) old e t = let z : _≡_ {A = ℕ} 0 1 = cc in absurd (omega arith)
 was-accepted (refused i j) stored e t = let z : _≡_ {A = ℕ} 0 1 = cc in absurd (omega arith)
 was-accepted (refused i j) (unfilled k n) e t = absurd t
+
+-- nor is what the code answers then
+pub unrefused : (x : Filled) → OneOf (0 ∷ 1 ∷ []) (tagOf the-type x) → Unrefused (fillingOf x)
+unrefused Old h = tt
+unrefused Stored h = tt
+unrefused (Refused n l) h = absurd (miss (0 ∷ 1 ∷ []) 2 tt h)
 
 -- what filling gives and leaves
 abbrev pub Leaves : (text terms state : List ℕ) → Filling → (terms' state' : List ℕ) → Type 0

@@ -12,3 +12,4 @@ pub mod StateMemory
 pub mod Looking
 pub mod Copied
 pub mod Ended
+pub mod OldForm

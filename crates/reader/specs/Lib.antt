@@ -1,5 +1,6 @@
 pub mod Memory
 pub mod Read
+pub mod OldForm
 pub mod Stepping
 pub mod Testing
 pub mod Storing

@@ -11,8 +11,10 @@ use crate::store::store_set;
 use crate::store::store_state;
 use crate::store::store_terms;
 use fields::field::find;
+use file::line::Line;
 use file::line::parse_line;
 use memory::layout::STATE;
+use memory::layout::TABLES_AT;
 use memory::layout::TERMS;
 use memory::limits::ENTRIES;
 ghost use mathlib.Core.Path.{_≡_};
@@ -21,6 +23,7 @@ ghost use Prim.Native.Nat.{_≤_};
 ghost use lib.ListN.{length, drop, replicate};
 ghost use Rattle.memory.specs.Layout.{termsWords, stateWords};
 ghost use Rattle.reader.specs.Read.{fillingOf, fillGives, readTerms, readWords};
+ghost use Rattle.reader.specs.OldForm.{beginsStored, oldFillGives, oldTerms, oldRelations};
 ghost use Rattle.reader.specs.Storing.{Reads};
 
 // Reads the lines into words that are 0: the terms, the state, and the sets of free variables on the way.
@@ -111,5 +114,45 @@ pub fn fill(text: &[u8], terms: &mut [u16], state: &mut [u64]) -> Filled
     }
     copy_terms(terms, &words);
     copy_state(state, &bits);
+    filled
+}
+
+// Whether the first line is an S line, with which the stored form begins.
+fn begins_stored(text: &[u8]) -> bool
+    ensures { λ r. ⌜ r ≡ beginsStored (now (text .entry)) ⌝ }
+{
+    let e = find(text, 10);
+    if text.len() <= e {
+        return false;
+    }
+    let line = parse_line(&text[..e]);
+    if let Line::Form(_) = line {
+        return true;
+    }
+    false
+}
+
+// Reads a terms file of the old form, as `fill` does, and of the state only the relations; a stored text is refused where
+// its S stands.
+pub fn fill_relations(text: &[u8], terms: &mut [u16], relations: &mut [u64]) -> Filled
+    ensures { λ r. ⌜ fillingOf r ≡ oldFillGives (now (text .entry)) (now (terms .entry)) (now (relations .entry)) ⌝ }
+    ensures { λ r. ⌜ now (terms .exit) ≡ oldTerms (now (text .entry)) (now (terms .entry)) (now (relations .entry)) ⌝ }
+    ensures { λ r. ⌜ now (relations .exit) ≡ oldRelations (now (text .entry)) (now (terms .entry)) (now (relations .entry)) ⌝ }
+{
+    if terms.len() < TERMS {
+        return Filled::Refused(6, 0);
+    }
+    if relations.len() < TABLES_AT {
+        return Filled::Refused(6, 0);
+    }
+    if begins_stored(text) {
+        return Filled::Refused(1, 1);
+    }
+    let mut state = [0u64; STATE];
+    let filled = fill(text, terms, &mut state);
+    if let Filled::Refused(number, line) = filled {
+        return Filled::Refused(number, line);
+    }
+    copy_state(relations, &state[0..TABLES_AT]);
     filled
 }

@@ -24,11 +24,8 @@ abbrev pub unnamed : Terms → Call → Bool
 unnamed T c = leb (T .events) (c .event) || leb (T .members) (c .from) || leb (T .members) (c .to)
 
 -- The call names an event and members, and the policy of that event holds, each past-time entry from its start on.
-abbrev pub grantedFrom : Terms → Starts → List Moment → Call → Bool
-grantedFrom T s Ms c = not (unnamed T c) && keeperHolds T s Ms (T .policy (c .event)) (target (c .to)) (c .from)
-
-abbrev pub granted : Terms → List Moment → Call → Bool
-granted T Ms c = grantedFrom T fromFirst Ms c
+abbrev pub granted : Terms → Starts → List Moment → Call → Bool
+granted T s Ms c = not (unnamed T c) && keeperHolds T s Ms (T .policy (c .event)) (target (c .to)) (c .from)
 
 -- The answer to a call that is granted or is not, and whether such a call makes a moment.
 abbrev pub answered : Terms → Call → (granted : Bool) → Answer
@@ -42,11 +39,11 @@ abbrev pub madeBy : Terms → Moment → Call → (granted : Bool) → Moment
 madeBy T M c g = made T M g (c .event) (c .from) (c .to)
 
 -- A call goes by these.
-pub judged-from : (T : Terms) (s : Starts) (Ms : List Moment) (c : Call) →
-    let g = grantedFrom T s Ms c in
+pub judged : (T : Terms) (s : Starts) (Ms : List Moment) (c : Call) →
+    let g = granted T s Ms c in
     judge T s Ms c ≡ (answered T c g, cond (counted T c g) (madeBy T (lastMoment Ms) c g ∷ []) [])
 unfolding judge
-judged-from T s Ms c =
+judged T s Ms c =
     let h = keeperHolds T s Ms (T .policy (c .event)) (target (c .to)) (c .from) in
     go (short c) (unnamed T c) h (c .look) (T .kept (c .event))
   where
@@ -70,25 +67,24 @@ judged-from T s Ms c =
     go false false false false true = refl
     go false false false false false = refl
 
-pub judged : (T : Terms) (Ms : List Moment) (c : Call) →
-    let g = granted T Ms c in
-    judge T fromFirst Ms c ≡ (answered T c g, cond (counted T c g) (madeBy T (lastMoment Ms) c g ∷ []) [])
-judged T Ms c = judged-from T fromFirst Ms c
-
-pub makes-counted : (T : Terms) (Ms : List Moment) (c : Call) → makes T Ms c ≡ counted T c (granted T Ms c)
+pub makes-counted : (T : Terms) (Ms : List Moment) (c : Call) →
+    makes T Ms c ≡ counted T c (granted T fromFirst Ms c)
 makes-counted T Ms c =
-    ap (λ (r : Answer × List Moment). ltb 0 (length (r .1))) (judged T Ms c)
-    ∙ go (counted T c (granted T Ms c)) (madeBy T (lastMoment Ms) c (granted T Ms c))
+    let g = granted T fromFirst Ms c in
+    ap (λ (r : Answer × List Moment). ltb 0 (length (r .1))) (judged T fromFirst Ms c)
+    ∙ go (counted T c g) (madeBy T (lastMoment Ms) c g)
   where
     go : (b : Bool) (M : Moment) → ltb 0 (length (cond b (M ∷ []) [])) ≡ b
     go true M = refl
     go false M = refl
 
 -- how much scratch there is beyond enough makes no difference
-pub judge-lent : (T : Terms) (Ms : List Moment) {c d : Call} → c .look ≡ d .look → c .event ≡ d .event → c .from ≡ d .from → c .to ≡ d .to →
-    scratchWords ≤ c .scratch → scratchWords ≤ d .scratch → judge T fromFirst Ms c ≡ judge T fromFirst Ms d
+pub judge-lent : (T : Terms) (s : Starts) (Ms : List Moment) {c d : Call} →
+    c .look ≡ d .look → c .event ≡ d .event → c .from ≡ d .from → c .to ≡ d .to →
+    scratchWords ≤ c .scratch → scratchWords ≤ d .scratch → judge T s Ms c ≡ judge T s Ms d
 unfolding judge
-judge-lent T Ms {c} {d} l e u v p q = rw (le-ltb (c .scratch) scratchWords p, le-ltb (d .scratch) scratchWords q, l, e, u, v)
+judge-lent T s Ms {c} {d} l e u v p q =
+    rw (le-ltb (c .scratch) scratchWords p, le-ltb (d .scratch) scratchWords q, l, e, u, v)
 
 -- what a call names that is not refused for it
 pub named : (T : Terms) (c : Call) → not (unnamed T c) ≡ true → (c .event < T .events) × (c .from < T .members) × (c .to < T .members)

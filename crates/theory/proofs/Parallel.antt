@@ -97,12 +97,12 @@ module _ (T : Terms) (S : Circle) where
 
     pub parallel-outside : (c d : Call) → BothOutside T S Ms Ns c d → Parallel T S (judge T fromFirst Ms c .1) (judge T fromFirst Ns d .1)
     parallel-outside c d o =
-        subst₂ (λ (r s : Answer × List Moment). Parallel T S (r .1) (s .1)) (sym (judged T Ms c)) (sym (judged T Ns d))
-        (go (counted T c (granted T Ms c)) (counted T d (granted T Ns d)) (sym (makes-counted T Ms c) ∙ o .both ∙ makes-counted T Ns d))
+        subst₂ (λ (r s : Answer × List Moment). Parallel T S (r .1) (s .1)) (sym (judged T fromFirst Ms c)) (sym (judged T fromFirst Ns d))
+        (go (counted T c (granted T fromFirst Ms c)) (counted T d (granted T fromFirst Ns d)) (sym (makes-counted T Ms c) ∙ o .both ∙ makes-counted T Ns d))
       where
         go : (x y : Bool) → x ≡ y →
-            Parallel T S (cond x (madeBy T (lastMoment Ms) c (granted T Ms c) ∷ []) []) (cond y (madeBy T (lastMoment Ns) d (granted T Ns d) ∷ []) [])
-        go true true e = more (agree-outside T S (lastMoment Ms) (lastMoment Ns) agree-last c d (o .left) (o .right) (granted T Ms c) (granted T Ns d)) done
+            Parallel T S (cond x (madeBy T (lastMoment Ms) c (granted T fromFirst Ms c) ∷ []) []) (cond y (madeBy T (lastMoment Ns) d (granted T fromFirst Ns d) ∷ []) [])
+        go true true e = more (agree-outside T S (lastMoment Ms) (lastMoment Ns) agree-last c d (o .left) (o .right) (granted T fromFirst Ms c) (granted T fromFirst Ns d)) done
         go false false e = done
         go true false e = absurd (true≢false e)
         go false true e = absurd (false≢true e)
@@ -123,16 +123,16 @@ module _ (T : Terms) (S : Circle) where
           (λ x p. rw (only-out 0 (formula T (T .policy (c .event))) (good .policy-free (c .event) l) x (small T good (T .policy (c .event)) n x p) p) v)
           ∙ ap (λ i. holds (T .members) fromFirst (recordOf T Ns) (formula T (T .policy (c .event))) i (target (c .to)) (c .from)) same-last
 
-      same-granted : (c : Call) → S (c .from) ≡ true → S (c .to) ≡ true → granted T Ms c ≡ granted T Ns c
+      same-granted : (c : Call) → S (c .from) ≡ true → S (c .to) ≡ true → granted T fromFirst Ms c ≡ granted T fromFirst Ns c
       same-granted c u v =
           and-under (not (unnamed T c)) _ _ (λ e. let n = named T c e in policy-within c (n .0) (n .1, u) (n .2, v))
 
       pub parallel-inside : (c d : Call) → Enough c → Enough d → SameWithin S c d →
           (judge T fromFirst Ms c .0 ≡ judge T fromFirst Ns d .0) × Parallel T S (judge T fromFirst Ms c .1) (judge T fromFirst Ns d .1)
       parallel-inside c d ce de sm =
-          subst₂ (λ (r s : Answer × List Moment). (r .0 ≡ s .0) × Parallel T S (r .1) (s .1)) (sym (judged T Ms c))
-          (sym (judged T Ns c) ∙ judge-lent T Ns (sm .look) (sm .event) (sm .from) (sm .to) ce de)
-          (go (granted T Ms c) (granted T Ns c) (same-granted c (sm .inside .0) (sm .inside .1)))
+          subst₂ (λ (r s : Answer × List Moment). (r .0 ≡ s .0) × Parallel T S (r .1) (s .1)) (sym (judged T fromFirst Ms c))
+          (sym (judged T fromFirst Ns c) ∙ judge-lent T fromFirst Ns (sm .look) (sm .event) (sm .from) (sm .to) ce de)
+          (go (granted T fromFirst Ms c) (granted T fromFirst Ns c) (same-granted c (sm .inside .0) (sm .inside .1)))
         where
           one : (g x : Bool) → Parallel T S (cond x (madeBy T (lastMoment Ms) c g ∷ []) []) (cond x (madeBy T (lastMoment Ns) c g ∷ []) [])
           one g true = more (agree-same T S (lastMoment Ms) (lastMoment Ns) agree-last c g) done

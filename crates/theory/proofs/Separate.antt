@@ -103,10 +103,10 @@ module _ (T : Terms) (S : Circle) where
   unfolding keep
   separate-keep Ms c s p =
       separate-append Ms (judge T fromFirst Ms c .1) p
-      (subst (λ (r : Answer × List Moment). Separate T S (r .1)) (sym (judged T Ms c)) (go (counted T c (granted T Ms c))))
+      (subst (λ (r : Answer × List Moment). Separate T S (r .1)) (sym (judged T fromFirst Ms c)) (go (counted T c (granted T fromFirst Ms c))))
     where
-      go : (b : Bool) → Separate T S (cond b (madeBy T (lastMoment Ms) c (granted T Ms c) ∷ []) [])
-      go true = separate-one _ (apart-made (lastMoment Ms) c (granted T Ms c) s (p (last Ms)))
+      go : (b : Bool) → Separate T S (cond b (madeBy T (lastMoment Ms) c (granted T fromFirst Ms c) ∷ []) [])
+      go true = separate-one _ (apart-made (lastMoment Ms) c (granted T fromFirst Ms c) s (p (last Ms)))
       go false = separate-none
 
   pub separate-start : (R : Relations) → SeparateFirst T S R → Separate T S (first R ∷ [])

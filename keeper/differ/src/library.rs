@@ -102,7 +102,7 @@ fn named(call: &Call) -> Result<Request, cuckooormolu::Refusal> {
     })
 }
 
-fn plain_record(item: &Item) -> raw::Record {
+pub fn plain_record(item: &Item) -> raw::Record {
     let Item { event, from, to, answer } = *item;
     raw::Record { event, from, to, answer }
 }

@@ -1,10 +1,14 @@
 //! `differ [--calls N] [--files N] [--seed S]` holds the static library
 //! against the keeper: N calls over accepted terms, new terms among them, N
 //! damaged texts and as many damaged memories, with calls and with new terms,
-//! and memories whose tables are drawn, with new terms. The first difference is
-//! printed with its seed, made small, and the exit status is 1.
+//! and memories whose tables are drawn, with new terms; then as much of two
+//! banks. The first difference is printed with its seed, made small, and the
+//! exit status is 1.
 
+mod archive;
+mod banks;
 mod library;
+mod named;
 mod options;
 mod revise;
 mod rounds;
@@ -14,7 +18,7 @@ mod tally;
 use options::Options;
 use std::process::ExitCode;
 use std::time::Instant;
-use tally::Tally;
+use tally::Tallies;
 
 fn main() -> ExitCode {
     let options = match Options::parse(std::env::args().skip(1)) {
@@ -25,7 +29,7 @@ fn main() -> ExitCode {
         }
     };
     let begin = Instant::now();
-    let mut tally = Tally::default();
+    let mut tally = Tallies::default();
     let result = rounds::all(&options, &mut tally);
     print!("{tally}");
     println!("{:.1} s", begin.elapsed().as_secs_f64());

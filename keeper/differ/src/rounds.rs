@@ -1,17 +1,19 @@
 //! The rounds of one run: accepted terms with calls, damaged texts, damaged
 //! and short memory.
 
+mod banks;
+
 use crate::library::Library;
 use crate::options::Options;
-use crate::tally::Tally;
+use crate::tally::{Tallies, Tally};
 use keeper::compare;
 use keeper::expect;
 use keeper::generate::{self, revised, Case, Rng};
 use keeper::record::Call;
 use keeper::set_list::Item;
-use keeper::shrink::shrink;
-use keeper::step::Step;
+use keeper::shrink::{shrink, Shrinks};
 use keeper::terms::memory::{SCRATCH_WORDS, STATE_WORDS, TERMS_WORDS};
+use std::fmt::Display;
 
 /// What differed, with its seed and the case made small.
 type Report = String;
@@ -20,7 +22,12 @@ type Report = String;
 const LARGEST: usize = usize::MAX;
 
 /// Runs every round and stops at the first difference.
-pub fn all(options: &Options, tally: &mut Tally) -> Result<(), Report> {
+pub fn all(options: &Options, tallies: &mut Tallies) -> Result<(), Report> {
+    one_bank(options, &mut tallies.one)?;
+    banks::all(options, &mut tallies.two)
+}
+
+fn one_bank(options: &Options, tally: &mut Tally) -> Result<(), Report> {
     let mut seed = options.seed;
     while tally.calls() < options.calls {
         let case = generate::case(seed, LARGEST);
@@ -37,16 +44,16 @@ pub fn all(options: &Options, tally: &mut Tally) -> Result<(), Report> {
 }
 
 /// Compares a case; what differs is made as small as it gets.
-fn shrunk(
-    case: &Case,
+fn shrunk<S: Shrinks + Display>(
+    case: &Case<S>,
     tally: &mut Tally,
-    compared: fn(&Case, &mut Tally) -> Result<(), String>,
+    compared: fn(&Case<S>, &mut Tally) -> Result<(), String>,
 ) -> Result<(), Report> {
     let Err(wrong) = compared(case, tally) else {
         return Ok(());
     };
     tally.stop();
-    let with = |text: &[u8], steps: &[Step]| Case {
+    let with = |text: &[u8], steps: &[S]| Case {
         seed: case.seed,
         text: text.to_vec(),
         steps: steps.to_vec(),
@@ -194,7 +201,7 @@ mod tests {
     #[test]
     fn a_short_run_finds_no_difference() {
         let options = Options { calls: 400, files: 60, seed: 7 };
-        assert_eq!(all(&options, &mut Tally::default()), Ok(()));
+        assert_eq!(all(&options, &mut Tallies::default()), Ok(()));
     }
 
     #[test]

@@ -7,9 +7,72 @@ use keeper::terms::{self, memory, Refusal};
 use std::collections::BTreeMap;
 use std::fmt;
 
+/// The counts of one bank, and those of two.
+#[derive(Default)]
+pub struct Tallies {
+    pub one: Tally,
+    pub two: Tally,
+}
+
+impl Tallies {
+    /// Outcomes that a long run has to see and did not.
+    pub fn unseen(&self) -> Vec<String> {
+        let of_two = self.two.unseen(two_banks()).into_iter();
+        let mut unseen = self.one.unseen(one_bank());
+        unseen.extend(of_two.map(|outcome| format!("{outcome} of two banks")));
+        unseen
+    }
+}
+
+impl fmt::Display for Tallies {
+    fn fmt(&self, out: &mut fmt::Formatter<'_>) -> fmt::Result {
+        write!(out, "{}two banks:\n{}", self.one, self.two)
+    }
+}
+
+type Seen = (&'static str, String);
+
+/// What calls, set lists and revisions have to give.
+fn steps() -> Vec<Seen> {
+    let mut wanted = Vec::new();
+    for kind in ["request", "look"] {
+        wanted.extend([6, 7, 8, 9].map(|number| (kind, format!("refuse {number}"))));
+        wanted.extend([(kind, "grant".into()), (kind, "deny".into())]);
+    }
+    wanted.push(("request", "deny, kept".into()));
+    wanted.extend([6, 7, 8].map(|number| ("set list", format!("refuse {number}"))));
+    wanted.extend(["answered", "empty"].map(|outcome| ("set list", outcome.into())));
+    wanted.extend(["grant", "deny", "refuse 9"].map(|outcome| ("in a list", outcome.into())));
+    wanted.extend([6, 7, 8, 13].map(|number| ("revise", format!("refuse {number}"))));
+    wanted.push(("revise", "done".into()));
+    wanted.extend(["carried", "begun"].map(|outcome| ("past-time", outcome.into())));
+    wanted
+}
+
+fn one_bank() -> Vec<Seen> {
+    let refused = |kind, number| (kind, format!("refuse {number}"));
+    let mut wanted = steps();
+    wanted.extend([1, 2, 3, 4, 5, 6, 10, 11].map(|number| refused("read", number)));
+    wanted.extend([6, 7, 8, 12].map(|number| refused("write", number)));
+    wanted.extend([6, 7, 8].map(|number| refused("store", number)));
+    wanted.extend(["accepted", "padded", "stored"].map(|form| ("read", form.into())));
+    wanted.extend(["write", "store"].map(|kind| (kind, "written".into())));
+    wanted
+}
+
+fn two_banks() -> Vec<Seen> {
+    let refused = |kind, number| (kind, format!("refuse {number}"));
+    let mut wanted = steps();
+    wanted.extend([1, 2, 3, 4, 5, 6, 10].map(|number| refused("read", number)));
+    wanted.extend([6, 7, 8].map(|number| refused("open", number)));
+    wanted.extend(["accepted", "padded"].map(|form| ("read", form.into())));
+    wanted.push(("open", "done".into()));
+    wanted
+}
+
 #[derive(Default)]
 pub struct Tally {
-    counts: BTreeMap<(&'static str, String), usize>,
+    counts: BTreeMap<Seen, usize>,
     calls: usize,
     shrinking: bool,
 }
@@ -25,26 +88,8 @@ impl Tally {
         self.shrinking = true;
     }
 
-    /// Outcomes that a long run has to see and did not.
-    pub fn unseen(&self) -> Vec<String> {
-        let refused = |kind, number| (kind, format!("refuse {number}"));
-        let mut wanted: Vec<_> =
-            [1, 2, 3, 4, 5, 6, 10, 11].map(|number| refused("read", number)).into();
-        wanted.extend([6, 7, 8, 12].map(|number| refused("write", number)));
-        wanted.extend([6, 7, 8].map(|number| refused("store", number)));
-        wanted.extend(["accepted", "padded", "stored"].map(|form| ("read", form.into())));
-        wanted.extend(["write", "store"].map(|kind| (kind, "written".into())));
-        for kind in ["request", "look"] {
-            wanted.extend([6, 7, 8, 9].map(|number| (kind, format!("refuse {number}"))));
-            wanted.extend([(kind, "grant".into()), (kind, "deny".into())]);
-        }
-        wanted.push(("request", "deny, kept".into()));
-        wanted.extend([6, 7, 8].map(|number| ("set list", format!("refuse {number}"))));
-        wanted.extend(["answered", "empty"].map(|outcome| ("set list", outcome.into())));
-        wanted.extend(["grant", "deny", "refuse 9"].map(|outcome| ("in a list", outcome.into())));
-        wanted.extend([6, 7, 8, 13].map(|number| ("revise", format!("refuse {number}"))));
-        wanted.push(("revise", "done".into()));
-        wanted.extend(["carried", "begun"].map(|outcome| ("past-time", outcome.into())));
+    /// Those of the wanted outcomes that did not come up.
+    fn unseen(&self, mut wanted: Vec<Seen>) -> Vec<String> {
         wanted.retain(|outcome| !self.counts.contains_key(outcome));
         wanted.into_iter().map(|(kind, outcome)| format!("{kind} {outcome}")).collect()
     }
@@ -60,12 +105,17 @@ impl Tally {
         self.count("read", got.map_or_else(refused, |()| accepted.into()));
     }
 
+    /// Opening.
+    pub fn open(&mut self, got: &Result<(), Refusal>) {
+        self.count("open", got.map_or_else(refused, |()| "done".into()));
+    }
+
     /// Writing or storing.
     pub fn write(&mut self, kind: &'static str, got: &Result<usize, Refusal>) {
         self.count(kind, got.map_or_else(refused, |_| "written".into()));
     }
 
-    /// A request or a look, and whether it moved the event word.
+    /// A request or a look, and whether it moved the event word or cleared scratch.
     pub fn call(&mut self, call: &Call, got: Answer, moved: bool) {
         let kind = if call.look { "look" } else { "request" };
         let outcome = match got {

@@ -38,17 +38,21 @@ fn next(terms: Terms, revision: &Revision) -> Terms {
 /// A revision of terms. Now and then it lends too few words, or damaged ones, or
 /// terms of another size.
 pub fn revision(rng: &mut Rng, terms: &Terms) -> Revision {
-    let new = match rng.below(20) {
-        0 => another(rng, terms),
-        1 => other_size(rng, terms),
-        _ => edited(rng, terms),
-    };
-    let mut revision = Revision::to(&new);
+    let mut revision = Revision::to(&new_terms(rng, terms));
     if rng.percent(5) {
         words::damage_terms(rng, &mut revision.terms);
     }
     lend(rng, &mut revision);
     revision
+}
+
+/// New terms: mostly those in use, edited.
+pub fn new_terms(rng: &mut Rng, terms: &Terms) -> Terms {
+    match rng.below(20) {
+        0 => another(rng, terms),
+        1 => other_size(rng, terms),
+        _ => edited(rng, terms),
+    }
 }
 
 /// Lends some words more, or too few of one memory.

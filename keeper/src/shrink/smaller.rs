@@ -1,6 +1,5 @@
 //! Files and revisions with one thing less.
 
-use crate::step::Step;
 use crate::terms::{Entry, EventEdge, File, Pair, Past, Terms};
 use std::collections::BTreeSet;
 
@@ -66,14 +65,9 @@ impl Less {
         Some(File { terms: self.terms(terms)?, past })
     }
 
-    /// The step with one less in its terms, where that leaves them sound.
-    pub fn step(self, step: &Step) -> Step {
-        let Step::Revision(revision) = step else { return step.clone() };
-        let terms = revision.said().and_then(|terms| self.terms(&terms));
-        match terms.filter(Terms::is_sound) {
-            Some(terms) => Step::Revision(revision.with_terms(&terms)),
-            None => step.clone(),
-        }
+    /// The terms with one less, where that leaves them sound.
+    pub fn sound(self, terms: &Terms) -> Option<Terms> {
+        self.terms(terms).filter(Terms::is_sound)
     }
 
     fn terms(self, terms: &Terms) -> Option<Terms> {

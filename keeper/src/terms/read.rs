@@ -28,6 +28,16 @@ pub fn read(text: &[u8]) -> Result<File, Refusal> {
     }
 }
 
+/// Reads a text of the old form. Its first line is no S line, a kind that this
+/// form doesn't know.
+pub fn read_old(text: &[u8]) -> Result<Terms, Refusal> {
+    let first = text.split(|&byte| byte == b'\n').next().unwrap_or_default();
+    if fields(first)[0] == b"S" {
+        return Err(Refusal { number: 1, line: 1 });
+    }
+    read(text).map(|file| file.terms)
+}
+
 /// Reads a number: 1 to 5 decimal digits, leading zeros among them.
 pub fn number(field: &[u8]) -> Option<usize> {
     let form = (1..=5).contains(&field.len()) && field.iter().all(u8::is_ascii_digit);

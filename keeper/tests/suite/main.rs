@@ -1,5 +1,9 @@
 //! The keeper's tests.
 
+mod bank_compared;
+mod bank_mirror;
+mod bank_refusals;
+mod banks;
 mod cases;
 mod compared;
 mod counted;
@@ -24,3 +28,4 @@ mod spelled;
 mod stored;
 mod strangers;
 mod traps;
+mod two_runs;

@@ -1,8 +1,10 @@
 //! The worked example of docs/MEMORY.md.
 
 use crate::help::*;
+use keeper::banks::lent::{OWN_WORDS, RELATION_WORDS};
+use keeper::banks::Banks;
 use keeper::record::Answer::{Deny, Grant};
-use keeper::record::Record;
+use keeper::record::{Call, Record};
 use keeper::set_list::{self, Item};
 use keeper::terms::memory::{terms_words, SCRATCH_WORDS, STATE_WORDS, TERMS_WORDS};
 use keeper::terms::{store, Entry};
@@ -94,6 +96,31 @@ fn its_second_state() {
             shown[number(row[0]) as usize] = number(row[1 + column]);
         }
         assert_eq!(words, shown, "column {column}");
+    }
+}
+
+#[test]
+fn its_two_banks() {
+    let mut banks = Banks::new(accepted(&text()));
+    let share = Call { look: false, event: 0, from: 0, to: 1, scratch_words: SCRATCH_WORDS };
+    for column in 0..2 {
+        if column == 1 {
+            assert_eq!(banks.call(0, &share, SCRATCH_WORDS), Grant);
+        }
+        let mut relations = vec![0; RELATION_WORDS];
+        let mut own = [0, 1].map(|_| vec![0; OWN_WORDS]);
+        for row in table("| word | moment 0 | share 0 1 in the first bank |") {
+            let (part, place) = row[0].rsplit_once(' ').unwrap();
+            let words = match part {
+                "relations, word" => &mut relations,
+                "first bank, own word" => &mut own[0],
+                "second bank, own word" => &mut own[1],
+                _ => panic!("{part} is no part"),
+            };
+            words[number(place) as usize] = number(row[1 + column]);
+        }
+        let words = banks.words();
+        assert_eq!((words.relations, words.own), (relations, own), "column {column}");
     }
 }
 

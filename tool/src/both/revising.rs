@@ -3,6 +3,7 @@
 use super::{agreed, differ, named, stored, verdict, Both, Verdict};
 use crate::stop::Stop;
 use keeper::record::meaning::Assigned;
+use keeper::record::Record;
 use keeper::terms::memory::terms_words;
 use keeper::terms::Refusal;
 
@@ -27,21 +28,28 @@ impl Both {
 
     /// All that is allowed now; it makes no moment.
     pub fn allowed(&self) -> Result<Allowed, Stop> {
-        let (terms, now) = (self.terms(), self.record.graphs().len() - 1);
-        let mut meaning = self.record.meaning();
-        let mut may = |event: usize, from: usize, to: usize| {
-            let looked = named(event, from, to).and_then(|request| self.monitor.look(request));
-            let assigned = Assigned::default().with(0, to);
-            let kept = match meaning.holds(terms.policies[event], now, from, assigned) {
-                true => Verdict::Grant,
-                false => Verdict::Deny,
-            };
-            Ok(agreed(verdict(looked), kept, event, from, to)? == Verdict::Grant)
-        };
-        let members = 0..terms.members;
-        let mut row = |event, from| members.clone().map(|to| may(event, from, to)).collect();
-        (0..terms.events)
-            .map(|event| members.clone().map(|from| row(event, from)).collect())
-            .collect()
+        allowed(&self.record, |event, from, to| {
+            verdict(named(event, from, to).and_then(|request| self.monitor.look(request)))
+        })
     }
+}
+
+/// All that is allowed now by a record and by the library's looks.
+pub(super) fn allowed(
+    record: &Record,
+    look: impl Fn(usize, usize, usize) -> Verdict,
+) -> Result<Allowed, Stop> {
+    let (terms, now) = (record.terms(), record.graphs().len() - 1);
+    let mut meaning = record.meaning();
+    let mut may = |event: usize, from: usize, to: usize| {
+        let assigned = Assigned::default().with(0, to);
+        let kept = match meaning.holds(terms.policies[event], now, from, assigned) {
+            true => Verdict::Grant,
+            false => Verdict::Deny,
+        };
+        Ok(agreed(look(event, from, to), kept, event, from, to)? == Verdict::Grant)
+    };
+    let members = 0..terms.members;
+    let mut row = |event, from| members.clone().map(|to| may(event, from, to)).collect();
+    (0..terms.events).map(|event| members.clone().map(|from| row(event, from)).collect()).collect()
 }

@@ -2,7 +2,8 @@
 
 use super::warnings::{About, Subject, Warning};
 use crate::both::{Both, Verdict};
-use crate::folder::Request;
+use crate::folder::{self, Folder, Request};
+use crate::session::Session;
 use crate::stop::Stop;
 use keeper::terms::{Entry, Terms};
 
@@ -32,13 +33,9 @@ struct Count {
 
 /// Warnings for events that were all granted or all denied: by the folder's
 /// requests, and by looks to begin with and after requests tried in turn.
-pub fn one_sided(
-    both: &Both,
-    subject: &Subject,
-    requests: &[Request],
-) -> Result<Vec<Warning>, Stop> {
+pub fn one_sided(both: &Both, subject: &Subject, folder: &Folder) -> Result<Vec<Warning>, Stop> {
     let (terms, names) = (subject.terms, subject.names);
-    let asked = asked(both, requests)?;
+    let asked = asked(folder, terms.events)?;
     let (seen, moments) = seen(both)?;
     let mut warnings = Vec::new();
     for event in 0..terms.events {
@@ -63,8 +60,8 @@ pub fn one_sided(
             )
         } else if asked.granted == 0 && asked.denied > 1 {
             let times = asked.denied;
-            let what =
-                format!("requests.tsv asks {times} times for {name} and is denied each time");
+            let file = folder::name(&folder.asked);
+            let what = format!("{file} asks {times} times for {name} and is denied each time");
             ("denied", what, [IN_FOR_OUT, TURNED])
         } else {
             continue;
@@ -76,14 +73,13 @@ pub fn one_sided(
     Ok(warnings)
 }
 
-/// How the folder's requests are answered.
-fn asked(both: &Both, requests: &[Request]) -> Result<Vec<Count>, Stop> {
-    let mut counts = vec![Count::default(); both.terms().events];
-    // A record of its own, here and below: the one at hand stays at moment 0.
-    let mut trial = Both::accepted(&both.store()?)?;
-    for request in requests.iter().take(REQUESTS) {
-        let Request::Ask { event, from, to } = *request else { continue };
-        match trial.request(event, from, to)? {
+/// How the folder's requests are answered, in their banks if they name banks.
+fn asked(folder: &Folder, events: usize) -> Result<Vec<Count>, Stop> {
+    let mut counts = vec![Count::default(); events];
+    let mut session = Session::before(folder, !folder.banks.is_empty())?;
+    for (line, request) in folder.requests().into_iter().take(REQUESTS).enumerate() {
+        let Request::Ask { event, .. } = request else { continue };
+        match session.make(folder.banks.get(line).copied(), request)?.verdict {
             Verdict::Grant => counts[event].granted += 1,
             Verdict::Deny => counts[event].denied += 1,
             Verdict::Refused(_) => {}
@@ -97,6 +93,7 @@ fn seen(both: &Both) -> Result<(Vec<Count>, usize), Stop> {
     let terms = both.terms();
     let mut members = busiest(terms);
     let mut counts = vec![Count::default(); terms.events];
+    // A record of its own: the one at hand stays at moment 0.
     let mut trial = Both::accepted(&both.store()?)?;
     look_around(&trial, &members, &mut counts)?;
     members.truncate(TRYING);

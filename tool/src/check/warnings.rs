@@ -76,7 +76,7 @@ pub fn warnings(both: &Both, folder: &Folder) -> Result<Vec<Warning>, Stop> {
     warnings.extend(unsaid(&subject));
     match long::long(&subject) {
         Some(warning) => warnings.push(warning),
-        None => warnings.extend(tried::one_sided(both, &subject, &folder.requests())?),
+        None => warnings.extend(tried::one_sided(both, &subject, folder)?),
     }
     // In the stored form all lines come after S.
     let head = HEAD + usize::from(both.is_stored());

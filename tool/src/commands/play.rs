@@ -18,7 +18,7 @@ graph, what has happened and why, and who may do what. You can go back to any
 moment. Save writes terms.say, and the requests by name to requests.say.
 
 The page is served on 127.0.0.1 only, to whoever has its address, and needs no
-network. Ctrl-C ends it.
+network. Ctrl-C ends it. It has one bank only: `try` has two.
 
   --port PORT   the port, by default any free one
 

@@ -14,6 +14,7 @@ usage: cuckooormolu report DIR -o FILE.html [--title TITLE]
 Writes the story of a folder as one self-contained page of HTML: the policies read
 aloud, a strip of moments, the graph of each moment, each request with its answer
 and the reason, and who may do what at the end. It has no scripts and loads nothing.
+It draws one bank only: if the requests name two, `why` explains them.
 
   -o FILE         where to write the page; `-` is standard output
   --title TITLE   the page's title, by default the name of the folder

@@ -22,7 +22,8 @@ first edges and requests of NEW are not used. It says
 - who could do what and no longer can, and who now can
 
 Members, relations and events must be the same, in number and order, since numbers
-carry over. Policies, effects and kept events may differ.
+carry over. Policies, effects and kept events may differ. If the requests of DIR name
+two banks, use `revise NEW` at the prompt of `try` instead, which revises both.
 
   --renamed      the names in NEW are new names for the same members, relations
                  and events
@@ -51,7 +52,7 @@ pub fn main(arguments: &[String], out: &mut dyn Write) -> Result<i32, Stop> {
     }
     match json {
         true => revised.json().iter().try_for_each(|line| writeln!(out, "{line}"))?,
-        false => write!(out, "{}", revised.text(&both))?,
+        false => write!(out, "{}", revised.text(both.terms()))?,
     }
     if let Some(file) = file {
         match json {

@@ -2,18 +2,20 @@
 
 use crate::arguments::Arguments;
 use crate::both::Verdict;
-use crate::folder::{named, Folder, Request};
+use crate::folder::{Folder, Request};
 use crate::json::Json;
-use crate::replay::{Replay, Step};
+use crate::replay::Step;
+use crate::session::Session;
 use crate::stop::{Stop, FAILING, WELL};
 use crate::storing::store;
 use crate::words::{answered, Words};
 use keeper::terms::Refusal;
 use std::io::{self, Write};
-use std::path::Path;
+use std::path::{Path, PathBuf};
 
 pub const HELP: &str = "\
-usage: cuckooormolu run DIR [-] [--strict] [--json] [--store FILE] [--write FILE]
+usage: cuckooormolu run DIR [- | --requests FILE] [--strict] [--json] [--store FILE]
+           [--write FILE]
 
 Makes the requests of a folder under its terms, and prints each with its answer.
 Requests are in DIR/requests.say, one per line by name, such as `load pete saw`, or
@@ -22,12 +24,18 @@ form; `run -` means `run . -`. The terms are those of DIR/terms.say, or else of
 DIR/terms.tsv, with the names of DIR/names.tsv if there is one. Stored terms
 continue where they were stored.
 
+Two banks share terms and relations, each with its own past: then every request by
+name begins with its bank, such as `left load pete saw` or `right load pete saw`.
+
+  --requests FILE
+                 make the requests of FILE, in either form, instead of the folder's
   --strict       exit with 1 if a request is denied or refused, with 3 if there is none
   --json         one JSON object per line; `made` is the moment a request made
   --store FILE   store terms, state and what they remember in FILE, before any answer
                  is printed, creating its folder if need be; if FILE is called
                  terms.tsv, the names are stored beside it and its folder can be run.
-                 One run at a time: nothing locks the folder
+                 One run at a time: nothing locks the folder. Of two banks nothing
+                 is stored or written
   --write FILE   afterwards, write terms and relations as new terms to begin with;
                  refused with 12 if anything has happened
 
@@ -36,51 +44,71 @@ be read, written or compiled.
 ";
 
 pub fn main(arguments: &[String], out: &mut dyn Write) -> Result<i32, Stop> {
-    let arguments = Arguments::read(arguments, &["--json", "--strict"], &["--store", "--write"])?;
+    let options = ["--requests", "--store", "--write"];
+    let arguments = Arguments::read(arguments, &["--json", "--strict"], &options)?;
     let (directory, input) = match &arguments.rest[..] {
         [only] if only == "-" => (".", true),
         [directory, dash] if dash == "-" => (directory.as_str(), true),
         _ => (arguments.one("DIR")?, false),
     };
-    let mut folder = Folder::load(Path::new(directory))?;
-    if input {
-        let text = io::read_to_string(io::stdin())
-            .map_err(|error| Stop::Failed(format!("cannot read standard input: {error}")))?;
-        folder.requests = named("standard input", &text, &folder.terms, &folder.names)?;
+    let folder = asked(directory, input, arguments.option("--requests"))?;
+    let stored = arguments.option("--store").or(arguments.option("--write")).is_some();
+    if stored && !folder.banks.is_empty() {
+        let why = "names banks, and a terms file has what one bank remembers";
+        let asked = folder.asked.display();
+        return Err(Stop::Failed(format!(
+            "{asked} {why}: of two banks nothing is stored or written"
+        )));
     }
-    let replay = Replay::of(&folder)?;
+    let session = Session::of(&folder)?;
+    let steps = session.steps();
     // An answer is shown once nothing can be lost any more.
-    if let Some(file) = arguments.option("--store") {
-        store(Path::new(file), &replay.both.store()?, &folder)?;
+    if let (Some(file), Some(both)) = (arguments.option("--store"), session.one()) {
+        store(Path::new(file), &both.store()?, &folder)?;
     }
-    let words = Words::new(replay.both.terms(), &folder.names);
-    let widths = Widths::of(&replay.steps, &words);
-    for step in &replay.steps {
+    let words = Words::new(session.terms(), &folder.names);
+    let widths = Widths::of(steps, &words);
+    for step in steps {
         if arguments.has("--json") {
             writeln!(out, "{}", Json::Object(fields(step, &words)))?;
         } else {
             writeln!(out, "{}", widths.line(step, &words))?;
         }
     }
-    if arguments.has("--strict") && !input && replay.steps.is_empty() {
+    if arguments.has("--strict") && !input && steps.is_empty() {
         return Err(Stop::Failed(format!(
             "there are no requests in {directory}; `-` reads them from standard input"
         )));
     }
-    let stored = arguments.option("--store").or(arguments.option("--write")).is_some();
     if !input && !stored {
-        hint(&replay, directory);
+        hint(steps, directory);
     }
-    if let Some(file) = arguments.option("--write") {
-        let text = replay.both.write()?.map_err(|refusal| Stop::Failed(no_fresh_start(refusal)))?;
+    if let (Some(file), Some(both)) = (arguments.option("--write"), session.one()) {
+        let text = both.write()?.map_err(|refusal| Stop::Failed(no_fresh_start(refusal)))?;
         store(Path::new(file), &text, &folder)?;
     }
-    Ok(if arguments.has("--strict") && !replay.all_granted() { FAILING } else { WELL })
+    let all_granted = steps.iter().all(|step| step.verdict == Verdict::Grant);
+    Ok(if arguments.has("--strict") && !all_granted { FAILING } else { WELL })
+}
+
+/// A folder with its own requests, or those of standard input or of a file.
+fn asked(directory: &str, input: bool, file: Option<&str>) -> Result<Folder, Stop> {
+    let folder = Folder::load(Path::new(directory))?;
+    match (input, file) {
+        (true, Some(_)) => Err(Stop::Usage("give - or --requests FILE, not both".into())),
+        (true, None) => {
+            let text = io::read_to_string(io::stdin())
+                .map_err(|error| Stop::Failed(format!("cannot read standard input: {error}")))?;
+            folder.asking(PathBuf::from("standard input"), &text)
+        }
+        (false, Some(file)) => folder.asking_file(Path::new(file)),
+        (false, None) => Ok(folder),
+    }
 }
 
 /// Says on standard error what to do where there are no requests.
-pub fn hint(replay: &Replay, directory: &str) {
-    if replay.steps.is_empty() {
+pub fn hint(steps: &[Step], directory: &str) {
+    if steps.is_empty() {
         eprintln!("no requests yet; `cuckooormolu try {directory}` makes some");
     }
 }
@@ -93,32 +121,36 @@ fn no_fresh_start(refusal: Refusal) -> String {
     )
 }
 
-/// How wide the columns of line numbers and requests are.
+/// How wide the columns of line numbers, banks and requests are.
 pub struct Widths {
     line: usize,
+    bank: usize,
     request: usize,
 }
 
 impl Widths {
     pub fn of(steps: &[Step], words: &Words) -> Widths {
         let request = steps.iter().map(|step| words.request(step.request).chars().count());
+        let bank = |step: &Step| step.bank.map(|bank| bank.word().len());
         Widths {
             line: steps.last().map_or(1, |step| step.line.to_string().len()),
+            bank: steps.iter().filter_map(bank).max().unwrap_or(0),
             request: request.max().unwrap_or(0),
         }
     }
 
-    /// `3  load pete → saw  granted`
+    /// `3  load pete → saw  granted`, `3  left   load pete → saw  granted`
     pub fn line(&self, step: &Step, words: &Words) -> String {
         let request = words.request(step.request);
         let (line, wide) = (self.line, self.request);
+        let bank = step.bank.map_or(String::new(), |bank| format!("{bank:0$}  ", self.bank));
         let answer = match step.verdict {
             Verdict::Refused(number) => {
                 format!("refused: {}", words.refusal(step.request, number))
             }
             verdict => answered(verdict).to_string(),
         };
-        format!("{:line$}  {request:wide$}  {answer}", step.line)
+        format!("{:line$}  {bank}{request:wide$}  {answer}", step.line)
     }
 
     /// The blanks before what is said below a line.
@@ -130,6 +162,7 @@ impl Widths {
 /// A step's fields as `--json` prints them.
 pub fn fields(step: &Step, words: &Words) -> Vec<(&'static str, Json)> {
     let mut fields = vec![("line", step.line.into())];
+    fields.extend(step.bank.map(|bank| ("bank", bank.word().into())));
     if let Request::Ask { event, from, to } = step.request {
         fields.push(("request", vec![event, from, to].into()));
         fields.push(("event", words.names.event(event).into()));

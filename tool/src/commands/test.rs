@@ -33,6 +33,7 @@ Runs the tests in each folder's tests.say under its terms:
 Each test begins at moment 0, without the requests of the folder. After `because`
 come words that `why --all` must say. `nobody`, `anyone` and `only pete and quin`
 may stand for a member. `dora denied share pete` is a request that must be denied.
+A test is about one bank.
 
 Prints a diff for each unexpected answer, and a summary.
 

@@ -10,7 +10,7 @@ use std::io::{self, BufRead, IsTerminal, Write};
 use std::path::Path;
 
 pub const HELP: &str = "\
-usage: cuckooormolu try DIR [--first]
+usage: cuckooormolu try DIR [--requests FILE] [--first]
 
 Reads lines from standard input and answers each:
 
@@ -30,15 +30,25 @@ It begins after the requests of DIR. Put a name of several words in double quote
 At a terminal, Tab completes a word, the left and right arrows move within the line,
 and up and down bring back earlier lines.
 
-  --first   begin at moment 0, before the requests
+Two banks share members and relations, each with its own past. To try them, name the
+bank from the first request on: `left share dora pete`, `look right load pete saw`,
+`why left load pete saw`, `who right load`. A moment made in one bank is a moment in
+the other too, without the event there. `revise` changes the terms of both.
+
+  --requests FILE   begin after the requests of FILE, not of DIR; `save` writes there
+  --first           begin at moment 0, before the requests
 
 Exit status: 0; if input is not a terminal, 2 if a line could not be understood or
 carried out.
 ";
 
 pub fn main(arguments: &[String], out: &mut dyn Write) -> Result<i32, Stop> {
-    let arguments = Arguments::read(arguments, &["--first"], &[])?;
+    let arguments = Arguments::read(arguments, &["--first"], &["--requests"])?;
     let folder = Folder::load(Path::new(arguments.one("DIR")?))?;
+    let folder = match arguments.option("--requests") {
+        Some(file) => folder.asking_file(Path::new(file))?,
+        None => folder,
+    };
     let mut trial = Trial::new(folder, arguments.has("--first"))?;
     let terminal = io::stdin().is_terminal();
     if terminal {

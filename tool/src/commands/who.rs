@@ -17,7 +17,8 @@ usage: cuckooormolu who DIR EVENT [--from WHO] [--to WHO] [--first] [--json]
 
 Shows who may do EVENT to whom after the requests of a folder: a row for each
 initiator, a column for each target. EVENT is a name or a number. Nothing is
-requested, so nothing changes.
+requested, so nothing changes. If the requests name two banks, use `who left EVENT` at
+the prompt of `try` instead.
 
   --from WHO   only these initiators: a kind of members, or one member
   --to WHO     only these targets

@@ -47,6 +47,7 @@ impl Files {
     pub fn found(&self) -> Result<Found, Stop> {
         match Folder::load(&self.path) {
             Ok(folder) => {
+                folder.of_one_bank()?;
                 let both = Both::accepted(&folder.terms)?;
                 let (requests, more) = named(&folder, both.terms(), &self.requests());
                 let source = match &folder.source {

@@ -162,7 +162,7 @@ fn looks(replay: &Replay, words: &Words, asked: &Asked) -> Result<Json, Stop> {
     let look = |event: usize| {
         let verdict = replay.both.look(event, from, to)?;
         let (request, moment) = (Request::Ask { event, from, to }, replay.moment());
-        let step = Step { line: 0, request, verdict, moment, made: false };
+        let step = Step { line: 0, bank: None, request, verdict, moment, made: false };
         Ok(Json::Object(vec![
             ("event", words.names.event(event).into()),
             ("answer", verdict.to_string().into()),

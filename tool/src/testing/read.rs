@@ -3,6 +3,7 @@
 use super::lines::{statements, Word};
 use super::people::People;
 use super::{Call, Said, Statement, Test};
+use crate::bank::Bank;
 use crate::both::Both;
 use crate::names::{did_you_mean, Kind, Names};
 use crate::source::ast::Span;
@@ -236,13 +237,13 @@ impl<'a> Reader<'a> {
     fn members(&mut self) -> Result<Vec<usize>, Mistake> {
         let word = self.word("a member")?;
         let found = self.known.names.members(word.text, self.known.terms.members);
-        found.map_err(|wrong| Mistake::new(word.span, wrong))
+        found.map_err(|wrong| no_member(word, wrong))
     }
 
     fn member(&mut self) -> Result<usize, Mistake> {
         let word = self.word("a member")?;
         let found = self.known.names.lookup(Kind::Member, word.text, self.known.terms.members);
-        found.map_err(|wrong| Mistake::new(word.span, wrong))
+        found.map_err(|wrong| no_member(word, wrong))
     }
 
     fn event(&mut self) -> Result<usize, Mistake> {
@@ -298,4 +299,14 @@ fn made_by(terms: &Terms, entry: usize) -> Option<(usize, bool)> {
         }
     }
     None
+}
+
+/// What is wrong with a word that names no member. It may be a bank.
+fn no_member(word: Word, wrong: String) -> Mistake {
+    match Bank::named(word.text) {
+        Some(_) => Mistake::new(word.span, "a test is about one bank").advise(
+            "leave out the bank; `cuckooormolu why` says how requests of two banks are answered",
+        ),
+        None => Mistake::new(word.span, wrong),
+    }
 }

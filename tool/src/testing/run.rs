@@ -132,7 +132,8 @@ impl Telling<'_> {
             return Ok(None);
         }
         let (request, moment) = (Request::Ask { event, from, to }, self.replay.moment());
-        let because = self.why(&Step { line: 0, request, verdict, moment, made: false })?;
+        let step = Step { line: 0, bank: None, request, verdict, moment, made: false };
+        let because = self.why(&step)?;
         if answer == may && wanted.is_some_and(|wanted| says(&because, wanted)) {
             return Ok(None);
         }
@@ -192,7 +193,7 @@ mod tests {
     #[test]
     fn words_of_a_reason() {
         let lines = vec!["never share dora → pete".to_string(), "pete is Suspended".to_string()];
-        let because = Because { granted: false, lines, more: 0 };
+        let because = Because { granted: false, lines, ..Because::default() };
         assert!(says(&because, "suspended") && says(&because, "never share dora pete"));
         assert!(!says(&because, "pend") && !says(&because, "share pete"));
         assert!(!says(&because, "pete is suspended again"));

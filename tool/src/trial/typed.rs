@@ -1,5 +1,6 @@
 //! What a typed line asks for.
 
+use crate::bank::Bank;
 use crate::names::{did_you_mean, Kind, Names};
 use keeper::terms::Terms;
 
@@ -16,7 +17,12 @@ revise DIR           continue with the terms of DIR, and say what changes
 save [FILE]          write the requests to FILE, by default the folder's own:
                      by name beside a terms.say or in a .say, else by number
 help                 show this
-quit                 end";
+quit                 end
+
+To try two banks, which share members and relations, each with its own past, name the
+bank before every event from the first on: left share dora pete; look right load pete saw;
+why left load pete saw; who right load. A moment made in one bank is a moment in the
+other too, without the event there.";
 
 const WORDS: [&str; 10] =
     ["look", "why", "who", "undo", "list", "members", "revise", "save", "help", "quit"];
@@ -35,23 +41,39 @@ pub fn next(before: &str, terms: &Terms, names: &Names) -> Vec<String> {
     if !before.ends_with(' ') {
         words.pop();
     }
-    let first = words.first().map(String::as_str);
-    let asked = matches!(first, Some("look" | "why" | "who"));
-    match (first, words.len() - usize::from(asked)) {
-        (None, _) => {
-            let commands = WORDS.iter().map(|word| word.to_string());
-            all(Kind::Event, terms.events).into_iter().chain(commands).collect()
+    let words: Vec<&str> = words.iter().map(String::as_str).collect();
+    let (asked, rest) = match words[..] {
+        [asked @ ("look" | "why" | "who"), ref rest @ ..] => (Some(asked), rest),
+        ref rest => (None, rest),
+    };
+    // A bank may come before the event.
+    let (bank, rest) = match rest {
+        [first, rest @ ..] if Bank::named(first).is_some() => (true, rest),
+        rest => (false, rest),
+    };
+    let events = all(Kind::Event, terms.events);
+    let banks = Bank::BOTH.map(|bank| bank.word().to_string()).to_vec();
+    match (asked, rest.len()) {
+        (None, 0) if !bank => {
+            let commands = WORDS.map(str::to_string).to_vec();
+            [events, commands, banks].concat()
         }
-        (Some("who"), 0) => all(Kind::Event, terms.events),
-        (Some("why"), 0) => [all(Kind::Event, terms.events), vec!["all".into()]].concat(),
-        (Some("look"), 0) => all(Kind::Event, terms.events),
-        (Some(word), 1 | 2) if word != "who" => all(Kind::Member, terms.members),
+        (Some("why"), 0) if !bank => [events, vec!["all".into()], banks].concat(),
+        (Some(_), 0) if !bank => [events, banks].concat(),
+        (_, 0) => events,
+        (asked, 1 | 2) if asked != Some("who") => all(Kind::Member, terms.members),
         _ => Vec::new(),
     }
 }
 
-/// An event, its initiator and its target.
-pub type Call = (usize, usize, usize);
+/// An event, its initiator and its target, and the bank if one is named.
+#[derive(Clone, Copy, Debug, PartialEq, Eq)]
+pub struct Call {
+    pub bank: Option<Bank>,
+    pub event: usize,
+    pub from: usize,
+    pub to: usize,
+}
 
 /// A line that was understood.
 #[derive(Clone, Debug, PartialEq, Eq)]
@@ -62,7 +84,7 @@ pub enum Typed {
     /// Why the last answer was as it was; all of it or the beginning.
     Why(bool),
     WhyNot(Call),
-    Who(usize),
+    Who(Option<Bank>, usize),
     List,
     Members,
     Undo,
@@ -82,11 +104,13 @@ pub fn read(line: &str, terms: &Terms, names: &Names) -> Result<Typed, String> {
         let known = names.events(terms);
         names.lookup(Kind::Event, word, terms.events).map_err(|_| unknown(word, &known))
     };
-    let call = |of: &str, from: &str, to: &str| {
+    let call = |bank: Option<Bank>, of: &str, from: &str, to: &str| {
         let event = event(of)?;
         let from = names.lookup(Kind::Member, from, terms.members)?;
-        Ok::<Call, String>((event, from, names.lookup(Kind::Member, to, terms.members)?))
+        let to = names.lookup(Kind::Member, to, terms.members)?;
+        Ok::<Call, String>(Call { bank, event, from, to })
     };
+    let is_bank = |word: &str| Bank::named(word).is_some();
     Ok(match words[..] {
         [] => Typed::Nothing,
         ["quit" | "exit" | "q"] => Typed::Quit,
@@ -100,15 +124,28 @@ pub fn read(line: &str, terms: &Terms, names: &Names) -> Result<Typed, String> {
         ["save", file] => Typed::Save(Some(file.to_string())),
         ["why"] => Typed::Why(false),
         ["why", "all"] => Typed::Why(true),
-        ["why", of, from, to] => Typed::WhyNot(call(of, from, to)?),
-        ["who", of] => Typed::Who(event(of)?),
-        ["look", of, from, to] => Typed::Look(call(of, from, to)?),
+        ["why", of, from, to] => Typed::WhyNot(call(None, of, from, to)?),
+        ["why", bank, of, from, to] if is_bank(bank) => {
+            Typed::WhyNot(call(Bank::named(bank), of, from, to)?)
+        }
+        ["who", of] => Typed::Who(None, event(of)?),
+        ["who", bank, of] if is_bank(bank) => Typed::Who(Bank::named(bank), event(of)?),
+        ["look", of, from, to] => Typed::Look(call(None, of, from, to)?),
+        ["look", bank, of, from, to] if is_bank(bank) => {
+            Typed::Look(call(Bank::named(bank), of, from, to)?)
+        }
         ["who"] => {
             let events = names.events(terms).join(", ");
             return Err(format!("{}; events: {events}", usage("who")));
         }
         [word, ..] if WORDS.contains(&word) => return Err(usage(word)),
-        [of, from, to] => Typed::Request(call(of, from, to)?),
+        [bank, of, from, to] if is_bank(bank) => {
+            Typed::Request(call(Bank::named(bank), of, from, to)?)
+        }
+        [bank, ..] if is_bank(bank) && names.find(Kind::Event, bank).is_none() => {
+            return Err(format!("like this: {bank} EVENT FROM TO"));
+        }
+        [of, from, to] => Typed::Request(call(None, of, from, to)?),
         [word, ..] => {
             event(word)?;
             return Err(format!("like this: {word} FROM TO"));
@@ -117,7 +154,8 @@ pub fn read(line: &str, terms: &Terms, names: &Names) -> Result<Typed, String> {
 }
 
 fn unknown(word: &str, events: &[String]) -> String {
-    let known = events.iter().map(String::as_str).chain(WORDS);
+    let banks = Bank::BOTH.map(Bank::word);
+    let known = events.iter().map(String::as_str).chain(WORDS).chain(banks);
     match did_you_mean(word, known) {
         hint if hint.is_empty() => {
             format!(
@@ -131,7 +169,8 @@ fn unknown(word: &str, events: &[String]) -> String {
 
 /// How a command is used, from the help.
 fn usage(word: &str) -> String {
-    let lines = HELP.lines().filter(|line| line.split(' ').next() == Some(word));
+    let table = HELP.lines().take_while(|line| !line.is_empty());
+    let lines = table.filter(|line| line.split(' ').next() == Some(word));
     let usages: Vec<&str> = lines.filter_map(|line| line.split("  ").next()).collect();
     format!("like this: {}", usages.join(", or "))
 }
@@ -163,9 +202,15 @@ mod tests {
     #[test]
     fn understood() {
         assert_eq!(said("  \n"), Ok(Typed::Nothing));
-        assert_eq!(said("share dora \"the saw\""), Ok(Typed::Request((0, 0, 1))));
-        assert_eq!(said("share dora → 1"), Ok(Typed::Request((0, 0, 1))));
-        assert_eq!(said("look share 1 -> dora"), Ok(Typed::Look((0, 1, 0))));
+        let call = |bank, from, to| Call { bank, event: 0, from, to };
+        assert_eq!(said("share dora \"the saw\""), Ok(Typed::Request(call(None, 0, 1))));
+        assert_eq!(said("share dora → 1"), Ok(Typed::Request(call(None, 0, 1))));
+        assert_eq!(said("look share 1 -> dora"), Ok(Typed::Look(call(None, 1, 0))));
+        let right = Some(Bank::Right);
+        assert_eq!(said("right share dora 1"), Ok(Typed::Request(call(right, 0, 1))));
+        assert_eq!(said("look right share 1 dora"), Ok(Typed::Look(call(right, 1, 0))));
+        assert_eq!(said("why right share 1 dora"), Ok(Typed::WhyNot(call(right, 1, 0))));
+        assert_eq!(said("who right share"), Ok(Typed::Who(right, 0)));
         assert_eq!(said("why all"), Ok(Typed::Why(true)));
         assert_eq!(said("save a.tsv"), Ok(Typed::Save(Some("a.tsv".into()))));
     }
@@ -177,10 +222,13 @@ mod tests {
         let next = |before: &str| next(before, &terms, &names).join(" ");
         assert!(next("sh").starts_with("share look why"));
         assert_eq!(next("share "), "dora \"the saw\"");
-        assert_eq!(next("look "), "share");
+        assert_eq!(next("look "), "share left right");
+        assert_eq!(next("look left "), "share");
+        assert_eq!(next("right share "), "dora \"the saw\"");
         assert_eq!(next("look share dora t"), "dora \"the saw\"");
-        assert_eq!(next("why "), "share all");
+        assert_eq!(next("why "), "share all left right");
         assert_eq!(next("who share "), "");
+        assert_eq!(next("who left share "), "");
         assert_eq!(next("share dora dora "), "");
     }
 
@@ -193,6 +241,8 @@ mod tests {
         assert_eq!(wrong("who"), "like this: who EVENT; events: share");
         assert_eq!(wrong("why share"), "like this: why [all], or why EVENT FROM TO");
         assert_eq!(wrong("share dora"), "like this: share FROM TO");
+        assert_eq!(wrong("left dora 1"), "like this: left EVENT FROM TO");
+        assert_eq!(wrong("lefft share 0 1"), "no event or command `lefft`; did you mean `left`?");
         assert!(wrong("xyzzy").contains("events: share"));
     }
 }

@@ -5,6 +5,7 @@
 //! meaning; edges are read off the graphs.
 
 use super::begin::{begins, revised, Begin};
+use super::unseen::Beside;
 use keeper::record::meaning::{Assigned, Meaning};
 use keeper::record::{Graph, Record};
 use keeper::terms::{Entry, Terms, Variables};
@@ -122,13 +123,15 @@ pub struct Reasons<'a> {
     begins: Vec<Begin>,
     /// For each entry the last revision at which it, or something inside it, began.
     revised: Vec<Option<usize>>,
+    /// Of a bank, the other's graphs.
+    pub(super) beside: Option<Beside<'a>>,
 }
 
 impl<'a> Reasons<'a> {
     pub fn new(record: &'a Record) -> Reasons<'a> {
         let (terms, graphs, begins) = (record.terms(), record.graphs(), begins(record));
         let (free, revised) = (terms.free(), revised(record, &begins));
-        Reasons { terms, graphs, free, meaning: record.meaning(), begins, revised }
+        Reasons { terms, graphs, free, meaning: record.meaning(), begins, revised, beside: None }
     }
 
     pub fn terms(&self) -> &'a Terms {

@@ -2,42 +2,50 @@ use borrow.Author.Needs.{needs}
 use Prim.Native.Nat.{ℕ, _+_, _*_, _/_, _≤_, _<_}
 use native.Mathlib.Omega.{arith}
 use mathlib.Core.Path.{_≡_, sym, ap, subst, _∙_}
-use mathlib.Core.Bool.{true, false}
-use mathlib.Core.List.{List}
-use lib.ListN.{length, getD, take, drop}
+use mathlib.Core.Bool.{true}
+use mathlib.Core.List.{List, _++_}
+use lib.ListN.{length, getD, take, drop, length-append}
 use Rattle.theory.specs.Formula.{isPast}
 use Rattle.theory.specs.Terms.{formula, firstSame}
-use Rattle.memory.specs.Layout.{stateWords, termsOf}
+use Rattle.memory.specs.Layout.{relationWords, ownWords, termsOf}
 use Rattle.deciding.specs.Moving.{put}
-use Rattle.deciding.specs.Starting.{Revising, Begun, Taken}
+use Rattle.deciding.specs.Starting.{Revising, Begun}
 use Rattle.deciding.proofs.Moves as moves
+use Rattle.deciding.proofs.Parts as parts
 use Rattle.deciding.proofs.Starting as starting
 use Rattle.monitor.proofs.revise.start_turn.Statement.{statement}
 use Rattle.monitor.proofs.revise.start_turn.Tie as tie
 
 -- the laws of a turn, where k is the class that was looked up
-module _ {old before state new plan : List ℕ} (r : Revising old before state new plan) (n k : ℕ) (nl : n < termsOf new .entries)
-    (e : k ≡ firstSame (termsOf old) (formula (termsOf new) n)) (p : isPast (termsOf new .entry n .op) ≡ true) (kl : k < termsOf old .entries)
+module _ {old before new plan : List ℕ} (relations own : List ℕ) (r : Revising old before (relations ++ own) new plan) (long : length relations ≡ relationWords)
+    (n k : ℕ) (nl : n < termsOf new .entries) (e : k ≡ firstSame (termsOf old) (formula (termsOf new) n)) (p : isPast (termsOf new .entry n .op) ≡ true)
+    (kl : k < termsOf old .entries)
   where
     lower : firstSame (termsOf old) (formula (termsOf new) n) < termsOf old .entries
     lower = subst (λ (j : ℕ). j < termsOf old .entries) e kl
 
-    fits : 1024 + 64 * (getD before k 0 / 16) + 64 ≤ length state
-    fits = subst (λ (j : ℕ). 1024 + 64 * (getD before j 0 / 16) + 64 ≤ length state) (sym e) (starting.old-fits r n nl p lower)
+    fits : 64 * (getD before k 0 / 16) + 64 ≤ length own
+    fits = subst (λ (j : ℕ). 64 * (getD before j 0 / 16) + 64 ≤ length own) (sym e) (omega (arith, starting.old-fits r n nl p lower, length-append relations own, long))
 
-    begins : {rest m m' : List ℕ} → Begun old state new n rest m →
-        m' ≡ put (1024 + 64 * (getD plan n 0 / 16)) (take 64 (drop (1024 + 64 * (getD before k 0 / 16)) state)) m → Begun old state new (n + 1) rest m'
-    begins {rest} {m} has q =
+    begins : {rest : List ℕ} (second : List ℕ) {second' : List ℕ} → Begun old (relations ++ own) new n rest (relations ++ second) →
+        second' ≡ put (64 * (getD plan n 0 / 16)) (take 64 (drop (64 * (getD before k 0 / 16)) own)) second →
+        Begun old (relations ++ own) new (n + 1) rest (relations ++ second')
+    begins second has q =
         starting.start-taken r n nl p lower has
-        (q ∙ ap (λ (j : ℕ). put (1024 + 64 * (getD plan n 0 / 16)) (take 64 (drop (1024 + 64 * (getD before j 0 / 16)) state)) m) e)
+        (parts.table-behind relations own long second (64 * (getD before (firstSame (termsOf old) (formula (termsOf new) n)) 0 / 16)) (64 * (getD plan n 0 / 16))
+        (q ∙ ap (λ (j : ℕ). put (64 * (getD plan n 0 / 16)) (take 64 (drop (64 * (getD before j 0 / 16)) own)) second) e))
+
+    second-fits : {rest : List ℕ} (second : List ℕ) → Begun old (relations ++ own) new n rest (relations ++ second) → length second ≡ ownWords →
+        64 * (getD plan n 0 / 16) + 64 ≤ length second
+    second-fits second has size = subst (λ (m : ℕ). 64 * (getD plan n 0 / 16) + 64 ≤ m) (sym size) (moves.own-fits (starting.begun-movable r n has) n nl p)
 
 -- the function's entry, from where the class is known
 abbrev start : tie.After-word → tie.Start
-start c = c .before .before .before .before .before .before .before .before .before .before .before
+start c = c .before .before .before .before .before .before .before .before .before .before .before .before
 
 -- the class
 class : (c : tie.After-word) → let x = start c .args in c .word .result ≡ firstSame (termsOf (x .old .now)) (formula (termsOf (x .new .now)) (x .n))
-class c = c .word .ensures .0 ∙ start c .pre .0 .1 .here _ (start c .pre .1 .0 .0)
+class c = c .word .ensures .0 ∙ start c .pre .0 .1 .here _ (start c .pre .1 .1 .0 .0)
 
 -- an old entry has the formula
 abbrev found : tie.Then1 → tie.After-word
@@ -53,65 +61,26 @@ looked c = c .before .before
 past-is : (c : tie.After-is-past) → c .is-past .result ≡ isPast (termsOf (start (found (looked c)) .args .new .now) .entry (start (found (looked c)) .args .n) .op)
 past-is c = c .is-past .ensures ∙ ap isPast (c .before .op-of .ensures .0)
 
-word-requires : tie.Need-word-requires
-word-requires c κs = search needs
-
-entries-requires : tie.Need-entries-requires
-entries-requires c κs = search needs
-
-op-of-requires : tie.Need-op-of-requires
-op-of-requires c κs = search needs
-
-is-past-requires : tie.Need-is-past-requires
-is-past-requires c κs = search needs
-
-take-table-requires : tie.Need-take-table-requires
-take-table-requires c κs =
-    let t = c .before in
-    let o = looked (t .before) in
-    let i = start (found o) in
-    let p = sym (past-is (t .before)) ∙ t .if2 .taken in (
-      fits (i .pre .0 .0) (i .args .n) _ (i .pre .1 .0 .0) (class (found o)) p (found-lower o),
-      moves.place-fits (starting.begun-movable (i .pre .0 .0) (i .args .n) (i .pre .1 .1 .0)) (i .args .n) (i .pre .1 .0 .0) p,
-    )
-
-since-turn-requires : tie.Need-since-turn-requires
-since-turn-requires c κs = search needs
-
-same-length : tie.Need-same-length
-same-length c = search needs
-
 returns : tie.Need-returns
 returns c =
     let k = c .before .before in
     let t = k .before .before in
-    let o = looked (t .before) in
+    let o = t .before .before .before in
     let i = start (found o) in
+    let x = i .args in
     let p = sym (past-is (t .before)) ∙ t .if2 .taken in
     let r = i .pre .0 .0 in
-    let nl = i .pre .1 .0 .0 in
-    let has = i .pre .1 .1 .0 in
-    let has' = begins r (i .args .n) _ nl (class (found o)) p (found-lower o) has (k .take-table .ensures) in
-    (has', (starting.start-memo r (i .args .n) nl has has' (i .pre .1 .1 .1 .0) (i .pre .1 .1 .1 .1), i .pre .1 .1 .1 .1))
+    let nl = i .pre .1 .1 .0 .0 in
+    let has = i .pre .1 .1 .1 .0 in
+    let has' = begins (x .relations .now) (x .own .now) r (i .pre .1 .0 .0) (x .n) _ nl (class (found o)) p (found-lower o) (x .second .now) has (k .take-table .ensures) in
+    (has', (starting.start-memo r (x .n) nl has has' (i .pre .1 .1 .1 .1 .0) (i .pre .1 .1 .1 .1 .1), i .pre .1 .1 .1 .1 .1))
 
 returns-2 : tie.Need-returns-2
 returns-2 c =
-    let o = looked (c .before) in
+    let o = c .before .before .before in
     let i = start (found o) in
     let p = sym (past-is (c .before)) ∙ c .if2 .left in
-    (starting.start-none (i .pre .0 .0) (i .args .n) (i .pre .1 .0 .0) p (i .pre .1 .1 .0), i .pre .1 .1 .1)
-
-same-length-2 : tie.Need-same-length-2
-same-length-2 c = search needs
-
-same-length-3 : tie.Need-same-length-3
-same-length-3 c = search needs
-
-same-length-4 : tie.Need-same-length-4
-same-length-4 c = search needs
-
-same-length-5 : tie.Need-same-length-5
-same-length-5 c = search needs
+    (starting.start-none (i .pre .0 .0) (i .args .n) (i .pre .1 .1 .0 .0) p (i .pre .1 .1 .1 .0), i .pre .1 .1 .1 .1)
 
 returns-3 : tie.Need-returns-3
 returns-3 c =
@@ -120,26 +89,43 @@ returns-3 c =
     let w = o .before .before in
     let i = start w in
     let le : termsOf (i .args .old .now) .entries ≤ w .word .result = omega (arith, o .if1 .left, o .before .entries .ensures .0) in (
-      starting.start-anew (i .pre .0 .0) (i .args .n) (i .pre .1 .0 .0)
-          (subst (λ (j : ℕ). termsOf (i .args .old .now) .entries ≤ j) (class w) le) (i .pre .1 .1 .0) (s .since-turn .ensures .0),
+      starting.start-anew (i .pre .0 .0) (i .args .n) (i .pre .1 .1 .0 .0)
+          (subst (λ (j : ℕ). termsOf (i .args .old .now) .entries ≤ j) (class w) le) (i .pre .1 .1 .1 .0) (s .since-turn .ensures .0),
       s .since-turn .ensures .1,
     )
+
+take-table-requires : tie.Need-take-table-requires
+take-table-requires c κs =
+    let t = c .before in
+    let o = t .before .before .before in
+    let i = start (found o) in
+    let x = i .args in
+    let p = sym (past-is (t .before)) ∙ t .if2 .taken in (
+      fits (x .relations .now) (x .own .now) (i .pre .0 .0) (i .pre .1 .0 .0) (x .n) _ (i .pre .1 .1 .0 .0) (class (found o)) p (found-lower o),
+      second-fits (x .relations .now) (x .own .now) (i .pre .0 .0) (i .pre .1 .0 .0) (x .n) _ (i .pre .1 .1 .0 .0) (class (found o)) p (found-lower o)
+          (x .second .now) (i .pre .1 .1 .1 .0) (i .pre .1 .0 .2),
+    )
+
+since-turn-requires : tie.Need-since-turn-requires
+since-turn-requires c κs =
+    let i = c .before .before .before .before .before .before .before .before .before .before .before .before .before .before .before .before .before .before in
+    ((starting.begun-movable (i .pre .0 .0) (i .args .n) (i .pre .1 .1 .1 .0), i .pre .1 .0 .0, i .pre .1 .0 .2), (i .pre .1 .1 .0, i .pre .1 .1 .1 .1))
 
 pub start-turn-spec : {M : Type 1} → statement M
 start-turn-spec =
     tie.close
     (tie.spec
-    word-requires
-    entries-requires
-    op-of-requires
-    is-past-requires
+    (λ c κs. search needs)
+    (λ c κs. search needs)
+    (λ c κs. search needs)
+    (λ c κs. search needs)
     take-table-requires
     since-turn-requires
-    same-length
+    (λ c. search needs)
     returns
     returns-2
-    same-length-2
-    same-length-3
-    same-length-4
-    same-length-5
+    (λ c. search needs)
+    (λ c. search needs)
+    (λ c. search needs)
+    (λ c. search needs)
     returns-3)

@@ -66,7 +66,8 @@ use Rattle.monitor.proofs.set_list.Inspected.Laws as I′
 use Rattle.monitor.proofs.Records.{R, val, vals, tells, scaled, at-place, put-answer, with-answer}
 use Rattle.calls.proofs.Singly.{blank}
 use Rattle.monitor.proofs.LentAgain.{LentAgain, takes-slice, gives-slice}
-use Rattle.monitor.proofs.Listing.{Facts, begins, asks, Said, turn, next-fits, count-below, turns-within, ends as ended-facts}
+use Rattle.monitor.proofs.Listing.{next-fits, count-below, turns-within}
+use Rattle.monitor.proofs.SetListing.{Facts, begins, asks, Said, turn, ends as ended-facts}
 use Rattle.monitor.proofs.set_list.inspect as inspect
 use Rattle.monitor.proofs.set_list.inspect.Symbol as inspect-def
 use Rattle.monitor.proofs.set_list.inspect.Symbol.{name as #inspect}
@@ -284,7 +285,7 @@ module _ {M : Type 1} (𝓤 : URA M) (H : Heap 𝓤) (A : Atoms 𝓤) (W : Given
           → ent 𝓤 (⋆ 𝓤 H A (‵ (fobs γ (codedHoleys R .code (heres R ys))) ∷ ‵ (fbor κr (Held R (length ys) b o γ)) ∷ ‵ (flft κr qr) ∷ ‵ own-t ∷ ‵ (flft κt qt) ∷ ‵ (own-s κs γs st) ∷ ‵ (flft κs qs) ∷ ‵ (own-c κc γc sc) ∷ ‵ (flft κc qc) ∷ ‵ (S.the-row .own r (w ∷ [])) ∷ [])) (Post w)
       exits g ys st sc w r F e =
           qed W (‵ (fobs γ (codedHoleys R .code (heres R ys))) ∷ ‵ (fbor κr (Held R (length ys) b o γ)) ∷ ‵ (flft κr qr) ∷ ‵ own-t ∷ ‵ (flft κt qt) ∷ ‵ (own-s κs γs st) ∷ ‵ (flft κs qs) ∷ ‵ (own-c κc γc sc) ∷ ‵ (flft κc qc) ∷ ‵ (S.the-row .own r (w ∷ [])) ∷ []) ∵
-          suffices ! _ (ends-at 𝓤 H A f.ended stayed (f.clauses 𝓤 H A at-mem run) W (((κt, (κs, (κc, (κr, tt)))), (qt, (qs, (qc, (qr, tt)))), tt, a, at), tt) w r (tt, (st, (sc, (ys, tt)))) (tt, (F .words, (F .scraps, (F .size, tt))))) $
+          suffices ! _ (ends-at 𝓤 H A f.ended stayed (f.clauses 𝓤 H A at-mem run) W (((κt, (κs, (κc, (κr, tt)))), (qt, (qs, (qc, (qr, tt)))), tt, a, at), tt) w r (tt, (st, (sc, (ys, tt)))) (tt, (F .kept .words, (F .kept .scraps, (F .size, tt))))) $
           says ! (ended-facts ts ys₀ st₀ sc₀ c seen g ys st sc r e F) $
           nothing ! $ move ! (3 ∷ 0 ∷ []) $ join ! $ move ! (8 ∷ 0 ∷ []) $ join ! $ move ! (6 ∷ 0 ∷ []) $ join ! $ move ! (4 ∷ 0 ∷ []) $ join ! $ frame ! $
           -- [obs; the borrow; terms; state; scratch; the result]
@@ -359,16 +360,16 @@ module _ {M : Type 1} (𝓤 : URA M) (H : Heap 𝓤) (A : Atoms 𝓤) (W : Given
             assigns ! (agg ! (and-then ! (load ! (from ! (stop !)) (look ! 33 refl)) (and-then ! (load ! (from ! (fld ! refl (stop !))) (look-in ! 18 (sub ! 1 refl (whole !)))) (no-more !)))) (from ! (stop !)) (init ! 34 refl (tt, (tt, (record { fits = room-c .0 }, tt)))) $
             -- terms are copied; state and scratch are lent again, each for a lifetime of the call
             move ! (6 ∷ []) $ use1 W (‵ own-t ⊛ ‵ own-t) (shr-slice-copy 𝓤 H A W (named 0) κt u16 .twice xt (mt ∷ [])) $ split ! $
-            move ! (9 ∷ 10 ∷ []) $ use2 W (later (some (λ (p : ℕ × GName). (‵ (flft (p .0 ∷ []) fullShare) ⊛ ‵ (own-s (p .0 ∷ []) (p .1) st)) ⊛ ‵ (LentAgain u64 κs (p .0 ∷ []) qs γs bs os (p .1) st)))) (takes-slice u64 κs qs γs bs os 𝓤 H A W (named 1) (named 1) st (length st₀) (F .words)) $ await ! tt $ pick ! (λ ps. split ! $ split ! $
-            move ! (12 ∷ 13 ∷ []) $ use2 W (later (some (λ (p : ℕ × GName). (‵ (flft (p .0 ∷ []) fullShare) ⊛ ‵ (own-c (p .0 ∷ []) (p .1) sc)) ⊛ ‵ (LentAgain u64 κc (p .0 ∷ []) qc γc bc oc (p .1) sc)))) (takes-slice u64 κc qc γc bc oc 𝓤 H A W (named 2) (named 2) sc (length sc₀) (F .scraps)) $ await ! tt $ pick ! (λ pc. split ! $ split ! $
+            move ! (9 ∷ 10 ∷ []) $ use2 W (later (some (λ (p : ℕ × GName). (‵ (flft (p .0 ∷ []) fullShare) ⊛ ‵ (own-s (p .0 ∷ []) (p .1) st)) ⊛ ‵ (LentAgain u64 κs (p .0 ∷ []) qs γs bs os (p .1) st)))) (takes-slice u64 κs qs γs bs os 𝓤 H A W (named 1) (named 1) st (length st₀) (F .kept .words)) $ await ! tt $ pick ! (λ ps. split ! $ split ! $
+            move ! (12 ∷ 13 ∷ []) $ use2 W (later (some (λ (p : ℕ × GName). (‵ (flft (p .0 ∷ []) fullShare) ⊛ ‵ (own-c (p .0 ∷ []) (p .1) sc)) ⊛ ‵ (LentAgain u64 κc (p .0 ∷ []) qc γc bc oc (p .1) sc)))) (takes-slice u64 κc qc γc bc oc 𝓤 H A W (named 2) (named 2) sc (length sc₀) (F .kept .scraps)) $ await ! tt $ pick ! (λ pc. split ! $ split ! $
             move ! (3 ∷ 0 ∷ []) $ join ! $ move ! (13 ∷ 0 ∷ []) $ join ! $ move ! (3 ∷ 1 ∷ []) $ join ! $ move ! (5 ∷ 0 ∷ []) $ join ! $ move ! (1 ∷ 0 ∷ []) $ use2 W (raw (Step 𝓤 H A at-mem run .pre (to-step (ps .0) (ps .1) (pc .0) (pc .1) st sc c wc elem))) (goes-step (ps .0) (ps .1) (pc .0) (pc .1) st sc c wc elem isc g′ ready) $
             calls-at ! fm (Step 𝓤 H A at-mem run) known-step (to-step (ps .0) (ps .1) (pc .0) (pc .1) st sc c wc elem) (and-then ! (load ! (from ! (stop !)) (look ! 14 refl)) (and-then ! (load ! (from ! (stop !)) (look ! 30 refl)) (and-then ! (load ! (from ! (stop !)) (look ! 32 refl)) (and-then ! (load ! (from ! (stop !)) (look ! 12 refl)) (and-then ! (load ! (from ! (stop !)) (look ! 18 refl)) (no-more !)))))) (λ w.
             use1 W (later (some (λ (r : ℕ). ((‵ (flft κt qt) ⊛ ‵ (flft (ps .0 ∷ []) fullShare) ⊛ ‵ (flft (pc .0 ∷ []) fullShare) ⊛ ‵ ftrue) ⊛ ‵ (u32 .own r (w ∷ []))) ⊛ raw (ensured 𝓤 H A step.ended (step.clauses 𝓤 H A at-mem run) (κt, (ps .0 ∷ [], (pc .0 ∷ [], tt))) (asked-step (ps .1) (pc .1) st sc c elem) tt r)))) (id⊢ 𝓤 _) $ await ! tt $ pick ! (λ r. split ! $ move ! (1 ∷ []) $
             use1 W (some (λ (zs : Unit {0} × (List ℕ × (List ℕ × (Unit {0} × (Unit {0} × Unit {0}))))). ‵ (lasts step.ended (κt, (ps .0 ∷ [], (pc .0 ∷ [], tt))) (asked-step (ps .1) (pc .1) st sc c elem) zs) ⊛ raw (fact 𝓤 (Said ts ys₀ st₀ sc₀ c seen st sc elem r (zs .1 .0) (zs .1 .1 .0))))) (id⊢ 𝓤 _) $ pick ! (λ zs. split ! $ move ! (1 ∷ []) $ heard ! (Said ts ys₀ st₀ sc₀ c seen st sc elem r (zs .1 .0) (zs .1 .1 .0)) (λ e. fsplit ! $ drop ! $ fsplit ! $ fsplit ! $ move ! (1 ∷ []) $ feqL ! (λ len. move ! (1 ∷ []) $ fsplit ! $ move ! (1 ∷ []) $ drop ! $ fsplit ! $ move ! (1 ∷ []) $ feqL ! (λ len′.
             move ! (2 ∷ []) $ split ! $ move ! (1 ∷ []) $ peeks ! u32 (Is u32) (shows 𝓤 H A u32) r (w ∷ []) (λ is. land ! (from ! (stop !)) (init ! 22 refl (uint-lawful 𝓤 H A W w32 .typed r _ is .0)) $ rewrite ! 22 (λ (u : Val). ‵ (fat fullShare half l₁₀ 0 u)) (ap only (is .0)) refl $ drop ! $
             split ! $ move ! (1 ∷ []) $ split ! $ move ! (1 ∷ []) $ split ! $ move ! (1 ∷ []) $ drop ! $
-            move ! (1 ∷ 6 ∷ 4 ∷ []) $ use3 W (later (‵ (own-s κs γs (zs .1 .0)) ⊛ ‵ (flft κs qs))) (gives-slice u64 κs qs γs bs os 𝓤 H A W (named 1) (named 1) st (length st₀) (F .words) (ps .0) (ps .1) (zs .1 .0) room-s len) $ await ! tt $ split ! $
-            move ! (2 ∷ 5 ∷ 4 ∷ []) $ use3 W (later (‵ (own-c κc γc (zs .1 .1 .0)) ⊛ ‵ (flft κc qc))) (gives-slice u64 κc qc γc bc oc 𝓤 H A W (named 2) (named 2) sc (length sc₀) (F .scraps) (pc .0) (pc .1) (zs .1 .1 .0) room-c len′) $ await ! tt $ split ! $
+            move ! (1 ∷ 6 ∷ 4 ∷ []) $ use3 W (later (‵ (own-s κs γs (zs .1 .0)) ⊛ ‵ (flft κs qs))) (gives-slice u64 κs qs γs bs os 𝓤 H A W (named 1) (named 1) st (length st₀) (F .kept .words) (ps .0) (ps .1) (zs .1 .0) room-s len) $ await ! tt $ split ! $
+            move ! (2 ∷ 5 ∷ 4 ∷ []) $ use3 W (later (‵ (own-c κc γc (zs .1 .1 .0)) ⊛ ‵ (flft κc qc))) (gives-slice u64 κc qc γc bc oc 𝓤 H A W (named 2) (named 2) sc (length sc₀) (F .kept .scraps) (pc .0) (pc .1) (zs .1 .1 .0) room-c len′) $ await ! tt $ split ! $
             -- the answer is stored in the record, which is put in its place
             assigns ! (bin ! (load ! (from ! (stop !)) (look ! 13 refl)) (lit ! tt) (scaled i (length ys) in-list room-ys)) (from ! (stop !)) (store ! 28 refl (tt, (scaled i (length ys) in-list room-ys))) $ assigns ! (bin ! (load ! (from ! (fld ! refl (stop !))) (look-in ! 19 (sub ! 0 refl (whole !)))) (load ! (from ! (stop !)) (look ! 28 refl)) tt) (from ! (stop !)) (init ! 35 refl (tt, tt)) $
             rewrite ! 35 (λ (p : ℕ). ‵ (fat fullShare tyPtr l₂₄ 0 (vptr b p))) (at-place o i) refl $

@@ -1,22 +1,10 @@
 -- `reader::read::fill` meets its contract: one law for each way that it goes.
 use mathlib.Core.Path.{sym, ap, _∙_}
-use mathlib.Core.List.{[], _∷_}
-use denote.Enum.Declared.{tagOf}
-use types.Run.{OneOf, miss}
 use Rattle.reader.specs.Read.{fillingOf}
-use Rattle.reader.proofs.Ended.{Unrefused, short-terms, short-state, text-refused, text-partly, text-accepted}
-use Rattle.reader.specs.declared.Filled.{Filled}
-use Rattle.reader.specs.declared.Filled.the-variants.{Old, Stored, Refused}
-use Rattle.reader.proofs.Filled.{the-type}
+use Rattle.reader.proofs.Ended.{unrefused, short-terms, short-state, text-refused, text-partly, text-accepted}
 use borrow.Author.Needs.{needs}
 use Rattle.reader.proofs.read.fill.Statement.{statement}
 use Rattle.reader.proofs.read.fill.Tie as tie
-
--- a text whose lines all pass
-unrefused : (x : Filled) → OneOf (0 ∷ 1 ∷ []) (tagOf the-type x) → Unrefused (fillingOf x)
-unrefused Old h = tt
-unrefused Stored h = tt
-unrefused (Refused n l) h = absurd (miss (0 ∷ 1 ∷ []) 2 tt h)
 
 returns : tie.Need-returns
 returns c = short-terms _ _ _ (c .if1 .taken)

@@ -1,0 +1,17 @@
+pub mod Lengths
+pub mod Seen
+pub mod Joined
+pub mod Answers
+pub mod Moved
+pub mod ListSingly
+pub mod InStep
+pub mod Opened
+pub mod Playing
+pub mod PlayingList
+pub mod PlayingRevised
+pub mod Isolated
+pub mod Demand
+pub mod Refused
+pub mod RefusedBoth
+pub mod BankCases
+pub mod LentCase

@@ -1,0 +1,6 @@
+pub mod Banks
+pub mod Beside
+pub mod Banking
+pub mod BankList
+pub mod BankRuns
+pub mod BankRefused

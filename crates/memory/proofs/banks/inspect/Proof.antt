@@ -1,0 +1,79 @@
+use borrow.Author.Needs.{needs}
+use borrow.Author.Tests.{not-true, not-false}
+use Prim.Native.Nat.{_≤_}
+use lib.ListN.{length}
+use mathlib.Core.Path.{_≡_, sym, _∙_}
+use mathlib.Core.Bool.{true, false, false≢true}
+use Rattle.memory.specs.Layout.{termsWords, relationWords, ownWords}
+use Rattle.memory.specs.Checks.{goodMemory}
+use Rattle.memory.proofs.BankOutcomes as outcomes
+use Rattle.memory.proofs.banks.inspect.Statement.{statement}
+use Rattle.memory.proofs.banks.inspect.Tie as tie
+
+abbrev checked : tie.After-masks2 → tie.After-check-terms
+checked c = c .before
+
+abbrev looked : tie.After-check-terms → tie.Else1
+looked c = c .before .before .before
+
+abbrev start : tie.Else1 → tie.Start
+start c = c .before .before .before .before .before .before
+
+lengths : (c : tie.Else1) → let x = start c .args in
+    outcomes.short (x .terms .now) (x .relations .now) (x .own .now) (x .other .now) ≡ false
+lengths c = sym (c .before .is-short .ensures) ∙ c .if1 .left
+
+terms-good : (c : tie.Else2) → goodMemory (start (looked (checked (c .before))) .args .terms .now) ≡ true
+terms-good c = sym (checked (c .before) .check-terms .ensures .0) ∙ not-false _ (c .if2 .left)
+
+abbrev terms-passed : tie.After-check-banks → tie.Else2
+terms-passed c = c .before .before .before .before
+
+long : (c : tie.Else1) → let x = start c .args in
+    (termsWords ≤ length (x .terms .now)) × (relationWords ≤ length (x .relations .now)) × (ownWords ≤ length (x .own .now)) × (ownWords ≤ length (x .other .now))
+long c = let x = start c .args in outcomes.banks-long (x .terms .now) (x .relations .now) (x .own .now) (x .other .now) (lengths c)
+
+returns : tie.Need-returns
+returns c = (outcomes.check-short _ _ _ _ (sym (c .before .is-short .ensures) ∙ c .if1 .taken), λ e. absurd (false≢true e))
+
+check-terms-requires : tie.Need-check-terms-requires
+check-terms-requires c κs = (long (c .before .before) .0, search needs, search needs)
+
+returns-2 : tie.Need-returns-2
+returns-2 c =
+    let k = checked (c .before) in
+    (outcomes.check-bad-terms _ _ _ _ (lengths (looked k)) (sym (k .check-terms .ensures .0) ∙ not-true _ (c .if2 .taken)), λ e. absurd (false≢true e))
+
+check-banks-requires : tie.Need-check-banks-requires
+check-banks-requires c κs =
+    let k = c .before .before .before in
+    let l = long (looked (checked (k .before))) in
+    ((terms-good k, l .1, l .2, l .3), checked (k .before) .check-terms .ensures .1 .1 (not-false _ (k .if2 .left)))
+
+returns-3 : tie.Need-returns-3
+returns-3 c =
+    let k = terms-passed (c .before) in (
+      outcomes.check-bad-banks _ _ _ _ (lengths (looked (checked (k .before)))) (terms-good k) (sym (c .before .check-banks .ensures) ∙ not-true _ (c .if3 .taken)),
+      λ e. absurd (false≢true e),
+    )
+
+returns-4 : tie.Need-returns-4
+returns-4 c =
+    let k = terms-passed (c .before) in (
+      outcomes.check-passed _ _ _ _ (lengths (looked (checked (k .before)))) (terms-good k) (sym (c .before .check-banks .ensures) ∙ not-false _ (c .if3 .left)),
+      λ _. checked (k .before) .check-terms .ensures .1 .1 (not-false _ (k .if2 .left)) .0,
+    )
+
+pub inspect-spec : {M : Type 1} → statement M
+inspect-spec =
+    tie.close
+    (tie.spec
+    (λ c κs. search needs)
+    returns
+    (λ c. search needs)
+    check-terms-requires
+    returns-2
+    (λ c. search needs)
+    check-banks-requires
+    returns-3
+    returns-4)

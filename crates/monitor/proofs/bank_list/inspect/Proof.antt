@@ -1,0 +1,27 @@
+use borrow.Author.Needs.{needs}
+use Prim.Native.Nat.{ℕ}
+use mathlib.Core.Path.{_≡_, sym, _∙_}
+use mathlib.Core.Bool.{false, _||_}
+use mathlib.Core.List.{List}
+use lib.Dec.{ltb}
+use lib.ListN.{length}
+use Rattle.theory.specs.Limits.{scratchWords}
+use Rattle.memory.specs.Outcome.{banksCheck}
+use Rattle.banking.specs.BankList.{bankListChecks}
+use Rattle.banking.proofs.ListSingly.{list-short}
+use Rattle.monitor.proofs.bank_list.inspect.Statement.{statement}
+use Rattle.monitor.proofs.bank_list.inspect.Tie as tie
+
+list-checked : (terms relations own other scratch spare : List ℕ) → (ltb (length scratch) scratchWords || ltb (length spare) scratchWords) ≡ false →
+    banksCheck terms relations own other ≡ bankListChecks terms relations own other scratch spare
+unfolding bankListChecks
+list-checked terms relations own other scratch spare e = rw e
+
+returns : tie.Need-returns
+returns c = sym (list-short _ _ _ _ _ _ (c .if1 .taken))
+
+returns-2 : tie.Need-returns-2
+returns-2 c = c .inspect .ensures .0 ∙ list-checked _ _ _ _ _ _ (c .before .before .if1 .left)
+
+pub inspect-spec : {M : Type 1} → statement M
+inspect-spec = tie.close (tie.spec returns (λ c κs. search needs) returns-2)

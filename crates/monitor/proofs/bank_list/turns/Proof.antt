@@ -1,0 +1,8 @@
+use borrow.Author.Needs.{needs}
+use Rattle.calls.specs.Listing.{turnsOf}
+use Rattle.monitor.proofs.bank_list.turns.Statement.{statement}
+use Rattle.monitor.proofs.bank_list.turns.Tie as tie
+
+pub turns-spec : {M : Type 1} → statement M
+unfolding turnsOf
+turns-spec = tie.close (tie.spec (λ c. search needs) (λ c. search needs) (λ c. search needs) (λ c. search needs))
