@@ -7,6 +7,7 @@
 //! * **Stack**: measured, not proved. Reading takes 198 KiB, writing 193 KiB, an
 //!   opening, revision, look, request or set list 169 KiB, and each 1.16 KiB more
 //!   for every level by which entries nest, at most 494 KiB. Storing takes 4 KiB.
+//!   A request or a set list of a bank takes 164 KiB more, at most 631 KiB.
 //! * **Terms and states are plain words** that may be copied and kept. In a
 //!   file they have the machine's byte order, little-endian. A stored text
 //!   ([`Monitor::store`]) keeps the same for any machine, and for people.
