@@ -2,7 +2,7 @@
 ghost use mathlib.Core.Path.{_≡_};
 ghost use mathlib.Core.Bool.{true};
 ghost use mathlib.Core.List.{_++_};
-ghost use Prim.Native.Nat.{_≤_};
+ghost use Prim.Native.Nat.{_<_, _≤_};
 ghost use lib.ListN.{length, take, drop, replicate};
 ghost use Rattle.theory.specs.Limits.{scratchWords};
 ghost use Rattle.theory.specs.Tables.{named, decideNow, opening, made, advance};
@@ -143,25 +143,43 @@ fn move_shared(
     );
 }
 
-// The same, without a memo where that is brief.
+// The same, without a memo where that is brief. The rows are the first words of scratch; where there are more, it calls itself with the rows
+// alone, and leaves all of them 0. (Since this calls itself, the compiler does not take the memo of `move_shared` into its frame.)
 fn move_on(
     terms: &[u16],
     plan: &[u16],
     relations: &mut [u64],
     own: &mut [u64],
     other: &mut [u64],
-    rows: &mut [u64],
+    scratch: &mut [u64],
     granted: bool,
     event: usize,
     from: usize,
     to: usize,
 )
     requires { ⌜ Movable (now terms) (now plan) (now relations ++ now own) × Movable (now terms) (now plan) (now relations ++ now other) ⌝ }
-    requires { ⌜ (length (now relations) ≡ relationWords) × (length (now own) ≡ ownWords) × (length (now other) ≡ ownWords) × (length (now rows) ≡ blockWords) ⌝ }
+    requires { ⌜ (length (now relations) ≡ relationWords) × (length (now own) ≡ ownWords) × (length (now other) ≡ ownWords) × (blockWords ≤ length (now scratch)) ⌝ }
     requires { ⌜ named (termsOf (now terms)) event from to ≡ true ⌝ }
     ensures { λ _. ⌜ Becomes (now (terms .entry)) (λ T S. advance T S (made T (S .now) granted event from to)) (now (relations .entry) ++ now (own .entry)) (now (relations .exit) ++ now (own .exit)) ⌝ }
     ensures { λ _. ⌜ Becomes (now (terms .entry)) (λ T S. advance T S (quiet (made T (S .now) granted event from to))) (now (relations .entry) ++ now (other .entry)) (now (relations .exit) ++ now (other .exit)) ⌝ }
+    ensures { λ _. ⌜ (blockWords < length (now (scratch .entry)) → now (scratch .exit) ≡ replicate (length (now (scratch .entry))) 0) ⌝ }
 {
+    if ROWS < scratch.len() {
+        move_on(
+            terms,
+            plan,
+            relations,
+            own,
+            other,
+            &mut scratch[0..ROWS],
+            granted,
+            event,
+            from,
+            to,
+        );
+        clear(scratch);
+        return;
+    }
     if brief::are_brief(terms) {
         let mut none = [0u64; 1];
         move_both(
@@ -171,7 +189,7 @@ fn move_on(
             own,
             other,
             &mut none,
-            rows,
+            scratch,
             granted,
             event,
             from,
@@ -184,7 +202,7 @@ fn move_on(
             relations,
             own,
             other,
-            rows,
+            scratch,
             granted,
             event,
             from,
@@ -220,13 +238,12 @@ pub(crate) fn next_moments(
         &mut relations[0..TABLES],
         &mut own[0..OWN],
         &mut other[0..OWN],
-        &mut scratch[0..ROWS],
+        &mut scratch[0..layout::SCRATCH],
         granted,
         event,
         from,
         to,
     );
-    clear(&mut scratch[0..layout::SCRATCH]);
     clear(&mut spare[0..layout::SCRATCH]);
 }
 

@@ -3,10 +3,10 @@ use native.Mathlib.Omega.{arith}
 use mathlib.Core.Path.{_≡_, _∙_}
 use lib.ListN.{length, drop}
 use lib.Seq.{length-take-le, drop-at}
-use Rattle.memory.specs.Layout.{relationWords, ownWords, blockWords, joined}
+use Rattle.theory.specs.Limits.{scratchWords}
+use Rattle.memory.specs.Layout.{relationWords, ownWords, joined}
 use Rattle.deciding.proofs.Moves.{movable}
 use Rattle.deciding.proofs.Parts as parts
-use Rattle.deciding.proofs.Stored.{cleared-front}
 use Rattle.monitor.proofs.beside.next_moments.Statement.{statement}
 use Rattle.monitor.proofs.beside.next_moments.Tie as tie
 
@@ -19,9 +19,6 @@ own-long c = let i = c .before .before .before .before .before .before .before .
 
 other-long : (c : tie.After-move-on) → length (c .move-on .last .1 .1 .1 .1 .0) ≡ ownWords
 other-long c = let i = c .before .before .before .before .before .before .before .before .before .before .before .before in c .move-on .kept .1 .1 .1 .1 .0 ∙ length-take-le ownWords (i .args .other .now) (i .pre .1 .0 .2)
-
-rows-long : (c : tie.After-move-on) → length (c .move-on .last .1 .1 .1 .1 .1 .0) ≡ blockWords
-rows-long c = let i = c .before .before .before .before .before .before .before .before .before .before .before .before in c .move-on .kept .1 .1 .1 .1 .1 .0 ∙ length-take-le blockWords (i .args .scratch .now) (omega (arith, i .pre .1 .1 .1 .0))
 
 move-on-requires : tie.Need-move-on-requires
 move-on-requires c κs =
@@ -40,18 +37,18 @@ move-on-requires c κs =
           length-take-le relationWords (x .relations .now) (l .0),
           length-take-le ownWords (x .own .now) (l .1),
           length-take-le ownWords (x .other .now) (l .2),
-          length-take-le blockWords (x .scratch .now) (omega (arith, i .pre .1 .1 .1 .0)),
+          omega (arith, length-take-le scratchWords (x .scratch .now) (i .pre .1 .1 .1 .0)),
         ),
         t .3,
       ),
     )
 
-part-clear-end-2 : tie.Need-part-clear-end-2
-part-clear-end-2 c = omega (arith, c .before .before .before .before .before .before .before .before .before .before .before .before .before .before .before .before .before .before .before .before .before .before .before .before .pre .1 .1 .1 .1)
+part-clear-end : tie.Need-part-clear-end
+part-clear-end c = omega (arith, c .before .before .before .before .before .before .before .before .before .before .before .before .before .before .before .before .before .before .before .before .pre .1 .1 .1 .1)
 
 returns : tie.Need-returns
 returns c =
-    let m = c .before .before .before .before .before .before .before .before .before .before .before .before .before .before .before .before in
+    let m = c .before .before .before .before .before .before .before .before .before .before .before .before in
     let i = m .before .before .before .before .before .before .before .before .before .before .before .before in
     let x = i .args in
     let l = i .pre .1 .0 in
@@ -62,14 +59,14 @@ returns c =
         here = parts.joined-back (x .relations .now) (x .own .now) r o (relations-long m) (own-long m)
             ∙ parts.becomes-words (parts.joined-long (x .relations .now) (x .own .now) (l .0) (l .1)) (i .pre .1 .1 .0 .0) (m .move-on .ensures .0);
         beside = parts.joined-back (x .relations .now) (x .other .now) r q (relations-long m) (other-long m)
-            ∙ parts.becomes-words (parts.joined-long (x .relations .now) (x .other .now) (l .0) (l .2)) (i .pre .1 .1 .0 .1) (m .move-on .ensures .1);
+            ∙ parts.becomes-words (parts.joined-long (x .relations .now) (x .other .now) (l .0) (l .2)) (i .pre .1 .1 .0 .1) (m .move-on .ensures .1 .0);
         further-relations = drop-at r (drop relationWords (x .relations .now)) relationWords (relations-long m);
         further-own = drop-at o (drop ownWords (x .own .now)) ownWords (own-long m);
         further-other = drop-at q (drop ownWords (x .other .now)) ownWords (other-long m);
       },
       (
-        cleared-front (x .scratch .now) (m .move-on .last .1 .1 .1 .1 .1 .0) (c .before .before .before .before .before .before .clear .last .0) (i .pre .1 .1 .1 .0) (rows-long m) (c .before .before .before .before .before .before .clear .ensures),
-        parts.cleared-all (x .spare .now) (c .before .before .clear2 .last .0) (i .pre .1 .1 .1 .1) (c .before .before .clear2 .ensures),
+        parts.cleared-all (x .scratch .now) (m .move-on .last .1 .1 .1 .1 .1 .0) (i .pre .1 .1 .1 .0) (m .move-on .ensures .1 .1 (omega (arith, length-take-le scratchWords (x .scratch .now) (i .pre .1 .1 .1 .0)))),
+        parts.cleared-all (x .spare .now) (c .before .before .clear .last .0) (i .pre .1 .1 .1 .1) (c .before .before .clear .ensures),
       ),
     )
 
@@ -92,11 +89,7 @@ next-moments-spec =
     move-on-requires
     (λ c. search needs)
     (λ c. search needs)
-    (λ c. search needs)
-    (λ c κs. search needs)
-    (λ c. search needs)
-    (λ c. search needs)
-    part-clear-end-2
+    part-clear-end
     (λ c κs. search needs)
     (λ c. search needs)
     (λ c. search needs)
