@@ -6,13 +6,11 @@
  * RAM       terms 2,504 bytes, state 24,584 bytes, scratch 16,384 bytes; two
  *           banks 76,248 bytes in all. The library allocates nothing and has
  *           no state of its own.
- * Stack     measured, not proved: reading takes 198 KiB, writing a terms text
+ * Stack     measured, not proved: reading takes 191 KiB, writing a terms text
  *           or asking for its size 193 KiB, an opening, revision, look, request
- *           or set list 169 KiB, and each 1.16 KiB more for every level by
- *           which entries nest, at most 494 KiB; storing and the other calls
- *           take 4 KiB. Those of banks take little more, but a request or a set
- *           list of a bank 164 KiB more, at most 631 KiB. Provide
- *           CUCKOOORMOLU_STACK_BYTES.
+ *           or set list 172 KiB, of two banks too, and each 1.16 KiB more for
+ *           every level by which entries nest, at most 488 KiB; storing and the
+ *           other calls take 4 KiB. Provide CUCKOOORMOLU_STACK_BYTES.
  * Time      measured, not proved. Entries that share others take no more than
  *           a memo's time; what can still take long is nested binds over
  *           entries that read their variables: about N to the depth of such
@@ -91,7 +89,7 @@ extern "C" {
 #define CUCKOOORMOLU_STORED_BYTES 2169916
 
 /* More stack than any call was measured to take. */
-#define CUCKOOORMOLU_STACK_BYTES (640 * 1024)
+#define CUCKOOORMOLU_STACK_BYTES (512 * 1024)
 
 /*
  * The codes of calls. No code is 0, and a refusal's is below 100; granted and
