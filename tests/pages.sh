@@ -25,12 +25,16 @@ column FORMAT.md 'Requests and answers' 2 >"$work/wanted"
 cp "$work/terms" "$work/case/terms.tsv"
 hold 'FORMAT, requests and answers'
 
-# `faulty after earlier`: the earlier line goes before the faulty one.
+# `faulty after earlier`: the earlier lines go before the faulty one.
 column FORMAT.md 'When a terms file is refused' 3 >"$work/lines"
 sed -n '/^## When a terms file is refused$/,/^## /s/^| \([0-9][0-9]*\) |.*/\1/p' "$docs/FORMAT.md" | paste -d ';' - "$work/lines" >"$work/refusals"
 while IFS=';' read -r number faulty earlier; do
     awk -v faulty="$faulty" -v earlier="$earlier" '
-        /^P/ && !put++ { if (earlier != "") print earlier; print faulty }
+        /^P/ && !put++ {
+            n = split(earlier, lines, ";")
+            for (i = 1; i <= n; i++) print lines[i]
+            print faulty
+        }
         { print }' "$work/terms" >"$work/case/terms.tsv"
     line=$(awk -v faulty="$faulty" '$0 == faulty { print NR }' "$work/case/terms.tsv")
     printf 'terms\t%s\t%s\n' "$number" "$line" >"$work/wanted"

@@ -12,11 +12,12 @@
 //! * `counts`: at least so many, counted and spelled out
 //! * `revisions`: new terms beside an opening
 //! * `banks`: two banks beside a monitor
+//! * `pairs`: tables of two variables beside tables of one
 //! * `stack`, `bank_stack`: the stack that one call takes
 //! * `archives`, `compare`: archives beside each other
 //!
-//! `benchmark pieces`, `lists`, `texts`, `counts`, `revisions`, `banks` and `stack`
-//! measure that only, `benchmark compare ARCHIVE...` times the calls of those
+//! `benchmark pieces`, `lists`, `texts`, `counts`, `revisions`, `banks`, `pairs`
+//! and `stack` measure that only, `benchmark compare ARCHIVE...` times the calls of those
 //! archives and of the one that is built in turn, `benchmark loop` makes many
 //! requests for a profiler.
 
@@ -31,6 +32,7 @@ mod lists;
 mod log;
 mod matrices;
 mod measure;
+mod pairs;
 mod pieces;
 mod revisions;
 mod rows;
@@ -55,6 +57,7 @@ fn main() {
             counts::print();
             revisions::print();
             banks::print();
+            pairs::print();
             print_stack();
         }
         Some("pieces") => pieces::print(),
@@ -63,13 +66,14 @@ fn main() {
         Some("counts") => counts::print(),
         Some("revisions") => revisions::print(),
         Some("banks") => banks::print(),
+        Some("pairs") => pairs::print(),
         Some("stack") => print_stack(),
         Some("compare") => compare::print(&words[1..]),
         Some("loop") => repeat(),
         Some(other) => {
             eprintln!(
-                "{other}: not known; pieces, lists, texts, counts, revisions, banks, stack, \
-                 compare, loop or nothing"
+                "{other}: not known; pieces, lists, texts, counts, revisions, banks, pairs, \
+                 stack, compare, loop or nothing"
             )
         }
     }

@@ -71,9 +71,9 @@ extern "C" {
 #endif
 
 #define CUCKOOORMOLU_VERSION_MAJOR 0
-#define CUCKOOORMOLU_VERSION_MINOR 11
+#define CUCKOOORMOLU_VERSION_MINOR 12
 #define CUCKOOORMOLU_VERSION_PATCH 0
-#define CUCKOOORMOLU_VERSION "0.11.0"
+#define CUCKOOORMOLU_VERSION "0.12.0"
 
 /* The named words of each memory. A bank's state is the relations, which two
  * banks share, and then its own words. */
@@ -106,7 +106,8 @@ typedef enum cuckooormolu_code {
     CUCKOOORMOLU_REFUSED_RANGE = 2,
     /* An operand that is not lower than its entry. */
     CUCKOOORMOLU_REFUSED_OPERAND = 3,
-    /* A prev or since with two or more free variables. */
+    /* A prev or since with three or more free variables, or with two where
+     * there are more than 16 members. */
     CUCKOOORMOLU_REFUSED_PAST = 4,
     /* A policy with a free variable other than 0. */
     CUCKOOORMOLU_REFUSED_POLICY = 5,
@@ -284,7 +285,8 @@ static inline const char *cuckooormolu_words(struct cuckooormolu_result result)
     case CUCKOOORMOLU_REFUSED_OPERAND:
         return "operand not lower than its entry";
     case CUCKOOORMOLU_REFUSED_PAST:
-        return "prev or since with two or more free variables";
+        return "prev or since with three or more free variables, or with two "
+               "and more than 16 members";
     case CUCKOOORMOLU_REFUSED_POLICY:
         return "policy with a free variable other than 0";
     case CUCKOOORMOLU_REFUSED_SHORT:
@@ -360,7 +362,7 @@ cuckooormolu_answer_words(struct cuckooormolu_answer answer)
  * may be null, not even where its length is 0, and memory that a call may write,
  * the number behind the last pointer too, must not overlap any other.
  */
-size_t cuckooormolu_raw_version_0_11_0(void);
+size_t cuckooormolu_raw_version_0_12_0(void);
 size_t cuckooormolu_raw_read(const uint8_t *text, size_t text_length,
                              uint16_t *terms, size_t terms_length,
                              uint64_t *state, size_t state_length,
@@ -449,10 +451,10 @@ size_t cuckooormolu_raw_banks_set_list(
 
 /* Header and archive belong together: the version stands in a function's name,
  * so that an archive of another version does not link. The function gives it as
- * one number, 11000 for 0.11.0. */
+ * one number, 12000 for 0.12.0. */
 #ifdef __GNUC__
 __attribute__((used)) CUCKOOORMOLU_RETAINED static size_t (
-    *const cuckooormolu_archive)(void) = cuckooormolu_raw_version_0_11_0;
+    *const cuckooormolu_archive)(void) = cuckooormolu_raw_version_0_12_0;
 #endif
 
 /*

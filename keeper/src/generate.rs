@@ -5,6 +5,7 @@ pub mod damage;
 pub mod formulas;
 pub mod kept;
 pub mod lines;
+mod paired;
 mod patterns;
 pub mod revised;
 pub mod size;
@@ -117,7 +118,7 @@ pub fn damaged_text(seed: u64) -> Vec<u8> {
 /// or in none.
 pub fn damaged_memory(seed: u64) -> (Vec<u16>, Vec<u64>) {
     let mut rng = Rng::new(seed);
-    let size = Size::small(&mut rng);
+    let size = if rng.percent(8) { Size::paired(&mut rng) } else { Size::small(&mut rng) };
     let terms = formulas::terms(&mut rng, &size);
     let mut terms_words = memory::terms_words(&terms);
     let calls = calls(&mut rng, &terms, 6, 99_999);
@@ -140,7 +141,7 @@ pub fn damaged_memory(seed: u64) -> (Vec<u16>, Vec<u64>) {
 /// record.
 pub fn drawn_memory(seed: u64) -> (Vec<u16>, Vec<u64>) {
     let mut rng = Rng::new(seed);
-    let size = Size::small(&mut rng);
+    let size = if rng.percent(8) { Size::paired(&mut rng) } else { Size::small(&mut rng) };
     let mut terms = formulas::terms(&mut rng, &size);
     if rng.percent(70) {
         revised::repeat(&mut rng, &mut terms);

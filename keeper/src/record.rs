@@ -7,7 +7,7 @@ mod start;
 pub use start::Start;
 
 use crate::terms::memory::{self, State, SCRATCH_WORDS};
-use crate::terms::{Edge, EventEdge, File, Past, Refusal, Tables, Terms, Variables};
+use crate::terms::{Bit, Edge, EventEdge, File, Past, Refusal, Tables, Terms, Variables};
 use meaning::{Assigned, Meaning};
 use std::collections::BTreeSet;
 
@@ -174,17 +174,12 @@ impl Record {
         let now = self.graphs.len() - 1;
         let mut tables = Vec::new();
         for entry in self.terms.past() {
-            let mut table = BTreeSet::new();
-            for (a, b) in memory::pairs(self.terms.members) {
-                let mut assigned = Assigned::default();
-                if self.free[entry] != 0 {
-                    assigned = assigned.with(self.free[entry].trailing_zeros() as usize, b);
-                }
-                if meaning.holds(entry, now, a, assigned) {
-                    table.insert((a, b));
-                }
-            }
-            tables.push(table);
+            let free = self.free[entry];
+            let holds = |bit: &Bit| {
+                let (member, assigned) = Assigned::by(free, *bit);
+                meaning.holds(entry, now, member, assigned)
+            };
+            tables.push(Bit::all(self.terms.members, free).into_iter().filter(holds).collect());
         }
         let past = Past { tables, event: self.last().event };
         State { edges: self.last().edges.clone(), past }

@@ -1,5 +1,6 @@
 //! Terms as plain values.
 
+pub mod bit;
 mod edit;
 pub mod event;
 pub mod file;
@@ -11,6 +12,7 @@ pub mod write;
 
 use std::collections::BTreeSet;
 
+pub use bit::Bit;
 pub use event::EventEdge;
 pub use file::{File, Past, Tables};
 pub use normal::normal;
@@ -24,17 +26,30 @@ pub const MOST_ENTRIES: usize = 256;
 pub const MOST_PAST: usize = 32;
 pub const MOST_EFFECTS: usize = 4;
 pub const VARIABLES: usize = 16;
+/// With more members a past-time entry has at most one free variable.
+pub const MOST_PAIRED: usize = 16;
 /// The most members that a `many` may ask for.
 pub const MOST_COUNTED: usize = 64;
 
 /// An edge under a relation: relation, from, to.
 pub type Edge = (usize, usize, usize);
 
-/// A set bit of a table: at which member, and for whom the variable stands.
-pub type Pair = (usize, usize);
-
 /// A set of variables: bit x stands for variable x.
 pub type Variables = u16;
+
+/// How many free variables a past-time entry may have, with so many members.
+pub fn most_free(members: usize) -> u32 {
+    if members > MOST_PAIRED {
+        1
+    } else {
+        2
+    }
+}
+
+/// The variables of a set, rising.
+pub fn variables(set: Variables) -> impl Iterator<Item = usize> {
+    (0..VARIABLES).filter(move |x| set >> x & 1 == 1)
+}
 
 /// What is returned when nothing is decided. The line is 0 where no text is read.
 #[derive(Clone, Copy, Debug, PartialEq, Eq)]
@@ -245,6 +260,12 @@ impl Terms {
     /// The past-time entries in entry order: table t belongs to the t-th.
     pub fn past(&self) -> Vec<usize> {
         (0..self.entries.len()).filter(|&entry| self.entries[entry].is_past()).collect()
+    }
+
+    /// The tables of entries with two free variables, of sound terms.
+    pub fn paired(&self) -> Vec<usize> {
+        let (free, past) = (self.free(), self.past());
+        (0..past.len()).filter(|&t| Bit::is_triple(free[past[t]])).collect()
     }
 
     /// The free variables of every entry.

@@ -33,7 +33,7 @@ fn said(folder: &str, json: bool) -> (String, i32) {
 #[test]
 fn each_mistake_is_named() {
     let folders = folders();
-    assert_eq!(folders.len(), 48);
+    assert_eq!(folders.len(), 53);
     for folder in folders {
         let name = folder.file_name().unwrap().to_string_lossy().into_owned();
         let (text, status) = said(folder.to_str().unwrap(), false);

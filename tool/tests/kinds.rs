@@ -94,23 +94,28 @@ fn mistakes() {
     assert!(said.contains("terms.say:1:"), "{said}");
 }
 
-/// The pattern of docs/LANGUAGE.md for three at once.
+/// The two patterns of docs/LANGUAGE.md for three at once.
 #[test]
 fn three_at_once() {
     let page = concat!(env!("CARGO_MANIFEST_DIR"), "/../docs/LANGUAGE.md");
     let page = std::fs::read_to_string(page).unwrap();
     let section = page.split_once("\n## Three at once\n").unwrap().1.split("\n## ").next().unwrap();
-    let (source, requests) = section.split_once("\nThree requests share").unwrap();
+    let (few, many) = section.split_once("\n**With more than 16 members**").unwrap();
     let code = |text: &str| -> String {
         let lines = text.lines().filter_map(|line| line.strip_prefix("    "));
         lines.map(|line| format!("{line}\n")).collect()
     };
-    let folder = Folder::new();
-    folder.write("terms.say", &code(source));
-    folder.write("requests.say", &code(requests));
-    let said = run(&["run", folder.path(), "--json"]);
-    assert_eq!(said.err, "");
-    let answers: Vec<bool> =
-        said.out.lines().map(|line| line.contains("\"answer\":\"grant\"")).collect();
-    assert_eq!(answers, [true, true, true, true, false, false, true, false], "{}", said.out);
+    let answers = |pattern: &str, requests: &str| -> Vec<bool> {
+        let (source, requests) = pattern.split_once(requests).unwrap();
+        let folder = Folder::new();
+        folder.write("terms.say", &code(source));
+        folder.write("requests.say", &code(requests));
+        let said = run(&["run", folder.path(), "--json"]);
+        assert_eq!(said.err, "");
+        said.out.lines().map(|line| line.contains("\"answer\":\"grant\"")).collect()
+    };
+    let picked = [true, true, true, false, false, true, true, false];
+    assert_eq!(answers(few, "Two requests share"), picked);
+    let slips = [true, true, true, true, false, false, true, false];
+    assert_eq!(answers(many, "Three requests share"), slips);
 }

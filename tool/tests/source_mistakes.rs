@@ -39,7 +39,7 @@ fn said(source: &Path) -> (String, i32) {
 #[test]
 fn each_has_place_cause_and_cure() {
     let sources = sources();
-    assert_eq!(sources.len(), 86);
+    assert_eq!(sources.len(), 87);
     for source in sources {
         let name = source.file_stem().unwrap().to_string_lossy().into_owned();
         let (text, status) = said(&source);

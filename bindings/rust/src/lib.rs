@@ -73,6 +73,8 @@ mod record;
 #[cfg(feature = "alloc")]
 mod state;
 #[cfg(feature = "alloc")]
+mod table;
+#[cfg(feature = "alloc")]
 mod terms;
 #[cfg(feature = "alloc")]
 mod text_error;
@@ -89,6 +91,7 @@ pub use {
     monitor::Monitor,
     record::Record,
     state::State,
+    table::{Holding, Table},
     terms::{Action, Direction, Effect, Terms},
     text_error::TextError,
 };

@@ -15,10 +15,11 @@ pub(crate) const EFFECT_WORDS: usize = 3;
 /// A word for each event: 1 where its denied requests are kept.
 pub(crate) const FIRST_MARK: usize = 1_236;
 
+/// The most members with which a past-time entry may have two free variables.
+pub(crate) const PAIR_MEMBERS: u8 = 16;
 /// Members, and so words, of one relation or table.
 pub(crate) const ROWS: usize = 64;
 pub(crate) const RELATIONS: usize = 16;
-pub(crate) const TABLES: usize = 32;
 pub(crate) const FIRST_TABLE: usize = ROWS * RELATIONS;
 pub(crate) const EVENT_WORD: usize = STATE_WORDS - 1;
 /// What is added to an event's number in that word where it was denied.

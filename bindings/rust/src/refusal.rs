@@ -33,7 +33,8 @@ pub enum Refusal {
     Range,
     /// 3: an operand that isn't lower than its entry.
     Operand,
-    /// 4: a prev or since with two or more free variables.
+    /// 4: a prev or since with three or more free variables, or with two where there
+    /// are more than 16 members.
     PastVariables,
     /// 5: a policy with a free variable other than 0.
     PolicyVariables,
@@ -97,7 +98,10 @@ impl Refusal {
                  more than 4 effects, or a label or entry that doesn't exist"
             }
             Refusal::Operand => "operand not lower than its entry",
-            Refusal::PastVariables => "prev or since with two or more free variables",
+            Refusal::PastVariables => {
+                "prev or since with three or more free variables, or with two and more than 16 \
+                 members"
+            }
             Refusal::PolicyVariables => "policy with a free variable other than 0",
             Refusal::TooShort => "memory shorter than its named words, or output too short",
             Refusal::BadTerms => "terms that no accepted text yields",

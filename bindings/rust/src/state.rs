@@ -2,7 +2,7 @@
 
 use crate::places::*;
 use crate::{raw, Answer, Edge, Event, EventEdge, Member, Refusal, Relation, Request};
-use crate::{Terms, OWN_WORDS, RELATION_WORDS, STATE_WORDS};
+use crate::{Table, Terms, OWN_WORDS, RELATION_WORDS, STATE_WORDS};
 use alloc::boxed::Box;
 
 /// The present moment: relations, past-time tables and the event edge.
@@ -37,21 +37,16 @@ impl State {
 
     /// Whether [`State::edges`] has an edge.
     pub fn has_edge(&self, edge: Edge) -> bool {
-        let relation = usize::from(edge.relation);
-        relation < RELATIONS && self.bit(ROWS * relation, edge.from, edge.to)
+        let (relation, row) = (usize::from(edge.relation), usize::from(edge.from));
+        relation < RELATIONS && row < ROWS && has(self.0[ROWS * relation + row], edge.to)
     }
 
-    /// Where the past-time entry of table t holds now: at the first member,
-    /// with the second for its free variable. Without one it is every second
-    /// member or none. [`crate::Terms::tables`] says whose table it is.
-    pub fn table(&self, t: usize) -> impl Iterator<Item = (Member, Member)> + '_ {
-        let words = if t < TABLES { &self.0[FIRST_TABLE + ROWS * t..][..ROWS] } else { &[] };
-        bits(words).map(|(at, other)| (Member(at as u8), other))
-    }
-
-    /// Whether [`State::table`] has a pair.
-    pub fn table_holds(&self, t: usize, at: Member, other: Member) -> bool {
-        t < TABLES && self.bit(FIRST_TABLE + ROWS * t, at, other)
+    /// The table of the t-th past-time entry of the terms that the state belongs
+    /// to ([`Terms::tables`]); none if they have no such entry.
+    pub fn table(&self, terms: &Terms, t: usize) -> Option<Table<'_>> {
+        let entry = terms.tables().nth(t)?;
+        let words = self.0[FIRST_TABLE + ROWS * t..].first_chunk()?;
+        Some(Table::new(words, terms.free_set(entry)))
     }
 
     /// The request that made this moment, and its answer; none at moment 0.
@@ -83,12 +78,6 @@ impl State {
         Some(EventEdge { request, answer })
     }
 
-    fn bit(&self, first: usize, row: Member, bit: Member) -> bool {
-        let row = usize::from(row);
-        row < ROWS
-            && self.0[first + row].checked_shr(bit.0.into()).is_some_and(|word| word & 1 == 1)
-    }
-
     pub(crate) fn blank() -> State {
         State(Box::new([0; STATE_WORDS]))
     }
@@ -102,8 +91,13 @@ impl State {
     }
 }
 
+/// Whether a word has the bit of a member.
+pub(crate) fn has(word: u64, bit: Member) -> bool {
+    word.checked_shr(bit.0.into()).is_some_and(|word| word & 1 == 1)
+}
+
 /// The bits that are set, each with the number of its word.
-fn bits(words: &[u64]) -> impl Iterator<Item = (usize, Member)> + '_ {
+pub(crate) fn bits(words: &[u64]) -> impl Iterator<Item = (usize, Member)> + '_ {
     words.iter().enumerate().flat_map(|(row, word)| {
         (0..64).filter(move |bit| word >> bit & 1 == 1).map(move |bit| (row, Member(bit)))
     })

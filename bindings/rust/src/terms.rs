@@ -1,8 +1,10 @@
 //! Terms: what a terms file says, without its edges.
 
 use crate::places::*;
+use crate::table::variables;
 use crate::{raw, Entry, Event, Label, Member, Refusal, Relation, State, Variable, TERMS_WORDS};
 use alloc::boxed::Box;
+use alloc::vec::Vec;
 
 /// What a granted event does to a relation.
 #[derive(Clone, Copy, Debug, PartialEq, Eq, Hash)]
@@ -99,6 +101,12 @@ impl Terms {
         self.entries().enumerate().filter(|(_, entry)| entry.is_past()).map(|(number, _)| number)
     }
 
+    /// The free variables of an entry, rising. A past-time entry has at most one,
+    /// or two where there are at most 16 members.
+    pub fn free(&self, entry: usize) -> Option<impl ExactSizeIterator<Item = Variable>> {
+        self.entry(entry).map(|_| variables(self.free_set(entry)))
+    }
+
     /// The number of the entry that is an event's policy.
     pub fn policy(&self, event: Event) -> Option<usize> {
         self.has(event).then(|| self.0[FIRST_POLICY + usize::from(event)].into())
@@ -140,6 +148,15 @@ impl Terms {
         u16::from(event.0) < self.0[2]
     }
 
+    /// The free variables of an entry: bit x stands for variable x.
+    pub(crate) fn free_set(&self, entry: usize) -> u16 {
+        let mut free = Vec::with_capacity(entry + 1);
+        for part in self.entries().take(entry + 1) {
+            free.push(free_in(part, &free));
+        }
+        free[entry]
+    }
+
     fn entry_at(&self, number: usize) -> Entry {
         let words = &self.0[FIRST_ENTRY + ENTRY_WORDS * number..][..ENTRY_WORDS];
         let (a, b) = (usize::from(words[1]), usize::from(words[2]));
@@ -174,5 +191,20 @@ impl Terms {
 
     pub(crate) fn blank() -> Terms {
         Terms(Box::new([0; TERMS_WORDS]))
+    }
+}
+
+/// The free variables of an entry, given those of the lower ones.
+fn free_in(entry: Entry, lower: &[u16]) -> u16 {
+    let single = |x: Variable| 1 << x.0;
+    match entry {
+        Entry::Top => 0,
+        Entry::Var(x) => single(x),
+        Entry::Not(f) | Entry::Prev(f) => lower[f],
+        Entry::Out(_, f) | Entry::In(_, f) | Entry::Many(_, f, _) => lower[f],
+        Entry::Or(f, g) | Entry::Since(f, g) => lower[f] | lower[g],
+        Entry::Bind(x, f) => lower[f] & !single(x),
+        Entry::At(x, f) => lower[f] | single(x),
+        Entry::Reach(_, _, g) => lower[g],
     }
 }

@@ -137,13 +137,25 @@ fn a_state_is_shown() {
     assert!(state.has_edge(edge(0, 0, 2)) && !state.has_edge(edge(0, 2, 0)));
     assert!(!state.has_edge(edge(16, 0, 0)));
     assert!(!state.has_edge(edge(0, 64, 0)) && !state.has_edge(edge(0, 0, 64)));
-    assert_eq!((state.event(), state.table(0).count()), (None, 0));
+    let table = state.table(monitor.terms(), 0).unwrap();
+    assert_eq!((state.event(), table.holding().count()), (None, 0));
     assert_eq!(monitor.request(asked(SHARE, 0, 1)), Ok(Answer::Grant));
     let state = monitor.state();
-    assert!(state.table(0).eq([(Member(0), Member(1))]));
-    assert!(state.table_holds(0, Member(0), Member(1)));
-    assert!(!state.table_holds(0, Member(1), Member(0)));
-    assert!(!state.table_holds(32, Member(0), Member(0)) && state.table(32).next().is_none());
+    let table = state.table(monitor.terms(), 0).unwrap();
+    assert!(table.variables().eq([Variable(1)]));
+    let holding = table.holding().next().unwrap();
+    assert_eq!((holding.at(), holding.others()), (Member(0), &[Member(1)][..]));
+    assert_eq!(table.holding().count(), 1);
+    let holds = |at, others: &[u8]| {
+        let others: Vec<Member> = others.iter().copied().map(Member).collect();
+        table.holds(Member(at), &others)
+    };
+    assert_eq!((holds(0, &[1]), holds(1, &[0])), (Some(true), Some(false)));
+    assert!([holds(64, &[1]), holds(0, &[64]), holds(255, &[255])] == [Some(false); 3]);
+    assert!([holds(0, &[]), holds(0, &[1, 1]), holds(0, &[1, 1, 1])] == [None; 3]);
+    for t in [1, 31, 32, usize::MAX] {
+        assert!(state.table(monitor.terms(), t).is_none());
+    }
     let request = asked(SHARE, 0, 1);
     assert_eq!(state.event(), Some(EventEdge { request, answer: Answer::Grant }));
 }
@@ -210,7 +222,9 @@ fn the_longest_stored_text_is_stored() {
     }
     text.push_str("V 31 63 63\n");
     let monitor = Monitor::read(&tabs(&text)).unwrap();
-    assert_eq!((0..32).map(|t| monitor.state().table(t).count()).sum::<usize>(), 131_072);
+    let tables = (0..32).map(|t| monitor.state().table(monitor.terms(), t).unwrap());
+    // They have no free variable.
+    assert_eq!(tables.map(|table| table.holding().count()).sum::<usize>(), 32 * 64);
     assert!(text.len() <= defined("CUCKOOORMOLU_STORED_BYTES"));
     assert!(monitor.store() == tabs(&text));
     assert_eq!(monitor.write(), Err(Refusal::NotFresh));
@@ -328,7 +342,7 @@ fn each_refusal_of_a_text_names_its_line() {
     assert_eq!(refused("M 65\n"), (2, 1));
     assert_eq!(refused("M 0\n"), (2, 1));
     assert_eq!(refused("M 1\nL 0 1\nF 0 not 0 0\n"), (3, 3));
-    let two = "M 1\nL 0 1\nF 0 var 1 0\nF 1 var 2 0\nF 2 since 0 1\n";
+    let two = "M 17\nL 0 1\nF 0 var 1 0\nF 1 var 2 0\nF 2 since 0 1\n";
     assert_eq!(refused(two), (4, 5));
     assert_eq!(refused("M 1\nL 0 1\nF 0 var 1 0\nP 0 0\n"), (5, 4));
     assert_eq!(refused("M 1\nL 0 1\nF 0 top 0 0\nF 1 reach 0 0 0\n"), (10, 4));

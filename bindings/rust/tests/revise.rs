@@ -36,6 +36,13 @@ fn after(text: &str, requests: &[Request]) -> Monitor {
     monitor
 }
 
+/// The members at which an entry without a free variable holds, by its table.
+fn table(monitor: &Monitor, t: usize) -> Vec<Member> {
+    let table = monitor.state().table(monitor.terms(), t).unwrap();
+    assert_eq!(table.variables().len(), 0);
+    table.holding().map(|holding| holding.at()).collect()
+}
+
 #[test]
 fn relations_and_event_edge_are_carried_over() {
     let mut monitor = after(OLD, &[asked(0, 0, 1), asked(0, 2, 1)]);
@@ -50,9 +57,9 @@ fn relations_and_event_edge_are_carried_over() {
 #[test]
 fn an_entry_at_another_place_takes_its_table_along() {
     let mut monitor = after(OLD, &[asked(0, 0, 1), asked(1, 0, 1), asked(0, 2, 1)]);
-    let table: Vec<_> = monitor.state().table(0).collect();
+    let before = table(&monitor, 0);
     monitor.revise(&terms(NEW)).unwrap();
-    assert!(monitor.state().table(1).eq(table));
+    assert_eq!(table(&monitor, 1), before);
     let answers = [0, 1, 2].map(|from| monitor.look(asked(0, from, 0)).unwrap());
     assert_eq!(answers, [Answer::Grant, Answer::Deny, Answer::Grant]);
 }
@@ -69,9 +76,9 @@ fn a_since_that_starts_is_what_its_second_operand_is() {
 fn a_prev_that_starts_is_false_until_the_next_moment() {
     let mut monitor = after(OLD, &[asked(0, 0, 1)]);
     monitor.revise(&terms(NEW)).unwrap();
-    assert_eq!(monitor.state().table(0).count(), 0);
+    assert_eq!(table(&monitor, 0).len(), 0);
     assert_eq!(monitor.request(asked(0, 0, 1)), Ok(Answer::Grant));
-    assert_eq!(monitor.state().table(0).count(), 9);
+    assert_eq!(table(&monitor, 0).len(), 3);
 }
 
 /// Event 0 is for whoever has been granted event 1, event 1 for whoever has been

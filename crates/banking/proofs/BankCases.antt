@@ -9,7 +9,7 @@ use mathlib.Core.Bool.{true, false, cond, not, _&&_}
 use mathlib.Core.List.{List, [], _∷_}
 use lib.ListN.{getD}
 use Rattle.sets.specs.Sets.{anyBelow, allBelow}
-use Rattle.theory.specs.Formula.{node, number, below, spelled, renumbered, same, free, lowest, highest}
+use Rattle.theory.specs.Formula.{node, number, below, spelled, renumbered, same, free, those, lowest, highest}
 use Rattle.theory.specs.Meaning.{holds}
 use Rattle.theory.specs.Terms.{Terms, firstSame}
 use Rattle.theory.specs.Limits.{scratchWords, leastTerms}
@@ -18,6 +18,7 @@ use Rattle.theory.specs.Keeper.{Answer, judge}
 use Rattle.theory.specs.Keeper.Answer.{done}
 use Rattle.theory.specs.Tables.{State, holdsNow, prevTables, sinceTables, opening, decideNow, made, advance, startTables, revised}
 use Rattle.theory.specs.Cases.{line, requests, looks, yes, no, own, adds, small}
+use Rattle.theory.proofs.Cases.{pairs}
 use Rattle.banking.specs.Banks.{Bank, other, quiet, BankStep, firstBooks, leastRelations, leastOwn, keepBank, keepBankStep, keepBankSteps}
 use Rattle.banking.specs.Banks.Bank.{left, right}
 use Rattle.banking.specs.Banks.BankStep.{call, revise}
@@ -72,8 +73,23 @@ unfoldable pub quietAnswers : List Answer
 quietAnswers = yes ∷ yes ∷ no ∷ yes ∷ yes ∷ yes ∷ no ∷ yes ∷ yes ∷ no ∷ yes ∷ []
 
 pub event-unseen : (keepBankSteps (firstBooks watching nobody) quietly .0 ≡ quietAnswers) × (byTables watching (λ d. opening watching nobody) quietly ≡ quietAnswers)
-unfolding keepBankSteps keepBankStep keepBank judge holds quietly quietAnswers watching spelled below node number anyBelow allBelow affectAll free byTables holdsNow opening advance prevTables sinceTables
+unfolding keepBankSteps keepBankStep keepBank judge holds quietly quietAnswers watching spelled below node number anyBelow allBelow affectAll free those byTables holdsNow opening advance prevTables sinceTables
 event-unseen = (refl, refl)
+
+-- A table with two columns, in the terms of `pair-answers`: 0 has shared with 1 in one bank alone, and a withdrawal in
+-- the other bank is a moment here that leaves it standing.
+unfoldable pub sharing : List BankStep
+sharing =
+    asks left 0 0 1 ∷ sees left 2 1 2 ∷ sees right 2 1 2
+    ∷ asks right 1 0 1 ∷ sees left 2 1 2
+    ∷ asks right 0 0 1 ∷ asks left 1 0 1 ∷ sees left 2 1 2 ∷ sees right 2 1 2 ∷ []
+
+unfoldable pub sharingAnswers : List Answer
+sharingAnswers = yes ∷ yes ∷ no ∷ yes ∷ yes ∷ yes ∷ yes ∷ no ∷ yes ∷ []
+
+pub pairs-apart : (keepBankSteps (firstBooks pairs own) sharing .0 ≡ sharingAnswers) × (byTables pairs (λ d. opening pairs own) sharing ≡ sharingAnswers)
+unfolding keepBankSteps keepBankStep keepBank judge holds sharing sharingAnswers pairs own spelled below node number anyBelow allBelow affectAll free those byTables holdsNow opening advance prevTables sinceTables
+pairs-apart = (refl, refl)
 
 -- The same sizes, with prev of top alone.
 unfoldable pub before : Terms
@@ -99,7 +115,7 @@ unfoldable pub togetherAnswers : List Answer
 togetherAnswers = yes ∷ yes ∷ yes ∷ done ∷ no ∷ no ∷ yes ∷ yes ∷ yes ∷ yes ∷ no ∷ []
 
 pub revised-together : (keepBankSteps (firstBooks before nobody) together .0 ≡ togetherAnswers) × (byTables before (λ d. opening before nobody) together ≡ togetherAnswers)
-unfolding keepBankSteps keepBankStep keepBank judge holds together togetherAnswers before watching spelled below node number anyBelow allBelow affectAll free highest firstSame same renumbered lowest ℕ-discrete byTables holdsNow opening advance prevTables sinceTables revised startTables
+unfolding keepBankSteps keepBankStep keepBank judge holds together togetherAnswers before watching spelled below node number anyBelow allBelow affectAll free those highest firstSame same renumbered lowest ℕ-discrete byTables holdsNow opening advance prevTables sinceTables revised startTables
 revised-together = (refl, refl)
 
 -- Without "a moment in both or in neither" `isolated` is false: prev of top tells the left bank whether the right one

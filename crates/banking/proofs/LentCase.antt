@@ -11,7 +11,7 @@ use lib.ListN.{length, replicate}
 use borrow.Author.Tests.{le-ltb}
 use Rattle.sets.specs.Sets.{anyBelow, allBelow, countBelow}
 use Rattle.sets.proofs.Finite.{and-both}
-use Rattle.theory.specs.Formula.{node, number, below, spelled, renumbered, same, free, lowest, highest}
+use Rattle.theory.specs.Formula.{node, number, below, spelled, renumbered, same, free, those, lowest, highest}
 use Rattle.theory.specs.Meaning.{holds}
 use Rattle.theory.specs.Terms.{firstSame}
 use Rattle.theory.specs.Limits.{scratchWords, leastTerms}
@@ -19,7 +19,7 @@ use Rattle.theory.specs.Moment.{Relations, affectAll}
 use Rattle.theory.specs.Keeper.{Answer, judge}
 use Rattle.theory.specs.Keeper.Answer.{done, refused}
 use Rattle.theory.specs.Tables.{opening}
-use Rattle.theory.specs.Fit.{every, operandFits, lone, onlyFree, reachFits}
+use Rattle.theory.specs.Fit.{every, operandFits, onlyFree, reachFits}
 use Rattle.theory.specs.Cases.{requests, looks, yes, no}
 use Rattle.memory.specs.Layout.{termsWords, relationWords, ownWords, entryAt, policyAt, effectAt, termsOf, effectsFrom, stateOf, wordsOf}
 use Rattle.memory.specs.Checks.{goodMemory}
@@ -51,14 +51,14 @@ newWords = termsWith (0 ∷ 0 ∷ 0 ∷ 0 ∷ 4 ∷ 0 ∷ 0 ∷ 0 ∷ 7 ∷ 0 �
 
 -- Such words are accepted.
 good-old : goodMemory oldWords ≡ true
-unfolding oldWords goodMemory termsOf every allBelow anyBelow countBelow operandFits lone onlyFree reachFits node number below spelled free effectsFrom
+unfolding oldWords goodMemory termsOf every allBelow anyBelow countBelow operandFits onlyFree reachFits node number below spelled free those effectsFrom
 good-old =
     and-both _ _ (zeros-blank oldWords (entryAt 3) 1012 (0 ∷ 1 ∷ replicate 222 0) refl)
     (and-both _ _ (zeros-blank oldWords (policyAt 2) 14 (replicate 208 0) refl)
     (and-both _ _ (zeros-blank oldWords (effectAt 2 0) 168 (replicate 16 0) refl) refl))
 
 good-new : goodMemory newWords ≡ true
-unfolding newWords goodMemory termsOf every allBelow anyBelow countBelow operandFits lone onlyFree reachFits node number below spelled free effectsFrom
+unfolding newWords goodMemory termsOf every allBelow anyBelow countBelow operandFits onlyFree reachFits node number below spelled free those effectsFrom
 good-new =
     and-both _ _ (zeros-blank newWords (entryAt 3) 1012 (0 ∷ 2 ∷ replicate 222 0) refl)
     (and-both _ _ (zeros-blank newWords (policyAt 2) 14 (replicate 208 0) refl)

@@ -332,7 +332,7 @@ openedBook terms state = firstBook (termsOf terms) (stateOf state .now .edge)
 abbrev pub opened : (terms state : List ℕ) → Lent
 opened terms state = record { terms = terms; state = openedState terms state; before = state }
 
-opened-playing : (terms state : List ℕ) → opens terms state ≡ passed → Playing (openedBook terms state) (opened terms state)
+pub opened-playing : (terms state : List ℕ) → opens terms state ≡ passed → Playing (openedBook terms state) (opened terms state)
 opened-playing terms state e =
     let o : Opens terms state = opened-says terms state e in
     record {

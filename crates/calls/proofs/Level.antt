@@ -3,30 +3,33 @@ use Prim.Native.Nat.{ℕ, zero, suc, _-_, _^_, _≤_, _<_}
 use native.Mathlib.Omega.{arith}
 use mathlib.Core.Path.{_≡_, refl, sym, ap, ap₂, _∙_}
 use mathlib.Core.Bool.{Bool, true, false, cond, not, _&&_, _||_}
-use mathlib.Core.List.{List, _++_}
+use mathlib.Core.List.{List, [], _∷_, _++_}
+use mathlib.Core.Logic.{⊎-elim}
 use lib.Dec.{eqb, ltb, leb}
 use lib.ListN.{getD}
 use borrow.Author.Tests.{eq-eqb, eqb-true, lt-ltb, ltb-true, not-true}
-use Rattle.sets.specs.Sets.{anyBelow, allBelow, bit}
-use Rattle.sets.proofs.Finite.{any-cong, any-elim, any-intro, all-true, all-out, not-both, is-false, or-left, or-right, count-cong}
+use Rattle.sets.specs.Sets.{allBelow, bit}
+use Rattle.sets.proofs.Finite.{and-both, any-cong, all-true, all-out, not-both, is-false, or-left, or-right, count-cong}
 use Rattle.sets.proofs.Bits.{bit-zero, bit-mask}
-use Rattle.theory.specs.Formula.{Formula, number, below, isPast, free, column, bare}
+use Rattle.theory.specs.Formula.{Formula, number, below, isPast, free, columns, bare}
 use Rattle.theory.specs.Formula.Formula.{top, var, neg, or, out, into, prev, since, bind, at, reach, many}
-use Rattle.theory.specs.Meaning.{Graph, Assignment, assign, alone, standing}
+use Rattle.theory.specs.Meaning.{Graph, Assignment, assign, alone}
+use Rattle.theory.specs.Columns.{inside}
 use Rattle.theory.specs.Terms.{Terms, formula, tables}
 use Rattle.theory.specs.Fit.{_⇒_, closed}
 use Rattle.theory.specs.Moment.{Event, Moment, graph}
 use Rattle.theory.specs.Moment.Event.{none as eventless, happened, tried}
-use Rattle.theory.specs.Tables.{Tables, holdsNow, store, operandNow, sinceBits, sinceStep, prevTables, sinceTables, State, advance, taken, startBits, startTables, revised}
-use Rattle.memory.specs.Layout.{tableAt, stateOf, wordsOf}
+use Rattle.theory.specs.Tables.{Tables, recalled, holdsNow, store, operandNow, sinceBits, sinceStep, prevTables, sinceTables, State, advance, taken, startBits, startTables, revised}
+use Rattle.memory.specs.Layout.{tableAt, tableColumns, stateOf, wordsOf}
 use Rattle.memory.specs.Checks.{level, goodRelations, stateTests, goodState}
 use Rattle.theory.proofs.Spelled.{Visible, tableOf, or-cases, number-lt, number-apart, spelled-prev, spelled-since, table-spelled, visible-below}
-use Rattle.theory.proofs.Good.{Good, small, column-free, implied, implies, every-at, every-in}
-use Rattle.theory.proofs.Now.{Among, among-assign, among-standing}
+use Rattle.theory.proofs.Good.{Good, small, implied, implies, every-at, every-in}
+use Rattle.theory.proofs.Places.{Among, among-assign, among-alone, closed-columns, columns-free, place-cong}
+use Rattle.theory.proofs.Past.{past-is}
 use Rattle.theory.proofs.Sweeps.{prev-keeps, prev-worked}
 use Rattle.theory.proofs.Renumbered.{free-renumbered, past-same}
 use Rattle.theory.proofs.Taken.{first-has}
-use Rattle.memory.proofs.Row.{fits-row, level-row}
+use Rattle.memory.proofs.Row.{fits-row, table-fits-row, level-row}
 use Rattle.memory.proofs.Inside.{Inside, EventInside, state-inside, good-event}
 use Rattle.memory.proofs.Words.{length-words, word-relation, word-of-table, word-event}
 use Rattle.memory.proofs.Front.{good-front}
@@ -34,24 +37,18 @@ use Rattle.memory.proofs.Front.{good-front}
 -- ---- the meaning at the present moment: only the free variables count
 
 module _ (N : ℕ) (G : Graph) (X : Tables) where
-  -- the table of φ has one column that counts; where φ has no free variable, its bits in a word are equal
+  -- where φ has no free variable, the bits of its table's words are equal
   record Even (φ : Formula) : Type 0 where
-    pub one : (x : ℕ) → free φ x ≡ true → column φ ≡ x
     pub below-16 : (x : ℕ) → free φ x ≡ true → x < 16
     pub level : ((x : ℕ) → free φ x ≡ true → ⊥) → (a b c : ℕ) → a < N → b < N → c < N → X (tableOf φ) a b ≡ X (tableOf φ) a c
 
-  recalled : (φ : Formula) → Even φ → (g h : Assignment) (m : ℕ) → Among N g → Among N h → m < N →
-      ((x : ℕ) → free φ x ≡ true → h x ≡ g x) → X (tableOf φ) m (h (column φ)) ≡ X (tableOf φ) m (g (column φ))
-  recalled φ c g h m wg wh ml v = go (anyBelow 16 (free φ)) refl
-    where
-      go : (d : Bool) → anyBelow 16 (free φ) ≡ d → X (tableOf φ) m (h (column φ)) ≡ X (tableOf φ) m (g (column φ))
-      go true e =
-          let w = any-elim 16 (free φ) e in
-          let at-column : h (column φ) ≡ g (column φ) = rw (c .one (w .0) (w .2)) (v (w .0) (w .2)) in
-          ap (X (tableOf φ) m) at-column
-      go false e =
-          c .level (λ x f. not-both _ (any-intro 16 (free φ) x (c .below-16 x f) f) e) m (h (column φ)) (g (column φ)) ml
-          (wh (column φ)) (wg (column φ))
+  even-recalled : (φ : Formula) → Even φ → (g h : Assignment) (m : ℕ) → Among N g → Among N h → m < N →
+      ((x : ℕ) → free φ x ≡ true → h x ≡ g x) → recalled X (tableOf φ) (columns φ) h m ≡ recalled X (tableOf φ) (columns φ) g m
+  even-recalled φ c g h m wg wh ml v =
+      ⊎-elim
+      (λ f. let p = place-cong (columns φ) g h m (λ x i. v x (f x i)) in ap₂ (X (tableOf φ)) (p .0) (p .1))
+      (λ n. rw (n .1) (c .level (λ x f. not-both (free φ x) f (n .0 x (c .below-16 x f))) m (h 0) (g 0) ml (wh 0) (wg 0)))
+      (columns-free φ)
 
   bound : (x m y : ℕ) (g h : Assignment) (F : Bool) → F ≡ true → (not (eqb y x) && F ≡ true → h y ≡ g y) → assign h x m y ≡ assign g x m y
   bound x m y g h F f e = go (eqb y x) refl
@@ -71,8 +68,8 @@ module _ (N : ℕ) (G : Graph) (X : Tables) where
       (now-free k (s .1) g h m wg wh ml (λ x e. v x (or-right (free f x) (free k x) e)))
   now-free (out l f) s g h m wg wh ml v = any-cong N (λ k kl. ap (λ b. G l m k && b) (now-free f s g h k wg wh kl v))
   now-free (into l f) s g h m wg wh ml v = any-cong N (λ k kl. ap (λ b. G l k m && b) (now-free f s g h k wg wh kl v))
-  now-free (prev t f) s g h m wg wh ml v = recalled (prev t f) s g h m wg wh ml v
-  now-free (since t f k) s g h m wg wh ml v = recalled (since t f k) s g h m wg wh ml v
+  now-free (prev t f) s g h m wg wh ml v = even-recalled (prev t f) s g h m wg wh ml v
+  now-free (since t f k) s g h m wg wh ml v = even-recalled (since t f k) s g h m wg wh ml v
   now-free (bind x f) s g h m wg wh ml v =
       now-free f s (assign g x m) (assign h x m) m (among-assign N g x m wg ml) (among-assign N h x m wh ml) ml
       (λ y e. bound x m y g h (free f y) e (v y))
@@ -109,29 +106,37 @@ module _ (T : Terms) (n : ℕ) where
 by-kind : {A : Type 0} (o : ℕ) → isPast o ≡ true → (o ≡ 6 → A) → (o ≡ 7 → A) → A
 by-kind o e six seven = or-cases (eqb o 6) (eqb o 7) e (λ z. six (eqb-true o 6 z)) (λ z. seven (eqb-true o 7 z))
 
+-- an entry without a free variable has a table with one column
+module _ (T : Terms) (n : ℕ) (none : (x : ℕ) → free (formula T n) x ≡ true → ⊥) where
+  one-column : columns (formula T n) ≡ 0 ∷ []
+  one-column = closed-columns (formula T n) (λ x l. is-false (free (formula T n) x) (none x))
+
+  pub one-inside : (a b : ℕ) → a < T .members → b < T .members → inside (T .members) (columns (formula T n)) a b ≡ true
+  one-inside a b al bl = rw one-column (and-both _ _ (lt-ltb a (T .members) al) (lt-ltb b (T .members) bl))
+
 module _ (T : Terms) (fine : Good T) (G : Graph) where
   -- an operand of an entry without a free variable does not depend on the column
-  operand-level : (X : Tables) → Level T X → (n : ℕ) → n < T .entries → (k : ℕ) → ((x : ℕ) → free (below (T .entry) n k) x ≡ true → ⊥) →
+  operand-level : (X : Tables) → Level T X → (n : ℕ) → n < T .entries → ((x : ℕ) → free (formula T n) x ≡ true → ⊥) →
+      (k : ℕ) → ((x : ℕ) → free (below (T .entry) n k) x ≡ true → ⊥) →
       (a b c : ℕ) → a < T .members → b < T .members → c < T .members → operandNow T G n k X a b ≡ operandNow T G n k X a c
-  operand-level X lev n l k none a b c al bl cl =
-      now-free (T .members) G X (below (T .entry) n k)
+  operand-level X lev n l closed k none a b c al bl cl =
+      rw (one-column T n closed)
+      (now-free (T .members) G X (below (T .entry) n k)
       (visible-below (T .entry) (Even (T .members) G X) n (λ j jl e. record {
-        one = column-free T fine j (omega arith) e;
         below-16 = small T fine j (omega arith);
         level = rw (table-spelled (T .entry) j e) (lev j (omega arith) e);
       }) k)
-      (standing (formula T n) c) (standing (formula T n) b) a
-      (among-standing (T .members) (formula T n) c cl) (among-standing (T .members) (formula T n) b bl) al
-      (λ x f. absurd (none x f))
+      (alone 0 c) (alone 0 b) a (among-alone (T .members) 0 c cl) (among-alone (T .members) 0 b bl) al
+      (λ x f. absurd (none x f)))
 
   prev-level : (X : Tables) → Level T X → Level T (prevTables T G (T .entries) X)
   prev-level X lev n l e none a b c al bl cl = by-kind (T .entry n .op) e six seven
     where
       six : T .entry n .op ≡ 6 → prevTables T G (T .entries) X (number (T .entry) n) a b ≡ prevTables T G (T .entries) X (number (T .entry) n) a c
       six z =
-          prev-worked T G (T .entries) X n l z a b al bl
-          ∙ operand-level X lev n l (T .entry n .a) (λ x f. none x (free-prev T n z x f)) a b c al bl cl
-          ∙ sym (prev-worked T G (T .entries) X n l z a c al cl)
+          prev-worked T G fine (T .entries) (omega arith) X n l z a b (one-inside T n none a b al bl)
+          ∙ operand-level X lev n l none (T .entry n .a) (λ x f. none x (free-prev T n z x f)) a b c al bl cl
+          ∙ sym (prev-worked T G fine (T .entries) (omega arith) X n l z a c (one-inside T n none a c al cl))
 
       seven : T .entry n .op ≡ 7 → prevTables T G (T .entries) X (number (T .entry) n) a b ≡ prevTables T G (T .entries) X (number (T .entry) n) a c
       seven z = prev-keeps T G (T .entries) X n z a b ∙ lev n l e none a b c al bl cl ∙ sym (prev-keeps T G (T .entries) X n z a c)
@@ -139,8 +144,8 @@ module _ (T : Terms) (fine : Good T) (G : Graph) where
   since-bits-level : (X : Tables) → Level T X → (n : ℕ) → n < T .entries → T .entry n .op ≡ 7 → ((x : ℕ) → free (formula T n) x ≡ true → ⊥) →
       (a b c : ℕ) → a < T .members → b < T .members → c < T .members → sinceBits T G n X a b ≡ sinceBits T G n X a c
   since-bits-level X lev n l z none a b c al bl cl =
-      ap₂ _||_ (operand-level X lev n l (T .entry n .b) (λ x f. none x (free-since-b T n z x f)) a b c al bl cl)
-      (ap₂ _&&_ (operand-level X lev n l (T .entry n .a) (λ x f. none x (free-since-a T n z x f)) a b c al bl cl)
+      ap₂ _||_ (operand-level X lev n l none (T .entry n .b) (λ x f. none x (free-since-b T n z x f)) a b c al bl cl)
+      (ap₂ _&&_ (operand-level X lev n l none (T .entry n .a) (λ x f. none x (free-since-a T n z x f)) a b c al bl cl)
       (lev n l (rw z) none a b c al bl cl))
 
   -- a table stored, or not
@@ -214,18 +219,21 @@ module _ (T : Terms) (fine : Good T) where
       no-free : (n : ℕ) → n < T .entries → closed (formula T n) ≡ true → (x : ℕ) → free (formula T n) x ≡ true → ⊥
       no-free n l c x f = not-both (free (formula T n) x) f (not-true _ (all-out 16 (λ x. not (free (formula T n) x)) c x (small T fine n l x f)))
 
+      columns-of : (n : ℕ) → n < T .entries → isPast (T .entry n .op) ≡ true → tableColumns T (number (T .entry) n) ≡ columns (formula T n)
+      columns-of n l p = ap (λ k. columns (formula T k)) (past-is T n l p)
+
       even : (n : ℕ) → n < T .entries → isPast (T .entry n .op) ≡ true → closed (formula T n) ≡ true → (a : ℕ) → a < 64 →
           level (T .members) (getD (wordsOf T S) (tableAt (number (T .entry) n) a) 0) ≡ true
       even n l p c a al =
           let tl : number (T .entry) n < tables T = number-lt (T .entry) n (T .entries) l p in
-          rw (word-of-table T S (number (T .entry) n) a (omega (arith, fine .few-tables)) al, lt-ltb (number (T .entry) n) (tables T) tl)
+          rw (word-of-table T S (number (T .entry) n) a (omega (arith, fine .few-tables)) al, lt-ltb (number (T .entry) n) (tables T) tl, columns-of n l p, one-column T n (no-free n l c))
           (level-row (T .members) (S .table (number (T .entry) n)) a (S .table (number (T .entry) n) a 0)
           (λ an b bn. lev n l p (no-free n l c) a b 0 an bn (fine .some-member)))
 
       test : (k : ℕ) → getD (stateTests T (wordsOf T S)) k true ≡ true
       test zero = relations-good S
       test (suc zero) = all-true 32 (λ t tl. all-true 64 (λ a al.
-          rw (word-of-table T S t a tl al) (fits-row (T .members) (ltb t (tables T)) (S .table t) a)))
+          rw (word-of-table T S t a tl al) (table-fits-row (T .members) (fine .few-members) (tableColumns T t) (ltb t (tables T)) (S .table t) a)))
       test (suc (suc zero)) = all-true (T .entries) (λ n l.
           implies (isPast (T .entry n .op)) (λ p. implies (closed (formula T n)) (λ c. all-true 64 (even n l p c))))
       test (suc (suc (suc zero))) = rw (word-event T S) (good-event T fine (S .now .event) (i .event))
@@ -259,7 +267,7 @@ module _ (T : Terms) (S : State) (lev : Level T (S .table)) (U : Terms) (fine : 
       k = taken T S U n
 
       anew : (d : Bool) → eqb (U .entry n .op) 7 ≡ d → (d && operandNow U G n (U .entry n .b) X a b) ≡ (d && operandNow U G n (U .entry n .b) X a c)
-      anew true z = operand-level U fine G X lower n l (U .entry n .b) (λ x f. none x (free-since-b U n (eqb-true (U .entry n .op) 7 z) x f)) a b c al bl cl
+      anew true z = operand-level U fine G X lower n l none (U .entry n .b) (λ x f. none x (free-since-b U n (eqb-true (U .entry n .op) 7 z) x f)) a b c al bl cl
       anew false z = refl
 
       go : (d : Bool) → ltb k (T .entries) ≡ d →

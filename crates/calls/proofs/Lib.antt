@@ -4,6 +4,7 @@ pub mod Refused
 pub mod RefusedRevision
 pub mod InStep
 pub mod Demand
+pub mod TwoVariables
 pub mod Answers
 pub mod Reached
 pub mod ListChecks

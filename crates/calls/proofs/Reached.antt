@@ -11,11 +11,11 @@ use lib.Seq.{getD-drop}
 use borrow.Author.Tests.{eqb-true}
 use Rattle.sets.specs.Sets.{anyBelow, allBelow, countBelow}
 use Rattle.sets.proofs.Finite.{and-left, and-right, and-both, all-true}
-use Rattle.theory.specs.Formula.{node, number, below, spelled, free}
+use Rattle.theory.specs.Formula.{node, number, below, spelled, free, those}
 use Rattle.theory.specs.Meaning.{holds}
 use Rattle.theory.specs.Moment.{Relations, affectAll}
 use Rattle.theory.specs.Keeper.{Call, judge, keep, keepAll, keeper}
-use Rattle.theory.specs.Fit.{every, operandFits, lone, onlyFree, reachFits}
+use Rattle.theory.specs.Fit.{every, operandFits, onlyFree, reachFits}
 use Rattle.theory.specs.Cases.{requests, looks, own}
 use Rattle.memory.specs.Layout.{termsWords, entryAt, policyAt, effectAt, markAt, termsOf, effectsFrom, stateOf}
 use Rattle.memory.specs.Checks.{blank, goodMemory}
@@ -90,5 +90,5 @@ blanks e =
 
 -- With no entry used twice, with one that is, and with a memo.
 pub reached : Reaches 1 × Reaches 14 × Reaches 16
-unfolding manyTerms goodMemory termsOf every allBelow anyBelow countBelow operandFits lone onlyFree reachFits node number below spelled free effectsFrom own judge keep keepAll holds affectAll
+unfolding manyTerms goodMemory termsOf every allBelow anyBelow countBelow operandFits onlyFree reachFits node number below spelled free those effectsFrom own judge keep keepAll holds affectAll
 reached = (reaches 1 (blanks 1) refl, reaches 14 (blanks 14) refl, reaches 16 (blanks 16) refl)

@@ -6,12 +6,13 @@ use mathlib.Core.List.{List, [], _∷_, _++_, map}
 use lib.Dec.{eqb, ltb}
 use lib.ListN.{length, getD, drop}
 use Rattle.sets.specs.Sets.{bit}
-use Rattle.theory.specs.Meaning.{Starts, standing}
+use Rattle.theory.specs.Meaning.{Starts}
+use Rattle.theory.specs.Columns.{inside, standing, member}
 use Rattle.theory.specs.Terms.{Terms, formula, tables, pastEntry}
 use Rattle.theory.specs.Moment.{Moment}
 use Rattle.theory.specs.Keeper.{Call, Answer, Offer, Step, lastMoment, keeperHolds}
 use Rattle.theory.specs.Keeper.Step.{call, revise as reviseStep}
-use Rattle.memory.specs.Layout.{stateWords, relationAt, tableAt, eventAt, eventWord, termsOf}
+use Rattle.memory.specs.Layout.{stateWords, relationAt, tableAt, eventAt, eventWord, termsOf, tableColumns}
 use Rattle.memory.specs.Checks.{goodMemory}
 use Rattle.memory.specs.Outcome.{Outcome, hasPassed, revises}
 use Rattle.memory.specs.Outcome.Outcome.{passed, failed}
@@ -134,12 +135,14 @@ serveSteps L (revise new second ∷ ss) =
 -- ---- the words afterwards
 
 -- The state's memory m agrees with the keeper's list, each past-time entry judged from its start, for a and b below 64, k below 16 and t below 32; it is as long as m₀ and has m₀'s further words.
+-- Bit b of word a of table t says, over its columns, one or two: word and bit are those of members, there is a past-time entry t, and it holds at the
+-- last moment, at the member and with its free variables standing for the members that word and bit say.
 pub record Agrees (T : Terms) (s : Starts) (m₀ m : List ℕ) (Ms : List Moment) : Type 0 where
   pub edges : (k a b : ℕ) → k < 16 → a < 64 → b < 64 → bit (getD m (relationAt k a) 0) b ≡ lastMoment Ms .edge k a b
   pub tables : (t a b : ℕ) → t < 32 → a < 64 → b < 64 →
       bit (getD m (tableAt t a) 0) b
-      ≡ ltb a (T .members) && (ltb b (T .members) && (ltb t (tables T)
-      && keeperHolds T s Ms (pastEntry T t) (standing (formula T (pastEntry T t)) b) a))
+      ≡ ltb t (tables T) && (inside (T .members) (tableColumns T t) a b
+      && keeperHolds T s Ms (pastEntry T t) (standing (formula T (pastEntry T t)) a b) (member (formula T (pastEntry T t)) a))
   pub event : getD m eventAt 0 ≡ eventWord (lastMoment Ms .event)
   pub long : length m ≡ length m₀
   pub further : drop stateWords m ≡ drop stateWords m₀

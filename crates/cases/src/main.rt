@@ -16,7 +16,7 @@ use show::show_word;
 ghost use Rattle.io.specs.Counts.{Counts};
 
 // More bytes than the file has.
-const ROOM: usize = 65536;
+const ROOM: usize = 131072;
 
 // Reads what a file has, as far as buf reaches, and gives the count of bytes.
 fn contents(path: &[u8], buf: &mut [u8; ROOM]) -> usize

@@ -34,7 +34,7 @@ use Rattle.writer.specs.Write.{Writing, fitted, sizeGives, writeGives, writtenT
 use Rattle.writer.specs.Write.Writing.{bytes, unwritten}
 use Rattle.text.specs.Text.{isFresh, ifFresh, oldSizeGives, oldWriteGives}
 use Rattle.file.specs.declared.line.Line.{Line}
-use Rattle.file.specs.declared.line.Line.the-variants.{Members, Labels, Entry, Policy, Effect, Edge, Form, TableBit, EventEdge, Mark, Malformed}
+use Rattle.file.specs.declared.line.Line.the-variants.{Members, Labels, Entry, Policy, Effect, Edge, Form, TableBit, PairBit, EventEdge, Mark, Malformed}
 use Rattle.cuckooormolu.specs.Codes.{doneCode, Low, ToldAnswer, ToldOutcome, ToldWriting, ToldListing}
 
 -- ---- a low number for each refusal
@@ -200,6 +200,7 @@ low-tests f (Effect j c k d) = refl
 low-tests f (Edge k a b) = refl
 low-tests f (Form n) = refl
 low-tests f (TableBit t a b) = refl
+low-tests f (PairBit t a b c) = refl
 low-tests f (EventEdge j u v) = refl
 low-tests f (Mark j) = refl
 low-tests f Malformed = refl

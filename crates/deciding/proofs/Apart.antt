@@ -1,6 +1,6 @@
 -- A state's memory in two parts, relations r and own words o: what stands in r ++ o, what a store into a part makes of it,
 -- and a part of a whole state that was lent and came back.
-use Prim.Native.Nat.{ℕ, _+_, _*_, _/_, _<_, _≤_}
+use Prim.Native.Nat.{ℕ, _+_, _*_, _<_, _≤_}
 use native.Mathlib.Omega.{arith}
 use native.Mathlib.Nat.{zero-add, suc-add}
 use mathlib.Core.Path.{_≡_, sym, ap, subst, _∙_}
@@ -11,10 +11,12 @@ use lib.ListN.{length, getD, take, drop, set, take-append-drop, length-append, l
 use lib.Seq.{length-take-le, take-all, take-at, drop-at, take-take, take-append-add, drop-append-add, drop-append-le, set-append-left}
 use borrow.Rule.Slice.PartMut.{putMid}
 use Rattle.sets.specs.Sets.{bit}
-use Rattle.theory.specs.Terms.{Terms, Effect}
+use Rattle.theory.specs.Formula.{columns}
+use Rattle.theory.specs.Terms.{Terms, Effect, formula}
 use Rattle.theory.specs.Moment.{Event}
 use Rattle.theory.specs.Tables.{State}
 use Rattle.theory.proofs.Good.{Good}
+use Rattle.memory.specs.Plan.{planTable}
 use Rattle.memory.specs.Layout.{relationWords, ownWords, stateWords, relationAt, eventWord, termsOf, wordsOf}
 use Rattle.memory.proofs.Words.{length-words}
 use Rattle.deciding.specs.Rows.{Ready, Table, nextPrev, nextSince}
@@ -130,15 +132,15 @@ module _ {terms plan : List ℕ} (r o : List ℕ) (c : Movable terms plan (r ++ 
   pub memo-joined : (n : ℕ) (w : List ℕ) → Memo T r o n w → MemoOf T (r ++ o) n w
   memo-joined n w = joined-parts r o long own-long (λ rel past. Memo T rel past n w)
 
-  module _ (n : ℕ) (nl : n < T .entries) (vs : List ℕ) {o' : List ℕ} (q : o' ≡ put (64 * (getD plan n 0 / 16)) vs o) where
-    stored : r ++ o' ≡ put (1024 + 64 * (getD plan n 0 / 16)) vs (r ++ o)
-    stored = ap (λ l. r ++ l) q ∙ sym (put-behind r o long (64 * (getD plan n 0 / 16)) vs)
+  module _ (n : ℕ) (nl : n < T .entries) (vs : List ℕ) {o' : List ℕ} (q : o' ≡ put (64 * planTable (getD plan n 0)) vs o) where
+    stored : r ++ o' ≡ put (1024 + 64 * planTable (getD plan n 0)) vs (r ++ o)
+    stored = ap (λ l. r ++ l) q ∙ sym (put-behind r o long (64 * planTable (getD plan n 0)) vs)
 
-    pub prev-apart : T .entry n .op ≡ 6 → Table (T .members) (nextPrev T r o n) vs → Becomes terms (prevAt n) (r ++ o) (r ++ o')
-    prev-apart e new = prev-turned c n nl vs stored e (joined-parts r o long own-long (λ rel past. Table (T .members) (nextPrev T rel past n) vs) new)
+    pub prev-apart : T .entry n .op ≡ 6 → Table (T .members) (columns (formula T n)) (nextPrev T r o n) vs → Becomes terms (prevAt n) (r ++ o) (r ++ o')
+    prev-apart e new = prev-turned c n nl vs stored e (joined-parts r o long own-long (λ rel past. Table (T .members) (columns (formula T n)) (nextPrev T rel past n) vs) new)
 
-    pub since-apart : T .entry n .op ≡ 7 → Table (T .members) (nextSince T r o n) vs → Becomes terms (sinceAt n) (r ++ o) (r ++ o')
-    since-apart e new = since-turned c n nl vs stored e (joined-parts r o long own-long (λ rel past. Table (T .members) (nextSince T rel past n) vs) new)
+    pub since-apart : T .entry n .op ≡ 7 → Table (T .members) (columns (formula T n)) (nextSince T r o n) vs → Becomes terms (sinceAt n) (r ++ o) (r ++ o')
+    since-apart e new = since-turned c n nl vs stored e (joined-parts r o long own-long (λ rel past. Table (T .members) (columns (formula T n)) (nextSince T rel past n) vs) new)
 
 module _ (w : List ℕ) (fine : Good (termsOf w)) (r o : List ℕ) (long : length r ≡ relationWords) where
   pub event-apart : (x : Event) → known (termsOf w) x ≡ true → Becomes w (evented x) (r ++ o) (r ++ set o 2048 (eventWord x))

@@ -1,18 +1,20 @@
 -- Assignments: a variable set anew, and a variable that is open; the rows of a past-time entry.
-use Prim.Native.Nat.{ℕ, _/_, _%_, _<_}
-use mathlib.Core.Path.{_≡_, sym, ap, ap₂, _∙_, subst, fun-ext}
-use mathlib.Core.Bool.{Bool, true, false, cond, _&&_}
-use mathlib.Core.List.{List}
+use Prim.Native.Nat.{ℕ, _+_, _*_, _/_, _%_, _<_}
+use mathlib.Core.Path.{_≡_, refl, sym, ap, ap₂, _∙_, subst, fun-ext}
+use mathlib.Core.Bool.{Bool, true, false, cond, not, _&&_}
+use mathlib.Core.List.{List, [], _∷_}
 use mathlib.Core.Logic.{⊎-elim}
 use native.Mathlib.Omega.{arith}
 use lib.Dec.{eqb, ltb}
 use lib.ListN.{length, getD, set, replicate}
 use lib.Seq.{getD-set-same, getD-set-other}
-use borrow.Author.Tests.{lt-ltb, le-ltb, eqb-true, eqb-false, eq-eqb, ne-eqb}
+use borrow.Author.Tests.{lt-ltb, le-ltb, eqb-true, eqb-false, eq-eqb, ne-eqb, not-true, not-false}
 use Rattle.sets.specs.Sets.{bit}
 use Rattle.sets.proofs.Finite.{and-both, true-or-false}
 use Rattle.theory.specs.Meaning.{Assignment, assign, alone}
-use Rattle.deciding.specs.Rows.{tableBit, assigned, opened, openUnder, remembered, Rows, Vars}
+use Rattle.theory.specs.Tables.{recalled}
+use Rattle.memory.specs.Plan.{planTable, planFirst, planLast, planColumns}
+use Rattle.deciding.specs.Rows.{tableBit, assigned, opened, openUnder, remembered, openColumn, pairCell, Rows, Vars}
 use Rattle.deciding.proofs.Loops.{zeros, rows-map}
 
 pub assigned-set : (vars : List ℕ) (x m y : ℕ) → x < length vars → assigned (set vars x m) y ≡ assign (assigned vars) x m y
@@ -85,15 +87,51 @@ opened-zeros x v l = fun-ext (λ y. ⊎-elim
 
 -- ---- the rows of a past-time entry whose plan word is p
 
-pub recalled-same : (want all p p' x : ℕ) (past : List ℕ) (g : Assignment) {r : List ℕ} → Rows want (λ a b. bit all b && tableBit past (p / 16) a b) r
-    → p ≡ p' → p % 16 ≡ x → Rows want (remembered past g x p' all) r
-recalled-same want all p p' x past g h e q = rows-map h (λ a b t.
-    ap (λ (k : ℕ). bit all b && tableBit past (p / 16) a k) (sym (opened-same g x b (p % 16) q (omega arith)))
-    ∙ ap (λ (k : ℕ). remembered past g x k all a b) e)
+module _ (p : ℕ) where
+  pub one-columns : not (eqb (planFirst p) (planLast p)) ≡ false → planColumns p ≡ planLast p ∷ []
+  one-columns e = ap (λ (c : Bool). cond c (planLast p ∷ []) (planFirst p ∷ planLast p ∷ [])) (not-false (eqb (planFirst p) (planLast p)) e)
 
-pub recalled-other : (want all p p' x m : ℕ) (past : List ℕ) (g : Assignment) {r : List ℕ}
-    → Rows want (λ a b. bit all b && tableBit past (p / 16) a m) r
-    → p ≡ p' → (p % 16 ≡ x → ⊥) → m ≡ g (p % 16) → Rows want (remembered past g x p' all) r
-recalled-other want all p p' x m past g h e q f = rows-map h (λ a b t.
-    ap (λ (k : ℕ). bit all b && tableBit past (p / 16) a k) (f ∙ sym (opened-other g x b (p % 16) q))
-    ∙ ap (λ (k : ℕ). remembered past g x k all a b) e)
+  pub two-columns : not (eqb (planFirst p) (planLast p)) ≡ true → planColumns p ≡ planFirst p ∷ planLast p ∷ []
+  two-columns e = ap (λ (c : Bool). cond c (planLast p ∷ []) (planFirst p ∷ planLast p ∷ [])) (not-true (eqb (planFirst p) (planLast p)) e)
+
+pub recalled-same : (want all p x : ℕ) (past : List ℕ) (g : Assignment) {r : List ℕ} → not (eqb (planFirst p) (planLast p)) ≡ false →
+    Rows want (λ a b. bit all b && tableBit past (planTable p) a b) r → planLast p ≡ x → Rows want (remembered past g x p all) r
+recalled-same want all p x past g one h q = rows-map h (λ a b t.
+    ap (λ (k : ℕ). bit all b && tableBit past (planTable p) a k) (sym (opened-same g x b (planLast p) q (omega arith)))
+    ∙ sym (ap (λ (cs : List ℕ). bit all b && recalled (tableBit past) (planTable p) cs (opened g x b) a) (one-columns p one)))
+
+pub recalled-other : (want all p x m : ℕ) (past : List ℕ) (g : Assignment) {r : List ℕ} → not (eqb (planFirst p) (planLast p)) ≡ false →
+    Rows want (λ a b. bit all b && tableBit past (planTable p) a m) r → (planLast p ≡ x → ⊥) → m ≡ g (planLast p) → Rows want (remembered past g x p all) r
+recalled-other want all p x m past g one h q f = rows-map h (λ a b t.
+    ap (λ (k : ℕ). bit all b && tableBit past (planTable p) a k) (f ∙ sym (opened-other g x b (planLast p) q))
+    ∙ sym (ap (λ (cs : List ℕ). bit all b && recalled (tableBit past) (planTable p) cs (opened g x b) a) (one-columns p one)))
+
+-- what the columns of a table with two stand for, by which one is open
+module _ (g : Assignment) (x first last v : ℕ) (fl : first < 16) (ll : last < 16) (apart : first ≡ last → ⊥) where
+  open-first : cond (eqb (openColumn x first last) 1) v (g first) ≡ opened g x v first
+  open-first = go (eqb x first) refl (eqb x last)
+    where
+      go : (c : Bool) → eqb x first ≡ c → (d : Bool) → cond (eqb (cond c 1 (cond d 2 0)) 1) v (g first) ≡ opened g x v first
+      go true e d = sym (opened-same g x v first (sym (eqb-true x first e)) fl)
+      go false e true = sym (opened-other g x v first (λ z. eqb-false x first e (sym z)))
+      go false e false = sym (opened-other g x v first (λ z. eqb-false x first e (sym z)))
+
+  open-last : cond (eqb (openColumn x first last) 2) v (g last) ≡ opened g x v last
+  open-last = go (eqb x first) refl (eqb x last) refl
+    where
+      go : (c : Bool) → eqb x first ≡ c → (d : Bool) → eqb x last ≡ d → cond (eqb (cond c 1 (cond d 2 0)) 2) v (g last) ≡ opened g x v last
+      go true e d f = sym (opened-other g x v last (λ z. apart (sym (eqb-true x first e) ∙ sym z)))
+      go false e true f = sym (opened-same g x v last (sym (eqb-true x last f)) ll)
+      go false e false f = sym (opened-other g x v last (λ z. eqb-false x last f (sym z)))
+
+pub recalled-pair : (want all p x b c : ℕ) (past : List ℕ) (g : Assignment) {r : List ℕ} → not (eqb (planFirst p) (planLast p)) ≡ true →
+    Rows want (λ a v. bit all v && pairCell past (planTable p) b c (openColumn x (planFirst p) (planLast p)) a v) r → b ≡ g (planFirst p) → c ≡ g (planLast p) →
+    Rows want (remembered past g x p all) r
+recalled-pair want all p x b c past g two h eb ec = rows-map h (λ a v t.
+    ap₂ (λ (u w : ℕ). bit all v && tableBit past (planTable p) (4 * a + u / 4) (16 * (u % 4) + w))
+    (ap (cond (eqb (openColumn x (planFirst p) (planLast p)) 1) v) eb ∙ open-first g x (planFirst p) (planLast p) v (omega arith) (omega arith) apart)
+    (ap (cond (eqb (openColumn x (planFirst p) (planLast p)) 2) v) ec ∙ open-last g x (planFirst p) (planLast p) v (omega arith) (omega arith) apart)
+    ∙ sym (ap (λ (cs : List ℕ). bit all v && recalled (tableBit past) (planTable p) cs (opened g x v) a) (two-columns p two)))
+  where
+    apart : planFirst p ≡ planLast p → ⊥
+    apart = eqb-false (planFirst p) (planLast p) (not-true (eqb (planFirst p) (planLast p)) two)

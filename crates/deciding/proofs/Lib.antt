@@ -2,6 +2,7 @@ pub mod Loops
 pub mod Counting
 pub mod EdgeLaws
 pub mod Assignments
+pub mod Pairs
 pub mod Unfolded
 pub mod Settled
 pub mod Sites

@@ -9,22 +9,24 @@ use lib.Dec.{eqb, ltb}
 use lib.ListN.{length, getD, drop, set}
 use borrow.Author.Tests.{eq-eqb, ne-eqb}
 use Rattle.sets.specs.Sets.{bit}
-use Rattle.theory.specs.Formula.{number, isPast}
+use Rattle.theory.specs.Formula.{number, isPast, columns}
 use Rattle.theory.specs.Meaning.{assign}
-use Rattle.theory.specs.Terms.{Terms, Effect}
+use Rattle.theory.specs.Terms.{Terms, Effect, formula}
 use Rattle.theory.specs.Moment.{Relations, graph, affect, affectAll}
 use Rattle.theory.specs.Moment.Event.{happened, tried}
 use Rattle.memory.specs.Layout.{termsWords, stateWords, ownWords, relationAt, effectAt, effectsFrom, eventAt, eventOf, termsOf, stateOf}
 use Rattle.theory.specs.Terms.{tables}
 use Rattle.memory.specs.Checks.{goodMemory, goodEvent, stateTests, goodState}
 use Rattle.theory.specs.Tables.{named, Tables, State, decideNow, prevBits, sinceBits, prevStep, prevTables, sinceTables, made, advance}
-use Rattle.memory.specs.Plan.{Planned}
+use Rattle.memory.specs.Plan.{planTable, Planned}
 use Rattle.deciding.specs.Rows.{Ready, Table, nowAt, nextPrev, nextSince}
 use Rattle.deciding.specs.Moving.{known, HasState, Movable, Becomes, put, tabled, edged, prevAt, prevMoved, effectOf, affected, allAffected, evented, entered, sinceAt, sinceBelow, sinceMoved}
 use Rattle.theory.proofs.Spelled.{number-lt}
 use Rattle.theory.proofs.Good.{Good, Within, more, every-at}
 use Rattle.memory.proofs.Accepted.{good}
-use Rattle.theory.proofs.Now.{among-assign}
+use Rattle.theory.proofs.Places.{among-assign}
+use Rattle.theory.proofs.Past.{past-is}
+use Rattle.theory.proofs.Now.{SameAt}
 use Rattle.memory.proofs.Words.{canonical}
 use Rattle.deciding.proofs.Seen.{has-long, ready, relationsOf, pastOf, seen, seen-prev, seen-since, Named}
 use Rattle.deciding.proofs.Stored.{table-stored, edge-stored}
@@ -39,10 +41,10 @@ known-event T (suc n) e = go (ltb (n / 4096) 16) e
     go true e = e
     go false e = e
 
-pub held : (T : Terms) (m : List ℕ) → stateWords ≤ length m → goodState T m ≡ true → HasState T (stateOf m) (drop stateWords m) m
+pub held : (T : Terms) → T .members < 65 → (m : List ℕ) → stateWords ≤ length m → goodState T m ≡ true → HasState T (stateOf m) (drop stateWords m) m
 unfolding goodState stateOf
-held T m long g = record {
-  words = canonical T m long g;
+held T few m long g = record {
+  words = canonical T few m long g;
   event = known-event T (getD m eventAt 0) (every-at (stateTests T m) g 3);
 }
 
@@ -54,7 +56,7 @@ movable terms plan m lt g p lm s = record {
   planned = p;
   state = stateOf m;
   rest = drop stateWords m;
-  has = held (termsOf terms) m lm s;
+  has = held (termsOf terms) (good terms g .few-members) m lm s;
 }
 
 module _ {terms plan m : List ℕ} (c : Movable terms plan m) where
@@ -79,7 +81,7 @@ pub granted : (T : Terms) → Good T → (m : List ℕ) → stateWords ≤ lengt
     {i : ℕ} {r : Bool} → i ≡ T .policy j → r ≡ nowAt T (relationsOf m) (pastOf m) (assign (λ x. 0) 0 v) i u → r ≡ decideNow T (stateOf m) j u v
 granted T fine m long g j u v n p h =
     h ∙ ap (λ i. nowAt T (relationsOf m) (pastOf m) (assign (λ x. 0) 0 v) i u) p
-    ∙ seen T fine (held T m long g) (assign (λ x. 0) 0 v) (T .policy j) u (fine .policy-exists j (n .event))
+    ∙ seen T fine (held T (fine .few-members) m long g) (assign (λ x. 0) 0 v) (T .policy j) u (fine .policy-exists j (n .event))
     (among-assign (T .members) (λ x. 0) 0 v (λ x. fine .some-member) (n .to)) (n .from)
 
 -- ---- one turn of each sweep
@@ -89,14 +91,14 @@ module _ {terms plan m : List ℕ} (c : Movable terms plan m) (n : ℕ) (nl : n 
   T = termsOf terms
 
   abbrev place : ℕ
-  place = 1024 + 64 * (getD plan n 0 / 16)
+  place = 1024 + 64 * planTable (getD plan n 0)
 
   module _ (past : isPast (T .entry n .op) ≡ true) where
     there : number (T .entry) n < tables T
     there = number-lt (T .entry) n (T .entries) nl past
 
     -- its place in a bank's own words
-    pub own-fits : 64 * (getD plan n 0 / 16) + 64 ≤ ownWords
+    pub own-fits : 64 * planTable (getD plan n 0) + 64 ≤ ownWords
     own-fits = rw (c .planned .table n nl past .0) (omega (arith, there, fine c .few-tables))
 
   pub prev-stays : (T .entry n .op ≡ 6 → ⊥) → Becomes terms (prevAt n) m m
@@ -106,18 +108,20 @@ module _ {terms plan m : List ℕ} (c : Movable terms plan m) (n : ℕ) (nl : n 
   since-stays h = record { each = λ S rest has. rw (ne-eqb (T .entry n .op) 7 h) has }
 
   module _ (vs : List ℕ) {m' : List ℕ} (e : m' ≡ put place vs m) where
-    pub prev-turned : T .entry n .op ≡ 6 → Table (T .members) (nextPrev T (relationsOf m) (pastOf m) n) vs → Becomes terms (prevAt n) m m'
+    pub prev-turned : T .entry n .op ≡ 6 → Table (T .members) (columns (formula T n)) (nextPrev T (relationsOf m) (pastOf m) n) vs → Becomes terms (prevAt n) m m'
     prev-turned o new = record {
       each = λ S rest has. rw (e, c .planned .table n nl (rw o) .0, eq-eqb (T .entry n .op) 6 o)
           (table-stored T (fine c) has (number (T .entry) n) (there (rw o)) (nextPrev T (relationsOf m) (pastOf m) n)
-          (prevBits T (graph T (S .now)) n (S .table)) (seen-prev T (fine c) has n nl o) vs new);
+          (prevBits T (graph T (S .now)) n (S .table)) (subst (λ j. SameAt (T .members) (columns (formula T j)) (nextPrev T (relationsOf m) (pastOf m) n) (prevBits T (graph T (S .now)) n (S .table))) (sym (past-is T n nl (rw o))) (seen-prev T (fine c) has n nl o)) vs
+          (subst (λ j. Table (T .members) (columns (formula T j)) (nextPrev T (relationsOf m) (pastOf m) n) vs) (sym (past-is T n nl (rw o))) new));
     }
 
-    pub since-turned : T .entry n .op ≡ 7 → Table (T .members) (nextSince T (relationsOf m) (pastOf m) n) vs → Becomes terms (sinceAt n) m m'
+    pub since-turned : T .entry n .op ≡ 7 → Table (T .members) (columns (formula T n)) (nextSince T (relationsOf m) (pastOf m) n) vs → Becomes terms (sinceAt n) m m'
     since-turned o new = record {
       each = λ S rest has. rw (e, c .planned .table n nl (rw o) .0, eq-eqb (T .entry n .op) 7 o)
           (table-stored T (fine c) has (number (T .entry) n) (there (rw o)) (nextSince T (relationsOf m) (pastOf m) n)
-          (sinceBits T (graph T (S .now)) n (S .table)) (seen-since T (fine c) has n nl o) vs new);
+          (sinceBits T (graph T (S .now)) n (S .table)) (subst (λ j. SameAt (T .members) (columns (formula T j)) (nextSince T (relationsOf m) (pastOf m) n) (sinceBits T (graph T (S .now)) n (S .table))) (sym (past-is T n nl (rw o))) (seen-since T (fine c) has n nl o)) vs
+          (subst (λ j. Table (T .members) (columns (formula T j)) (nextSince T (relationsOf m) (pastOf m) n) vs) (sym (past-is T n nl (rw o))) new));
     }
 
 -- ---- the sweeps

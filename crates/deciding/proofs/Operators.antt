@@ -1,5 +1,5 @@
 -- What each operator's arm of `decide` shows, in plain values: from what its callees give, that the arm's rows are those asked for.
-use Prim.Native.Nat.{ℕ, _/_, _%_, _<_, _≤_}
+use Prim.Native.Nat.{ℕ, _<_, _≤_}
 use mathlib.Core.Path.{_≡_, refl, sym, ap, ap₂, _∙_, subst, fun-ext}
 use mathlib.Core.Bool.{Bool, true, false, cond, not, _&&_, _||_, and-true, and-comm, and-self-left, and-or-distrib-left}
 use mathlib.Core.List.{List}
@@ -9,10 +9,13 @@ use lib.ListN.{length, getD, replicate}
 use borrow.Author.Tests.{lt-ltb, ltb-true, eqb-true, eq-eqb}
 use Rattle.sets.specs.Sets.{anyBelow, bit}
 use Rattle.sets.proofs.Finite.{bool-iff, and-left, and-right, and-both, and-under, any-intro, any-elim}
-use Rattle.theory.specs.Formula.{number, isPast, column}
+use Rattle.theory.specs.Formula.{number, isPast, columns}
 use Rattle.theory.specs.Meaning.{Assignment, assign, alone}
+use Rattle.theory.specs.Columns.{columnsFit}
+use Rattle.theory.specs.Tables.{recalled}
 use Rattle.theory.specs.Terms.{Terms, formula}
 use Rattle.memory.specs.Layout.{termsOf}
+use Rattle.memory.specs.Plan.{planTable, planColumns}
 use Rattle.deciding.specs.Rows.{tableBit, assigned, opened, openUnder, nowAt, cell, Rows, Has, Asked}
 use Rattle.deciding.specs.Rows.{inRow, Added, ahead, Recalled, remembered}
 use Rattle.theory.proofs.Spelled.{number-lt}
@@ -91,24 +94,26 @@ module _ {terms plan rel past : List ℕ} {g : Assignment} {x i want o a b r all
   past-op : isPast o ≡ true → isPast (T .entry i .op) ≡ true
   past-op e = ap isPast (sym (s .o-is)) ∙ e
 
-  plan-is : isPast o ≡ true → (getD plan i 0 / 16 ≡ number (T .entry) i) × (getD plan i 0 % 16 ≡ column (formula T i))
+  plan-is : isPast o ≡ true → (planTable (getD plan i 0) ≡ number (T .entry) i) × (planColumns (getD plan i 0) ≡ columns (formula T i))
   plan-is e = s .ready .planned .table i (s .asked .exists) (past-op e)
 
-  pub recalled : isPast o ≡ true → Recalled plan past g i all
-  recalled e = record {
+  pub recalling : isPast o ≡ true → Recalled plan past g i want all
+  recalling e = record {
     exists = subst (λ (k : ℕ). k < 32) (sym (plan-is e .0))
         (let p = number-lt (T .entry) i (T .entries) (s .asked .exists) (past-op e) in let q = terms-good s .few-tables in omega arith);
     long = (let n : 2049 ≤ length past = s .ready .long-past in omega arith);
     members = N;
+    fit = ap (columnsFit N) (plan-is e .1) ∙ entry-good s .columns-fit (past-op e);
+    wanted = s .asked .wanted;
     all-is = s .all-is;
     vars = s .asked .vars;
   }
 
   pub decide-past : {t : List ℕ} → isPast o ≡ true → Rows want (remembered past g x (getD plan i 0) all) t → Sure t
   decide-past e h = sure h (λ m v w.
-      ap (λ (z : Bool). z && tableBit past (getD plan i 0 / 16) m (opened g x v (getD plan i 0 % 16))) (s .all-is v)
+      ap (λ (z : Bool). z && recalled (tableBit past) (planTable (getD plan i 0)) (planColumns (getD plan i 0)) (opened g x v) m) (s .all-is v)
       ∙ ap (λ (z : Bool). ltb v N && z)
-      (ap₂ (λ (j k : ℕ). tableBit past j m (opened g x v k)) (plan-is e .0) (plan-is e .1)
+      (ap₂ (λ (j : ℕ) (cs : List ℕ). recalled (tableBit past) j cs (opened g x v) m) (plan-is e .0) (plan-is e .1)
       ∙ sym (now-past T rel past (opened g x v) i m (entry-good s) (past-op e))))
 
   -- what the loop of bind has in row m

@@ -8,16 +8,15 @@ use lib.Dec.{ltb}
 use lib.ListN.{length, getD, take, drop, set, replicate, length-append, length-set, length-replicate, getD-replicate, take-append-drop, drop-of-length-le, List·getD-append}
 use lib.Seq.{length-take-le, take-at, drop-at, drop-drop, take-add, drop-append-add, getD-append-add, getD-take, getD-set-same, getD-set-other}
 use borrow.Rule.Slice.PartMut.{putMid}
-use Rattle.sets.specs.Sets.{pack}
-use Rattle.sets.proofs.Pack.{pack-none}
 use Rattle.theory.specs.Terms.{Terms, tables}
 use Rattle.theory.specs.Moment.{first}
 use Rattle.theory.specs.Tables.{State}
 use Rattle.theory.specs.Limits.{scratchWords}
 use Rattle.theory.proofs.Good.{Good}
-use Rattle.memory.specs.Layout.{stateWords, relationWords, ownWords, blockWords, joined, relationAt, tableAt, termsOf, stateOf, wordsOf}
+use Rattle.memory.specs.Layout.{stateWords, relationWords, ownWords, blockWords, joined, relationAt, tableAt, tableRow, tableColumns, termsOf, stateOf, wordsOf}
 use Rattle.memory.specs.Checks.{goodRelations, goodState}
 use Rattle.memory.proofs.Front.{state-front, good-front}
+use Rattle.memory.proofs.Row.{table-row-none}
 use Rattle.memory.proofs.Words.{words-by, relation-words}
 use Rattle.deciding.specs.Rows.{tableWords}
 use Rattle.deciding.specs.Moving.{HasState, Becomes, put}
@@ -49,10 +48,10 @@ module _ (r o : List ℕ) (long : length r ≡ relationWords) where
 
 -- ---- memory that has exactly the words of a state
 
-pub becomes-words : {terms m m' : List ℕ} {f : Terms → State → State} → length m ≡ stateWords → goodState (termsOf terms) m ≡ true → Becomes terms f m m' →
+pub becomes-words : {terms m m' : List ℕ} {f : Terms → State → State} → Good (termsOf terms) → length m ≡ stateWords → goodState (termsOf terms) m ≡ true → Becomes terms f m m' →
     m' ≡ wordsOf (termsOf terms) (f (termsOf terms) (stateOf m))
-becomes-words {terms} {m} {m'} {f} long g b =
-    b .each (stateOf m) (drop stateWords m) (held (termsOf terms) m (omega (arith, long)) g) .words
+becomes-words {terms} {m} {m'} {f} fine long g b =
+    b .each (stateOf m) (drop stateWords m) (held (termsOf terms) (fine .few-members) m (omega (arith, long)) g) .words
     ∙ ap (λ (z : List ℕ). wordsOf (termsOf terms) (f (termsOf terms) (stateOf m)) ++ z) (drop-of-length-le m {i = stateWords} (omega (arith, long)))
     ∙ append-nil (wordsOf (termsOf terms) (f (termsOf terms) (stateOf m)))
 
@@ -134,7 +133,7 @@ cleared-apart T relations {zs} long g z = record {
   words = words-by T S m (omega (arith, size))
       (λ k a kl al. front-at r zs lr (relationAt k a) (omega arith) ∙ getD-take relationWords relations (relationAt k a) 0 (omega arith) ∙ relation-words T relations g k a kl al)
       (λ t a tl al. (let i : relationWords + (blockWords * t + a) ≡ tableAt t a = omega arith in subst (λ (n : ℕ). getD m n 0 ≡ 0) i (blank (blockWords * t + a) (omega arith)))
-      ∙ sym (none (ltb t (tables T)) (ltb a (T .members))))
+      ∙ sym (none (ltb t (tables T)) t a))
       (blank tableWords (omega arith))
       ∙ ap (λ (l : List ℕ). wordsOf T S ++ l) (drop-of-length-le m {i = stateWords} (omega (arith, size)));
   event = refl;
@@ -158,10 +157,9 @@ cleared-apart T relations {zs} long g z = record {
     blank : (i : ℕ) → i < ownWords → getD m (relationWords + i) 0 ≡ 0
     blank i l = behind-at r zs lr i ∙ ap (λ (l : List ℕ). getD l i 0) z ∙ getD-replicate ownWords i 0 0 l
 
-    none : (c d : Bool) → cond c (cond d (pack (T .members) (λ b. false)) 0) 0 ≡ 0
-    none true true = pack-none (T .members)
-    none true false = refl
-    none false d = refl
+    none : (c : Bool) (t a : ℕ) → cond c (tableRow (T .members) (tableColumns T t) (λ a b. false) a) 0 ≡ 0
+    none true t a = table-row-none (T .members) (tableColumns T t) a
+    none false t a = refl
 
 -- the words of moment 0, before further words that stayed
 pub opened-apart : (r own zs o : List ℕ) {w : List ℕ} → length zs ≡ ownWords → length o ≡ ownWords → r ++ o ≡ w →

@@ -1,9 +1,9 @@
 -- The variables that an entry reads, as sets of bits; the slots of a memo made ready one after the other.
-use Prim.Native.Nat.{ℕ, zero, suc, _+_, _*_, _%_, _<_, _≤_}
+use Prim.Native.Nat.{ℕ, zero, suc, _+_, _*_, _<_, _≤_}
 use native.Mathlib.Omega.{arith}
 use mathlib.Core.Path.{_≡_, refl, sym, ap, _∙_, subst}
-use mathlib.Core.Bool.{Bool, true, false, cond, not, _&&_, _||_, false≢true, true≢false}
-use mathlib.Core.List.{List}
+use mathlib.Core.Bool.{Bool, true, false, cond, not, _&&_, _||_, or-false, false≢true, true≢false}
+use mathlib.Core.List.{List, [], _∷_}
 use mathlib.Core.Logic.{⊎-elim}
 use lib.Dec.{eqb, ltb}
 use lib.ListN.{length, getD, set, length-set}
@@ -12,11 +12,12 @@ use borrow.Author.Count.{below-more}
 use borrow.Author.Tests.{eq-eqb, ne-eqb, eqb-true, lt-ltb}
 use Rattle.sets.specs.Sets.{bit}
 use Rattle.sets.proofs.Finite.{and-left, and-right, and-both, or-left, or-right, or-cases, not-both}
-use Rattle.theory.specs.Formula.{Formula, node, firstOperand, secondOperand, thirdOperand, number, below, spelled, isPast, free, column}
+use Rattle.theory.specs.Formula.{Formula, node, firstOperand, secondOperand, thirdOperand, number, below, spelled, isPast, free, columns}
 use Rattle.theory.specs.Formula.Operand.{variable, entry}
 use Rattle.theory.specs.Formula.Formula.{top, var}
 use Rattle.theory.specs.Terms.{Terms, formula}
-use Rattle.deciding.specs.Memo.{reads, slotOf, haveOf, readsOf, Memo, Apart, Fresh}
+use Rattle.memory.specs.Plan.{planFirst, planLast, planColumns}
+use Rattle.deciding.specs.Memo.{isOne, reads, slotOf, haveOf, readsOf, Memo, Apart, Fresh}
 use Rattle.theory.proofs.Spelled.{below-spelled}
 use Rattle.memory.proofs.FreeSets.{Free}
 use Rattle.deciding.proofs.Remembering.{empty-slot}
@@ -24,31 +25,45 @@ use Rattle.deciding.proofs.Remembering.{empty-slot}
 -- r has every variable that an entry reads, where f, g and k have those of its operands
 abbrev pub Covered : (op a p f g k r : ℕ) → Type 0
 Covered op a p f g k r =
-    (t b c x : ℕ) (h : ℕ → Formula) → (firstOperand op ≡ variable → a < 64) → (isPast op ≡ true → p % 16 ≡ column (node t h op a b c)) →
+    (t b c x : ℕ) (h : ℕ → Formula) → (firstOperand op ≡ variable → a < 64) → (isPast op ≡ true → planColumns p ≡ columns (node t h op a b c)) →
     (firstOperand op ≡ entry → reads (h a) x ≡ true → bit f x ≡ true) → (secondOperand op ≡ entry → reads (h b) x ≡ true → bit g x ≡ true) →
     (thirdOperand op ≡ entry → reads (h c) x ≡ true → bit k x ≡ true) →
     reads (node t h op a b c) x ≡ true → bit r x ≡ true
 
--- a past-time entry reads its column
-at-six : (t a b c x : ℕ) (h : ℕ → Formula) → reads (node t h 6 a b c) x ≡ true → x ≡ column (node t h 6 a b c)
+-- a past-time entry reads its columns
+at-six : (t a b c x : ℕ) (h : ℕ → Formula) → reads (node t h 6 a b c) x ≡ true → isOne (columns (node t h 6 a b c)) x ≡ true
 unfolding node reads
-at-six t a b c x h q = eqb-true x (column (node t h 6 a b c)) q
+at-six t a b c x h q = q
 
-at-seven : (t a b c x : ℕ) (h : ℕ → Formula) → reads (node t h 7 a b c) x ≡ true → x ≡ column (node t h 7 a b c)
+at-seven : (t a b c x : ℕ) (h : ℕ → Formula) → reads (node t h 7 a b c) x ≡ true → isOne (columns (node t h 7 a b c)) x ≡ true
 unfolding node reads
-at-seven t a b c x h q = eqb-true x (column (node t h 7 a b c)) q
+at-seven t a b c x h q = q
 
-reads-past : (op t a b c x : ℕ) (h : ℕ → Formula) → isPast op ≡ true → reads (node t h op a b c) x ≡ true → x ≡ column (node t h op a b c)
+reads-past : (op t a b c x : ℕ) (h : ℕ → Formula) → isPast op ≡ true → reads (node t h op a b c) x ≡ true → isOne (columns (node t h op a b c)) x ≡ true
 reads-past op t a b c x h p =
     ⊎-elim
-    (λ e. subst (λ (k : ℕ). reads (node t h k a b c) x ≡ true → x ≡ column (node t h k a b c)) (sym (eqb-true op 6 e)) (at-six t a b c x h))
-    (λ e. subst (λ (k : ℕ). reads (node t h k a b c) x ≡ true → x ≡ column (node t h k a b c)) (sym (eqb-true op 7 e)) (at-seven t a b c x h))
+    (λ e. subst (λ (k : ℕ). reads (node t h k a b c) x ≡ true → isOne (columns (node t h k a b c)) x ≡ true) (sym (eqb-true op 6 e)) (at-six t a b c x h))
+    (λ e. subst (λ (k : ℕ). reads (node t h k a b c) x ≡ true → isOne (columns (node t h k a b c)) x ≡ true) (sym (eqb-true op 7 e)) (at-seven t a b c x h))
     (or-cases (eqb op 6) (eqb op 7) p)
 
-pub covered-past : (op a p f g k r : ℕ) → isPast op ≡ true → ((x : ℕ) → bit r x ≡ ltb x 64 && eqb x (p % 16)) → Covered op a p f g k r
-covered-past op a p f g k r past e t b c x h v col p' q' s' z =
-    let is : x ≡ p % 16 = reads-past op t a b c x h past z ∙ sym (col past) in
-    e x ∙ and-both (ltb x 64) (eqb x (p % 16)) (lt-ltb x 64 (omega arith)) (eq-eqb x (p % 16) is)
+one-of : (x y z : ℕ) (c : Bool) → isOne (cond c (z ∷ []) (y ∷ z ∷ [])) x ≡ true → (eqb x y || eqb x z) ≡ true
+unfolding isOne
+one-of x y z true e = or-right (eqb x y) (eqb x z) (sym (or-false (eqb x z)) ∙ e)
+one-of x y z false e = sym (ap (λ (b : Bool). eqb x y || b) (or-false (eqb x z))) ∙ e
+
+-- s has the first column alone, and r the last one too
+pub covered-past : (op a p f g k s r : ℕ) → isPast op ≡ true → ((x : ℕ) → bit s x ≡ ltb x 64 && eqb x (planFirst p)) →
+    ((x : ℕ) → bit r x ≡ bit s x || (ltb x 64 && eqb x (planLast p))) → Covered op a p f g k r
+covered-past op a p f g k s r past es e t b c x h v col p' q' s' z =
+    let is : (eqb x (planFirst p) || eqb x (planLast p)) ≡ true =
+    one-of x (planFirst p) (planLast p) (eqb (planFirst p) (planLast p)) (ap (λ (cs : List ℕ). isOne cs x) (col past) ∙ reads-past op t a b c x h past z) in
+    ⊎-elim
+    (λ q. e x ∙ or-left (bit s x) _ (es x ∙ and-both (ltb x 64) _ (lt-ltb x 64 (low x (planFirst p) (omega arith) q)) q))
+    (λ q. e x ∙ or-right (bit s x) _ (and-both (ltb x 64) _ (lt-ltb x 64 (low x (planLast p) (omega arith) q)) q))
+    (or-cases (eqb x (planFirst p)) (eqb x (planLast p)) is)
+  where
+    low : (x y : ℕ) → y < 16 → eqb x y ≡ true → x < 64
+    low x y l q = let w : x ≡ y = eqb-true x y q in omega arith
 
 -- any other reads what is free in it, where its operands read what is free in theirs
 reads-free : (op : ℕ) → isPast op ≡ false → (t a b b' c c' x : ℕ) (h h' : ℕ → Formula) → (firstOperand op ≡ entry → reads (h a) x ≡ true → free (h' a) x ≡ true)
@@ -145,7 +160,7 @@ module _ (T : Terms) (i : ℕ) {sets m m' : List ℕ} (r : ℕ) (few : T .entrie
 
 -- what entry i reads, from the sets of the entries below it
 pub covers-entry : (T : Terms) (i p f g k r : ℕ) {sets m : List ℕ} → Preparing T i sets m
-    → (firstOperand (T .entry i .op) ≡ variable → T .entry i .a < 64) → (isPast (T .entry i .op) ≡ true → p % 16 ≡ column (formula T i))
+    → (firstOperand (T .entry i .op) ≡ variable → T .entry i .a < 64) → (isPast (T .entry i .op) ≡ true → planColumns p ≡ columns (formula T i))
     → (firstOperand (T .entry i .op) ≡ entry → T .entry i .a < i) → (secondOperand (T .entry i .op) ≡ entry → T .entry i .b < i)
     → (thirdOperand (T .entry i .op) ≡ entry → T .entry i .c < i)
     → f ≡ getD sets (T .entry i .a) 0 → g ≡ getD sets (T .entry i .b) 0 → k ≡ getD sets (T .entry i .c) 0 → Covered (T .entry i .op) (T .entry i .a) p f g k r

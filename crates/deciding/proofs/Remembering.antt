@@ -3,8 +3,8 @@ use Prim.Native.Nat.{ℕ, suc, _+_, _*_, _<_, _≤_}
 use native.Mathlib.Omega.{arith}
 use mathlib.Core.Path.{_≡_, refl, sym, ap, ap₂, _∙_, subst}
 use mathlib.Core.Bool.{Bool, true, false, cond, not, _&&_, _||_, true≢false}
-use mathlib.Core.List.{List}
-use mathlib.Core.Logic.{⊎-elim}
+use mathlib.Core.List.{List, [], _∷_}
+use mathlib.Core.Logic.{⊎-elim, inl, inr}
 use lib.Bits.{bitOr}
 use lib.Dec.{eqb, ltb, leb}
 use lib.ListN.{length, getD}
@@ -12,16 +12,26 @@ use borrow.Author.Tests.{eq-eqb, eqb-true, eqb-false, ltb-true, ltb-false}
 use Rattle.sets.specs.Sets.{bit}
 use Rattle.sets.proofs.Finite.{any-cong, count-cong, and-left, and-right, and-both, or-left, or-right, or-cases, true-or-false, not-both, is-false}
 use Rattle.sets.proofs.Bits.{bit-or, bit-zero}
-use Rattle.theory.specs.Formula.{Formula, column}
+use Rattle.theory.specs.Formula.{Formula, columns}
 use Rattle.theory.specs.Formula.Formula.{top, var, neg, or, out, into, prev, since, bind, at, reach, many}
 use Rattle.theory.specs.Meaning.{Graph, Assignment, assign, alone}
 use Rattle.theory.specs.Terms.{Terms, formula}
-use Rattle.theory.specs.Tables.{Tables, holdsNow}
+use Rattle.theory.specs.Tables.{Tables, recalled, holdsNow}
+use Rattle.theory.proofs.Places.{In, place-cong}
 use Rattle.deciding.specs.Rows.{opened, nowAt, cell, Rows, Vars}
-use Rattle.deciding.specs.Memo.{reads, slotOf, haveOf, readsOf, value, Under, Slot, Memo, Above, Grown, Apart, Fresh, Missing, Stored}
+use Rattle.deciding.specs.Memo.{isOne, reads, slotOf, haveOf, readsOf, value, Under, Slot, Memo, Above, Grown, Apart, Fresh, Missing, Stored}
 
 -- ---- the variables that are read are all that counts
+pub one-in : (cs : List ℕ) (x : ℕ) → In x cs → isOne cs x ≡ true
+unfolding isOne
+one-in [] x i = absurd i
+one-in (y ∷ ys) x (inl e) = or-left (eqb x y) (isOne ys x) (eq-eqb x y e)
+one-in (y ∷ ys) x (inr i) = or-right (eqb x y) (isOne ys x) (one-in ys x i)
+
 module _ (N : ℕ) (G : Graph) (X : Tables) where
+  reads-recalled : (t : ℕ) (cs : List ℕ) (g g' : Assignment) (m : ℕ) → ((x : ℕ) → isOne cs x ≡ true → g x ≡ g' x) → recalled X t cs g m ≡ recalled X t cs g' m
+  reads-recalled t cs g g' m h = let p = place-cong cs g' g m (λ x i. h x (one-in cs x i)) in ap₂ (X t) (p .0) (p .1)
+
   now-reads : (f : Formula) (g g' : Assignment) (m : ℕ) → ((x : ℕ) → reads f x ≡ true → g x ≡ g' x) → holdsNow N G X f g m ≡ holdsNow N G X f g' m
   unfolding holdsNow reads
   now-reads top g g' m h = refl
@@ -31,8 +41,8 @@ module _ (N : ℕ) (G : Graph) (X : Tables) where
       ap₂ _||_ (now-reads f g g' m (λ x q. h x (or-left (reads f x) (reads k x) q))) (now-reads k g g' m (λ x q. h x (or-right (reads f x) (reads k x) q)))
   now-reads (out l f) g g' m h = any-cong N (λ k kl. ap (λ (b : Bool). G l m k && b) (now-reads f g g' k h))
   now-reads (into l f) g g' m h = any-cong N (λ k kl. ap (λ (b : Bool). G l k m && b) (now-reads f g g' k h))
-  now-reads (prev t f) g g' m h = ap (X t m) (h (column (prev t f)) (eq-eqb (column (prev t f)) (column (prev t f)) refl))
-  now-reads (since t f k) g g' m h = ap (X t m) (h (column (since t f k)) (eq-eqb (column (since t f k)) (column (since t f k)) refl))
+  now-reads (prev t f) g g' m h = reads-recalled t (columns (prev t f)) g g' m h
+  now-reads (since t f k) g g' m h = reads-recalled t (columns (since t f k)) g g' m h
   now-reads (bind y f) g g' m h = now-reads f (assign g y m) (assign g' y m) m (λ x q. go x q (eqb x y) refl)
     where
       go : (x : ℕ) → reads f x ≡ true → (c : Bool) → eqb x y ≡ c → cond c m (g x) ≡ cond c m (g' x)

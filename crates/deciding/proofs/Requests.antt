@@ -1,25 +1,27 @@
 -- What a request and the tables of past-time entries take from `decide`: every variable but the open one stands for member 0.
-use Prim.Native.Nat.{ℕ, _/_, _%_, _<_}
+use Prim.Native.Nat.{ℕ, _<_}
 use mathlib.Core.Path.{_≡_, refl, sym, ap, ap₂, _∙_, subst, fun-ext}
-use mathlib.Core.Bool.{Bool, true, false, cond, _&&_, _||_}
-use mathlib.Core.List.{List}
+use mathlib.Core.Bool.{Bool, true, false, cond, not, _&&_, _||_, and-assoc}
+use mathlib.Core.List.{List, [], _∷_}
 use native.Mathlib.Omega.{arith}
 use lib.Dec.{eqb, ltb}
 use lib.ListN.{length, getD, replicate}
 use borrow.Author.Tests.{lt-ltb, ltb-true, eqb-true, eq-eqb}
 use Rattle.sets.specs.Sets.{bit}
 use Rattle.sets.proofs.Finite.{and-under}
-use Rattle.theory.specs.Formula.{firstOperand, secondOperand, number, isPast, column}
+use Rattle.theory.specs.Formula.{firstOperand, secondOperand, number, isPast, columns}
 use Rattle.theory.specs.Formula.Operand.{entry}
-use Rattle.theory.specs.Meaning.{Assignment, assign, standing}
+use Rattle.theory.specs.Meaning.{Assignment, assign}
+use Rattle.theory.specs.Columns.{columnsFit, inside}
 use Rattle.theory.specs.Terms.{Terms, formula}
 use Rattle.memory.specs.Layout.{termsOf}
-use Rattle.deciding.specs.Rows.{tableBit, assigned, opened, nowAt, cell, Rows, Ready, Asked, Table, nextPrev, nextSince, Has, inRow, Added, kept}
+use Rattle.memory.specs.Plan.{planTable, planFirst, planLast, planColumns}
+use Rattle.deciding.specs.Rows.{tableBit, assigned, opened, nowAt, cell, Rows, Ready, Asked, Table, operandBits, nextPrev, nextSince, Has, inRow, Added, kept}
 use Rattle.theory.proofs.Spelled.{number-lt}
 use Rattle.theory.proofs.Good.{Good, first-lower, second-lower}
 use Rattle.memory.proofs.Accepted.{good}
 use Rattle.deciding.proofs.Loops.{zeros}
-use Rattle.deciding.proofs.Assignments.{vars-zeros, vars-assign, opened-zeros}
+use Rattle.deciding.proofs.Assignments.{vars-zeros, vars-assign, opened-zeros, one-columns, two-columns}
 
 -- every variable stands for member 0
 abbrev fresh : Assignment
@@ -73,11 +75,14 @@ module _ {terms plan rel past : List ℕ} {i o : ℕ} (ready : Ready terms plan 
   entry-past : isPast (T .entry i .op) ≡ true
   entry-past = ap isPast op ∙ past-op
 
-  plan-is : (getD plan i 0 / 16 ≡ number (T .entry) i) × (getD plan i 0 % 16 ≡ column (formula T i))
+  plan-is : (planTable (getD plan i 0) ≡ number (T .entry) i) × (planColumns (getD plan i 0) ≡ columns (formula T i))
   plan-is = ready .planned .table i l entry-past
 
-  pub table-small : (p : ℕ) → p ≡ getD plan i 0 → p / 16 < 32
-  table-small p e = subst (λ (y : ℕ). y < 32) (sym (ap (λ (y : ℕ). y / 16) e ∙ plan-is .0))
+  plan-columns : (p : ℕ) → p ≡ getD plan i 0 → columns (formula T i) ≡ planColumns p
+  plan-columns p e = sym (ap planColumns e ∙ plan-is .1)
+
+  pub table-small : (p : ℕ) → p ≡ getD plan i 0 → planTable p < 32
+  table-small p e = subst (λ (y : ℕ). y < 32) (sym (ap planTable e ∙ plan-is .0))
       (let j = number-lt (T .entry) i (T .entries) l entry-past in let k = terms-good .few-tables in omega arith)
 
   pub table-first : (k all : ℕ) → k ≡ T .entry i .a → firstOperand o ≡ entry → Has all (λ m. ltb m (T .members)) → Asked T fresh k all
@@ -90,15 +95,16 @@ module _ {terms plan rel past : List ℕ} {i o : ℕ} (ready : Ready terms plan 
       let low : T .entry i .b < i = second-lower (terms-good .entry i l) (ap secondOperand op ∙ q) in
       fresh-asked T k all terms-good (omega arith) (λ m t. ltb-true m (T .members) (sym (h m) ∙ t))
 
-  table-row : (p k k' all : ℕ) {r : List ℕ} → p ≡ getD plan i 0 → k ≡ k' → Has all (λ m. ltb m (T .members))
-      → Rows all (cell T rel past fresh (p % 16) k) r
-      → (a b : ℕ) → ltb a (T .members) ≡ true → inRow r a b ≡ (ltb b (T .members) && nowAt T rel past (standing (formula T i) b) k' a)
-  unfolding cell
-  table-row p k k' all e q h d a b w =
+  -- with one column
+  table-row : (p k k' all : ℕ) {r : List ℕ} → p ≡ getD plan i 0 → not (eqb (planFirst p) (planLast p)) ≡ false → k ≡ k' → Has all (λ m. ltb m (T .members))
+      → Rows all (cell T rel past fresh (planLast p) k) r
+      → (a b : ℕ) → ltb a (T .members) ≡ true → inRow r a b ≡ (ltb b (T .members) && operandBits T rel past (columns (formula T i)) k' a b)
+  unfolding cell operandBits
+  table-row p k k' all e one q h d a b w =
       d .bits a b (h a ∙ w)
-      ∙ ap (λ (g : Assignment). ltb b (T .members) && nowAt T rel past g k a)
-      (opened-zeros (p % 16) b (omega arith) ∙ ap (λ (y : ℕ). assign (λ z. 0) y b) (ap (λ (y : ℕ). y % 16) e ∙ plan-is .1))
-      ∙ ap (λ (j : ℕ). ltb b (T .members) && nowAt T rel past (standing (formula T i) b) j a) q
+      ∙ ap (λ (g : Assignment). ltb b (T .members) && nowAt T rel past g k a) (opened-zeros (planLast p) b (omega arith))
+      ∙ ap (λ (j : ℕ). ltb b (T .members) && nowAt T rel past (assign (λ z. 0) (planLast p) b) j a) q
+      ∙ sym (ap (λ (cs : List ℕ). ltb b (T .members) && operandBits T rel past cs k' a b) (plan-columns p e ∙ one-columns p one))
 
   -- the rows from n on are cleared
   abbrev Cut : ℕ → List ℕ → List ℕ → Type 0
@@ -108,31 +114,81 @@ module _ {terms plan rel past : List ℕ} {i o : ℕ} (ready : Ready terms plan 
       → inRow s a b ≡ (ltb a (T .members) && y)
   cut-row n r s a b y e c h = c a b ∙ ap (λ (m : ℕ). ltb a m && inRow r a b) e ∙ and-under (ltb a (T .members)) (inRow r a b) y h
 
-  pub prev-table : (p k all n : ℕ) {r s : List ℕ} → p ≡ getD plan i 0 → k ≡ T .entry i .a → Has all (λ m. ltb m (T .members))
-      → Rows all (cell T rel past fresh (p % 16) k) r → length s ≡ length r → n ≡ T .members → Cut n r s → Table (T .members) (nextPrev T rel past i) s
+  -- a word and a bit are those of members
+  one-inside : (p a b : ℕ) (y : Bool) → p ≡ getD plan i 0 → not (eqb (planFirst p) (planLast p)) ≡ false →
+      (ltb a (T .members) && (ltb b (T .members) && y)) ≡ (inside (T .members) (columns (formula T i)) a b && y)
+  one-inside p a b y e one =
+      sym (and-assoc (ltb a (T .members)) (ltb b (T .members)) y)
+      ∙ sym (ap (λ (cs : List ℕ). inside (T .members) cs a b && y) (plan-columns p e ∙ one-columns p one))
+
+  pub prev-table : (p k all n : ℕ) {r s : List ℕ} → p ≡ getD plan i 0 → not (eqb (planFirst p) (planLast p)) ≡ false → k ≡ T .entry i .a
+      → Has all (λ m. ltb m (T .members)) → Rows all (cell T rel past fresh (planLast p) k) r → length s ≡ length r → n ≡ T .members → Cut n r s
+      → Table (T .members) (columns (formula T i)) (nextPrev T rel past i) s
   unfolding nextPrev
-  prev-table p k all n {r} {s} e q h d l en c = record {
+  prev-table p k all n {r} {s} e one q h d l en c = record {
     long = l ∙ d .long;
-    bits = λ a b. cut-row n r s a b _ en c (table-row p k (T .entry i .a) all e q h d a b);
+    bits = λ a b. cut-row n r s a b _ en c (table-row p k (T .entry i .a) all e one q h d a b) ∙ one-inside p a b _ e one;
   }
 
   since-bool : (t u v w : Bool) → ((t && u) || ((t && v) && w)) ≡ (t && (u || (v && w)))
   since-bool true u v w = refl
   since-bool false u v w = refl
 
-  pub since-table : (p k j all n : ℕ) (r' : List ℕ) {r q s : List ℕ} → p ≡ getD plan i 0 → k ≡ T .entry i .b → j ≡ T .entry i .a
-      → Has all (λ m. ltb m (T .members))
-      → Rows all (cell T rel past fresh (p % 16) k) r → Rows all (cell T rel past fresh (p % 16) j) q
-      → length r' ≡ length r → Added r (kept q past (p / 16)) r' → length s ≡ length r' → n ≡ T .members → Cut n r' s
-      → Table (T .members) (nextSince T rel past i) s
+  pub since-table : (p k j all n : ℕ) (r' : List ℕ) {r q s : List ℕ} → p ≡ getD plan i 0 → not (eqb (planFirst p) (planLast p)) ≡ false
+      → k ≡ T .entry i .b → j ≡ T .entry i .a → Has all (λ m. ltb m (T .members))
+      → Rows all (cell T rel past fresh (planLast p) k) r → Rows all (cell T rel past fresh (planLast p) j) q
+      → length r' ≡ length r → Added r (kept q past (planTable p)) r' → length s ≡ length r' → n ≡ T .members → Cut n r' s
+      → Table (T .members) (columns (formula T i)) (nextSince T rel past i) s
   unfolding nextSince
-  since-table p k j all n r' {r} {q} {s} e eb ea h dr dq l w l' en c = record {
+  since-table p k j all n r' {r} {q} {s} e one eb ea h dr dq l w l' en c = record {
     long = l' ∙ l ∙ dr .long;
     bits = λ a b. cut-row n r' s a b _ en c (λ t.
         w a b
-        ∙ ap₂ _||_ (table-row p k (T .entry i .b) all e eb h dr a b t)
-        (ap₂ (λ (u : Bool) (m : ℕ). u && tableBit past m a b) (table-row p j (T .entry i .a) all e ea h dq a b t)
-        (ap (λ (y : ℕ). y / 16) e ∙ plan-is .0))
-        ∙ since-bool (ltb b (T .members)) (nowAt T rel past (standing (formula T i) b) (T .entry i .b) a)
-        (nowAt T rel past (standing (formula T i) b) (T .entry i .a) a) (tableBit past (number (T .entry) i) a b));
+        ∙ ap₂ _||_ (table-row p k (T .entry i .b) all e one eb h dr a b t)
+        (ap₂ (λ (u : Bool) (m : ℕ). u && tableBit past m a b) (table-row p j (T .entry i .a) all e one ea h dq a b t)
+        (ap planTable e ∙ plan-is .0))
+        ∙ since-bool (ltb b (T .members)) (operandBits T rel past (columns (formula T i)) (T .entry i .b) a b)
+        (operandBits T rel past (columns (formula T i)) (T .entry i .a) a b) (tableBit past (number (T .entry) i) a b))
+        ∙ one-inside p a b _ e one;
   }
+
+  -- with two columns
+  module _ (p : ℕ) (e : p ≡ getD plan i 0) (two : not (eqb (planFirst p) (planLast p)) ≡ true) where
+    abbrev pair : List ℕ
+    pair = planFirst p ∷ planLast p ∷ []
+
+    pair-is : columns (formula T i) ≡ pair
+    pair-is = plan-columns p e ∙ two-columns p two
+
+    pub pair-few : T .members < 17
+    pair-few =
+        ltb-true (T .members) 17
+        (sym (ap (columnsFit (T .members)) pair-is) ∙ terms-good .entry i l .columns-fit entry-past)
+
+    -- the table of an operand
+    pair-table : (k k' : ℕ) {s : List ℕ} → k ≡ k' → Table (T .members) pair (operandBits T rel past pair k) s
+        → Table (T .members) (columns (formula T i)) (operandBits T rel past (columns (formula T i)) k') s
+    pair-table k k' {s} q h = record {
+      long = h .long;
+      bits = λ a b. h .bits a b
+          ∙ ap (λ (j : ℕ). inside (T .members) pair a b && operandBits T rel past pair j a b) q
+          ∙ sym (ap (λ (cs : List ℕ). inside (T .members) cs a b && operandBits T rel past cs k' a b) pair-is);
+    }
+
+    pub prev-pair : (k : ℕ) {s : List ℕ} → k ≡ T .entry i .a → Table (T .members) pair (operandBits T rel past pair k) s
+        → Table (T .members) (columns (formula T i)) (nextPrev T rel past i) s
+    unfolding nextPrev
+    prev-pair k q h = pair-table k (T .entry i .a) q h
+
+    pub since-pair : (k j : ℕ) {r q s : List ℕ} → k ≡ T .entry i .b → j ≡ T .entry i .a → Table (T .members) pair (operandBits T rel past pair k) r
+        → Table (T .members) pair (operandBits T rel past pair j) q → length s ≡ length r → Added r (kept q past (planTable p)) s
+        → Table (T .members) (columns (formula T i)) (nextSince T rel past i) s
+    unfolding nextSince
+    since-pair k j {r} {q} {s} eb ea hr hq long w = record {
+      long = long ∙ hr .long;
+      bits = λ a b. w a b
+          ∙ ap₂ _||_ (pair-table k (T .entry i .b) eb hr .bits a b)
+          (ap₂ (λ (u : Bool) (m : ℕ). u && tableBit past m a b) (pair-table j (T .entry i .a) ea hq .bits a b) (ap planTable e ∙ plan-is .0))
+          ∙ since-bool (inside (T .members) (columns (formula T i)) a b) (operandBits T rel past (columns (formula T i)) (T .entry i .b) a b)
+          (operandBits T rel past (columns (formula T i)) (T .entry i .a) a b) (tableBit past (number (T .entry) i) a b);
+    }

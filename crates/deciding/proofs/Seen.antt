@@ -10,21 +10,24 @@ use lib.Seq.{getD-take, getD-drop, length-take-le}
 use borrow.Author.Tests.{eq-eqb, ne-eqb, eqb-true, lt-ltb, le-ltb, ltb-true}
 use Rattle.sets.specs.Sets.{bit}
 use Rattle.sets.proofs.Finite.{bool-iff, and-left, and-right}
-use Rattle.theory.specs.Formula.{Formula, number, below}
-use Rattle.theory.specs.Meaning.{Assignment, standing}
+use Rattle.theory.specs.Formula.{number, below, columns, isPast}
+use Rattle.theory.specs.Meaning.{Assignment}
+use Rattle.theory.specs.Columns.{inside, standing, member}
 use Rattle.theory.specs.Terms.{Terms, formula}
 use Rattle.theory.specs.Moment.{Event, graph, eventEdge}
 use Rattle.theory.specs.Moment.Event.{none, happened, tried}
-use Rattle.memory.specs.Layout.{termsWords, stateWords, termsOf, relationAt, tableAt, eventAt, eventWord, row, wordsOf}
+use Rattle.memory.specs.Layout.{termsWords, stateWords, termsOf, relationAt, tableAt, eventAt, eventWord, row, tableColumns, tableRow, wordsOf}
 use Rattle.theory.specs.Terms.{tables}
 use Rattle.memory.specs.Checks.{goodMemory}
 use Rattle.theory.specs.Tables.{named, State, holdsNow, prevBits, sinceBits}
-use Rattle.deciding.specs.Rows.{labelled, fired, edge, tableBit, pastEvent, nowAt, nextPrev, nextSince, Ready}
+use Rattle.deciding.specs.Rows.{labelled, fired, edge, tableBit, pastEvent, nowAt, operandBits, nextPrev, nextSince, Ready}
 use Rattle.memory.specs.Plan.{Planned}
 use Rattle.deciding.specs.Moving.{known, HasState}
-use Rattle.theory.proofs.Spelled.{tableOf, number-lt, table-spelled, visible-spelled, below-spelled}
+use Rattle.theory.proofs.Spelled.{number-lt, table-spelled, visible-spelled, below-spelled}
 use Rattle.theory.proofs.Good.{Good, first-lower, second-lower}
-use Rattle.theory.proofs.Now.{Among, among-standing, Same, now-cong}
+use Rattle.theory.proofs.Places.{Among, inside-among, inside-member, inside-word}
+use Rattle.theory.proofs.Past.{past-is}
+use Rattle.theory.proofs.Now.{Same, SameAt, SameTable, now-cong}
 use Rattle.memory.proofs.Words.{length-words, word-relation, word-of-table, word-event, word-edge, word-table}
 
 -- What `&state[0..1024]` and `&state[1024..3073]` lend.
@@ -45,7 +48,7 @@ module _ {T : Terms} {S : State} {rest m : List ℕ} (has : HasState T S rest m)
       getD m (relationAt k a) 0 ≡ cond (ltb k (T .relations)) (row (T .members) (S .now .edge k) a) 0
   has-relation k a kl al = has-word (relationAt k a) (omega arith) ∙ word-relation T S k a kl al
 
-  pub has-table : (t a : ℕ) → t < 32 → a < 64 → getD m (tableAt t a) 0 ≡ cond (ltb t (tables T)) (row (T .members) (S .table t) a) 0
+  pub has-table : (t a : ℕ) → t < 32 → a < 64 → getD m (tableAt t a) 0 ≡ cond (ltb t (tables T)) (tableRow (T .members) (tableColumns T t) (S .table t) a) 0
   has-table t a tl al = has-word (tableAt t a) (omega arith) ∙ word-of-table T S t a tl al
 
   pub has-event : getD m eventAt 0 ≡ eventWord (S .now .event)
@@ -122,13 +125,17 @@ module _ (T : Terms) (fine : Good T) where
             ∙ rw (e, lt-ltb a (T .members) al, lt-ltb b (T .members) bl)
         go false e = rw (part-event has) (fired-edge (S .now .event) (has .event) (l - T .relations) a b)
 
-    seen-table : (t : ℕ) → t < tables T → Same (T .members) (tableBit (pastOf m) t) (S .table t)
+    seen-table : (n : ℕ) → n < T .entries → isPast (T .entry n .op) ≡ true →
+        SameAt (T .members) (columns (formula T n)) (tableBit (pastOf m) (number (T .entry) n)) (S .table (number (T .entry) n))
     unfolding tableBit
-    seen-table t tl a b al bl =
-        let t32 : t < 32 = omega (arith, fine .few-tables) in
-        let a64 : a < 64 = omega (arith, fine .few-members) in
-        ap (λ w. bit w b) (part-table has t a t32 a64) ∙ word-table T S t a b t32 a64
-        ∙ rw (lt-ltb t (tables T) tl, lt-ltb a (T .members) al, lt-ltb b (T .members) bl)
+    seen-table n nl p a b i =
+        let t : ℕ = number (T .entry) n in
+        let tl : t < tables T = number-lt (T .entry) n (T .entries) nl p in
+        let t32 : t < 32 = omega (arith, tl, fine .few-tables) in
+        let a64 : a < 64 = inside-word (T .members) (fine .few-members) (columns (formula T n)) a b (fine .entry n nl .columns-fit p) i in
+        ap (λ w. bit w b) (part-table has t a t32 a64) ∙ word-table T S (fine .few-members) t a b t32 a64
+        ∙ ap (λ c. c && (inside (T .members) (tableColumns T t) a b && S .table t a b)) (lt-ltb t (tables T) tl)
+        ∙ ap (λ c. c && S .table t a b) (ap (λ k. inside (T .members) (columns (formula T k)) a b) (past-is T n nl p) ∙ i)
 
     -- an entry holds now by the words where it holds by the state
     pub seen : (g : Assignment) (n a : ℕ) → n < T .entries → Among (T .members) g → a < T .members →
@@ -137,30 +144,35 @@ module _ (T : Terms) (fine : Good T) where
     seen g n a nl w al =
         now-cong (T .members) (edge (T .relations) (relationsOf m) (pastEvent T (pastOf m))) (graph T (S .now)) (tableBit (pastOf m)) (S .table)
         seen-edge (formula T n) g a w al
-        (visible-spelled (T .entry) (λ (φ : Formula). Same (T .members) (tableBit (pastOf m) (tableOf φ)) (S .table (tableOf φ))) n
-        (λ k kl p. rw (table-spelled (T .entry) k p) (seen-table (number (T .entry) k) (number-lt (T .entry) k (T .entries) (omega arith) p))))
+        (visible-spelled (T .entry) (SameTable (T .members) (tableBit (pastOf m)) (S .table)) n
+        (λ k kl p. record {
+          fit = fine .entry k (omega arith) .columns-fit p;
+          bits = rw (table-spelled (T .entry) k p) (seen-table k (omega arith) p);
+        }))
 
     -- the next bits of a prev and of a since
     module _ (n : ℕ) (nl : n < T .entries) where
-      operand : (k : ℕ) → k < n → Same (T .members)
-          (λ a b. nowAt T (relationsOf m) (pastOf m) (standing (formula T n) b) k a)
-          (λ a b. holdsNow (T .members) (graph T (S .now)) (S .table) (below (T .entry) n k) (standing (formula T n) b) a)
-      operand k kl a b al bl =
-          seen (standing (formula T n) b) k a (omega arith) (among-standing (T .members) (formula T n) b bl) al
+      operand : (k : ℕ) → k < n → SameAt (T .members) (columns (formula T n))
+          (operandBits T (relationsOf m) (pastOf m) (columns (formula T n)) k)
+          (λ a b. holdsNow (T .members) (graph T (S .now)) (S .table) (below (T .entry) n k) (standing (formula T n) a b) (member (formula T n) a))
+      unfolding operandBits
+      operand k kl a b i =
+          seen (standing (formula T n) a b) k (member (formula T n) a) (omega arith) (inside-among (T .members) (columns (formula T n)) a b i)
+          (inside-member (T .members) (columns (formula T n)) a b i)
           ∙ rw (below-spelled (T .entry) n k kl)
 
       pub seen-prev : T .entry n .op ≡ 6 →
-          Same (T .members) (nextPrev T (relationsOf m) (pastOf m) n) (prevBits T (graph T (S .now)) n (S .table))
+          SameAt (T .members) (columns (formula T n)) (nextPrev T (relationsOf m) (pastOf m) n) (prevBits T (graph T (S .now)) n (S .table))
       unfolding nextPrev
       seen-prev e = operand (T .entry n .a) (first-lower (fine .entry n nl) (rw e))
 
       pub seen-since : T .entry n .op ≡ 7 →
-          Same (T .members) (nextSince T (relationsOf m) (pastOf m) n) (sinceBits T (graph T (S .now)) n (S .table))
+          SameAt (T .members) (columns (formula T n)) (nextSince T (relationsOf m) (pastOf m) n) (sinceBits T (graph T (S .now)) n (S .table))
       unfolding nextSince
-      seen-since e a b al bl =
-          ap₂ _||_ (operand (T .entry n .b) (second-lower (fine .entry n nl) (rw e)) a b al bl)
-          (ap₂ _&&_ (operand (T .entry n .a) (first-lower (fine .entry n nl) (rw e)) a b al bl)
-          (seen-table (number (T .entry) n) (number-lt (T .entry) n (T .entries) nl (rw e)) a b al bl))
+      seen-since e a b i =
+          ap₂ _||_ (operand (T .entry n .b) (second-lower (fine .entry n nl) (rw e)) a b i)
+          (ap₂ _&&_ (operand (T .entry n .a) (first-lower (fine .entry n nl) (rw e)) a b i)
+          (seen-table n nl (rw e) a b i))
 
 -- memory that has a state is ready to be decided from
 module _ (terms plan : List ℕ) (fine : Good (termsOf terms)) {S : State} {rest m : List ℕ} (has : HasState (termsOf terms) S rest m) where
@@ -178,10 +190,10 @@ module _ (terms plan : List ℕ) (fine : Good (termsOf terms)) {S : State} {rest
   event-ends (happened i u v) k j a b t = named-ends i u v k (eqb j i) a b t
   event-ends (tried i u v) k j a b t = named-ends i u v k (eqb j (T .events + i)) a b t
 
-  inside : (l a b : ℕ) → a < 64 →
+  edge-inside : (l a b : ℕ) → a < 64 →
       edge (T .relations) (relationsOf m) (pastEvent T (pastOf m)) l a b ≡ true → (a < T .members) × (b < T .members)
   unfolding edge
-  inside l a b al = go (ltb l (T .relations)) refl
+  edge-inside l a b al = go (ltb l (T .relations)) refl
     where
       go : (c : Bool) → ltb l (T .relations) ≡ c →
           cond c (bit (getD (relationsOf m) (64 * l + a) 0) b) (fired (pastEvent T (pastOf m)) (l - T .relations) a b) ≡ true →
@@ -201,5 +213,5 @@ module _ (terms plan : List ℕ) (fine : Good (termsOf terms)) {S : State} {rest
     planned = p;
     long-rel = rw (length-take-le 1024 m (omega (arith, has-long has))) (omega arith);
     long-past = rw (length-take-le 2049 (drop 1024 m) (rw (length-drop 1024 m) (omega (arith, has-long has)))) (omega arith);
-    inside = λ l a b _ al. inside l a b al;
+    inside = λ l a b _ al. edge-inside l a b al;
   }

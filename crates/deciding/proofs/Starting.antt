@@ -1,36 +1,41 @@
 -- New terms begin: relations and event word carried over, and each turn of the sweep that fills in the tables.
-use Prim.Native.Nat.{ℕ, _+_, _*_, _/_, _≤_, _<_}
+use Prim.Native.Nat.{ℕ, _+_, _*_, _≤_, _<_}
 use native.Mathlib.Omega.{arith}
 use native.Mathlib.Numerals.{add-one}
 use mathlib.Core.Path.{_≡_, refl, sym, ap, ap₂, subst, _∙_}
-use mathlib.Core.Bool.{Bool, true, false, cond, not, _&&_, _||_}
+use mathlib.Core.Bool.{Bool, true, false, cond, _&&_, _||_}
 use mathlib.Core.List.{List, [], _++_, append-nil}
 use lib.Dec.{eqb, ltb}
 use lib.ListN.{length, getD, take, drop, length-drop, drop-of-length-le, List·getD-eq-default}
 use lib.Seq.{getD-take, getD-drop, length-take-le}
 use borrow.Author.Tests.{eqb-true, lt-ltb, le-ltb, ltb-true, ltb-false}
-use Rattle.sets.specs.Sets.{bit, pack}
+use Rattle.sets.specs.Sets.{bit}
 use Rattle.sets.proofs.Bits.{bit-zero}
-use Rattle.sets.proofs.Pack.{pack-none}
-use Rattle.theory.specs.Formula.{number, isPast}
+use Rattle.sets.proofs.Finite.{is-false}
+use Rattle.theory.specs.Formula.{number, isPast, columns}
+use Rattle.theory.specs.Columns.{inside}
 use Rattle.theory.specs.Terms.{Terms, formula, tables, sameSize}
 use Rattle.theory.specs.Moment.{Event, graph}
 use Rattle.theory.specs.Moment.Event.{none as eventless, happened, tried}
 use Rattle.theory.specs.Tables.{Tables, State, store, operandNow, sinceBits, sinceStep, named, taken, startBits, startStep, startTables, revised}
-use Rattle.memory.specs.Layout.{stateWords, relationWords, relationAt, tableAt, eventAt, row, termsOf, stateOf, wordsOf}
+use Rattle.memory.specs.Layout.{stateWords, relationWords, relationAt, tableAt, eventAt, row, tableRow, tableColumns, termsOf, stateOf, wordsOf}
+use Rattle.memory.specs.Plan.{planTable}
 use Rattle.deciding.specs.Rows.{Table, tableWords}
 use Rattle.deciding.specs.Moving.{known, HasState, Movable, Becomes, put, tabled, sinceAt}
 use Rattle.deciding.specs.Memo.{MemoOf, Fresh}
 use Rattle.deciding.specs.Starting.{Revising, startBelow, Begun}
 use Rattle.theory.proofs.Spelled.{number-lt}
 use Rattle.theory.proofs.Good.{Good}
-use Rattle.theory.proofs.Renumbered.{past-same}
+use Rattle.theory.proofs.Renumbered.{columns-bare, past-same}
+use Rattle.theory.proofs.Past.{past-is}
+use Rattle.theory.proofs.Places.{inside-word}
+use Rattle.theory.proofs.Now.{SameAt}
 use Rattle.theory.proofs.Size.{same-members, same-relations, same-events}
 use Rattle.theory.proofs.Taken.{first-has}
 use Rattle.theory.proofs.Revised.{start-untouched, start-since}
 use Rattle.memory.proofs.Accepted.{good}
-use Rattle.memory.proofs.Row.{bit-row, row-cong}
-use Rattle.memory.proofs.Words.{words-by}
+use Rattle.memory.proofs.Row.{bit-table, table-row-cong, table-row-none}
+use Rattle.memory.proofs.Words.{columns-fitting, words-by}
 use Rattle.deciding.proofs.Seen.{has-long, has-relation, has-table, has-event}
 use Rattle.deciding.proofs.Stored.{table-stored, has-rest}
 use Rattle.deciding.proofs.Moves.{held}
@@ -50,7 +55,7 @@ module _ (T U : Terms) (z : sameSize T U ≡ true) where
 -- ---- memory that has a state has one with the same bits between members
 
 has-same : (U : Terms) → Good U → (M : State) {X : Tables} {rest m : List ℕ} (Y : Tables) → HasState U (tabled M X) rest m →
-    ((t a b : ℕ) → t < tables U → a < U .members → b < U .members → X t a b ≡ Y t a b) → HasState U (tabled M Y) rest m
+    ((t : ℕ) → t < tables U → SameAt (U .members) (tableColumns U t) (X t) (Y t)) → HasState U (tabled M Y) rest m
 has-same U fine M {X} {rest} {m} Y has e = record {
   words = words-by U (tabled M Y) m (has-long has) (has-relation has)
       (λ t a tl al. has-table has t a tl al ∙ go t a (ltb t (tables U)) refl) (has-event has)
@@ -58,8 +63,8 @@ has-same U fine M {X} {rest} {m} Y has e = record {
   event = has .event;
 }
   where
-    go : (t a : ℕ) (c : Bool) → ltb t (tables U) ≡ c → cond c (row (U .members) (X t) a) 0 ≡ cond c (row (U .members) (Y t) a) 0
-    go t a true z = row-cong (U .members) (X t) (Y t) (λ x y xl yl. e t x y (ltb-true t (tables U) z) xl yl) a
+    go : (t a : ℕ) (c : Bool) → ltb t (tables U) ≡ c → cond c (tableRow (U .members) (tableColumns U t) (X t) a) 0 ≡ cond c (tableRow (U .members) (tableColumns U t) (Y t) a) 0
+    go t a true z = table-row-cong (U .members) (fine .few-members) (tableColumns U t) (X t) (Y t) (e t (ltb-true t (tables U) z)) a
     go t a false z = refl
 
 module _ {old before state new plan : List ℕ} (r : Revising old before state new plan) where
@@ -79,7 +84,7 @@ module _ {old before state new plan : List ℕ} (r : Revising old before state n
   new-fine = good new (r .good-new)
 
   old-has : HasState T S (drop stateWords state) state
-  old-has = held T state (r .long-state) (r .good-state)
+  old-has = held T (old-fine .few-members) state (r .long-state) (r .good-state)
 
   -- relations and event word carried over, and empty tables
   pub begun-none : (m : List ℕ) → length m ≡ stateWords → ((i : ℕ) → i < relationWords → getD m i 0 ≡ getD state i 0) →
@@ -97,15 +102,14 @@ module _ {old before state new plan : List ℕ} (r : Revising old before state n
           ∙ has-relation old-has k a kl al
           ∙ ap₂ (λ (n N : ℕ). cond (ltb k n) (row N (S .now .edge k) a) 0) (same-relations T U (r .same)) (same-members T U (r .same))
 
-      table : (t a : ℕ) → t < 32 → a < 64 → getD m (tableAt t a) 0 ≡ cond (ltb t (tables U)) (row (U .members) (λ a b. false) a) 0
+      table : (t a : ℕ) → t < 32 → a < 64 → getD m (tableAt t a) 0 ≡ cond (ltb t (tables U)) (tableRow (U .members) (tableColumns U t) (λ a b. false) a) 0
       table t a tl al =
           let at : relationWords + (64 * t + a) ≡ tableAt t a = omega arith in
-          subst (λ (i : ℕ). getD m i 0 ≡ 0) at (none (64 * t + a) (omega arith)) ∙ sym (empty (ltb t (tables U)) (ltb a (U .members)))
+          subst (λ (i : ℕ). getD m i 0 ≡ 0) at (none (64 * t + a) (omega arith)) ∙ sym (empty (ltb t (tables U)))
         where
-          empty : (x y : Bool) → cond x (cond y (pack (U .members) (λ b. false)) 0) 0 ≡ 0
-          empty true true = pack-none (U .members)
-          empty true false = refl
-          empty false y = refl
+          empty : (x : Bool) → cond x (tableRow (U .members) (tableColumns U t) (λ a b. false) a) 0 ≡ 0
+          empty true = table-row-none (U .members) (tableColumns U t) a
+          empty false = refl
 
   -- all tables are filled in
   pub begun-all : (m : List ℕ) → Begun old state new (U .entries) [] m → m ≡ wordsOf U (revised T S U)
@@ -161,10 +165,10 @@ module _ {old before state new plan : List ℕ} (r : Revising old before state n
       new-table = number-lt (U .entry) n (U .entries) nl p
 
       abbrev oldPlace : ℕ
-      oldPlace = 1024 + 64 * (getD before k 0 / 16)
+      oldPlace = 1024 + 64 * planTable (getD before k 0)
 
       abbrev newPlace : ℕ
-      newPlace = 1024 + 64 * (getD plan n 0 / 16)
+      newPlace = 1024 + 64 * planTable (getD plan n 0)
 
       pub old-fits : oldPlace + 64 ≤ length state
       old-fits = rw (r .planned-old .table k kl old-past .0) (omega (arith, old-table, old-fine .few-tables, r .long-state))
@@ -172,33 +176,41 @@ module _ {old before state new plan : List ℕ} (r : Revising old before state n
       abbrev words : List ℕ
       words = take 64 (drop oldPlace state)
 
-      taken-table : Table (U .members) (S .table (number (T .entry) k)) words
+      -- both tables have the same columns
+      same-columns : tableColumns T (number (T .entry) k) ≡ tableColumns U t
+      same-columns =
+          ap (λ (j : ℕ). columns (formula T j)) (past-is T k kl old-past)
+          ∙ columns-bare (formula T k) (formula U n) (first-has T (formula U n) kl)
+          ∙ ap (λ (j : ℕ). columns (formula U j)) (sym (past-is U n nl p))
+
+      taken-table : Table (U .members) (tableColumns U t) (S .table (number (T .entry) k)) words
       taken-table = record {
         long = length-take-le 64 (drop oldPlace state) (rw (length-drop oldPlace state) (omega (arith, old-fits)));
         bits = λ a b. bits a b (ltb a 64) refl;
       }
         where
-          bits : (a b : ℕ) (c : Bool) → ltb a 64 ≡ c → bit (getD words a 0) b ≡ (ltb a (U .members) && (ltb b (U .members) && S .table (number (T .entry) k) a b))
+          bits : (a b : ℕ) (c : Bool) → ltb a 64 ≡ c → bit (getD words a 0) b ≡ (inside (U .members) (tableColumns U t) a b && S .table (number (T .entry) k) a b)
           bits a b true e =
               let al : a < 64 = ltb-true a 64 e in
               ap (λ (w : ℕ). bit w b) (getD-take 64 (drop oldPlace state) a 0 al ∙ getD-drop oldPlace state a 0
               ∙ ap (λ (x : ℕ). getD state (1024 + 64 * x + a) 0) (r .planned-old .table k kl old-past .0)
               ∙ has-table old-has (number (T .entry) k) a (omega (arith, old-table, old-fine .few-tables)) al
-              ∙ ap (λ (c : Bool). cond c (row (T .members) (S .table (number (T .entry) k)) a) 0) (lt-ltb (number (T .entry) k) (tables T) old-table))
-              ∙ bit-row (T .members) (S .table (number (T .entry) k)) a b
-              ∙ ap (λ (N : ℕ). ltb a N && (ltb b N && S .table (number (T .entry) k) a b)) (same-members T U (r .same))
+              ∙ ap (λ (c : Bool). cond c (tableRow (T .members) (tableColumns T (number (T .entry) k)) (S .table (number (T .entry) k)) a) 0) (lt-ltb (number (T .entry) k) (tables T) old-table))
+              ∙ bit-table (T .members) (old-fine .few-members) (tableColumns T (number (T .entry) k)) (S .table (number (T .entry) k)) a b
+              ∙ ap₂ (λ (N : ℕ) (cs : List ℕ). inside N cs a b && S .table (number (T .entry) k) a b) (same-members T U (r .same)) same-columns
           bits a b false e =
               let far : 64 ≤ a = ltb-false a 64 e in
               ap (λ (w : ℕ). bit w b) (List·getD-eq-default words 0 {n = a} (omega (arith, length-take-le 64 (drop oldPlace state) (rw (length-drop oldPlace state) (omega (arith, old-fits))))))
               ∙ bit-zero b
-              ∙ ap (λ (c : Bool). c && (ltb b (U .members) && S .table (number (T .entry) k) a b)) (sym (le-ltb a (U .members) (omega (arith, new-fine .few-members))))
+              ∙ ap (λ (c : Bool). c && S .table (number (T .entry) k) a b) (sym (is-false (inside (U .members) (tableColumns U t) a b)
+              (λ i. omega (arith, inside-word (U .members) (new-fine .few-members) (tableColumns U t) a b (columns-fitting U new-fine t new-table) i))))
 
       pub start-taken : {rest m m' : List ℕ} → Begun old state new n rest m → m' ≡ put newPlace words m → Begun old state new (n + 1) rest m'
       start-taken {rest} {m} {m'} has e =
           begin-with (subst (λ (c : Bool). HasState U (tabled S (cond c (store t (startBits T S U n X) X) X)) rest m') (sym p)
           (subst (HasState U (tabled S (store t (startBits T S U n X) X)) rest) placed
           (table-stored U new-fine has t new-table (S .table (number (T .entry) k)) (startBits T S U n X)
-          (λ a b _ _. sym (ap (λ (c : Bool). cond c (S .table (number (T .entry) k) a b) (eqb (U .entry n .op) 7 && operandNow U (graph U (S .now)) n (U .entry n .b) X a b)) (lt-ltb k (T .entries) kl)))
+          (λ a b _. sym (ap (λ (c : Bool). cond c (S .table (number (T .entry) k) a b) (eqb (U .entry n .op) 7 && operandNow U (graph U (S .now)) n (U .entry n .b) X a b)) (lt-ltb k (T .entries) kl)))
           words taken-table)))
         where
           placed : put (1024 + 64 * t) words m ≡ m'
@@ -225,8 +237,8 @@ module _ {old before state new plan : List ℕ} (r : Revising old before state n
             rw (qe, eqb-true s t qe) (own-empty a b ∙ sym (other a b ∙ ap (λ (z : Bool). z && operandNow U (graph U (S .now)) n (U .entry n .b) X a b) de))
         bits s a b true false ce de false qe = rw qe
 
-        same : (s a b : ℕ) → s < tables U → a < U .members → b < U .members → sinceStep U (graph U (S .now)) n X s a b ≡ startStep T S U n X s a b
-        same s a b _ _ _ = bits s a b (eqb (U .entry n .op) 6) (eqb (U .entry n .op) 7) refl refl (eqb s t) refl
+        same : (s : ℕ) → s < tables U → (a b : ℕ) → inside (U .members) (tableColumns U s) a b ≡ true → sinceStep U (graph U (S .now)) n X s a b ≡ startStep T S U n X s a b
+        same s _ a b _ = bits s a b (eqb (U .entry n .op) 6) (eqb (U .entry n .op) 7) refl refl (eqb s t) refl
 
     -- the memo after a turn
     pub start-memo : {rest m m' w : List ℕ} → Begun old state new n rest m → Begun old state new (n + 1) rest m' → MemoOf U m (U .entries) w → Fresh (U .entries) n w →

@@ -9,7 +9,7 @@ use lib.ListN.{length}
 use borrow.Author.Tests.{ltb-true, ltb-false, ne-eqb}
 use Rattle.sets.specs.Sets.{bit}
 use Rattle.sets.proofs.Finite.{and-under}
-use Rattle.theory.specs.Formula.{Formula, number}
+use Rattle.theory.specs.Formula.{number}
 use Rattle.theory.specs.Meaning.{Assignment}
 use Rattle.theory.specs.Terms.{Terms, formula}
 use Rattle.theory.specs.Moment.{graph}
@@ -18,9 +18,10 @@ use Rattle.theory.specs.Tables.{Tables, State, store}
 use Rattle.deciding.specs.Rows.{opened, nowAt, cell, Vars}
 use Rattle.deciding.specs.Moving.{HasState, tabled}
 use Rattle.deciding.specs.Memo.{slotOf, haveOf, Slot, Memo, MemoOf, Above, Grown, Fresh}
-use Rattle.theory.proofs.Spelled.{tableOf, number-lt, table-spelled, visible-spelled}
+use Rattle.theory.proofs.Spelled.{number-lt, table-spelled, visible-spelled}
 use Rattle.theory.proofs.Good.{Good}
-use Rattle.theory.proofs.Now.{Among, Same, now-cong}
+use Rattle.theory.proofs.Places.{Among}
+use Rattle.theory.proofs.Now.{SameTable, now-cong}
 use Rattle.deciding.proofs.Seen.{relationsOf, pastOf, seen}
 use Rattle.deciding.proofs.Remembering.{empty-slot}
 
@@ -53,8 +54,11 @@ module _ (T : Terms) (fine : Good T) {S : State} {rest m m' : List ℕ} (n : ℕ
       let w : Among (T .members) (opened g x b) = opened-among (T .members) g x b (fine .some-member) (ltb-true b (T .members) e) v in
       seen T fine has (opened g x b) k a (omega arith) w al
       ∙ now-cong (T .members) (graph T (S .now)) (graph T (S .now)) (S .table) X' (λ l i j _ _. refl) (formula T k) (opened g x b) a w al
-      (visible-spelled (T .entry) (λ (φ : Formula). Same (T .members) (S .table (tableOf φ)) (X' (tableOf φ))) k
-      (λ j jl p. rw (table-spelled (T .entry) j p) (λ i i' _ _. sym (other-table (number (T .entry) n) B (S .table) c (number (T .entry) j) (number-lt (T .entry) j n (omega arith) p) i i'))))
+      (visible-spelled (T .entry) (SameTable (T .members) (S .table) X') k
+      (λ j jl p. record {
+        fit = fine .entry j (omega arith) .columns-fit p;
+        bits = rw (table-spelled (T .entry) j p) (λ i i' _. sym (other-table (number (T .entry) n) B (S .table) c (number (T .entry) j) (number-lt (T .entry) j n (omega arith) p) i i'));
+      }))
       ∙ sym (seen T fine has' (opened g x b) k a (omega arith) w al))
 
   slot-step : (k : ℕ) → k < n → {s : List ℕ} → Slot T (relationsOf m) (pastOf m) k s → Slot T (relationsOf m') (pastOf m') k s

@@ -14,20 +14,19 @@ use borrow.Author.Tests.{eqb-true, eqb-false, eq-eqb, lt-ltb, ltb-true, ltb-fals
 use borrow.Rule.Slice.PartMut.{putMid, post-is}
 use Rattle.sets.specs.Sets.{bit, pack}
 use Rattle.sets.proofs.Bits.{bits-equal}
-use Rattle.sets.proofs.Pack.{pack-none}
 use Rattle.sets.proofs.Finite.{and-left, and-right, and-both, not-both}
 use Rattle.theory.specs.Terms.{Terms}
 use Rattle.theory.specs.Moment.{Event, first}
 use Rattle.theory.specs.Limits.{scratchWords}
-use Rattle.memory.specs.Layout.{stateWords, relationAt, tableAt, eventAt, eventWord, row, wordsOf, stateOf}
+use Rattle.memory.specs.Layout.{stateWords, relationAt, tableAt, eventAt, eventWord, row, tableColumns, tableRow, wordsOf, stateOf}
 use Rattle.theory.specs.Terms.{tables}
 use Rattle.memory.specs.Checks.{goodRelations}
 use Rattle.theory.specs.Tables.{State, store}
 use Rattle.deciding.specs.Rows.{Table}
 use Rattle.deciding.specs.Moving.{known, HasState, put, tabled, edged, evented}
 use Rattle.theory.proofs.Good.{Good}
-use Rattle.theory.proofs.Now.{Same}
-use Rattle.memory.proofs.Row.{bit-row, row-cong}
+use Rattle.theory.proofs.Now.{SameAt}
+use Rattle.memory.proofs.Row.{bit-row, bit-table, table-row-cong, table-row-none}
 use Rattle.memory.proofs.Words.{length-words, words-by, relation-words}
 use Rattle.deciding.proofs.Seen.{has-long, has-relation, has-table, has-event}
 
@@ -40,8 +39,8 @@ same-bits : (v w : ℕ) → ((b : ℕ) → bit v b ≡ bit w b) → v ≡ w
 same-bits v w h =
     bits-equal (v + w) v w (lt-of-lt-of-le (below-pow v) (pow-mono (omega arith))) (lt-of-lt-of-le (below-pow w) (pow-mono (omega arith))) (λ b _. h b)
 
-table-row : (N : ℕ) (p : ℕ → ℕ → Bool) (s : List ℕ) → Table N p s → (a : ℕ) → getD s a 0 ≡ row N p a
-table-row N p s h a = same-bits (getD s a 0) (row N p a) (λ b. h .bits a b ∙ sym (bit-row N p a b))
+table-row : (N : ℕ) → N < 65 → (cs : List ℕ) (p : ℕ → ℕ → Bool) (s : List ℕ) → Table N cs p s → (a : ℕ) → getD s a 0 ≡ tableRow N cs p a
+table-row N few cs p s h a = same-bits (getD s a 0) (tableRow N cs p a) (λ b. h .bits a b ∙ sym (bit-table N few cs p a b))
 
 -- one word more copied
 pub copied : (i : ℕ) (vs ws : List ℕ) → i < length vs → i < length ws → take i vs ≡ take i ws →
@@ -98,7 +97,7 @@ module _ (T : Terms) (fine : Good T) {S : State} {rest m : List ℕ} (has : HasS
   pub has-rest : drop stateWords m ≡ rest
   has-rest = ap (drop stateWords) (has .words) ∙ drop-at (wordsOf T S) rest stateWords (length-words T S)
 
-  module _ (t : ℕ) (tl : t < tables T) (p B : ℕ → ℕ → Bool) (same : Same (T .members) p B) (vs : List ℕ) (new : Table (T .members) p vs) where
+  module _ (t : ℕ) (tl : t < tables T) (p B : ℕ → ℕ → Bool) (same : SameAt (T .members) (tableColumns T t) p B) (vs : List ℕ) (new : Table (T .members) (tableColumns T t) p vs) where
     abbrev at : ℕ
     at = 1024 + 64 * t
 
@@ -112,14 +111,14 @@ module _ (T : Terms) (fine : Good T) {S : State} {rest m : List ℕ} (has : HasS
     kept i h = put-other at vs m fits i (λ lo hi. h lo (omega (arith, new .long)))
 
     table : (s a : ℕ) → s < 32 → a < 64 →
-        getD (put at vs m) (tableAt s a) 0 ≡ cond (ltb s (tables T)) (row (T .members) (store t B (S .table) s) a) 0
+        getD (put at vs m) (tableAt s a) 0 ≡ cond (ltb s (tables T)) (tableRow (T .members) (tableColumns T s) (store t B (S .table) s) a) 0
     table s a sl al = go (eqb s t) refl
       where
         go : (c : Bool) → eqb s t ≡ c →
-            getD (put at vs m) (tableAt s a) 0 ≡ cond (ltb s (tables T)) (row (T .members) (λ a b. cond c (B a b) (S .table s a b)) a) 0
+            getD (put at vs m) (tableAt s a) 0 ≡ cond (ltb s (tables T)) (tableRow (T .members) (tableColumns T s) (λ a b. cond c (B a b) (S .table s a b)) a) 0
         go true e =
             rw (eqb-true s t e, lt-ltb t (tables T) tl)
-            (put-in at vs m fits a (omega (arith, new .long)) ∙ table-row (T .members) p vs new a ∙ row-cong (T .members) p B same a)
+            (put-in at vs m fits a (omega (arith, new .long)) ∙ table-row (T .members) (fine .few-members) (tableColumns T t) p vs new a ∙ table-row-cong (T .members) (fine .few-members) (tableColumns T t) p B same a)
         go false e = kept (tableAt s a) (λ lo hi. omega (arith, eqb-false s t e)) ∙ has-table has s a sl al
 
     pub table-stored : HasState T (tabled S (store t B (S .table))) rest (put at vs m)
@@ -211,7 +210,7 @@ cleared T m ys long g q = record {
   words = put-back 1024 stateWords m ys zs (zeros 2049 (drop 1024 m) ys (simp length-drop (omega arith)) q) (omega (arith, size)) ∙ words-by T S (put 1024 zs m) (omega (arith, put-length 1024 zs m fits))
       (λ k a kl al. put-other 1024 zs m fits (relationAt k a) (λ lo hi. omega arith) ∙ relation-words T m g k a kl al)
       (λ t a tl al. (let i : 1024 + (64 * t + a) ≡ tableAt t a = omega arith in subst (λ n. getD (put 1024 zs m) n 0 ≡ 0) i (blank (64 * t + a) (omega arith)))
-      ∙ sym (none (ltb t (tables T)) (ltb a (T .members))))
+      ∙ sym (none (ltb t (tables T)) t a))
       (blank 2048 (omega arith))
       ∙ ap (λ r. wordsOf T S ++ r) (put-after 1024 zs m fits stateWords (omega (arith, size)));
   event = refl;
@@ -232,10 +231,9 @@ cleared T m ys long g q = record {
     blank : (i : ℕ) → i < 2049 → getD (put 1024 zs m) (1024 + i) 0 ≡ 0
     blank i l = put-in 1024 zs m fits i (omega (arith, size)) ∙ getD-replicate 2049 i 0 0 l
 
-    none : (c d : Bool) → cond c (cond d (pack (T .members) (λ b. false)) 0) 0 ≡ 0
-    none true true = pack-none (T .members)
-    none true false = refl
-    none false d = refl
+    none : (c : Bool) (t a : ℕ) → cond c (tableRow (T .members) (tableColumns T t) (λ a b. false) a) 0 ≡ 0
+    none true t a = table-row-none (T .members) (tableColumns T t) a
+    none false t a = refl
 
 pub cleared-front : (l ys zs : List ℕ) → scratchWords ≤ length l → length ys ≡ 64 → zs ≡ replicate (length (take scratchWords (putMid 0 64 l ys))) 0 →
     putMid 0 scratchWords (putMid 0 64 l ys) zs ≡ replicate scratchWords 0 ++ drop scratchWords l

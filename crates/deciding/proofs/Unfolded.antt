@@ -8,10 +8,10 @@ use lib.Dec.{eqb, leb}
 use borrow.Author.Tests.{eqb-true}
 use Rattle.sets.specs.Sets.{anyBelow, countBelow}
 use Rattle.sets.proofs.Finite.{or-cases}
-use Rattle.theory.specs.Formula.{Formula, node, number, isPast, column}
+use Rattle.theory.specs.Formula.{Formula, node, number, isPast, columns}
 use Rattle.theory.specs.Meaning.{Graph, Assignment, assign, alone}
 use Rattle.theory.specs.Terms.{Terms, formula}
-use Rattle.theory.specs.Tables.{holdsNow}
+use Rattle.theory.specs.Tables.{recalled, holdsNow}
 use Rattle.deciding.specs.Rows.{edge, tableBit, pastEvent, nowAt}
 use Rattle.theory.proofs.Good.{GoodEntry, formula-at}
 
@@ -50,13 +50,13 @@ module _ (T : Terms) (rel past : List ℕ) (g : Assignment) (i m : ℕ) (e : Goo
   unfolding holdsNow node nowAt
   now-into q = now-node 5 q
 
-  pub now-past : isPast (T .entry i .op) ≡ true → nowAt T rel past g i m ≡ tableBit past (number (T .entry) i) m (g (column (formula T i)))
+  pub now-past : isPast (T .entry i .op) ≡ true → nowAt T rel past g i m ≡ recalled (tableBit past) (number (T .entry) i) (columns (formula T i)) g m
   unfolding holdsNow node
   now-past p = ⊎-elim
       (λ q. let k : T .entry i .op ≡ 6 = eqb-true (T .entry i .op) 6 q in
-      now-node 6 k ∙ ap (λ (f : Formula). tableBit past (number (T .entry) i) m (g (column f))) (sym (formula-at T i e 6 k)))
+      now-node 6 k ∙ ap (λ (f : Formula). recalled (tableBit past) (number (T .entry) i) (columns f) g m) (sym (formula-at T i e 6 k)))
       (λ q. let k : T .entry i .op ≡ 7 = eqb-true (T .entry i .op) 7 q in
-      now-node 7 k ∙ ap (λ (f : Formula). tableBit past (number (T .entry) i) m (g (column f))) (sym (formula-at T i e 7 k)))
+      now-node 7 k ∙ ap (λ (f : Formula). recalled (tableBit past) (number (T .entry) i) (columns f) g m) (sym (formula-at T i e 7 k)))
       (or-cases (eqb (T .entry i .op) 6) (eqb (T .entry i .op) 7) p)
 
   pub now-bind : T .entry i .op ≡ 8 → nowAt T rel past g i m ≡ nowAt T rel past (assign g (T .entry i .a) m) (T .entry i .b) m

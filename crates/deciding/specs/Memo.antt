@@ -2,12 +2,12 @@
 use Prim.Native.Nat.{ℕ, _+_, _*_, _<_, _≤_}
 use mathlib.Core.Path.{_≡_}
 use mathlib.Core.Bool.{Bool, true, false, cond, not, _&&_, _||_}
-use mathlib.Core.List.{List}
+use mathlib.Core.List.{List, [], _∷_}
 use lib.Bits.{bitOr}
 use lib.Dec.{eqb}
 use lib.ListN.{length, getD, take, drop}
 use Rattle.sets.specs.Sets.{bit}
-use Rattle.theory.specs.Formula.{Formula, column}
+use Rattle.theory.specs.Formula.{Formula, columns}
 use Rattle.theory.specs.Formula.Formula.{top, var, neg, or, out, into, prev, since, bind, at, reach, many}
 use Rattle.theory.specs.Meaning.{Assignment}
 use Rattle.theory.specs.Terms.{Terms, formula}
@@ -15,7 +15,12 @@ use Rattle.theory.specs.Limits.{maxMembers, variables}
 use Rattle.memory.specs.Layout.{relationWords, blockWords}
 use Rattle.deciding.specs.Rows.{pastWords, cell, Vars, Has}
 
--- The variables that the present meaning of a formula looks at: the free ones, but of a past-time formula its column.
+-- x is one of a list.
+unfoldable pub isOne : List ℕ → ℕ → Bool
+isOne [] x = false
+isOne (y ∷ ys) x = eqb x y || isOne ys x
+
+-- The variables that the present meaning of a formula looks at: the free ones, but of a past-time formula its columns.
 unfoldable pub reads : Formula → ℕ → Bool
 reads top x = false
 reads (var y) x = eqb x y
@@ -23,8 +28,8 @@ reads (neg f) x = reads f x
 reads (or f h) x = reads f x || reads h x
 reads (out l f) x = reads f x
 reads (into l f) x = reads f x
-reads (prev t f) x = eqb x (column (prev t f))
-reads (since t f h) x = eqb x (column (since t f h))
+reads (prev t f) x = isOne (columns (prev t f)) x
+reads (since t f h) x = isOne (columns (since t f h)) x
 reads (bind y f) x = not (eqb x y) && reads f x
 reads (at y f) x = eqb x y || reads f x
 reads (reach y f h) x = reads h x

@@ -19,7 +19,7 @@ use Rattle.file.specs.Reading.{complete, readOn, partlyAt, reading}
 use Rattle.file.specs.Reading.Reading.{accepted}
 use Rattle.file.proofs.Taken.{Accepting, accepting, reading-read, reading-level}
 use Rattle.file.proofs.Level.{Level, level-from, level-to}
-use Rattle.file.proofs.Fit.{noEntry, PoliciesFit, Inside, EventFits}
+use Rattle.file.proofs.Fit.{noEntry, PoliciesFit, Inside, InsideTables, EventFits}
 use Rattle.file.proofs.Going.{Going, going-first, going-on, complete-phase, complete-policies}
 
 -- Nothing is said beyond the last entry and the last event, and an event has at most 4 effects.
@@ -35,7 +35,7 @@ pub record Accepted (f : File) : Type 0 where
   pub good : Good (f .terms)
   pub tidy : Tidy (f .terms)
   pub edges : Inside (f .terms .relations) (f .terms .members) (f .edges)
-  pub bits : Inside (tables (f .terms)) (f .terms .members) (f .table)
+  pub bits : InsideTables (f .terms) (f .table)
   pub last : EventFits (f .terms .events) (f .terms .members) (f .last)
   pub entry-tests : (n : ℕ) → n < f .terms .entries → every (entryTests (f .terms) n) ≡ true
   pub old-bits : f .stored ≡ false → (t a b : ℕ) → f .table t a b ≡ false
@@ -50,11 +50,11 @@ entry-passes {T} {n} g =
       g .first,
       g .second,
       g .third,
-      implies (isPast (T .entry n .op)) (g .one-free),
+      implies (isPast (T .entry n .op)) (g .columns-fit),
       implies (eqb (T .entry n .op) 10) (λ e. g .reaches (eqb-true (T .entry n .op) 10 e)),
     ) refl
 
-going-good : (f : File) → complete f ≡ true → Going f → Good (f .terms) × Tidy (f .terms)
+pub going-good : (f : File) → complete f ≡ true → Going f → Good (f .terms) × Tidy (f .terms)
 going-good f c g =
     let p = complete-phase f c in
     let m = g .members (omega arith) in
@@ -74,7 +74,7 @@ going-good f c g =
           first = t .first;
           second = t .second;
           third = t .third;
-          one-free = t .one-free;
+          columns-fit = t .columns-fit;
           reaches = t .reaches;
         };
         policy-exists = q .exists;

@@ -1,14 +1,22 @@
 -- Terms that are alike are written and stored alike.
-use mathlib.Core.Path.{_≡_, ap, _∙_}
-use mathlib.Core.Bool.{cond}
+use Prim.Native.Nat.{ℕ, _+_, _*_, _/_, _%_}
+use native.Mathlib.Omega.{arith}
+use mathlib.Core.Path.{_≡_, ap, ap₂, fun-ext, _∙_}
+use mathlib.Core.Bool.{Bool, cond, _&&_}
+use lib.Dec.{ltb}
+use borrow.Author.Tests.{ltb-true}
+use Rattle.sets.proofs.Finite.{and-under}
+use Rattle.theory.specs.Formula.{columns}
+use Rattle.theory.proofs.Past.{past-entry}
+use Rattle.file.specs.File.{hasTwo, pairTable}
 use mathlib.Core.List.{List, [], _∷_, _++_}
-use Rattle.theory.specs.Terms.{Terms}
+use Rattle.theory.specs.Terms.{Terms, formula, tables, pastEntry}
 use Rattle.theory.specs.Moment.{Relations}
 use Rattle.theory.specs.Tables.{State}
-use Rattle.theory.proofs.Like.{Alike, met, met-is}
+use Rattle.theory.proofs.Like.{Alike, met, met-is, same-number, same-formula, same-past}
 use Rattle.file.specs.Writing.{listed, effectLines, bitAt, allLines, eventEdgeLine, storedLines, printedAll, written, stored}
 use Rattle.file.specs.declared.line.Line.{Line}
-use Rattle.file.specs.declared.line.Line.the-variants.{Members, Labels, Entry, Policy, Edge, Form, TableBit, Mark}
+use Rattle.file.specs.declared.line.Line.the-variants.{Members, Labels, Entry, Policy, Edge, Form, TableBit, PairBit, Mark}
 use Rattle.file.proofs.Listed.{listed-agree}
 
 module _ (T U : Terms) (a : Alike T U) where
@@ -28,8 +36,17 @@ module _ (T U : Terms) (a : Alike T U) where
   unfolding written
   written-alike R = ap printedAll (lines-alike R)
 
+  pair-met : (t : ℕ) → pairTable T t ≡ pairTable (met T U) t
+  pair-met t =
+      and-under (ltb t (tables T)) _ _ (λ l.
+      ap (λ φ. hasTwo (columns φ)) (same-formula T U a (pastEntry T t) (past-entry T t (ltb-true t (tables T) l) .exists) ∙ ap (formula (met T U)) (same-past T U a t)))
+      ∙ ap (λ (n : ℕ). ltb t n && hasTwo (columns (formula (met T U) (pastEntry (met T U) t)))) (same-number T U a (T .entries) (omega arith))
+
+  pair-alike : (t : ℕ) → pairTable T t ≡ pairTable U t
+  pair-alike t = pair-met t ∙ ap (λ (X : Terms). pairTable X t) (met-is T U a)
+
   pub stored-alike : (S : State) → stored T S ≡ stored U S
   unfolding stored storedLines
   stored-alike S =
-      ap (λ (ls : List Line). printedAll (Form 2 ∷ (ls ++ (listed 131072 (bitAt TableBit (S .table)) ++ eventEdgeLine (S .now .event)))))
-      (lines-alike (S .now .edge))
+      ap₂ (λ (ls : List Line) (says : ℕ → ℕ → ℕ → Line). printedAll (Form 2 ∷ (ls ++ (listed 131072 (bitAt says (S .table)) ++ eventEdgeLine (S .now .event)))))
+      (lines-alike (S .now .edge)) (fun-ext (λ t. fun-ext (λ i. fun-ext (λ k. ap (λ (c : Bool). cond c (PairBit t (i / 4) (4 * (i % 4) + k / 16) (k % 16)) (TableBit t i k)) (pair-alike t)))))

@@ -21,7 +21,7 @@ use Rattle.file.proofs.Accepted.{Tidy}
 use Rattle.file.proofs.Entered.{told}
 use Rattle.file.proofs.Marked.{marked}
 use Rattle.file.proofs.Effected.{Settled, settled-complete, settled}
-use Rattle.file.proofs.Rising.{Adds, Kind, Below, bits-read, all-read}
+use Rattle.file.proofs.Rising.{Adds, Kind, Below, code-rises, bounded, bits-read, all-read}
 
 -- The terms and the edges have been read, and nothing of a later phase.
 pub record Edged (T : Terms) (R : Relations) (stored : Bool) (phase : ℕ) (g : File) : Type 0 where
@@ -75,7 +75,7 @@ module _ (T : Terms) (good : Good T) (tidy : Tidy T) (R : Relations) (inside : I
     of-edges = record {
       none = λ g h l. h .no-edges l;
       up-to = λ g t h. let l = t .high in h .edges-rise (omega arith);
-      adds = λ g t h k a b e z. edge-adds g t k a b e z;
+      adds = λ g t h k a b al bl e z. edge-adds g t k a b e (code-rises 6 g k a b al bl (h .short) z);
     }
 
     before-edges : (g : File) → Settled T stored 5 g → Settled T stored 6 g
@@ -94,8 +94,8 @@ module _ (T : Terms) (good : Good T) (tidy : Tidy T) (R : Relations) (inside : I
         let m = good .few-relations in
         record {
           settled-so = s;
-          edges = all-read 6 Edge (λ f. f .edges) R (Settled T stored 6) of-edges 65536 (T .relations) (T .members) (omega arith) (good .few-members) inside g
-              (subst (λ (x : Terms). Inside (x .relations) (x .members) (g .edges)) (s .terms) (s .going-so .edges)) t;
+          edges = all-read 6 Edge (λ f. f .edges) R (Settled T stored 6) of-edges 65536 (T .relations) (omega arith) (bounded (good .few-members) inside) g
+              (bounded (good .few-members) (subst (λ (x : Terms). Inside (x .relations) (x .members) (g .edges)) (s .terms) (s .going-so .edges))) t;
         }
 
   -- from a file that has said nothing but its form

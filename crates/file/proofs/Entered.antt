@@ -1,6 +1,6 @@
 -- Reading what is written, up to the policies: the file read so far has the terms' heads, their first n entries, their first n policies.
 use Prim.Native.Nat.{ℕ, zero, suc, _+_, _*_, _≤_, _<_}
-use mathlib.Core.Path.{_≡_, refl, sym, ap, subst, _∙_}
+use mathlib.Core.Path.{_≡_, refl, sym, ap, subst, subst₂, _∙_}
 use mathlib.Core.Logic.{inl, ⊎-elim}
 use mathlib.Core.List.{List, [], _∷_, _++_}
 use mathlib.Core.Bool.{Bool, true, _||_}
@@ -9,11 +9,12 @@ use native.Mathlib.Numerals.{add-one}
 use lib.Dec.{eqb, ltb, leb}
 use borrow.Author.Tests.{eqb-true, eq-eqb, ltb-true, ltb-false, lt-ltb, le-leb}
 use Rattle.sets.proofs.Finite.{true-or-false, and-both, or-left, or-right}
-use Rattle.theory.specs.Formula.{Formula, firstOperand, secondOperand, thirdOperand, number, isPast}
+use Rattle.theory.specs.Formula.{Formula, firstOperand, secondOperand, thirdOperand, number, isPast, columns}
 use Rattle.theory.specs.Formula.Operand.{entry}
 use Rattle.theory.specs.Formula as formulas
 use Rattle.theory.specs.Terms.{Terms}
-use Rattle.theory.specs.Fit.{lone, onlyFree}
+use Rattle.theory.specs.Columns.{columnsFit}
+use Rattle.theory.specs.Fit.{onlyFree}
 use Rattle.theory.proofs.Good.{Good, implies}
 use Rattle.theory.proofs.Spelled.{number-lt}
 use Rattle.file.specs.File.{File, update, after}
@@ -153,8 +154,8 @@ module _ (T : Terms) (good : Good T) (tidy : Tidy T) (start : File) (blank : sta
         (pass (is-lower (firstOperand (T .entry n .op)) labels n (T .entry n .a) (q .first))
         (pass (is-lower (secondOperand (T .entry n .op)) labels n (T .entry n .b) (q .second))
         (pass (is-lower (thirdOperand (T .entry n .op)) labels n (T .entry n .c) (q .third))
-        (pass (implies (isPast (T .entry n .op)) (λ p. subst (λ (φ : Formula). lone φ ≡ true)
-        (sym (spelled-agree (update (g .terms .entry) n v) (T .entry) n (λ k h. agrees k (omega arith)))) (q .one-free p)))
+        (pass (implies (isPast (T .entry n .op)) (λ p. subst₂ (λ (m : ℕ) (φ : Formula). columnsFit m (columns φ) ≡ true) (sym (t .head .members))
+        (sym (spelled-agree (update (g .terms .entry) n v) (T .entry) n (λ k h. agrees k (omega arith)))) (q .columns-fit p)))
         (pass (implies (eqb (T .entry n .op) 10) (λ p. let o = eqb-true (T .entry n .op) 10 p in
         reach-kept labels n (T .entry) (g .terms .entry) (T .entry n) (λ k h. sym (t .entry k h)) o (q .second) (q .third) (q .reaches o)))
         none)))))))))))

@@ -1,5 +1,5 @@
 -- What the tests have made sure of so far, part by part: the entries, the policies, the marks, the effects, the edges, the tables, the event edge; and that one line more keeps it so.
-use Prim.Native.Nat.{ℕ, zero, suc, _+_, _*_, _≤_, _<_}
+use Prim.Native.Nat.{ℕ, zero, suc, _+_, _*_, _/_, _%_, _≤_, _<_}
 use mathlib.Core.Path.{_≡_, refl, sym, ap, subst, subst₂, _∙_}
 use mathlib.Core.Logic.{_⊎_, inl, inr, ⊎-elim}
 use mathlib.Core.List.{List, [], _∷_, _++_}
@@ -8,17 +8,18 @@ use native.Mathlib.Omega.{arith}
 use native.Mathlib.Numerals.{add-one}
 use lib.Dec.{eqb, ltb}
 use lib.ListN.{length, length-append}
-use borrow.Author.Tests.{eqb-true, ltb-true, leb-true, eq-eqb}
-use Rattle.sets.proofs.Finite.{true-or-false, and-left, and-right, last-or-below}
-use Rattle.theory.specs.Formula.{Formula, Entry, Operand, firstOperand, secondOperand, thirdOperand, number, spelled, isPast}
+use borrow.Author.Tests.{eqb-true, ltb-true, leb-true, eq-eqb, lt-ltb}
+use Rattle.sets.proofs.Finite.{true-or-false, and-left, and-right, and-both, last-or-below}
+use Rattle.theory.specs.Formula.{Formula, Entry, Operand, firstOperand, secondOperand, thirdOperand, number, spelled, isPast, columns}
 use Rattle.theory.specs.Formula.Operand.{unused, variable, binder, label, entry, count}
-use Rattle.theory.specs.Terms.{Effect}
+use Rattle.theory.specs.Terms.{Effect, Terms, formula, tables, pastEntry}
 use Rattle.theory.specs.Moment.{Event}
-use Rattle.theory.specs.Fit.{operandFits, lone, onlyFree, reachFits}
+use Rattle.theory.specs.Columns.{columnsFit, inside, pairWord, pairBit}
+use Rattle.theory.specs.Fit.{operandFits, onlyFree, reachFits}
 use Rattle.theory.proofs.Good.{Within, fits-entry}
 use Rattle.theory.proofs.Good.Within.{more}
 use Rattle.file.specs.Line.{hasThird}
-use Rattle.file.specs.File.{update, withBit, eventNamed, eventSaid}
+use Rattle.file.specs.File.{update, withBit, hasTwo, eventNamed, eventSaid}
 use Rattle.file.specs.Reading.{inRange, isLower}
 use Rattle.theory.proofs.Like.{number-agree, spelled-agree}
 use Rattle.file.proofs.Update.{update-same, update-other, update-cases}
@@ -28,18 +29,18 @@ use Rattle.file.proofs.Update.{update-same, update-other, update-cases}
 abbrev pub noEntry : Entry
 noEntry = record { op = 0; a = 0; b = 0; c = 0 }
 
-pub record EntryFits (labels : ℕ) (g : ℕ → Entry) (n : ℕ) : Type 0 where
+pub record EntryFits (members labels : ℕ) (g : ℕ → Entry) (n : ℕ) : Type 0 where
   pub known : g n .op < 12
   pub first : operandFits (firstOperand (g n .op)) labels n (g n .a) ≡ true
   pub second : operandFits (secondOperand (g n .op)) labels n (g n .b) ≡ true
   pub third : operandFits (thirdOperand (g n .op)) labels n (g n .c) ≡ true
-  pub one-free : isPast (g n .op) ≡ true → lone (spelled g n) ≡ true
+  pub columns-fit : isPast (g n .op) ≡ true → columnsFit members (columns (spelled g n)) ≡ true
   pub reaches : g n .op ≡ 10 → reachFits (g n .a) (spelled g (g n .b)) (spelled g (g n .c)) ≡ true
 
-pub record EntriesFit (labels entries : ℕ) (g : ℕ → Entry) : Type 0 where
+pub record EntriesFit (members labels entries : ℕ) (g : ℕ → Entry) : Type 0 where
   pub few : entries < 257
   pub few-tables : number g entries < 33
-  pub fit : (n : ℕ) → n < entries → EntryFits labels g n
+  pub fit : (n : ℕ) → n < entries → EntryFits members labels g n
   pub blank : (n : ℕ) → entries ≤ n → g n ≡ noEntry
 
 -- the two tests of an operand are those of the lent memory
@@ -110,29 +111,29 @@ reach-kept labels n g h v e o p q r =
     subst₂ (λ (φ ψ : Formula). reachFits (v .a) φ ψ ≡ true)
     (spelled-agree g h (v .b) (λ k l. e k (omega arith))) (spelled-agree g h (v .c) (λ k l. e k (omega arith))) r
 
-entry-kept : (labels : ℕ) (g h : ℕ → Entry) (n : ℕ) → ((k : ℕ) → k ≤ n → g k ≡ h k) → EntryFits labels g n → EntryFits labels h n
-entry-kept labels g h n e t =
+entry-kept : (members labels : ℕ) (g h : ℕ → Entry) (n : ℕ) → ((k : ℕ) → k ≤ n → g k ≡ h k) → EntryFits members labels g n → EntryFits members labels h n
+entry-kept members labels g h n e t =
     let r = e n (omega arith) in
     record {
       known = subst (λ (x : Entry). x .op < 12) r (t .known);
       first = subst (λ (x : Entry). operandFits (firstOperand (x .op)) labels n (x .a) ≡ true) r (t .first);
       second = subst (λ (x : Entry). operandFits (secondOperand (x .op)) labels n (x .b) ≡ true) r (t .second);
       third = subst (λ (x : Entry). operandFits (thirdOperand (x .op)) labels n (x .c) ≡ true) r (t .third);
-      one-free = λ p. subst (λ (φ : Formula). lone φ ≡ true) (spelled-agree g h n e)
-          (t .one-free (subst (λ (x : Entry). isPast (x .op) ≡ true) (sym r) p));
+      columns-fit = λ p. subst (λ (φ : Formula). columnsFit members (columns φ) ≡ true) (spelled-agree g h n e)
+          (t .columns-fit (subst (λ (x : Entry). isPast (x .op) ≡ true) (sym r) p));
       reaches = λ p. let q = subst (λ (x : Entry). x .op ≡ 10) (sym r) p in
           subst (λ (x : Entry). reachFits (x .a) (spelled h (x .b)) (spelled h (x .c)) ≡ true) r
           (reach-kept labels n g h (g n) (λ k l. e k (omega arith)) q (t .second) (t .third) (t .reaches q));
     }
 
 -- an entry put at n
-module _ (labels n : ℕ) (g : ℕ → Entry) (v : Entry) where
+module _ (members labels n : ℕ) (g : ℕ → Entry) (v : Entry) where
   abbrev now : ℕ → Entry
   now = update g n v
 
   pub entry-put : v .op < 12 → operandFits (firstOperand (v .op)) labels n (v .a) ≡ true → operandFits (secondOperand (v .op)) labels n (v .b) ≡ true
-      → operandFits (thirdOperand (v .op)) labels n (v .c) ≡ true → (isPast (v .op) ≡ true → lone (spelled now n) ≡ true)
-      → (v .op ≡ 10 → reachFits (v .a) (spelled g (v .b)) (spelled g (v .c)) ≡ true) → EntryFits labels now n
+      → operandFits (thirdOperand (v .op)) labels n (v .c) ≡ true → (isPast (v .op) ≡ true → columnsFit members (columns (spelled now n)) ≡ true)
+      → (v .op ≡ 10 → reachFits (v .a) (spelled g (v .b)) (spelled g (v .c)) ≡ true) → EntryFits members labels now n
   entry-put p q r u s m =
       let e = sym (update-same g n v) in
       record {
@@ -140,7 +141,7 @@ module _ (labels n : ℕ) (g : ℕ → Entry) (v : Entry) where
         first = subst (λ (x : Entry). operandFits (firstOperand (x .op)) labels n (x .a) ≡ true) e q;
         second = subst (λ (x : Entry). operandFits (secondOperand (x .op)) labels n (x .b) ≡ true) e r;
         third = subst (λ (x : Entry). operandFits (thirdOperand (x .op)) labels n (x .c) ≡ true) e u;
-        one-free = λ t. s (subst (λ (x : Entry). isPast (x .op) ≡ true) (sym e) t);
+        columns-fit = λ t. s (subst (λ (x : Entry). isPast (x .op) ≡ true) (sym e) t);
         reaches = λ t. let o = subst (λ (x : Entry). x .op ≡ 10) (sym e) t in
             subst (λ (x : Entry). reachFits (x .a) (spelled now (x .b)) (spelled now (x .c)) ≡ true) e
             (reach-kept labels n g now v (λ k l. sym (update-other g n v k (λ z. omega arith))) o r u (m o));
@@ -153,14 +154,14 @@ module _ (labels n : ℕ) (g : ℕ → Entry) (v : Entry) where
       rw (add-one n, update-same g n v, e)
       (⊎-elim (λ p. rw p (let l = i p in omega arith)) (λ p. rw p h) (true-or-false (isPast (v .op))))
 
-  pub entry-more : EntriesFit labels n g → n < 256 → (isPast (v .op) ≡ true → number g n < 32) → EntryFits labels now n → EntriesFit labels (n + 1) now
+  pub entry-more : EntriesFit members labels n g → n < 256 → (isPast (v .op) ≡ true → number g n < 32) → EntryFits members labels now n → EntriesFit members labels (n + 1) now
   entry-more t l i f =
       record {
         few = omega arith;
         few-tables = tables-put (t .few-tables) i;
         fit = λ k m. ⊎-elim
-            (λ b. entry-kept labels g now k (λ j p. sym (update-other g n v j (λ z. omega arith))) (t .fit k b))
-            (λ b. subst (EntryFits labels now) (sym b) f)
+            (λ b. entry-kept members labels g now k (λ j p. sym (update-other g n v j (λ z. omega arith))) (t .fit k b))
+            (λ b. subst (EntryFits members labels now) (sym b) f)
             (last-or-below k n (omega arith));
         blank = λ k m. update-other g n v k (λ z. omega arith) ∙ t .blank k (omega arith);
       }
@@ -249,6 +250,51 @@ code k a b = k * 4096 + a * 64 + b
 pub record Inside (kinds members : ℕ) (R : (k a b : ℕ) → Bool) : Type 0 where
   pub within : (k a b : ℕ) → R k a b ≡ true → (k < kinds) × (a < members) × (b < members)
 
+-- Each bit is of a table that there is, at a place of members.
+pub record InsideTables (T : Terms) (X : (t i k : ℕ) → Bool) : Type 0 where
+  pub within : (t i k : ℕ) → X t i k ≡ true → (t < tables T) × (inside (T .members) (columns (formula T (pastEntry T t))) i k ≡ true)
+
+pub tables-none : {T : Terms} {X : (t i k : ℕ) → Bool} → ((t i k : ℕ) → X t i k ≡ false) → InsideTables T X
+tables-none h = record { within = λ t i k e. absurd (false≢true (sym (h t i k) ∙ e)) }
+
+-- a place of a table by the number of its columns
+pub one-place : (N : ℕ) (cs : List ℕ) (a b : ℕ) → hasTwo cs ≡ false → a < N → b < N → inside N cs a b ≡ true
+one-place N [] a b e al bl = and-both _ _ (lt-ltb a N al) (lt-ltb b N bl)
+one-place N (x ∷ []) a b e al bl = and-both _ _ (lt-ltb a N al) (lt-ltb b N bl)
+one-place N (x ∷ y ∷ zs) a b e al bl = absurd (true≢false e)
+
+pub place-one : (N : ℕ) (cs : List ℕ) (a b : ℕ) → hasTwo cs ≡ false → inside N cs a b ≡ true → (a < N) × (b < N)
+place-one N [] a b e i = (ltb-true a N (and-left (ltb a N) _ i), ltb-true b N (and-right (ltb a N) _ i))
+place-one N (x ∷ []) a b e i = (ltb-true a N (and-left (ltb a N) _ i), ltb-true b N (and-right (ltb a N) _ i))
+place-one N (x ∷ y ∷ zs) a b e i = absurd (true≢false e)
+
+pub two-few : (N : ℕ) (cs : List ℕ) → hasTwo cs ≡ true → columnsFit N cs ≡ true → N < 17
+two-few N [] e f = absurd (false≢true e)
+two-few N (x ∷ []) e f = absurd (false≢true e)
+two-few N (x ∷ y ∷ []) e f = ltb-true N 17 f
+two-few N (x ∷ y ∷ z ∷ zs) e f = absurd (false≢true f)
+
+pub two-place : (N : ℕ) (cs : List ℕ) (a b c : ℕ) → hasTwo cs ≡ true → N < 17 → a < N → b < N → c < N → inside N cs (pairWord a b) (pairBit b c) ≡ true
+two-place N [] a b c e few al bl cl = absurd (false≢true e)
+two-place N (x ∷ []) a b c e few al bl cl = absurd (false≢true e)
+two-place N (x ∷ y ∷ zs) a b c e few al bl cl =
+    let m : (4 * a + b / 4) / 4 ≡ a = omega arith in
+    let f : 4 * ((4 * a + b / 4) % 4) + (16 * (b % 4) + c) / 16 ≡ b = omega arith in
+    let g : (16 * (b % 4) + c) % 16 ≡ c = omega arith in
+    rw (m, f, g, lt-ltb a N al, lt-ltb b N bl, lt-ltb c N cl, lt-ltb (16 * (b % 4) + c) 64 (omega arith)) refl
+
+pub place-two : (N : ℕ) (cs : List ℕ) (i k : ℕ) → hasTwo cs ≡ true → inside N cs i k ≡ true → (i / 4 < N) × (4 * (i % 4) + k / 16 < N) × (k % 16 < N) × (k < 64)
+place-two N [] i k e p = absurd (false≢true e)
+place-two N (x ∷ []) i k e p = absurd (false≢true e)
+place-two N (x ∷ y ∷ zs) i k e p =
+    let q = and-right (ltb (i / 4) N) _ p in
+    let r = and-right (ltb (4 * (i % 4) + k / 16) N) _ q in (
+      ltb-true (i / 4) N (and-left (ltb (i / 4) N) _ p),
+      ltb-true (4 * (i % 4) + k / 16) N (and-left (ltb (4 * (i % 4) + k / 16) N) _ q),
+      ltb-true (k % 16) N (and-left (ltb (k % 16) N) _ r),
+      ltb-true k 64 (and-right (ltb (k % 16) N) _ r),
+    )
+
 -- No bit comes after that of k, a and b.
 pub record UpTo (R : (k a b : ℕ) → Bool) (k a b : ℕ) : Type 0 where
   pub upto : (l c d : ℕ) → R l c d ≡ true → code l c d ≤ code k a b
@@ -280,6 +326,14 @@ module _ (R : (k a b : ℕ) → Bool) (k a b : ℕ) where
   inside-more h i j t = record {
     within = λ x y z e. ⊎-elim
         (λ p. let p0 = p .0 in let p1 = p .1 in let p2 = p .2 in (omega arith, omega arith, omega arith))
+        (λ p. t .within x y z p)
+        (bit-cases x y z e);
+  }
+
+  pub tables-more : {T : Terms} → k < tables T → inside (T .members) (columns (formula T (pastEntry T k))) a b ≡ true → InsideTables T R → InsideTables T (withBit R k a b)
+  tables-more {T} h i t = record {
+    within = λ x y z e. ⊎-elim
+        (λ p. rw (p .0, p .1, p .2) (h, i))
         (λ p. t .within x y z p)
         (bit-cases x y z e);
   }

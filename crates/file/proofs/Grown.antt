@@ -1,26 +1,30 @@
 -- The lines that a file read so far has said: a line that is taken is added at their end.
-use Prim.Native.Nat.{ℕ, _≤_, _<_}
+use Prim.Native.Nat.{ℕ, _+_, _*_, _/_, _%_, _≤_, _<_}
 use mathlib.Core.Path.{_≡_, refl, sym, ap, ap₂, _∙_}
-use mathlib.Core.Logic.{inl, inr, ⊎-elim}
+use mathlib.Core.Logic.{_⊎_, inl, inr, ⊎-elim}
 use mathlib.Core.List.{List, [], _∷_, _++_, append-nil, append-assoc}
 use mathlib.Core.Bool.{Bool, true, false, cond}
 use native.Mathlib.Omega.{arith}
 use borrow.Author.Tests.{eqb-true, ltb-true, leb-true, not-true}
-use Rattle.sets.proofs.Finite.{is-false}
-use Rattle.theory.specs.Terms.{Terms, tables}
+use lib.Dec.{ltb}
+use Rattle.sets.proofs.Finite.{is-false, and-left, and-right}
+use Rattle.theory.specs.Formula.{columns}
+use Rattle.theory.specs.Columns.{pairWord, pairBit}
+use Rattle.theory.specs.Terms.{Terms, formula, tables, pastEntry}
+use Rattle.theory.proofs.Past.{past-entry}
 use Rattle.theory.specs.Tables.{State}
-use Rattle.file.specs.File.{File, stateSaid, nothing, after}
+use Rattle.file.specs.File.{File, stateSaid, nothing, pairTable, after}
 use Rattle.file.specs.Reading.{tests, complete, rises}
-use Rattle.file.specs.Writing.{eventEdgeLine, allLines, storedLines}
+use Rattle.file.specs.Writing.{tableSays, eventEdgeLine, allLines, storedLines}
 use Rattle.file.specs.declared.line.Line.{Line}
-use Rattle.file.specs.declared.line.Line.the-variants.{Members, Labels, Entry, Policy, Effect, Edge, Form, TableBit, EventEdge, Mark}
+use Rattle.file.specs.declared.line.Line.the-variants.{Members, Labels, Entry, Policy, Effect, Edge, Form, TableBit, PairBit, EventEdge, Mark}
 use Rattle.file.specs.Refused.{Passed}
 use Rattle.file.proofs.Printed.{Ranged}
-use Rattle.file.proofs.Printed.Ranged.{members, labels, entry, policy, effect, edge, form, bit, event, mark}
+use Rattle.file.proofs.Printed.Ranged.{members, labels, entry, policy, effect, edge, form, bit, pair, event, mark}
 use Rattle.file.proofs.Taken.{passed-at, Taken}
 use Rattle.file.proofs.Taken.Taken.{none, one}
-use Rattle.file.proofs.Fit.{code, UpTo}
-use Rattle.file.proofs.Going.{Going, going-first, going, entry-phase, policy-phase, complete-phase, complete-policies, rises-code}
+use Rattle.file.proofs.Fit.{code, UpTo, two-few}
+use Rattle.file.proofs.Going.{Going, going-first, going, entry-phase, policy-phase, complete-phase, complete-policies, rises-code, rises-pair}
 use Rattle.file.proofs.Listed.{empty, here, later}
 use Rattle.file.proofs.SoFar.{formLines, headLines, entryLines, policyLines, markLines, eventLines, bitLines, formsOf, headsOf, entriesOf, policiesOf, marksOf, eventsOf, edgesOf, bitsOf, afterEdges, afterEffects, afterMarks, afterPolicies, afterEntries, afterHeads, afterForm, soFar, form-more, head-none, head-first, head-second, head-late, entries-none, entries-more, policies-none, policies-more, marks-none, marks-more, events-none, events-more, bits-none, bits-more, event-line}
 
@@ -31,7 +35,7 @@ module _ (f : File) (g : Going f) where
   no-last l = rw (g .no-last l) refl
 
   no-bits : f .phase < 7 → afterEdges f ≡ []
-  no-bits l = empty (bits-none 131072 TableBit (f .table) (g .no-bits l)) (no-last (omega arith))
+  no-bits l = empty (bits-none 131072 (tableSays (f .terms)) (f .table) (g .no-bits l)) (no-last (omega arith))
 
   no-edges : f .phase < 6 → afterEffects f ≡ []
   no-edges l = empty (bits-none 65536 Edge (f .edges) (g .no-edges l)) (no-bits (omega arith))
@@ -60,6 +64,24 @@ none-beyond kind f R k a b p q s n u h l c d m =
     (λ t. n t l c d)
     (λ t. is-false (R l c d) (λ e. let o = u .upto l c d e in omega arith))
     (rises-code f kind k a b p q s h)
+
+-- the same, where it is known that the bit comes after the last
+none-after : (f : File) (R : (k a b : ℕ) → Bool) (k a b : ℕ) → a < 64 → b < 64 → (f .from < 64) × (f .to < 64)
+    → (f .phase < 7 → (k a b : ℕ) → R k a b ≡ false) → UpTo R (f .relation) (f .from) (f .to)
+    → (f .phase < 7) ⊎ (code (f .relation) (f .from) (f .to) < code k a b) → (l c d : ℕ) → code k a b ≤ code l c d → R l c d ≡ false
+none-after f R k a b p q s n u h l c d m =
+    ⊎-elim (λ t. n t l c d) (λ t. is-false (R l c d) (λ e. let o = u .upto l c d e in omega arith)) h
+
+-- what the line of a bit says, by the number of columns
+one-says : (T : Terms) (t i k : ℕ) → pairTable T t ≡ false → tableSays T t i k ≡ TableBit t i k
+one-says T t i k e = rw e refl
+
+two-says : (T : Terms) (t a b c : ℕ) → b < 16 → c < 16 → pairTable T t ≡ true → tableSays T t (pairWord a b) (pairBit b c) ≡ PairBit t a b c
+two-says T t a b c bl cl e =
+    let m : pairWord a b / 4 ≡ a = omega arith in
+    let f : 4 * (pairWord a b % 4) + pairBit b c / 16 ≡ b = omega arith in
+    let g : pairBit b c % 16 ≡ c = omega arith in
+    rw e (λ d. PairBit t (m d) (f d) (g d))
 
 -- ---- a line that is taken is added at the end
 
@@ -173,15 +195,40 @@ line-more {f} (bit {t = t} {a = a} {b = b} h i j) p g =
     let y = leb-true (f .phase) 7 (passed-at p 2) in
     let few = g .members (omega arith) .1 in
     let small = g .entries .few-tables in
-    let lt = ltb-true t (tables (f .terms)) (passed-at p 4) in
-    let la = ltb-true a (f .terms .members) (passed-at p 5) in
-    let lb = ltb-true b (f .terms .members) (passed-at p 6) in
+    let lt = ltb-true t (tables (f .terms)) (passed-at p 5) in
+    let one = not-true (pairTable (f .terms) t) (passed-at p 4) in
+    let la = ltb-true a (f .terms .members) (passed-at p 6) in
+    let lb = ltb-true b (f .terms .members) (passed-at p 7) in
     past-heads f f′ x refl (heads-same f 7 z (omega arith)) (past-entries f f′ x refl (past-policies f f′ x refl (past-marks f f′ x refl (past-effects f f′ x refl
     (past-edges f f′ x refl
     (here (bitsOf f) (bitsOf f′) (eventEdgeLine (f .last)) (eventEdgeLine (f′ .last)) x
-    (bits-more 131072 TableBit (f .table) t a b (omega arith) (omega arith) (omega arith)
-    (none-beyond 7 f (f .table) t a b (omega arith) (omega arith) (g .short) (g .no-bits) (g .bits-rise) (passed-at p 3)))
+    (bits-more 131072 (tableSays (f .terms)) (f .table) t a b (omega arith) (omega arith) (omega arith)
+    (none-after f (f .table) t a b (omega arith) (omega arith) (g .short) (g .no-bits) (g .bits-rise) (rises-code f 7 t a b (omega arith) (omega arith) (g .short) (passed-at p 3)))
+    ∙ ap (λ (l : Line). bitsOf f ++ (l ∷ [])) (one-says (f .terms) t a b one))
     (no-last f g (omega arith)) (no-last f′ (going (bit h i j) p g) (omega arith))))))))
+line-more {f} (pair {t = t} {a = a} {b = b} {c = c} h i j k) p g =
+    let x = PairBit t a b c ∷ [] in
+    let f′ = after f (PairBit t a b c) in
+    let z = complete-phase f (passed-at p 1) in
+    let y = leb-true (f .phase) 7 (passed-at p 2) in
+    let few = g .members (omega arith) .1 in
+    let small = g .entries .few-tables in
+    let T = f .terms in
+    let two = passed-at p 4 in
+    let lt = ltb-true t (tables T) (and-left (ltb t (tables T)) _ two) in
+    let en = past-entry T t lt in
+    let n17 : T .members < 17 = two-few (T .members) (columns (formula T (pastEntry T t))) (and-right (ltb t (tables T)) _ two) (g .entries .fit (pastEntry T t) (en .exists) .columns-fit (en .past)) in
+    let la = ltb-true a (T .members) (passed-at p 5) in
+    let lb = ltb-true b (T .members) (passed-at p 6) in
+    let lc = ltb-true c (T .members) (passed-at p 7) in
+    past-heads f f′ x refl (heads-same f 7 z (omega arith)) (past-entries f f′ x refl (past-policies f f′ x refl (past-marks f f′ x refl (past-effects f f′ x refl
+    (past-edges f f′ x refl
+    (here (bitsOf f) (bitsOf f′) (eventEdgeLine (f .last)) (eventEdgeLine (f′ .last)) x
+    (bits-more 131072 (tableSays T) (f .table) t (pairWord a b) (pairBit b c) (omega arith) (omega arith) (omega arith)
+    (none-after f (f .table) t (pairWord a b) (pairBit b c) (omega arith) (omega arith) (g .short) (g .no-bits) (g .bits-rise)
+    (rises-pair f t a b c (omega arith) (omega arith) (omega arith) (g .short) (passed-at p 3)))
+    ∙ ap (λ (l : Line). bitsOf f ++ (l ∷ [])) (two-says T t a b c (omega arith) (omega arith) two))
+    (no-last f g (omega arith)) (no-last f′ (going (pair h i j k) p g) (omega arith))))))))
 line-more {f} (event {j = j} {u = u} {v = v} h i m) p g =
     let x = EventEdge j u v ∷ [] in
     let f′ = after f (EventEdge j u v) in
@@ -238,7 +285,7 @@ module _ (T : Terms) (S : State) where
   G = bitLines 65536 Edge (S .now .edge)
 
   abbrev X : List Line
-  X = bitLines 131072 TableBit (S .table) ++ eventEdgeLine (S .now .event)
+  X = bitLines 131072 (tableSays T) (S .table) ++ eventEdgeLine (S .now .event)
 
   in-form : (b : Bool) → (b ≡ false → X ≡ [])
       → formLines b ++ (Members (T .members) ∷ Labels (T .relations) (T .events) ∷ (E ++ (P ++ (K ++ (F ++ (G ++ X))))))

@@ -1,5 +1,5 @@
 -- What holds of a file read so far, by its phase; and what the order tests say of the phase.
-use Prim.Native.Nat.{ℕ, _+_, _*_, _≤_, _<_}
+use Prim.Native.Nat.{ℕ, _+_, _*_, _/_, _%_, _≤_, _<_}
 use mathlib.Core.Path.{_≡_, refl}
 use mathlib.Core.Logic.{_⊎_, inl, inr, ⊎-elim}
 use mathlib.Core.List.{[]}
@@ -9,19 +9,19 @@ use lib.Dec.{eqb, ltb, leb}
 use borrow.Author.Tests.{eq-eqb, eqb-true, ltb-true, leb-true, le-leb}
 use Rattle.sets.proofs.Finite.{and-left, and-right, and-both, or-cases}
 use Rattle.theory.specs.Formula.{number}
-use Rattle.theory.specs.Terms.{tables}
+use Rattle.theory.specs.Columns.{pairWord, pairBit}
 use Rattle.theory.specs.Moment.{Event}
 use Rattle.file.specs.File.{File, nothing}
-use Rattle.file.specs.Reading.{complete, rises}
-use Rattle.file.proofs.Fit.{EntriesFit, PoliciesFit, MarksFit, EffectsFit, Inside, UpTo, EventFits, code, effects-none, inside-none, up-to-none, event-none}
+use Rattle.file.specs.Reading.{complete, rises, risesPair}
+use Rattle.file.proofs.Fit.{EntriesFit, PoliciesFit, MarksFit, EffectsFit, Inside, InsideTables, tables-none, UpTo, EventFits, code, effects-none, inside-none, up-to-none, event-none}
 
 pub record Going (f : File) : Type 0 where
-  pub entries : EntriesFit (f .terms .relations + 2 * f .terms .events) (f .terms .entries) (f .terms .entry)
+  pub entries : EntriesFit (f .terms .members) (f .terms .relations + 2 * f .terms .events) (f .terms .entries) (f .terms .entry)
   pub policies : PoliciesFit (f .policies) (f .terms .events) (f .terms .entries) (f .terms .entry) (f .terms .policy)
   pub marks : MarksFit (f .marks) (f .terms .events) (f .terms .kept)
   pub effects : EffectsFit (f .event) (f .terms .events) (f .terms .relations) (f .terms .effects)
   pub edges : Inside (f .terms .relations) (f .terms .members) (f .edges)
-  pub bits : Inside (tables (f .terms)) (f .terms .members) (f .table)
+  pub bits : InsideTables (f .terms) (f .table)
   pub last : EventFits (f .terms .events) (f .terms .members) (f .last)
   pub edges-rise : f .phase < 7 → UpTo (f .edges) (f .relation) (f .from) (f .to)
   pub bits-rise : UpTo (f .table) (f .relation) (f .from) (f .to)
@@ -57,7 +57,7 @@ going-first = record {
   marks = record { few = omega arith; later = λ j l. refl };
   effects = effects-none 0 0 0 _ (λ j. refl);
   edges = inside-none (λ k a b. refl);
-  bits = inside-none (λ t a b. refl);
+  bits = tables-none (λ t a b. refl);
   last = event-none refl;
   edges-rise = λ l. up-to-none (λ k a b. refl);
   bits-rise = up-to-none (λ t a b. refl);
@@ -116,3 +116,25 @@ module _ (f : File) where
       (or-cases (ltb (f .from) a) _ (and-right (eqb (f .relation) k) _ u)))
       (or-cases (ltb (f .relation) k) _ t)))
       (or-cases (ltb (f .phase) kind) _ h)
+
+  -- the same of a bit of a table with two columns
+  pub rises-pair : (t a b c : ℕ) → a < 16 → b < 16 → c < 16 → (f .from < 64) × (f .to < 64) → risesPair f t a b c ≡ true
+      → (f .phase < 7) ⊎ (code (f .relation) (f .from) (f .to) < code t (pairWord a b) (pairBit b c))
+  rises-pair t a b c p q r s h =
+      let s0 = s .0 in let s1 = s .1 in
+      ⊎-elim
+      (λ z. inl (ltb-true (f .phase) 7 z))
+      (λ z. inr (⊎-elim
+      (λ u. let v = ltb-true (f .relation) t u in omega arith)
+      (λ u. let v = eqb-true (f .relation) t (and-left (eqb (f .relation) t) _ u) in
+      ⊎-elim
+      (λ w. let x = ltb-true (f .from / 4) a w in omega arith)
+      (λ w. let x = eqb-true (f .from / 4) a (and-left (eqb (f .from / 4) a) _ w) in
+      ⊎-elim
+      (λ m. let y = ltb-true (4 * (f .from % 4) + f .to / 16) b m in omega arith)
+      (λ m. let y = eqb-true (4 * (f .from % 4) + f .to / 16) b (and-left (eqb (4 * (f .from % 4) + f .to / 16) b) _ m) in
+      let n = ltb-true (f .to % 16) c (and-right (eqb (4 * (f .from % 4) + f .to / 16) b) _ m) in omega arith)
+      (or-cases (ltb (4 * (f .from % 4) + f .to / 16) b) _ (and-right (eqb (f .from / 4) a) _ w)))
+      (or-cases (ltb (f .from / 4) a) _ (and-right (eqb (f .relation) t) _ u)))
+      (or-cases (ltb (f .relation) t) _ z)))
+      (or-cases (ltb (f .phase) 7) _ h)

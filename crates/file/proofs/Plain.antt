@@ -17,7 +17,7 @@ use Rattle.file.specs.Words.{operatorWords, actionWords, directionWords,
 use Rattle.file.specs.Line.{hasThird, fieldsOf, printed}
 use Rattle.file.specs.Writing.{printedAll}
 use Rattle.file.specs.declared.line.Line.{Line}
-use Rattle.file.specs.declared.line.Line.the-variants.{Members, Labels, Entry, Policy, Effect, Edge, Form, TableBit, EventEdge, Mark, Malformed}
+use Rattle.file.specs.declared.line.Line.the-variants.{Members, Labels, Entry, Policy, Effect, Edge, Form, TableBit, PairBit, EventEdge, Mark, Malformed}
 use Rattle.fields.proofs.Digits.{digits-allDigits}
 
 -- The byte c is not in a list.
@@ -141,6 +141,8 @@ fields-without {c} s (Edge k a b) =
 fields-without {c} s (Form n) = rw (kind-without s 6, digits-without c n (small s)) refl
 fields-without {c} s (TableBit t a b) =
     rw (kind-without s 7, digits-without c t (small s), digits-without c a (small s), digits-without c b (small s)) refl
+fields-without {c} s (PairBit t a b d) =
+    rw (kind-without s 7, digits-without c t (small s), digits-without c a (small s), digits-without c b (small s), digits-without c d (small s)) refl
 fields-without {c} s (EventEdge j u v) =
     rw (kind-without s 8, digits-without c j (small s), digits-without c u (small s), digits-without c v (small s)) refl
 fields-without {c} s (Mark j) = rw (kind-without s 9, digits-without c j (small s)) refl

@@ -5,8 +5,8 @@ use mathlib.Core.Path.{_≡_, refl}
 use mathlib.Core.Bool.{Bool, true, false, cond, _&&_}
 use lib.Dec.{eqb}
 use Rattle.sets.specs.Sets.{allBelow}
-use Rattle.theory.specs.Formula.{node, number, below, spelled, free}
-use Rattle.theory.specs.Fit.{every, lone, onlyFree, closed, reachFits}
+use Rattle.theory.specs.Formula.{node, number, below, spelled, free, those}
+use Rattle.theory.specs.Fit.{every, onlyFree, closed, reachFits}
 use Rattle.theory.specs.Cases.{preset, own}
 use Rattle.theory.proofs.Like.{Alike}
 use Rattle.fields.specs.Split.{split, lines, alike}
@@ -31,7 +31,7 @@ unfolding presetText presetFile takenIn records lines split alike
     kindWords operatorWords indexFrom kindOf operatorOf isDigit allDigits isNumber valueFrom valueOf
     singleLine labelsLine entryLine shortEntryLine policyLine tripleLine lineOf parsed nothing after
     inRange isLower every tests tried readOn partlyAt levelled reading
-    node number below spelled free allBelow lone onlyFree closed reachFits preset own
+    node number below spelled free those allBelow onlyFree closed reachFits preset own
 preset-read = record {
   read = refl;
   terms = record {

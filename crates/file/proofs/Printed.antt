@@ -15,10 +15,10 @@ use Rattle.theory.proofs.Good.{every-at}
 use Rattle.fields.specs.Split.{split}
 use Rattle.fields.specs.Number.{isNumber, isDigit, allDigits, valueOf, digits}
 use Rattle.file.specs.Words.{operatorWords, actionWords, directionWords, kindWords, indexOf, operatorOf, actionOf, directionOf, kindOf}
-use Rattle.file.specs.Line.{num, isNum, singleLine, labelsLine, shortEntryLine, longEntryLine, hasThird, entryLine, policyLine, effectLine, tripleLine, lineOf, parsed, fieldsOf, printed}
+use Rattle.file.specs.Line.{num, isNum, singleLine, labelsLine, shortEntryLine, longEntryLine, hasThird, entryLine, policyLine, effectLine, tripleLine, pairLine, tableLine, lineOf, parsed, fieldsOf, printed}
 use Rattle.file.specs.Normal.{normalField}
 use Rattle.file.specs.declared.line.Line.{Line}
-use Rattle.file.specs.declared.line.Line.the-variants.{Members, Labels, Entry, Policy, Effect, Edge, Form, TableBit, EventEdge, Mark, Malformed}
+use Rattle.file.specs.declared.line.Line.the-variants.{Members, Labels, Entry, Policy, Effect, Edge, Form, TableBit, PairBit, EventEdge, Mark, Malformed}
 use Rattle.fields.proofs.Numeral.{value-small}
 use Rattle.fields.proofs.Digits.{valueOf-digits, digits-number}
 use Rattle.file.proofs.Words.{operator-at, operator-back, action-at, action-back, direction-at, direction-back, kind-at, kind-back}
@@ -34,6 +34,7 @@ pub data Ranged : Line → Type 0 where
   edge : {k a b : ℕ} → k < 100000 → a < 100000 → b < 100000 → Ranged (Edge k a b)
   form : {n : ℕ} → n < 100000 → Ranged (Form n)
   bit : {t a b : ℕ} → t < 100000 → a < 100000 → b < 100000 → Ranged (TableBit t a b)
+  pair : {t a b c : ℕ} → t < 100000 → a < 100000 → b < 100000 → c < 100000 → Ranged (PairBit t a b c)
   event : {j u v : ℕ} → j < 100000 → u < 100000 → v < 100000 → Ranged (EventEdge j u v)
   mark : {j : ℕ} → j < 100000 → Ranged (Mark j)
 
@@ -48,7 +49,7 @@ action-word (suc c) p h = action-at c (unfold actionWords in omega arith) ∙ (o
 
 -- a line's fields say the line
 pub parsed-printed : {l : Line} → Ranged l → parsed (fieldsOf l) ≡ l
-unfolding parsed fieldsOf lineOf singleLine labelsLine shortEntryLine longEntryLine entryLine policyLine effectLine tripleLine every
+unfolding parsed fieldsOf lineOf singleLine labelsLine shortEntryLine longEntryLine entryLine policyLine effectLine tripleLine every pairLine tableLine
 parsed-printed (members {n = n} h) = rw (kind-word 0 (lit< tt), digits-number n h, valueOf-digits n h) refl
 parsed-printed (labels {r = r} {e = e} h i) =
     rw (kind-word 1 (lit< tt), digits-number r h, digits-number e i, valueOf-digits r h, valueOf-digits e i) refl
@@ -100,6 +101,8 @@ parsed-printed (edge {k = k} {a = a} {b = b} h i j) =
 parsed-printed (form {n = n} h) = rw (kind-word 6 (lit< tt), digits-number n h, valueOf-digits n h) refl
 parsed-printed (bit {t = t} {a = a} {b = b} h i j) =
     rw (kind-word 7 (lit< tt), digits-number t h, digits-number a i, digits-number b j, valueOf-digits t h, valueOf-digits a i, valueOf-digits b j) refl
+parsed-printed (pair {t = t} {a = a} {b = b} {c = c} h i j k) =
+    rw (kind-word 7 (lit< tt), digits-number t h, digits-number a i, digits-number b j, digits-number c k, valueOf-digits t h, valueOf-digits a i, valueOf-digits b j, valueOf-digits c k) refl
 parsed-printed (event {j = j} {u = u} {v = v} h i m) =
     rw (kind-word 8 (lit< tt), digits-number j h, digits-number u i, digits-number v m, valueOf-digits j h, valueOf-digits u i, valueOf-digits v m) refl
 parsed-printed (mark {j = j} h) = rw (kind-word 9 (lit< tt), digits-number j h, valueOf-digits j h) refl
@@ -115,6 +118,7 @@ split-ranged (effect {j = j} {c = c} {k = k} {d = d} h p i m n) = split-printed 
 split-ranged (edge {k = k} {a = a} {b = b} h i j) = split-printed (Edge k a b) (omega arith)
 split-ranged (form {n = n} h) = split-printed (Form n) (omega arith)
 split-ranged (bit {t = t} {a = a} {b = b} h i j) = split-printed (TableBit t a b) (omega arith)
+split-ranged (pair {t = t} {a = a} {b = b} {c = c} h i j k) = split-printed (PairBit t a b c) (omega arith)
 split-ranged (event {j = j} {u = u} {v = v} h i m) = split-printed (EventEdge j u v) (omega arith)
 split-ranged (mark {j = j} h) = split-printed (Mark j) (omega arith)
 
@@ -217,7 +221,7 @@ module _ (fs : List (List ℕ)) where
   })
 
   said : (k : ℕ) → kindOf (field 0) ≡ k → Says fs (lineOf k fs)
-  unfolding lineOf labelsLine shortEntryLine longEntryLine entryLine policyLine effectLine fieldsOf
+  unfolding lineOf labelsLine shortEntryLine longEntryLine entryLine policyLine effectLine pairLine tableLine fieldsOf
   said zero e = single 0 Members e (lit< tt) (λ x h. members h) (λ x. refl)
   said (suc zero) e = tested fs _ _ (λ t. record {
     ranged = labels (small 1 (t 1)) (small 2 (t 2));
@@ -245,7 +249,14 @@ module _ (fs : List (List ℕ)) where
       })
   said (suc (suc (suc (suc (suc zero))))) e = triple 5 Edge e (lit< tt) (λ x y z h i j. edge h i j) (λ x y z. refl)
   said (suc (suc (suc (suc (suc (suc zero)))))) e = single 6 Form e (lit< tt) (λ x h. form h) (λ x. refl)
-  said (suc (suc (suc (suc (suc (suc (suc zero))))))) e = triple 7 TableBit e (lit< tt) (λ x y z h i j. bit h i j) (λ x y z. refl)
+  said (suc (suc (suc (suc (suc (suc (suc zero))))))) e =
+      ⊎-elim
+      (λ h. rw h (tested fs _ _ (λ t. record {
+        ranged = pair (small 1 (t 1)) (small 2 (t 2)) (small 3 (t 3)) (small 4 (t 4));
+        fields = rw (kind-normal (field 0) 7 e (lit< tt), number-normal (field 1) (t 1), number-normal (field 2) (t 2), number-normal (field 3) (t 3), number-normal (field 4) (t 4)) (all 5 h);
+      })))
+      (λ h. rw h (triple 7 TableBit e (lit< tt) (λ x y z h i j. bit h i j) (λ x y z. refl)))
+      (true-or-false (eqb (length fs) 5))
   said (suc (suc (suc (suc (suc (suc (suc (suc zero)))))))) e = triple 8 EventEdge e (lit< tt) (λ x y z h i j. event h i j) (λ x y z. refl)
   said (suc (suc (suc (suc (suc (suc (suc (suc (suc zero))))))))) e = single 9 Mark e (lit< tt) (λ x h. mark h) (λ x. refl)
   said (suc (suc (suc (suc (suc (suc (suc (suc (suc (suc k)))))))))) e = inl refl

@@ -16,7 +16,7 @@ use Rattle.file.specs.File.{File, after, nothing}
 use Rattle.file.specs.Reading.{Test, tests, complete, Reading, tried, readOn, partlyFilled, partlyAt, levelled, reading}
 use Rattle.file.specs.Reading.Reading.{accepted, refused}
 use Rattle.file.specs.declared.line.Line.{Line}
-use Rattle.file.specs.declared.line.Line.the-variants.{Members, Labels, Entry, Policy, Effect, Edge, Form, TableBit, EventEdge, Mark, Malformed}
+use Rattle.file.specs.declared.line.Line.the-variants.{Members, Labels, Entry, Policy, Effect, Edge, Form, TableBit, PairBit, EventEdge, Mark, Malformed}
 use Rattle.file.specs.Refused.{Passed, Fails, Lowest, Refused, FirstPartly, RefusedText, numbersRise}
 use Rattle.file.proofs.Taken.{tried-passed}
 use Rattle.file.specs.Refused.Passed.{none, pass}
@@ -37,6 +37,7 @@ tests-rise f (Effect j c k d) = refl
 tests-rise f (Edge k a b) = refl
 tests-rise f (Form n) = refl
 tests-rise f (TableBit t a b) = refl
+tests-rise f (PairBit t a b c) = refl
 tests-rise f (EventEdge j u v) = refl
 tests-rise f (Mark j) = refl
 tests-rise f Malformed = refl

@@ -1,30 +1,38 @@
 -- Reading what is written of terms and relations, or stored of terms and a state, gives the same again.
-use Prim.Native.Nat.{ℕ, _+_, _-_, _<_}
+use Prim.Native.Nat.{ℕ, _+_, _-_, _*_, _/_, _%_, _<_}
 use mathlib.Core.Path.{_≡_, refl, sym, ap, fun-ext, subst, subst₂, _∙_}
 use mathlib.Core.List.{List, [], _∷_}
-use mathlib.Core.Bool.{Bool, true, false}
+use mathlib.Core.Bool.{Bool, true, false, not, _&&_}
+use mathlib.Core.Logic.{_⊎_, ⊎-elim}
+use lib.Dec.{ltb}
+use Rattle.sets.proofs.Finite.{true-or-false, and-right}
 use native.Mathlib.Omega.{arith}
 use borrow.Author.Tests.{lt-ltb, le-ltb, le-leb}
-use Rattle.theory.specs.Terms.{Terms, tables}
+use Rattle.theory.specs.Formula.{columns}
+use Rattle.theory.specs.Columns.{inside as columnsInside, pairWord, pairBit}
+use Rattle.theory.specs.Terms.{Terms, formula, tables, pastEntry}
+use Rattle.theory.proofs.Past.{past-entry}
+use Rattle.theory.proofs.Places.{inside-word, inside-bit}
 use Rattle.theory.specs.Moment.{Relations, Event, first}
 use Rattle.theory.specs.Moment.Event.{happened, tried}
 use Rattle.theory.specs.Tables.{Tables, State}
 use Rattle.theory.proofs.Good.{Good}
-use Rattle.file.specs.File.{File, nothing, eventNamed, eventSaid, after}
+use Rattle.file.specs.File.{File, nothing, hasTwo, pairTable, withTableBit, eventNamed, eventSaid, after}
 use Rattle.file.specs.Reading.{tests, complete, rises, reading}
 use Rattle.file.specs.Reading.Reading.{accepted}
-use Rattle.file.specs.Writing.{listed, bitAt, allLines, eventEdgeLine, storedLines, written, stored}
-use Rattle.file.specs.declared.line.Line.the-variants.{Form, TableBit, EventEdge}
+use Rattle.file.specs.Writing.{listed, bitAt, tableSays, allLines, eventEdgeLine, storedLines, written, stored}
+use Rattle.file.specs.declared.line.Line.{Line}
+use Rattle.file.specs.declared.line.Line.the-variants.{Form, TableBit, PairBit, EventEdge}
 use Rattle.file.specs.Refused.{Passed}
 use Rattle.file.specs.Refused.Passed.{none, pass}
 use Rattle.file.proofs.Printed.{Ranged}
 use Rattle.file.proofs.Taken.{Reached, reached-so, reached-then, reached-one, reached-none}
 use Rattle.file.proofs.Level.{Level, level-empty, read-printed}
-use Rattle.file.proofs.Fit.{Inside, EventFits}
-use Rattle.file.proofs.Going.{going-first, going, complete-is}
+use Rattle.file.proofs.Fit.{code, Inside, InsideTables, EventFits, place-one, place-two, two-few}
+use Rattle.file.proofs.Going.{Going, going-first, going, complete-is}
 use Rattle.file.proofs.Accepted.{Tidy}
 use Rattle.file.proofs.Effected.{settled-complete}
-use Rattle.file.proofs.Rising.{Adds, Kind, Below, bits-read, all-read}
+use Rattle.file.proofs.Rising.{Adds, Kind, Below, Bounded, code-rises, code-rises-pair, bits-read, all-read}
 use Rattle.file.proofs.Edged.{Edged, lines-read}
 
 -- What the old form says of a state: its relations, with no bit of a table and no event edge.
@@ -43,13 +51,23 @@ pub record Reread (text : List ℕ) (form : Bool) (T : Terms) (S : State) (f : F
 -- A state that can be stored: all that it has is inside the terms, and its tables without a free variable are level.
 pub record Storable (T : Terms) (S : State) : Type 0 where
   pub edges : Inside (T .relations) (T .members) (S .now .edge)
-  pub bits : Inside (tables T) (T .members) (S .table)
+  pub bits : InsideTables T (S .table)
   pub last : EventFits (T .events) (T .members) (S .now .event)
   pub level : Level T (S .table)
 
 -- ---- the bits of the tables
 
-module _ (T : Terms) (good : Good T) (R : Relations) (X : Tables) (inside : Inside (tables T) (T .members) X) where
+-- the bits of tables have at most 64 words, of 64 bits
+tables-bounded : (T : Terms) → Good T → (X : Tables) → InsideTables T X → Bounded (tables T) X
+tables-bounded T good X inside t i k e =
+    let h = inside .within t i k e in
+    let n = past-entry T t (h .0) in (
+      h .0,
+      inside-word (T .members) (good .few-members) (columns (formula T (pastEntry T t))) i k (good .entry (pastEntry T t) (n .exists) .columns-fit (n .past)) (h .1),
+      inside-bit (T .members) (good .few-members) (columns (formula T (pastEntry T t))) i k (h .1),
+    )
+
+module _ (T : Terms) (good : Good T) (R : Relations) (X : Tables) (inside : InsideTables T X) where
   abbrev Ready : File → Type 0
   Ready = Edged T R true 7
 
@@ -57,56 +75,102 @@ module _ (T : Terms) (good : Good T) (R : Relations) (X : Tables) (inside : Insi
   bits f = f .table
 
   module _ (g : File) (t : Ready g) (k a b : ℕ) (e : X k a b ≡ true) where
-    there : (k < tables T) × (a < T .members) × (b < T .members)
+    abbrev cs : List ℕ
+    cs = columns (formula T (pastEntry T k))
+
+    there : (k < tables T) × (columnsInside (T .members) cs a b ≡ true)
     there = inside .within k a b e
 
-    ranged : Ranged (TableBit k a b)
-    ranged =
-        let h0 = there .0 in let h1 = there .1 in let h2 = there .2 in
-        let m = good .few-tables in let n = good .few-members in
-        Ranged.bit {t = k} {a = a} {b = b} (omega arith) (omega arith) (omega arith)
-
-    passed : rises 7 g k a b ≡ true → Passed (tests g (TableBit k a b))
-    unfolding tests
-    passed z =
-        let h0 = there .0 in let h1 = there .1 in let h2 = there .2 in
+    -- after such a line
+    ready-after : (l : Line) → Ranged l → Passed (tests g l) → after g l ≡ withTableBit g k a b → Ready (after g l)
+    ready-after l r p q =
         let s = t .settled-so in
-        let r : tables (g .terms) ≡ tables T = ap tables (s .terms) in
-        let m : g .terms .members ≡ T .members = ap (λ (x : Terms). x .members) (s .terms) in
-        pass (s .form)
-        (pass (settled-complete g s)
-        (pass (le-leb (g .phase) 7 (s .high))
-        (pass z
-        (pass (lt-ltb k (tables (g .terms)) (omega arith))
-        (pass (lt-ltb a (g .terms .members) (omega arith))
-        (pass (lt-ltb b (g .terms .members) (omega arith))
-        none))))))
+        let h : Going (withTableBit g k a b) = subst Going q (going r p (s .going-so)) in
+        subst Ready (sym q) (record {
+          settled-so = record {
+            low = omega arith;
+            high = omega arith;
+            form = s .form;
+            policies = s .policies;
+            terms = s .terms;
+            going-so = h;
+          };
+          edges = t .edges;
+        })
 
-    bit-adds : rises 7 g k a b ≡ true → Adds 7 TableBit bits X Ready g k a b
-    unfolding after
-    bit-adds z = record {
-      ranged = ranged;
-      passed = passed z;
-      ready = record {
-        settled-so = record {
-          low = omega arith;
-          high = omega arith;
-          form = t .settled-so .form;
-          policies = t .settled-so .policies;
-          terms = t .settled-so .terms;
-          going-so = going ranged (passed z) (t .settled-so .going-so);
-        };
-        edges = t .edges;
-      };
-      added = λ l c d. refl;
-      last = refl;
+    adds-after : (l : Line) → Ranged l → Passed (tests g l) → after g l ≡ withTableBit g k a b → tableSays T k a b ≡ l → Adds 7 (tableSays T) bits X Ready g k a b
+    adds-after l r p q z = record {
+      ranged = subst Ranged (sym z) r;
+      passed = subst (λ (x : Line). Passed (tests g x)) (sym z) p;
+      ready = subst (λ (x : Line). Ready (after g x)) (sym z) (ready-after l r p q);
+      added = λ m c d. ap (λ (f : File). f .table m c d) (ap (after g) z ∙ q);
+      last = ap (λ (f : File). code (f .relation) (f .from) (f .to)) (ap (after g) z ∙ q);
     }
 
-  of-bits : Kind 7 TableBit bits X Ready
+    module _ (rise : (g .phase < 7) ⊎ (code (g .relation) (g .from) (g .to) < code k a b)) (short : (g .from < 64) × (g .to < 64)) where
+      abbrev Passing : Line → Type 0
+      Passing l = Passed (tests g l)
+
+      same-pair : pairTable (g .terms) k ≡ pairTable T k
+      same-pair = ap (λ (x : Terms). pairTable x k) (t .settled-so .terms)
+
+      one-adds : pairTable T k ≡ false → Adds 7 (tableSays T) bits X Ready g k a b
+      unfolding tests after
+      one-adds z =
+          let s = t .settled-so in
+          let h0 = there .0 in
+          let one : hasTwo cs ≡ false = sym (ap (λ (c : Bool). c && hasTwo cs) (lt-ltb k (tables T) h0)) ∙ z in
+          let h = place-one (T .members) cs a b one (there .1) in
+          let h1 = h .0 in let h2 = h .1 in
+          let m = good .few-tables in let n = good .few-members in
+          let r : tables (g .terms) ≡ tables T = ap tables (s .terms) in
+          let o : g .terms .members ≡ T .members = ap (λ (x : Terms). x .members) (s .terms) in
+          adds-after (TableBit k a b) (Ranged.bit {t = k} {a = a} {b = b} (omega arith) (omega arith) (omega arith))
+          (pass (s .form)
+          (pass (settled-complete g s)
+          (pass (le-leb (g .phase) 7 (s .high))
+          (pass (code-rises 7 g k a b (omega arith) (omega arith) short rise)
+          (pass (ap not (same-pair ∙ z))
+          (pass (lt-ltb k (tables (g .terms)) (omega arith))
+          (pass (lt-ltb a (g .terms .members) (omega arith))
+          (pass (lt-ltb b (g .terms .members) (omega arith))
+          none))))))))
+          refl (rw z refl)
+
+      two-adds : pairTable T k ≡ true → Adds 7 (tableSays T) bits X Ready g k a b
+      unfolding tests after
+      two-adds z =
+          let s = t .settled-so in
+          let h0 = there .0 in
+          let two : hasTwo cs ≡ true = and-right (ltb k (tables T)) _ z in
+          let e' = past-entry T k h0 in
+          let few : T .members < 17 = two-few (T .members) cs two (good .entry (pastEntry T k) (e' .exists) .columns-fit (e' .past)) in
+          let h = place-two (T .members) cs a b two (there .1) in
+          let h1 = h .0 in let h2 = h .1 in let h3 = h .2 in let h4 = h .3 in
+          let m = good .few-tables in
+          let o : g .terms .members ≡ T .members = ap (λ (x : Terms). x .members) (s .terms) in
+          let word : pairWord (a / 4) (4 * (a % 4) + b / 16) ≡ a = omega arith in
+          let place : pairBit (4 * (a % 4) + b / 16) (b % 16) ≡ b = omega arith in
+          adds-after (PairBit k (a / 4) (4 * (a % 4) + b / 16) (b % 16)) (Ranged.pair {t = k} {a = a / 4} {b = 4 * (a % 4) + b / 16} {c = b % 16} (omega arith) (omega arith) (omega arith) (omega arith))
+          (pass (s .form)
+          (pass (settled-complete g s)
+          (pass (le-leb (g .phase) 7 (s .high))
+          (pass (code-rises-pair g k a b (omega arith) (omega arith) short rise)
+          (pass (same-pair ∙ z)
+          (pass (lt-ltb (a / 4) (g .terms .members) (omega arith))
+          (pass (lt-ltb (4 * (a % 4) + b / 16) (g .terms .members) (omega arith))
+          (pass (lt-ltb (b % 16) (g .terms .members) (omega arith))
+          none))))))))
+          (λ d. withTableBit g k (word d) (place d)) (rw z refl)
+
+      bit-adds : Adds 7 (tableSays T) bits X Ready g k a b
+      bit-adds = ⊎-elim two-adds one-adds (true-or-false (pairTable T k))
+
+  of-bits : Kind 7 (tableSays T) bits X Ready
   of-bits = record {
     none = λ g h l. h .no-bits l;
     up-to = λ g t h. h .bits-rise;
-    adds = λ g t h k a b e z. bit-adds g t k a b e z;
+    adds = λ g t h k a b al bl e z. bit-adds g t k a b e z (h .short);
   }
 
   -- The terms, the edges and the bits have been read, and no event edge.
@@ -120,20 +184,20 @@ module _ (T : Terms) (good : Good T) (R : Relations) (X : Tables) (inside : Insi
     edges = t .edges;
   }
 
-  bits-done : (g : File) → Below 7 TableBit bits X Ready 131072 g → Bitted g
+  bits-done : (g : File) → Below 7 (tableSays T) bits X Ready 131072 g → Bitted g
   bits-done g t =
       let s = t .ready .settled-so in
       let m = good .few-tables in
       record {
         edged-so = t .ready;
-        table = all-read 7 TableBit bits X Ready of-bits 131072 (tables T) (T .members) (omega arith) (good .few-members) inside g
-            (subst (λ (x : Terms). Inside (tables x) (x .members) (g .table)) (s .terms) (s .going-so .bits)) t;
+        table = all-read 7 (tableSays T) bits X Ready of-bits 131072 (tables T) (omega arith) (tables-bounded T good X inside) g
+            (tables-bounded T good (g .table) (subst (λ (x : Terms). InsideTables x (g .table)) (s .terms) (s .going-so .bits))) t;
       }
 
-  bits-done-from : (g : File) → Edged T R true 6 g → Reached g (listed 131072 (bitAt TableBit X)) Bitted
+  bits-done-from : (g : File) → Edged T R true 6 g → Reached g (listed 131072 (bitAt (tableSays T) X)) Bitted
   bits-done-from g t =
       let h = t .settled-so .high in
-      reached-so (bits-read 7 TableBit bits X Ready of-bits 131072 g (before-bits g t) (t .settled-so .going-so) (omega arith)) bits-done
+      reached-so (bits-read 7 (tableSays T) bits X Ready of-bits 131072 g (before-bits g t) (t .settled-so .going-so) (omega arith)) bits-done
 
   -- ---- the event edge
 

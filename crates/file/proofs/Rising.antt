@@ -1,5 +1,5 @@
 -- Reading what is written of set bits, each with one line, rising: the edges of the relations or the bits of the tables.
-use Prim.Native.Nat.{ℕ, zero, suc, _*_, _/_, _%_, _≤_, _<_}
+use Prim.Native.Nat.{ℕ, zero, suc, _+_, _*_, _/_, _%_, _≤_, _<_}
 use mathlib.Core.Path.{_≡_, sym, subst, fun-ext, _∙_}
 use mathlib.Core.Logic.{_⊎_, inl, inr, ⊎-elim}
 use mathlib.Core.List.{[], _∷_}
@@ -9,7 +9,7 @@ use lib.Dec.{eqb, ltb}
 use borrow.Author.Tests.{eq-eqb, eqb-true, ltb-false, lt-ltb}
 use Rattle.sets.proofs.Finite.{bool-iff, is-false, true-or-false, not-both, and-left, and-right, and-both, or-left, or-right, last-or-below}
 use Rattle.file.specs.File.{File, withBit, after}
-use Rattle.file.specs.Reading.{tests, rises}
+use Rattle.file.specs.Reading.{tests, rises, risesPair}
 use Rattle.file.specs.Writing.{listed, bitAt}
 use Rattle.file.specs.declared.line.Line.{Line}
 use Rattle.file.proofs.Printed.{Ranged}
@@ -18,8 +18,15 @@ use Rattle.file.proofs.Taken.{Reached, reached-then, reached-one, reach
 use Rattle.file.proofs.Fit.{code, Inside, UpTo}
 use Rattle.file.proofs.Going.{Going, going}
 
+-- Each bit is of one of so many relations or tables, at a word and a bit of it.
+abbrev pub Bounded : (kinds : ℕ) → ((k a b : ℕ) → Bool) → Type 0
+Bounded kinds R = (k a b : ℕ) → R k a b ≡ true → (k < kinds) × (a < 64) × (b < 64)
+
+pub bounded : {kinds members : ℕ} {R : (k a b : ℕ) → Bool} → members < 65 → Inside kinds members R → Bounded kinds R
+bounded l i k a b e = let h = i .within k a b e in let h1 = h .1 in let h2 = h .2 in (h .0, omega arith, omega arith)
+
 -- a bit is the first of its kind, or its number is above the last one's
-code-rises : (kind : ℕ) (f : File) (k a b : ℕ) → a < 64 → b < 64 → (f .from < 64) × (f .to < 64)
+pub code-rises : (kind : ℕ) (f : File) (k a b : ℕ) → a < 64 → b < 64 → (f .from < 64) × (f .to < 64)
     → (f .phase < kind) ⊎ (code (f .relation) (f .from) (f .to) < code k a b) → rises kind f k a b ≡ true
 code-rises kind f k a b p q s h =
     let s0 = s .0 in let s1 = s .1 in
@@ -38,6 +45,33 @@ code-rises kind f k a b p q s h =
     (true-or-false (ltb (f .relation) k))))
     h
 
+-- the same of a bit of a table with two columns
+pub code-rises-pair : (f : File) (t i k : ℕ) → i < 64 → k < 64 → (f .from < 64) × (f .to < 64)
+    → (f .phase < 7) ⊎ (code (f .relation) (f .from) (f .to) < code t i k) → risesPair f t (i / 4) (4 * (i % 4) + k / 16) (k % 16) ≡ true
+code-rises-pair f t i k p q s h =
+    let s0 = s .0 in let s1 = s .1 in
+    let a : ℕ = i / 4 in let b : ℕ = 4 * (i % 4) + k / 16 in let c : ℕ = k % 16 in
+    let x : ℕ = f .from / 4 in let y : ℕ = 4 * (f .from % 4) + f .to / 16 in
+    ⊎-elim
+    (λ l. or-left (ltb (f .phase) 7) _ (lt-ltb (f .phase) 7 l))
+    (λ l. or-right (ltb (f .phase) 7) _ (⊎-elim
+    (λ z. or-left (ltb (f .relation) t) _ z)
+    (λ z. let n = ltb-false (f .relation) t z in
+    let e : f .relation ≡ t = omega arith in
+    or-right (ltb (f .relation) t) _ (and-both (eqb (f .relation) t) _ (eq-eqb (f .relation) t e) (⊎-elim
+    (λ u. or-left (ltb x a) _ u)
+    (λ u. let m = ltb-false x a u in
+    let d : x ≡ a = omega arith in
+    or-right (ltb x a) _ (and-both (eqb x a) _ (eq-eqb x a d) (⊎-elim
+    (λ v. or-left (ltb y b) _ v)
+    (λ v. let o = ltb-false y b v in
+    let w : y ≡ b = omega arith in
+    or-right (ltb y b) _ (and-both (eqb y b) _ (eq-eqb y b w) (lt-ltb (f .to % 16) c (omega arith))))
+    (true-or-false (ltb y b)))))
+    (true-or-false (ltb x a)))))
+    (true-or-false (ltb (f .relation) t))))
+    h
+
 -- The kind of lines, what a line says, what has been said by such lines, the bits that are written, and what else holds of a file read so far.
 module _ (kind : ℕ) (says : ℕ → ℕ → ℕ → Line) (bits : File → (k a b : ℕ) → Bool) (R : (k a b : ℕ) → Bool) (Ready : File → Type 0) where
   -- The line of a bit passes, and adds the bit.
@@ -51,7 +85,8 @@ module _ (kind : ℕ) (says : ℕ → ℕ → ℕ → Line) (bits : File → (k 
   pub record Kind : Type 0 where
     pub none : (g : File) → Going g → g .phase < kind → (k a b : ℕ) → bits g k a b ≡ false
     pub up-to : (g : File) → Ready g → Going g → UpTo (bits g) (g .relation) (g .from) (g .to)
-    pub adds : (g : File) → Ready g → Going g → (k a b : ℕ) → R k a b ≡ true → rises kind g k a b ≡ true → Adds g k a b
+    pub adds : (g : File) → Ready g → Going g → (k a b : ℕ) → a < 64 → b < 64 → R k a b ≡ true
+        → (g .phase < kind) ⊎ (code (g .relation) (g .from) (g .to) < code k a b) → Adds g k a b
 
   -- The bits with numbers below q have been read.
   pub record Below (q : ℕ) (g : File) : Type 0 where
@@ -82,9 +117,8 @@ module _ (kind : ℕ) (says : ℕ → ℕ → ℕ → Line) (bits : File → (k 
       line : Adds g k a b
       line =
           let c : code k a b ≡ q = omega arith in
-          of-kind .adds g (t .ready) (t .going-so) k a b e
-          (code-rises kind g k a b (omega arith) (omega arith) (t .going-so .short)
-          (subst (λ (n : ℕ). (g .phase < kind) ⊎ (code (g .relation) (g .from) (g .to) < n)) (sym c) (t .last)))
+          of-kind .adds g (t .ready) (t .going-so) k a b (omega arith) (omega arith) e
+          (subst (λ (n : ℕ). (g .phase < kind) ⊎ (code (g .relation) (g .from) (g .to) < n)) (sym c) (t .last))
 
       with-bit : (l c d : ℕ) → c < 64 → d < 64 → code l c d < suc q → withBit (bits g) k a b l c d ≡ R l c d
       with-bit l c d hc hd h =
@@ -139,11 +173,10 @@ module _ (kind : ℕ) (says : ℕ → ℕ → ℕ → Line) (bits : File → (k 
     bits-read (suc q) g r h l = reached-then (bits-read q g r h l) (λ f u. bit-read q f u)
 
     -- where all bits lie below q, these are all
-    pub all-read : (q kinds members : ℕ) → kinds * 4096 ≤ q → members < 65 → Inside kinds members R
-        → (g : File) → Inside kinds members (bits g) → Below q g → bits g ≡ R
-    all-read q kinds members h n inside g i t = fun-ext (λ k. fun-ext (λ a. fun-ext (λ b. bool-iff (bits g k a b) (R k a b)
-        (λ e. sym (below k a b (i .within k a b e)) ∙ e)
-        (λ e. below k a b (inside .within k a b e) ∙ e))))
+    pub all-read : (q kinds : ℕ) → kinds * 4096 ≤ q → Bounded kinds R → (g : File) → Bounded kinds (bits g) → Below q g → bits g ≡ R
+    all-read q kinds h inside g i t = fun-ext (λ k. fun-ext (λ a. fun-ext (λ b. bool-iff (bits g k a b) (R k a b)
+        (λ e. sym (below k a b (i k a b e)) ∙ e)
+        (λ e. below k a b (inside k a b e) ∙ e))))
       where
-        below : (k a b : ℕ) → (k < kinds) × (a < members) × (b < members) → bits g k a b ≡ R k a b
-        below k a b p = let p0 = p .0 in let p1 = p .1 in let p2 = p .2 in t .same k a b (omega arith) (omega arith) (omega arith)
+        below : (k a b : ℕ) → (k < kinds) × (a < 64) × (b < 64) → bits g k a b ≡ R k a b
+        below k a b p = let p0 = p .0 in let p1 = p .1 in let p2 = p .2 in t .same k a b p1 p2 (omega arith)

@@ -19,7 +19,7 @@ use Rattle.file.specs.Reading.Reading.{accepted}
 use Rattle.file.specs.Said.{records, membersSaid, relationsSaid, eventsSaid, entriesSaid, policiesSaid, effectsSaid, keptSaid, edgesSaid, tablesSaid, lastSaid, storedSaid, termsSaid}
 use Rattle.file.specs.declared.line.Line.{Line}
 use Rattle.file.proofs.Printed.{Ranged}
-use Rattle.file.proofs.Printed.Ranged.{members, labels, entry, policy, effect, edge, form, bit, event, mark}
+use Rattle.file.proofs.Printed.Ranged.{members, labels, entry, policy, effect, edge, form, bit, pair, event, mark}
 use Rattle.file.specs.Refused.{Passed}
 use Rattle.file.proofs.Taken.{passed-at, Taken, reading-accepting}
 use Rattle.file.proofs.Taken.Taken.{none, one}
@@ -132,6 +132,9 @@ plus-line f (edge h i j) p ls =
     rw (le-ltb (f .phase) 1 (omega arith), le-ltb (f .phase) 2 z) refl
 plus-line f (form h) p ls = refl
 plus-line f (bit h i j) p ls =
+    let z = complete-phase f (passed-at p 1) in
+    rw (le-ltb (f .phase) 1 (omega arith), le-ltb (f .phase) 2 z) refl
+plus-line f (pair h i j k) p ls =
     let z = complete-phase f (passed-at p 1) in
     rw (le-ltb (f .phase) 1 (omega arith), le-ltb (f .phase) 2 z) refl
 plus-line f (event h i j) p ls =

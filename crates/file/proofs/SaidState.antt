@@ -8,6 +8,7 @@ use native.Mathlib.Omega.{arith}
 use lib.Dec.{eqb, ltb}
 use borrow.Author.Tests.{not-true, eqb-true, ltb-true, leb-true, lt-ltb}
 use Rattle.sets.proofs.Finite.{true-or-false}
+use Rattle.theory.specs.Columns.{pairWord, pairBit}
 use Rattle.theory.specs.Moment.{Relations, Event}
 use Rattle.theory.specs.Tables.{Tables}
 use Rattle.file.specs.File.{File, nothing, withBit, after}
@@ -15,7 +16,7 @@ use Rattle.file.specs.Reading.{tests}
 use Rattle.file.specs.Said.{edgesSaid, tablesSaid, lastSaid, storedSaid}
 use Rattle.file.specs.declared.line.Line.{Line}
 use Rattle.file.proofs.Printed.{Ranged}
-use Rattle.file.proofs.Printed.Ranged.{members, labels, entry, policy, effect, edge, form, bit, event, mark}
+use Rattle.file.proofs.Printed.Ranged.{members, labels, entry, policy, effect, edge, form, bit, pair, event, mark}
 use Rattle.file.specs.Refused.{Passed}
 use Rattle.file.proofs.Taken.{passed-at, Taken}
 use Rattle.file.proofs.Taken.Taken.{none, one}
@@ -72,6 +73,14 @@ beside-line f (bit {t = t} {a = a} {b = b} h i j) p ls =
     rw (lt-ltb (f .phase) 8 (omega arith)) (λ i. record {
       edges = λ l c d. f .edges l c d || edgesSaid ls l c d;
       table = λ s c d. bit-line (f .table) (tablesSaid ls) t a b s c d i;
+      last = lastSaid ls;
+      stored = f .stored || storedSaid ls;
+    })
+beside-line f (pair {t = t} {a = a} {b = b} {c = c} h i j k) p ls =
+    let z = leb-true (f .phase) 7 (passed-at p 2) in
+    rw (lt-ltb (f .phase) 8 (omega arith)) (λ i. record {
+      edges = λ l c d. f .edges l c d || edgesSaid ls l c d;
+      table = λ s c' d. bit-line (f .table) (tablesSaid ls) t (pairWord a b) (pairBit b c) s c' d i;
       last = lastSaid ls;
       stored = f .stored || storedSaid ls;
     })

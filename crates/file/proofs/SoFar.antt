@@ -11,9 +11,9 @@ use Rattle.sets.proofs.Finite.{true-or-false, is-false, and-left, and-right}
 use Rattle.theory.specs.Formula as formulas
 use Rattle.theory.specs.Terms as terms
 use Rattle.file.specs.File.{File, update, withBit, eventSaid}
-use Rattle.file.specs.Writing.{listed, effectLines, bitAt, eventEdgeLine}
+use Rattle.file.specs.Writing.{tableSays, listed, effectLines, bitAt, eventEdgeLine}
 use Rattle.file.specs.declared.line.Line.{Line}
-use Rattle.file.specs.declared.line.Line.the-variants.{Members, Labels, Entry, Policy, Effect, Edge, Form, TableBit, EventEdge, Mark}
+use Rattle.file.specs.declared.line.Line.the-variants.{Members, Labels, Entry, Policy, Effect, Edge, Form, EventEdge, Mark}
 use Rattle.file.proofs.Update.{update-same, update-other}
 use Rattle.file.proofs.Fit.{code}
 use Rattle.file.proofs.Listed.{listed-none, listed-more, listed-changed}
@@ -68,7 +68,7 @@ module _ (f : File) where
   edgesOf = bitLines 65536 Edge (f .edges)
 
   abbrev pub bitsOf : List Line
-  bitsOf = bitLines 131072 TableBit (f .table)
+  bitsOf = bitLines 131072 (tableSays (f .terms)) (f .table)
 
   abbrev pub afterEdges : List Line
   afterEdges = bitsOf ++ eventEdgeLine (f .last)

@@ -1,18 +1,20 @@
 -- What the lines of a file have said so far, and what a line more makes of it (docs/SCOPE.md, The terms file and The stored form).
 use Prim.Native.Nat.{ℕ, _+_, _-_}
 use mathlib.Core.Bool.{Bool, true, false, cond, _&&_}
-use mathlib.Core.List.{[], _∷_, _++_}
+use mathlib.Core.List.{List, [], _∷_, _++_}
 use lib.Dec.{eqb, ltb}
-use Rattle.theory.specs.Terms.{Terms}
+use Rattle.theory.specs.Formula.{columns}
+use Rattle.theory.specs.Columns.{pairWord, pairBit}
+use Rattle.theory.specs.Terms.{Terms, formula, tables, pastEntry}
 use Rattle.theory.specs.Moment.{Relations, Event}
 use Rattle.theory.specs.Moment.Event.{none, happened, tried}
 use Rattle.theory.specs.Tables.{Tables, State}
 use Rattle.theory.specs.Limits.{maxEvents}
 use Rattle.file.specs.declared.line.Line.{Line}
-use Rattle.file.specs.declared.line.Line.the-variants.{Members, Labels, Entry, Policy, Effect, Edge, Form, TableBit, EventEdge, Mark, Malformed}
+use Rattle.file.specs.declared.line.Line.the-variants.{Members, Labels, Entry, Policy, Effect, Edge, Form, TableBit, PairBit, EventEdge, Mark, Malformed}
 
 -- What the lines so far have said. It is the stored form if it began with an S line. The phase is the number of the last kind: 0 none or S, 1 M, 2 L, 3 F,
--- 4 P or K, 5 E, 6 G, 7 T, 8 V. Marks is one past the last event marked as kept. The last edge or bit of a table is relation (or table), from, to.
+-- 4 P or K, 5 E, 6 G, 7 T, 8 V. Marks is one past the last event marked as kept. The last edge or bit of a table is relation (or table), from (or word), to (or bit).
 pub record File : Type 0 where
   pub stored : Bool
   pub phase : ℕ
@@ -114,12 +116,38 @@ withMark T j = record {
 abbrev pub withBit : ((k a b : ℕ) → Bool) → (k a b : ℕ) → (l c d : ℕ) → Bool
 withBit R k a b l c d = cond (eqb l k && (eqb c a && eqb d b)) true (R l c d)
 
+-- Table t is there and has two columns: its T lines have a field more.
+abbrev pub hasTwo : List ℕ → Bool
+hasTwo [] = false
+hasTwo (x ∷ []) = false
+hasTwo (x ∷ y ∷ zs) = true
+
+abbrev pub pairTable : Terms → (t : ℕ) → Bool
+pairTable T t = ltb t (tables T) && hasTwo (columns (formula T (pastEntry T t)))
+
 -- A V line names a granted event by its number, a denied one by its number plus 16 (docs/SCOPE.md, The stored form): which event it is, and the event edge.
 abbrev pub eventNamed : ℕ → ℕ
 eventNamed j = cond (ltb j maxEvents) j (j - maxEvents)
 
 abbrev pub eventSaid : (j u v : ℕ) → Event
 eventSaid j u v = cond (ltb j maxEvents) (happened j u v) (tried (j - maxEvents) u v)
+
+-- With bit k of word i of table t, after a T line.
+abbrev pub withTableBit : File → (t i k : ℕ) → File
+withTableBit f t i k = record {
+  stored = f .stored;
+  phase = 7;
+  terms = f .terms;
+  edges = f .edges;
+  table = withBit (f .table) t i k;
+  last = f .last;
+  policies = f .policies;
+  marks = f .marks;
+  event = f .event;
+  relation = t;
+  from = i;
+  to = k;
+}
 
 -- What has been said once a line is taken in.
 unfoldable pub after : File → Line → File
@@ -239,20 +267,8 @@ after f (Form n) = record {
   from = f .from;
   to = f .to;
 }
-after f (TableBit t a b) = record {
-  stored = f .stored;
-  phase = 7;
-  terms = f .terms;
-  edges = f .edges;
-  table = withBit (f .table) t a b;
-  last = f .last;
-  policies = f .policies;
-  marks = f .marks;
-  event = f .event;
-  relation = t;
-  from = a;
-  to = b;
-}
+after f (TableBit t a b) = withTableBit f t a b
+after f (PairBit t a b c) = withTableBit f t (pairWord a b) (pairBit b c)
 after f (EventEdge j u v) = record {
   stored = f .stored;
   phase = 8;

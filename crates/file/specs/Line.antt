@@ -9,7 +9,7 @@ use Rattle.fields.specs.Split.{join}
 use Rattle.fields.specs.Number.{isNumber, valueOf, digits}
 use Rattle.file.specs.Words.{operatorWords, actionWords, directionWords, kindWords, operatorOf, actionOf, directionOf, kindOf}
 use Rattle.file.specs.declared.line.Line.{Line}
-use Rattle.file.specs.declared.line.Line.the-variants.{Members, Labels, Entry, Policy, Effect, Edge, Form, TableBit, EventEdge, Mark, Malformed}
+use Rattle.file.specs.declared.line.Line.the-variants.{Members, Labels, Entry, Policy, Effect, Edge, Form, TableBit, PairBit, EventEdge, Mark, Malformed}
 
 -- The value of field k; whether the fields numbered in the list are numbers.
 abbrev pub num : List (List ℕ) → ℕ → ℕ
@@ -58,6 +58,14 @@ unfoldable pub tripleLine : (ℕ → ℕ → ℕ → Line) → List (List ℕ) �
 tripleLine says fs =
     cond (every (eqb (length fs) 4 ∷ isNum fs 1 ∷ isNum fs 2 ∷ isNum fs 3 ∷ [])) (says (num fs 1) (num fs 2) (num fs 3)) Malformed
 
+-- A T line of a table with two columns has a field more.
+unfoldable pub pairLine : List (List ℕ) → Line
+pairLine fs =
+    cond (every (eqb (length fs) 5 ∷ isNum fs 1 ∷ isNum fs 2 ∷ isNum fs 3 ∷ isNum fs 4 ∷ [])) (PairBit (num fs 1) (num fs 2) (num fs 3) (num fs 4)) Malformed
+
+unfoldable pub tableLine : List (List ℕ) → Line
+tableLine fs = cond (eqb (length fs) 5) (pairLine fs) (tripleLine TableBit fs)
+
 -- What a line of kind k, in the order of the kinds' words, says.
 unfoldable pub lineOf : ℕ → List (List ℕ) → Line
 lineOf zero fs = singleLine Members fs
@@ -67,7 +75,7 @@ lineOf (suc (suc (suc zero))) fs = policyLine fs
 lineOf (suc (suc (suc (suc zero)))) fs = effectLine fs
 lineOf (suc (suc (suc (suc (suc zero))))) fs = tripleLine Edge fs
 lineOf (suc (suc (suc (suc (suc (suc zero)))))) fs = singleLine Form fs
-lineOf (suc (suc (suc (suc (suc (suc (suc zero))))))) fs = tripleLine TableBit fs
+lineOf (suc (suc (suc (suc (suc (suc (suc zero))))))) fs = tableLine fs
 lineOf (suc (suc (suc (suc (suc (suc (suc (suc zero)))))))) fs = tripleLine EventEdge fs
 lineOf (suc (suc (suc (suc (suc (suc (suc (suc (suc zero))))))))) fs = singleLine Mark fs
 lineOf (suc (suc (suc (suc (suc (suc (suc (suc (suc (suc k)))))))))) fs = Malformed
@@ -86,6 +94,7 @@ fieldsOf (Effect j c k d) = getD kindWords 4 [] ∷ digits j ∷ getD ([] ∷ ac
 fieldsOf (Edge k a b) = getD kindWords 5 [] ∷ digits k ∷ digits a ∷ digits b ∷ []
 fieldsOf (Form n) = getD kindWords 6 [] ∷ digits n ∷ []
 fieldsOf (TableBit t a b) = getD kindWords 7 [] ∷ digits t ∷ digits a ∷ digits b ∷ []
+fieldsOf (PairBit t a b c) = getD kindWords 7 [] ∷ digits t ∷ digits a ∷ digits b ∷ digits c ∷ []
 fieldsOf (EventEdge j u v) = getD kindWords 8 [] ∷ digits j ∷ digits u ∷ digits v ∷ []
 fieldsOf (Mark j) = getD kindWords 9 [] ∷ digits j ∷ []
 fieldsOf Malformed = []

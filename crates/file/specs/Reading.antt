@@ -5,17 +5,18 @@ use mathlib.Core.List.{List, [], _∷_}
 use lib.Dec.{eqb, ltb, leb}
 use lib.ListN.{length}
 use Rattle.sets.specs.Sets.{allBelow}
-use Rattle.theory.specs.Formula.{Operand, firstOperand, secondOperand, thirdOperand, number, isPast}
+use Rattle.theory.specs.Formula.{Operand, firstOperand, secondOperand, thirdOperand, number, isPast, columns}
 use Rattle.theory.specs.Formula.Operand.{unused, variable, binder, label, entry, count}
 use Rattle.theory.specs.Terms.{labels, formula, tables, pastEntry}
-use Rattle.theory.specs.Fit.{_⇒_, lone, onlyFree, closed, reachFits}
+use Rattle.theory.specs.Columns.{columnsFit, pairMember, pairFirst, pairLast}
+use Rattle.theory.specs.Fit.{_⇒_, onlyFree, closed, reachFits}
 use Rattle.theory.specs.Limits.{maxMembers, maxRelations, maxEvents, maxEntries, maxTables, maxEffects, variables, maxCount}
 use Rattle.fields.specs.Split.{Lines, split, lines}
 use Rattle.fields.specs.Split.Lines.{done, cut, line}
 use Rattle.file.specs.Line.{parsed}
-use Rattle.file.specs.File.{File, nothing, withEntry, eventNamed, after}
+use Rattle.file.specs.File.{File, nothing, withEntry, eventNamed, pairTable, after}
 use Rattle.file.specs.declared.line.Line.{Line}
-use Rattle.file.specs.declared.line.Line.the-variants.{Members, Labels, Entry, Policy, Effect, Edge, Form, TableBit, EventEdge, Mark, Malformed}
+use Rattle.file.specs.declared.line.Line.the-variants.{Members, Labels, Entry, Policy, Effect, Edge, Form, TableBit, PairBit, EventEdge, Mark, Malformed}
 
 -- An operand that is no entry is in its range; one that is an entry is lower than its own.
 unfoldable pub inRange : Operand → (labels v : ℕ) → Bool
@@ -43,6 +44,13 @@ abbrev pub rises : (kind : ℕ) → File → (k a b : ℕ) → Bool
 rises kind f k a b =
     ltb (f .phase) kind
     || (ltb (f .relation) k || (eqb (f .relation) k && (ltb (f .from) a || (eqb (f .from) a && ltb (f .to) b))))
+
+-- The same of a table with two columns, by table, member, and the members of both columns, as they are written.
+abbrev pub risesPair : File → (t a b c : ℕ) → Bool
+risesPair f t a b c =
+    ltb (f .phase) 7
+    || (ltb (f .relation) t || (eqb (f .relation) t && (ltb (pairMember (f .from)) a || (eqb (pairMember (f .from)) a
+    && (ltb (pairFirst (f .from) (f .to)) b || (eqb (pairFirst (f .from) (f .to)) b && ltb (pairLast (f .to)) c))))))
 
 -- A test of a line: the number that it is refused with where the test fails, and whether it passes.
 pub record Test : Type 0 where
@@ -76,7 +84,7 @@ tests f (Entry n o a b c) =
     ∷ test 3 (isLower (firstOperand o) n a)
     ∷ test 3 (isLower (secondOperand o) n b)
     ∷ test 3 (isLower (thirdOperand o) n c)
-    ∷ test 4 (isPast o ⇒ lone (formula (withEntry (f .terms) n o a b c) n))
+    ∷ test 4 (isPast o ⇒ columnsFit (f .terms .members) (columns (formula (withEntry (f .terms) n o a b c) n)))
     ∷ test 10 (eqb o 10 ⇒ reachFits a (formula (f .terms) b) (formula (f .terms) c))
     ∷ []
 tests f (Policy j n) =
@@ -112,9 +120,20 @@ tests f (TableBit t a b) =
     ∷ test 1 (complete f)
     ∷ test 1 (leb (f .phase) 7)
     ∷ test 1 (rises 7 f t a b)
+    ∷ test 1 (not (pairTable (f .terms) t))
     ∷ test 2 (ltb t (tables (f .terms)))
     ∷ test 2 (ltb a (f .terms .members))
     ∷ test 2 (ltb b (f .terms .members))
+    ∷ []
+tests f (PairBit t a b c) =
+    test 1 (f .stored)
+    ∷ test 1 (complete f)
+    ∷ test 1 (leb (f .phase) 7)
+    ∷ test 1 (risesPair f t a b c)
+    ∷ test 1 (pairTable (f .terms) t)
+    ∷ test 2 (ltb a (f .terms .members))
+    ∷ test 2 (ltb b (f .terms .members))
+    ∷ test 2 (ltb c (f .terms .members))
     ∷ []
 tests f (EventEdge j u v) =
     test 1 (f .stored)
@@ -162,6 +181,7 @@ partlyFilled f (Effect j c k d) = false
 partlyFilled f (Edge k a b) = false
 partlyFilled f (Form n) = false
 partlyFilled f (TableBit t a b) = partly f t a
+partlyFilled f (PairBit t a b c) = false
 partlyFilled f (EventEdge j u v) = false
 partlyFilled f (Mark j) = false
 partlyFilled f Malformed = false

@@ -5,6 +5,7 @@ use mathlib.Core.List.{List, [], _∷_}
 use lib.Dec.{eqb}
 use lib.ListN.{length, getD}
 use Rattle.theory.specs.Formula as formulas
+use Rattle.theory.specs.Columns.{pairWord, pairBit}
 use Rattle.theory.specs.Terms as terms
 use Rattle.theory.specs.Terms.{Terms}
 use Rattle.theory.specs.Moment.{Relations, Event}
@@ -15,7 +16,7 @@ use Rattle.fields.specs.Split.Lines.{done, cut, line}
 use Rattle.file.specs.Line.{parsed}
 use Rattle.file.specs.File.{eventSaid}
 use Rattle.file.specs.declared.line.Line.{Line}
-use Rattle.file.specs.declared.line.Line.the-variants.{Members, Labels, Entry, Policy, Effect, Edge, Form, TableBit, EventEdge, Mark, Malformed}
+use Rattle.file.specs.declared.line.Line.the-variants.{Members, Labels, Entry, Policy, Effect, Edge, Form, TableBit, PairBit, EventEdge, Mark, Malformed}
 
 -- The lines of a text.
 unfoldable pub records : Lines → List Line
@@ -34,6 +35,7 @@ membersIn (Effect j c k d) rest = rest
 membersIn (Edge k a b) rest = rest
 membersIn (Form n) rest = rest
 membersIn (TableBit t a b) rest = rest
+membersIn (PairBit t a b c) rest = rest
 membersIn (EventEdge j u v) rest = rest
 membersIn (Mark j) rest = rest
 membersIn Malformed rest = rest
@@ -47,6 +49,7 @@ relationsIn (Effect j c k d) rest = rest
 relationsIn (Edge k a b) rest = rest
 relationsIn (Form n) rest = rest
 relationsIn (TableBit t a b) rest = rest
+relationsIn (PairBit t a b c) rest = rest
 relationsIn (EventEdge j u v) rest = rest
 relationsIn (Mark j) rest = rest
 relationsIn Malformed rest = rest
@@ -60,6 +63,7 @@ eventsIn (Effect j c k d) rest = rest
 eventsIn (Edge k a b) rest = rest
 eventsIn (Form n) rest = rest
 eventsIn (TableBit t a b) rest = rest
+eventsIn (PairBit t a b c) rest = rest
 eventsIn (EventEdge j u v) rest = rest
 eventsIn (Mark j) rest = rest
 eventsIn Malformed rest = rest
@@ -73,6 +77,7 @@ entryIn (Effect j c k d) rest = rest
 entryIn (Edge k a b) rest = rest
 entryIn (Form n) rest = rest
 entryIn (TableBit t a b) rest = rest
+entryIn (PairBit t a b c) rest = rest
 entryIn (EventEdge j u v) rest = rest
 entryIn (Mark j) rest = rest
 entryIn Malformed rest = rest
@@ -86,6 +91,7 @@ policyIn (Effect j c k d) rest = rest
 policyIn (Edge k a b) rest = rest
 policyIn (Form n) rest = rest
 policyIn (TableBit t a b) rest = rest
+policyIn (PairBit t a b c) rest = rest
 policyIn (EventEdge j u v) rest = rest
 policyIn (Mark j) rest = rest
 policyIn Malformed rest = rest
@@ -100,6 +106,7 @@ effectIn i (Effect j c k d) rest = cond (eqb i j) (record { adds = eqb c 1; rela
 effectIn i (Edge k a b) rest = rest
 effectIn i (Form n) rest = rest
 effectIn i (TableBit t a b) rest = rest
+effectIn i (PairBit t a b c) rest = rest
 effectIn i (EventEdge j u v) rest = rest
 effectIn i (Mark j) rest = rest
 effectIn i Malformed rest = rest
@@ -114,6 +121,7 @@ markIn (Effect j c k d) i = false
 markIn (Edge k a b) i = false
 markIn (Form n) i = false
 markIn (TableBit t a b) i = false
+markIn (PairBit t a b c) i = false
 markIn (EventEdge j u v) i = false
 markIn (Mark j) i = eqb i j
 markIn Malformed i = false
@@ -127,6 +135,7 @@ edgeIn (Effect j c' k d') l c d = false
 edgeIn (Edge k a b) l c d = eqb l k && (eqb c a && eqb d b)
 edgeIn (Form n) l c d = false
 edgeIn (TableBit t a b) l c d = false
+edgeIn (PairBit t a b c') l c d = false
 edgeIn (EventEdge j u v) l c d = false
 edgeIn (Mark j) l c d = false
 edgeIn Malformed l c d = false
@@ -140,6 +149,7 @@ tableIn (Effect j c' k d') l c d = false
 tableIn (Edge k a b) l c d = false
 tableIn (Form n) l c d = false
 tableIn (TableBit t a b) l c d = eqb l t && (eqb c a && eqb d b)
+tableIn (PairBit t a b c') l c d = eqb l t && (eqb c (pairWord a b) && eqb d (pairBit b c'))
 tableIn (EventEdge j u v) l c d = false
 tableIn (Mark j) l c d = false
 tableIn Malformed l c d = false
@@ -153,6 +163,7 @@ lastIn (Effect j c k d) rest = rest
 lastIn (Edge k a b) rest = rest
 lastIn (Form n) rest = rest
 lastIn (TableBit t a b) rest = rest
+lastIn (PairBit t a b c) rest = rest
 lastIn (EventEdge j u v) rest = eventSaid j u v
 lastIn (Mark j) rest = rest
 lastIn Malformed rest = rest
@@ -166,6 +177,7 @@ formIn (Effect j c k d) rest = rest
 formIn (Edge k a b) rest = rest
 formIn (Form n) rest = true
 formIn (TableBit t a b) rest = rest
+formIn (PairBit t a b c) rest = rest
 formIn (EventEdge j u v) rest = rest
 formIn (Mark j) rest = rest
 formIn Malformed rest = rest

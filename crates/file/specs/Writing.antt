@@ -2,6 +2,7 @@
 use Prim.Native.Nat.{ℕ, zero, suc, _+_, _/_, _%_}
 use mathlib.Core.Bool.{Bool, cond}
 use mathlib.Core.List.{List, [], _∷_, _++_}
+use Rattle.theory.specs.Columns.{pairMember, pairFirst, pairLast}
 use Rattle.theory.specs.Terms.{Terms}
 use Rattle.theory.specs.Terms as terms
 use Rattle.theory.specs.Moment.{Relations, Event}
@@ -9,8 +10,9 @@ use Rattle.theory.specs.Moment.Event.{none, happened, tried}
 use Rattle.theory.specs.Tables.{State}
 use Rattle.theory.specs.Limits.{maxEvents}
 use Rattle.file.specs.Line.{printed}
+use Rattle.file.specs.File.{pairTable}
 use Rattle.file.specs.declared.line.Line.{Line}
-use Rattle.file.specs.declared.line.Line.the-variants.{Members, Labels, Entry, Policy, Effect, Edge, Form, TableBit, EventEdge, Mark}
+use Rattle.file.specs.declared.line.Line.the-variants.{Members, Labels, Entry, Policy, Effect, Edge, Form, TableBit, PairBit, EventEdge, Mark}
 
 -- The lists f 0, f 1, .. f (n − 1), one after the other.
 unfoldable pub listed : ℕ → (ℕ → List Line) → List Line
@@ -33,6 +35,10 @@ effectLines j (e ∷ es) = Effect j (cond (e .adds) 1 2) (e .relation) (cond (e 
 abbrev pub bitAt : (ℕ → ℕ → ℕ → Line) → ((k a b : ℕ) → Bool) → ℕ → List Line
 bitAt says R q = cond (R (q / 4096) (q / 64 % 64) (q % 64)) (says (q / 4096) (q / 64 % 64) (q % 64) ∷ []) []
 
+-- The line of bit k of word i of table t.
+abbrev pub tableSays : Terms → (t i k : ℕ) → Line
+tableSays T t i k = cond (pairTable T t) (PairBit t (pairMember i) (pairFirst i k) (pairLast k)) (TableBit t i k)
+
 -- The lines of the terms with the relations R.
 unfoldable pub allLines : Terms → Relations → List Line
 allLines T R =
@@ -53,7 +59,7 @@ eventEdgeLine (tried j u v) = EventEdge (maxEvents + j) u v ∷ []
 -- The lines of the stored form: S 2, the lines above, each set bit of a table, the event edge.
 unfoldable pub storedLines : Terms → State → List Line
 storedLines T S =
-    Form 2 ∷ (allLines T (S .now .edge) ++ (listed 131072 (bitAt TableBit (S .table)) ++ eventEdgeLine (S .now .event)))
+    Form 2 ∷ (allLines T (S .now .edge) ++ (listed 131072 (bitAt (tableSays T) (S .table)) ++ eventEdgeLine (S .now .event)))
 
 -- Lines as a text: each ends with a line feed.
 unfoldable pub printedAll : List Line → List ℕ

@@ -12,11 +12,11 @@ use theory::operators::OPERATORS;
 use theory::operators::REACH;
 ghost use mathlib.Core.Path.{_≡_};
 ghost use mathlib.Core.List.{[]};
-ghost use lib.ListN.{getD};
+ghost use lib.ListN.{length, getD};
 ghost use Rattle.fields.specs.Split.{split};
 ghost use Rattle.fields.specs.Number.{numberOf};
 ghost use Rattle.file.specs.Words.{operatorOf};
-ghost use Rattle.file.specs.Line.{singleLine, labelsLine, shortEntryLine, longEntryLine, entryLine, policyLine, effectLine, tripleLine, parsed};
+ghost use Rattle.file.specs.Line.{singleLine, labelsLine, shortEntryLine, longEntryLine, entryLine, policyLine, effectLine, tripleLine, pairLine, parsed};
 ghost use Rattle.file.specs.declared.line.Line.the-variants.{Members, Edge, Form, TableBit, EventEdge, Mark};
 
 // One line of a terms file, as what it says.
@@ -29,6 +29,7 @@ pub enum Line {
     Edge(usize, usize, usize),
     Form(usize),
     TableBit(usize, usize, usize),
+    PairBit(usize, usize, usize, usize),
     EventEdge(usize, usize, usize),
     Mark(usize),
     Malformed,
@@ -174,13 +175,14 @@ fn effect_line(l: &[u8]) -> Line
     Line::Effect(j, action, k, direction)
 }
 
-// A line of three numbers, by its kind: `G` relation from to, `T` table member other, `V` event from to.
-fn triple_line(l: &[u8], kind: usize) -> Line
+// A line of three numbers, by its kind: `G` relation from to, `T` table member other, `V` event from to; it has n fields.
+fn triple_line(l: &[u8], n: usize, kind: usize) -> Line
+    requires { ⌜ n ≡ length (split 9 (now l)) ⌝ }
     ensures { λ r. ⌜ (kind ≡ 5 → r ≡ tripleLine Edge (split 9 (now (l .entry))))
         × (kind ≡ 7 → r ≡ tripleLine TableBit (split 9 (now (l .entry))))
         × (kind ≡ 8 → r ≡ tripleLine EventEdge (split 9 (now (l .entry)))) ⌝ }
 {
-    if pieces(l, 9) != 4 {
+    if n != 4 {
         return Line::Malformed;
     }
     let Number::Value(k) = number_at(l, 1) else {
@@ -199,20 +201,45 @@ fn triple_line(l: &[u8], kind: usize) -> Line
     }
 }
 
-// What a line says, by the kind that its first field names.
+// A line `T` table member b c.
+fn pair_line(l: &[u8]) -> Line
+    requires { ⌜ length (split 9 (now l)) ≡ 5 ⌝ }
+    ensures { λ r. ⌜ r ≡ pairLine (split 9 (now (l .entry))) ⌝ }
+{
+    let Number::Value(t) = number_at(l, 1) else {
+        return Line::Malformed;
+    };
+    let Number::Value(a) = number_at(l, 2) else {
+        return Line::Malformed;
+    };
+    let Number::Value(b) = number_at(l, 3) else {
+        return Line::Malformed;
+    };
+    let Number::Value(c) = number_at(l, 4) else {
+        return Line::Malformed;
+    };
+    Line::PairBit(t, a, b, c)
+}
+
+// What a line says, by the kind that its first field names. A `T` line has a fifth field where its table has two columns.
 pub fn parse_line(l: &[u8]) -> Line
     ensures { λ r. ⌜ r ≡ parsed (split 9 (now (l .entry))) ⌝ }
 {
-    match read_kind(piece(l, 9, 0)) {
+    let kind = read_kind(piece(l, 9, 0));
+    let n = pieces(l, 9);
+    if (kind == 7) & (n == 5) {
+        return pair_line(l);
+    }
+    match kind {
         0 => single_line(l, 0),
         1 => labels_line(l),
         2 => entry_line(l),
         3 => policy_line(l),
         4 => effect_line(l),
-        5 => triple_line(l, 5),
+        5 => triple_line(l, n, 5),
         6 => single_line(l, 6),
-        7 => triple_line(l, 7),
-        8 => triple_line(l, 8),
+        7 => triple_line(l, n, 7),
+        8 => triple_line(l, n, 8),
         9 => single_line(l, 9),
         _ => Line::Malformed,
     }

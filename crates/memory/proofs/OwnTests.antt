@@ -13,8 +13,8 @@ use Rattle.theory.specs.Terms.{Terms, formula, tables}
 use Rattle.theory.specs.Fit.{_⇒_, every, closed}
 use Rattle.theory.proofs.Good.{Good}
 use Rattle.theory.proofs.Spelled.{number-lt}
-use Rattle.memory.specs.Layout.{relationWords, ownWords, relationAt, tableAt, joined}
-use Rattle.memory.specs.Checks.{fits, level, goodEvent, goodRelations, goodState}
+use Rattle.memory.specs.Layout.{relationWords, ownWords, relationAt, tableAt, tableColumns, joined}
+use Rattle.memory.specs.Checks.{fits, tableFits, level, goodEvent, goodRelations, goodState}
 use Rattle.memory.specs.Own.{ownTests, goodOwn}
 use Rattle.memory.specs.Outcome.{goodBanks}
 
@@ -38,7 +38,7 @@ module _ (T : Terms) (g : Good T) (w r o : List ℕ) (first : (i : ℕ) → i < 
   unfolding goodState goodOwn goodRelations every
   good-apart =
       ap₂ _&&_ (all-cong 16 (λ k kl. all-cong 64 (λ a al. ap (fits (T .members) (ltb k (T .relations)) a) (first (relationAt k a) (omega arith)))))
-      (ap₂ _&&_ (all-cong 32 (λ t tl. all-cong 64 (λ a al. ap (fits (T .members) (ltb t (tables T)) a) (table t a tl al))))
+      (ap₂ _&&_ (all-cong 32 (λ t tl. all-cong 64 (λ a al. ap (tableFits (T .members) (tableColumns T t) (ltb t (tables T)) a) (table t a tl al))))
       (ap₂ _&&_ (all-cong (T .entries) (λ n nl. under (isPast (T .entry n .op)) (λ past. ap (λ b. closed (formula T n) ⇒ b)
       (all-cong 64 (λ a al. ap (level (T .members)) (table (number (T .entry) n) a
       (omega (arith, number-lt (T .entry) n (T .entries) nl past, g .few-tables)) al))))))

@@ -9,12 +9,12 @@ use Rattle.theory.specs.Formula.{number, isPast}
 use Rattle.theory.specs.Terms.{Terms, formula, tables}
 use Rattle.theory.specs.Fit.{_⇒_, every, closed}
 use Rattle.theory.specs.Limits.{maxMembers, maxTables}
-use Rattle.memory.specs.Layout.{blockWords}
-use Rattle.memory.specs.Checks.{fits, level, goodEvent}
+use Rattle.memory.specs.Layout.{blockWords, tableColumns}
+use Rattle.memory.specs.Checks.{tableFits, level, goodEvent}
 
 abbrev pub ownTests : Terms → List ℕ → List Bool
 ownTests T w =
-    allBelow maxTables (λ t. allBelow maxMembers (λ a. fits (T .members) (ltb t (tables T)) a (getD w (blockWords * t + a) 0)))
+    allBelow maxTables (λ t. allBelow maxMembers (λ a. tableFits (T .members) (tableColumns T t) (ltb t (tables T)) a (getD w (blockWords * t + a) 0)))
     ∷ allBelow (T .entries) (λ n. isPast (T .entry n .op) ⇒ (closed (formula T n) ⇒
     allBelow maxMembers (λ a. level (T .members) (getD w (blockWords * number (T .entry) n + a) 0))))
     ∷ goodEvent T (getD w 2048 0)

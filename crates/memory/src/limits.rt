@@ -14,3 +14,6 @@ pub const EFFECTS: usize = 4;
 pub const VARIABLES: usize = 16;
 
 pub const COUNT: usize = 64;
+
+// The most members with which a past-time table has two columns.
+pub const PAIR_MEMBERS: usize = 16;

@@ -46,7 +46,7 @@ fn prev_turn(
     ensures { λ _. ⌜ MemoOf (termsOf (now (terms .entry))) (now (relations .entry) ++ now (own .exit)) n (now (memo .exit)) ⌝ }
 {
     if layout::op_of(terms, n) == PREV {
-        asking::prev_rows(terms, plan, relations, own, memo, n, rows);
+        asking::prev_table(terms, plan, relations, own, memo, n, rows);
         put_table(plan, own, rows, n);
     }
 }
@@ -69,7 +69,7 @@ pub(crate) fn since_turn(
     ensures { λ _. ⌜ MemoOf (termsOf (now (terms .entry))) (now (relations .entry) ++ now (own .exit)) (termsOf (now (terms .entry)) .entries) (now (memo .exit)) × Fresh (termsOf (now (terms .entry)) .entries) n (now (memo .exit)) ⌝ }
 {
     if layout::op_of(terms, n) == SINCE {
-        asking::since_rows(terms, plan, relations, own, memo, n, f, rows);
+        asking::since_table(terms, plan, relations, own, memo, n, f, rows);
         put_table(plan, own, rows, n);
     }
 }

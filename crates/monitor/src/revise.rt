@@ -1,12 +1,12 @@
 // New terms while playing (docs/SCOPE.md, New terms): a second state is filled in for them from the old one. Its tables are filled in over relations and own words apart, of one state or of a bank.
 ghost use mathlib.Core.Path.{_≡_};
 ghost use mathlib.Core.List.{[], _++_};
-ghost use Prim.Native.Nat.{_+_, _*_, _/_, _<_, _≤_};
+ghost use Prim.Native.Nat.{_+_, _*_, _<_, _≤_};
 ghost use lib.ListN.{length, getD, take, drop};
-ghost use Rattle.theory.specs.Limits.{variables};
 ghost use Rattle.theory.specs.Tables.{revised};
 ghost use Rattle.memory.specs.Layout.{relationWords, ownWords, blockWords, termsOf, stateOf, wordsOf};
 ghost use Rattle.memory.specs.Outcome.{outcomeOf, revises};
+ghost use Rattle.memory.specs.Plan.{planTable};
 ghost use Rattle.calls.specs.Revising.{revisedState};
 ghost use Rattle.deciding.specs.Memo.{MemoOf, Fresh};
 ghost use Rattle.deciding.specs.Moving.{put};
@@ -18,8 +18,8 @@ use crate::moment::put_table;
 use memory::Outcome;
 use memory::layout;
 use memory::limits::ENTRIES;
-use memory::limits::VARIABLES;
 use memory::plan::is_past;
+use memory::plan::table_of;
 
 const TABLES: usize = layout::TABLES_AT;
 
@@ -41,11 +41,11 @@ pub(crate) fn copy(to: &mut [u64], from: &[u64])
 
 // Fills in the table of new entry n with that of old entry k.
 fn take_table(before: &[u16], own: &[u64], plan: &[u16], second: &mut [u64], k: usize, n: usize)
-    requires { ⌜ blockWords * (getD (now before) k 0 / variables) + blockWords ≤ length (now own) ⌝ }
-    requires { ⌜ blockWords * (getD (now plan) n 0 / variables) + blockWords ≤ length (now second) ⌝ }
-    ensures { λ _. ⌜ now (second .exit) ≡ put (blockWords * (getD (now (plan .entry)) n 0 / variables)) (take blockWords (drop (blockWords * (getD (now (before .entry)) k 0 / variables)) (now (own .entry)))) (now (second .entry)) ⌝ }
+    requires { ⌜ blockWords * planTable (getD (now before) k 0) + blockWords ≤ length (now own) ⌝ }
+    requires { ⌜ blockWords * planTable (getD (now plan) n 0) + blockWords ≤ length (now second) ⌝ }
+    ensures { λ _. ⌜ now (second .exit) ≡ put (blockWords * planTable (getD (now (plan .entry)) n 0)) (take blockWords (drop (blockWords * planTable (getD (now (before .entry)) k 0)) (now (own .entry)))) (now (second .entry)) ⌝ }
 {
-    let t = ROWS * (layout::word(before, k) / VARIABLES);
+    let t = ROWS * table_of(layout::word(before, k));
     put_table(plan, second, &own[t..t + ROWS], n);
 }
 

@@ -3,25 +3,27 @@ use Prim.Native.Nat.{ℕ, _+_, _-_, _*_, _/_, _%_, _^_, _≤_, _<_}
 use native.Mathlib.Omega.{arith}
 use mathlib.Core.Path.{_≡_, refl, sym, ap, ap₂, _∙_}
 use mathlib.Core.Logic.{⊎-elim}
-use mathlib.Core.List.{List}
-use mathlib.Core.Bool.{Bool, true, false, cond, _&&_, _||_}
+use mathlib.Core.List.{List, [], _∷_}
+use mathlib.Core.Bool.{Bool, true, false, cond, _&&_, _||_, false≢true}
 use lib.Bits.{bitOr, or-lt}
 use lib.Dec.{eqb, ltb}
 use lib.ListN.{length, getD, set, replicate}
 use lib.Pow.{pow-lt}
 use borrow.Author.Tests.{eq-eqb, ne-eqb, lt-ltb, le-ltb, ltb-true, ltb-false, eqb-true, eqb-false}
-use Rattle.sets.specs.Sets.{pack}
-use Rattle.sets.proofs.Finite.{true-or-false, and-right, is-false, not-both}
+use Rattle.sets.specs.Sets.{bit, pack}
+use Rattle.theory.specs.Columns.{inside}
+use Rattle.theory.proofs.Good.{implies}
+use Rattle.sets.proofs.Finite.{true-or-false, and-left, and-right, and-both, all-true, is-false, not-both}
 use Rattle.sets.proofs.Bits.{bits-equal, bits-below, bit-set}
 use Rattle.sets.proofs.Pack.{bit-pack, pack-cong, pack-lt, pack-none}
 use Rattle.theory.specs.Terms.{tables}
 use Rattle.theory.specs.Moment.{Relations}
 use Rattle.theory.specs.Tables.{Tables}
-use Rattle.memory.specs.Layout.{stateWords, relationAt, tableAt, eventAt, eventWord, row, wordAt, wordsOf, tabulate}
-use Rattle.memory.specs.Checks.{fits}
-use Rattle.memory.proofs.Row.{length-tabulate, getD-tabulate, row-fits}
+use Rattle.memory.specs.Layout.{stateWords, relationAt, tableAt, eventAt, eventWord, row, tableColumns, tableRow, wordAt, wordsOf, tabulate}
+use Rattle.memory.specs.Checks.{fits, tableFits}
+use Rattle.memory.proofs.Row.{length-tabulate, getD-tabulate, row-fits, row-fits-table}
 use Rattle.file.specs.File.{File, update, withBit, stateSaid}
-use Rattle.file.proofs.Fit.{Inside}
+use Rattle.file.proofs.Fit.{Inside, InsideTables}
 use Rattle.reader.specs.Storing.{withBitAt}
 use Rattle.reader.proofs.Tabulated.{tabulate-cong, set-tabulate, tabulate-none}
 
@@ -181,9 +183,34 @@ module _ (kinds N : ℕ) (R : Blocks) (few : N < 65) (inside : Inside kinds N R)
       row-fits N (ltb k kinds) (R k) a (pack 64 (R k a))
       (λ b l. sym (bit-pack 64 (R k a) b ∙ rw (lt-ltb b 64 (omega arith)))) word-fits
 
+-- a word of a table with these columns, where c says whether it is there
+module _ (N : ℕ) (few : N < 65) (p : ℕ → ℕ → Bool) (i : ℕ) where
+  one : (c : Bool) → ((k : ℕ) → p i k ≡ true → (c ≡ true) × (i < N) × (k < N)) → fits N c i (pack 64 (p i)) ≡ true
+  one c h = go (c && ltb i N) refl
+    where
+      go : (d : Bool) → (c && ltb i N) ≡ d → cond d (ltb (pack 64 (p i)) (2 ^ N)) (eqb (pack 64 (p i)) 0) ≡ true
+      go true e =
+          lt-ltb (pack 64 (p i)) (2 ^ N) (bits-below N (pack 64 (p i)) 64 (pack-lt 64 (p i))
+          (λ b t. h b (and-right (ltb b 64) _ (sym (bit-pack 64 (p i) b) ∙ t)) .2))
+      go false e =
+          eq-eqb (pack 64 (p i)) 0 (pack-cong 64 (λ b _. is-false (p i b) (λ t. let q = h b t in not-both _ (ap₂ _&&_ (q .0) (lt-ltb i N (q .1))) e)) ∙ pack-none 64)
+
+  packed-fits : (cs : List ℕ) (c : Bool) → ((k : ℕ) → p i k ≡ true → (c ≡ true) × (inside N cs i k ≡ true)) → tableFits N cs c i (pack 64 (p i)) ≡ true
+  packed-fits [] c h = one c (λ k e. let q = h k e in (q .0, ltb-true i N (and-left (ltb i N) _ (q .1)), ltb-true k N (and-right (ltb i N) _ (q .1))))
+  packed-fits (x ∷ []) c h = one c (λ k e. let q = h k e in (q .0, ltb-true i N (and-left (ltb i N) _ (q .1)), ltb-true k N (and-right (ltb i N) _ (q .1))))
+  packed-fits (x ∷ y ∷ zs) true h =
+      and-both _ _ (lt-ltb (pack 64 (p i)) (2 ^ 64) (pack-lt 64 (p i)))
+      (all-true 64 (λ k _. implies (bit (pack 64 (p i)) k) (λ e. h k (and-right (ltb k 64) _ (sym (bit-pack 64 (p i) k) ∙ e)) .1)))
+  packed-fits (x ∷ y ∷ zs) false h =
+      eq-eqb (pack 64 (p i)) 0 (pack-cong 64 (λ k _. is-false (p i k) (λ e. false≢true (h k e .0))) ∙ pack-none 64)
+
+  pub packed-row : (cs : List ℕ) (c : Bool) → ((k : ℕ) → p i k ≡ true → (c ≡ true) × (inside N cs i k ≡ true)) → pack 64 (p i) ≡ cond c (tableRow N cs p i) 0
+  packed-row cs c h =
+      row-fits-table N few cs c p i (pack 64 (p i)) (λ k l. sym (bit-pack 64 (p i) k ∙ rw (lt-ltb k 64 l))) (packed-fits cs c h)
+
 -- what the lines have put there is what the file says
 module _ (f : File) (few : f .terms .members < 65) (edges : Inside (f .terms .relations) (f .terms .members) (f .edges))
-    (bits : Inside (tables (f .terms)) (f .terms .members) (f .table))
+    (bits : InsideTables (f .terms) (f .table))
   where
     pub bits-words : bitsOf f ≡ wordsOf (f .terms) (stateSaid f)
     unfolding bitsMemory wordsOf wordAt
@@ -192,7 +219,7 @@ module _ (f : File) (few : f .terms .members < 65) (edges : Inside (f .terms .re
         go : (i : ℕ) (c : Bool) → ltb i 1024 ≡ c → (d : Bool) → ltb i eventAt ≡ d →
             cond d (pack 64 (together (f .edges) (f .table) (i / 64) (i % 64))) (eventWord (f .last))
             ≡ cond c (cond (ltb (i / 64) (f .terms .relations)) (row (f .terms .members) (f .edges (i / 64)) (i % 64)) 0)
-            (cond d (cond (ltb ((i - 1024) / 64) (tables (f .terms))) (row (f .terms .members) (f .table ((i - 1024) / 64)) (i % 64)) 0) (eventWord (f .last)))
+            (cond d (cond (ltb ((i - 1024) / 64) (tables (f .terms))) (tableRow (f .terms .members) (tableColumns (f .terms) ((i - 1024) / 64)) (f .table ((i - 1024) / 64)) (i % 64)) 0) (eventWord (f .last)))
         go i true p true q =
             let l = ltb-true i 1024 p in
             let some : ltb (i / 64) 16 ≡ true = lt-ltb (i / 64) 16 (omega arith) in
@@ -204,5 +231,6 @@ module _ (f : File) (few : f .terms .members < 65) (edges : Inside (f .terms .re
             let t : i / 64 - 16 ≡ (i - 1024) / 64 = omega arith in
             let none : ltb (i / 64) 16 ≡ false = le-ltb (i / 64) 16 (omega arith) in
             ap (pack 64) (λ d b. cond (none d) (f .edges (i / 64) (i % 64) b) (f .table (t d) (i % 64) b))
-            ∙ (inside-word (tables (f .terms)) (f .terms .members) (f .table) few bits ((i - 1024) / 64) (i % 64))
+            ∙ packed-row (f .terms .members) few (f .table ((i - 1024) / 64)) (i % 64) (tableColumns (f .terms) ((i - 1024) / 64)) (ltb ((i - 1024) / 64) (tables (f .terms)))
+            (λ k e. let w = bits .within ((i - 1024) / 64) (i % 64) k e in (lt-ltb ((i - 1024) / 64) (tables (f .terms)) (w .0), w .1))
         go i false p false q = refl

@@ -1,39 +1,44 @@
 -- The counters stand for what the lines have said: the tests against them come to the same.
-use Prim.Native.Nat.{ℕ, suc, _+_, _-_, _*_, _^_, _≤_, _<_}
+use Prim.Native.Nat.{ℕ, suc, _+_, _*_, _^_, _≤_, _<_}
 use native.Mathlib.Omega.{arith}
 use native.Mathlib.Numerals.{add-one}
 use mathlib.Core.Path.{_≡_, refl, sym, ap, subst, _∙_}
 use mathlib.Core.Logic.{⊎-elim}
-use mathlib.Core.List.{List, []}
-use mathlib.Core.Bool.{Bool, true, cond}
-use lib.Bits.{bitAnd}
+use mathlib.Core.List.{List, [], append-nil}
+use mathlib.Core.Bool.{Bool, true, cond, not}
 use lib.Dec.{eqb, ltb}
 use lib.ListN.{length, getD, drop, set, length-set}
 use lib.Seq.{getD-set-same, getD-set-other}
 use borrow.Author.Tests.{eqb-true, eqb-false, ltb-true, leb-true}
 use Rattle.sets.specs.Sets.{bit}
 use Rattle.sets.proofs.Finite.{true-or-false, last-or-below}
-use Rattle.theory.specs.Formula.{Formula, Operand, node, number, below, spelled, free, firstOperand, secondOperand, thirdOperand, isPast}
+use Rattle.theory.specs.Formula.{Formula, Operand, node, number, below, spelled, free, columns, firstOperand, secondOperand, thirdOperand, isPast}
 use Rattle.theory.specs.Formula as formulas
 use Rattle.theory.specs.Formula.Operand.{variable, entry}
 use Rattle.theory.specs.Terms.{formula}
-use Rattle.theory.specs.Terms.{tables}
-use Rattle.theory.specs.Fit.{_⇒_, lone, reachFits}
-use Rattle.memory.specs.Plan.{Masked, reachSets}
+use Rattle.theory.specs.Terms.{tables, pastEntry}
+use Rattle.theory.specs.Fit.{_⇒_, reachFits}
+use Rattle.theory.specs.Columns.{columnsFit}
+use Rattle.memory.specs.Plan.{Masked, setFits, reachSets}
 use Rattle.theory.proofs.Spelled.{below-spelled, small-below, small-node}
 use Rattle.theory.proofs.Good.{fits-variable}
-use Rattle.memory.proofs.FreeSets.{lone-set, target-set, reach-set}
-use Rattle.file.specs.File.{File, update, withEntry}
-use Rattle.file.specs.Reading.{inRange, isLower, tests}
+use Rattle.memory.proofs.FreeSets.{fit-set, target-set, reach-set}
+use Rattle.file.specs.File.{File, update, withEntry, pairTable}
+use Rattle.file.specs.Reading.{inRange, isLower, complete, tests}
 use Rattle.reader.specs.Stepping.{slot}
-use Rattle.reader.specs.Testing.{contextTests, FreeIn, reachIn}
+use Rattle.reader.specs.Testing.{isPair, contextTests, FreeIn, reachIn}
+use Rattle.reader.specs.Memory.{memoryOf}
+use Rattle.memory.specs.Layout.{termsOf}
 use Rattle.file.specs.declared.line.Line.{Line}
-use Rattle.file.specs.declared.line.Line.the-variants.{Members, Labels, Entry, Policy, Effect, Edge, Form, TableBit, EventEdge, Mark, Malformed}
+use Rattle.file.specs.declared.line.Line.the-variants.{Members, Labels, Entry, Policy, Effect, Edge, Form, TableBit, PairBit, EventEdge, Mark, Malformed}
 use Rattle.reader.specs.declared.step.Context.{Context}
-use Rattle.theory.proofs.Like.{number-agree, below-agree, spelled-agree}
+use Rattle.theory.proofs.Like.{Alike, number-agree, below-agree, spelled-agree}
 use Rattle.file.proofs.Update.{update-same, update-other}
 use Rattle.file.proofs.Fit.{operand-fits}
 use Rattle.file.proofs.Going.{Going}
+use Rattle.file.proofs.Accepted.{going-good}
+use Rattle.reader.proofs.TermsMemory.{memory-alike}
+use Rattle.reader.proofs.PairTables.{pair-same}
 use Rattle.file.proofs.Printed.Ranged.{members, event}
 use Rattle.reader.proofs.Tried.{Same, same-all, same-test}
 
@@ -99,7 +104,7 @@ module _ (f : File) (o a b c : ℕ) where
   formula-old : (k : ℕ) → k < n → spelled e' k ≡ spelled e k
   formula-old k l = spelled-agree e' e k (λ j m. old j (omega arith))
 
-  module _ (g : Going f) (masks : List ℕ) (masked : Masked (f .terms) masks) (m : ℕ) (is : FreeIn masks (Entry n o a b c) m)
+  module _ (g : Going f) (masks : List ℕ) (masked : Masked (f .terms) masks) (m : ℕ) (is : FreeIn [] masks (Entry n o a b c) m)
       (ra : inRange (firstOperand o) (f .terms .relations + 2 * f .terms .events) a ≡ true)
       (la : isLower (firstOperand o) n a ≡ true) (lb : isLower (secondOperand o) n b ≡ true)
       (lc : isLower (thirdOperand o) n c ≡ true)
@@ -130,8 +135,8 @@ module _ (f : File) (o a b c : ℕ) where
           (subst (λ (h : ℕ → Formula). (k x : ℕ) → free (h k) x ≡ true → x < 16) (sym (below-agree e' e n old)) (small-entries f g n (omega arith)))
           variable-small x (sym (ap (λ φ. free φ x) spelled-new) ∙ p)
 
-      lone-new : m < 2 ^ 64 → eqb (bitAnd m (m - 1)) 0 ≡ lone (spelled e' n)
-      lone-new fits = lone-set m fits (spelled e' n) free-new small-new
+      fit-new : m < 2 ^ 64 → setFits (f .terms .members) m ≡ columnsFit (f .terms .members) (columns (spelled e' n))
+      fit-new fits = fit-set m fits (spelled e' n) free-new small-new (f .terms .members)
 
       -- the test of a reach by sets is that by formulas
       reach-new : (eqb o 10 ⇒ reachSets a (getD masks b 0) (getD masks c 0)) ≡ (eqb o 10 ⇒ reachFits a (formula (f .terms) b) (formula (f .terms) c))
@@ -170,17 +175,26 @@ module _ (f : File) (g : Going f) (j : ℕ) (l : f .event ≤ j) where
 
 -- ---- the tests come to the same
 
-module _ (f : File) (g : Going f) (masks : List ℕ) (masked : Masked (f .terms) masks) (m : ℕ) (fits : m < 2 ^ 64) where
-  entry-tests : (r : Bool) (o a b c : ℕ) → FreeIn masks (Entry (f .terms .entries) o a b c) m → r ≡ reachIn masks (Entry (f .terms .entries) o a b c) →
+module _ (f : File) (g : Going f) (terms : List ℕ) (words : terms ≡ memoryOf (f .terms)) (masks : List ℕ) (masked : Masked (f .terms) masks) (m : ℕ)
+    (fits : m < 2 ^ 64) where
+  -- a table that is there has two columns by the set of its entry, where all policies have been given
+  pair-test : complete f ≡ true → (t : ℕ) → m ≡ getD masks (pastEntry (termsOf terms) t) 0 → isPair (contextOf f) m t ≡ pairTable (f .terms) t
+  pair-test c t is =
+      let a = going-good f c g in
+      pair-same (f .terms) (a .0) (termsOf terms)
+      (subst (λ (w : List ℕ). Alike (f .terms) (termsOf w)) (append-nil (memoryOf (f .terms)) ∙ sym words) (memory-alike (f .terms) (a .0) (a .1) []))
+      masks masked t m fits is
+
+  entry-tests : (r : Bool) (o a b c : ℕ) → FreeIn [] masks (Entry (f .terms .entries) o a b c) m → r ≡ reachIn masks (Entry (f .terms .entries) o a b c) →
       Same (drop 2 (contextTests (contextOf f) m r (Entry (f .terms .entries) o a b c))) (drop 2 (tests f (Entry (f .terms .entries) o a b c)))
   unfolding contextTests tests
   entry-tests r o a b c is reach =
       same-test refl (λ _. same-test refl (λ ra. same-test refl (λ _. same-test refl (λ _. same-test refl (λ _.
       same-test refl (λ la. same-test refl (λ lb. same-test refl (λ lc.
-      same-test (ap (_⇒_ (isPast o)) (lone-new f o a b c g masks masked m is ra la lb lc fits)) (λ _.
+      same-test (ap (_⇒_ (isPast o)) (fit-new f o a b c g masks masked m is ra la lb lc fits)) (λ _.
       same-test (reach ∙ reach-new f o a b c g masks masked m is ra la lb lc) (λ _. same-all []))))))))))
 
-  pub tests-same : (r : Bool) (l : Line) → FreeIn masks l m → r ≡ reachIn masks l → Same (contextTests (contextOf f) m r l) (tests f l)
+  pub tests-same : (r : Bool) (l : Line) → FreeIn terms masks l m → r ≡ reachIn masks l → Same (contextTests (contextOf f) m r l) (tests f l)
   unfolding contextTests tests
   tests-same q (Members n) is reach = same-all _
   tests-same q (Labels r e) is reach = same-all _
@@ -198,7 +212,12 @@ module _ (f : File) (g : Going f) (masks : List ℕ) (masked : Masked (f .terms)
       same-test (ap (λ (s : ℕ). ltb s 4) (slot-is f g j (leb-true (f .event) j p))) (λ _. same-all _)))))
   tests-same q (Edge k a b) is reach = same-all _
   tests-same q (Form n) is reach = same-all _
-  tests-same q (TableBit t a b) is reach = same-all _
+  tests-same q (TableBit t a b) is reach =
+      same-test refl (λ _. same-test refl (λ c. same-test refl (λ _. same-test refl (λ _.
+      same-test (ap not (pair-test c t is)) (λ _. same-all _)))))
+  tests-same q (PairBit t a b d) is reach =
+      same-test refl (λ _. same-test refl (λ c. same-test refl (λ _. same-test refl (λ _.
+      same-test (pair-test c t is) (λ _. same-all _)))))
   tests-same q (EventEdge j u v) is reach = same-all _
   tests-same q (Mark j) is reach = same-all _
   tests-same q Malformed is reach = same-all _

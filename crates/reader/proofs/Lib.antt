@@ -5,6 +5,7 @@ pub mod TermsMemory
 pub mod Tabulated
 pub mod Stored
 pub mod Bits
+pub mod PairTables
 pub mod Counters
 pub mod Passing
 pub mod Turns

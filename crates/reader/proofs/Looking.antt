@@ -10,7 +10,7 @@ use lib.ListN.{length, getD, take, drop}
 use lib.Pow.{pow-mono}
 use borrow.Author.Tests.{eqb-true, eq-eqb, ne-eqb, lt-ltb, ltb-true, ltb-false, not-true}
 use Rattle.sets.specs.Sets.{bit, allBelow}
-use Rattle.sets.proofs.Finite.{bool-iff, is-false, not-both, and-right, all-true, all-out}
+use Rattle.sets.proofs.Finite.{bool-iff, is-false, not-both, and-right, all-true, all-out, and-left, and-under}
 use Rattle.sets.proofs.Bits.{bit-zero, bit-mask, same-bits}
 use Rattle.sets.proofs.Pack.{pack-cong, pack-each}
 use Rattle.theory.specs.Formula.{free, highest}
@@ -19,7 +19,7 @@ use Rattle.theory.specs.Tables.{State}
 use Rattle.theory.specs.Fit.{closed}
 use Rattle.theory.proofs.Good.{Good, small}
 use Rattle.theory.proofs.Like.{Alike, met-is, same-past}
-use Rattle.memory.specs.Layout.{tableAt, termsOf, wordsOf}
+use Rattle.memory.specs.Layout.{tableAt, termsOf, wordsOf, tableColumns}
 use Rattle.memory.specs.Checks.{goodState}
 use Rattle.memory.specs.Outcome.{checks}
 use Rattle.memory.specs.Outcome.Outcome.{passed}
@@ -35,14 +35,15 @@ use Rattle.file.specs.File.{File, stateSaid}
 use Rattle.file.specs.Reading.{partly, partlyFilled, partlyAt}
 use Rattle.file.specs.Reading.Reading.{accepted}
 use Rattle.file.specs.declared.line.Line.{Line}
-use Rattle.file.specs.declared.line.Line.the-variants.{Members, Labels, Entry, Policy, Effect, Edge, Form, TableBit, EventEdge, Mark, Malformed}
-use Rattle.file.proofs.Fit.{Inside}
+use Rattle.file.specs.declared.line.Line.the-variants.{Members, Labels, Entry, Policy, Effect, Edge, Form, TableBit, PairBit, EventEdge, Mark, Malformed}
+use Rattle.file.proofs.Fit.{InsideTables}
 use Rattle.file.proofs.Accepted.{Accepted, read-good, level-read}
 use Rattle.reader.specs.Memory.{memoryOf}
 use Rattle.reader.specs.Storing.{allRead, Holds}
 use Rattle.reader.specs.Partly.{tableWord, partlyIn, Found}
 use Rattle.reader.proofs.TermsMemory.{memory-alike}
-use Rattle.reader.proofs.StateMemory.{state-alike, good-level}
+use Rattle.reader.proofs.StateMemory.{state-alike, good-level, bare-columns}
+use Rattle.theory.specs.Columns as places
 
 -- ---- the tables without a free variable
 
@@ -86,13 +87,15 @@ module _ (T : Terms) (fine : Good T) where
 
 -- ---- the words of the tables
 
-module _ (T : Terms) (fine : Good T) (S : State) (inside : Inside (tables T) (T .members) (S .table)) (t a : ℕ) where
+module _ (T : Terms) (fine : Good T) (S : State) (inside : InsideTables T (S .table)) (t a : ℕ) (bare : closed (formula T (pastEntry T t)) ≡ true) where
   abbrev full : ℕ
   full = 2 ^ T .members - 1
 
   all-inside : allBelow (T .members) (S .table t a) ≡ true → (t < tables T) × (a < T .members)
   all-inside e =
-      let i = inside .within t a 0 (all-out (T .members) (S .table t a) e 0 (fine .some-member)) in (i .0, i .1)
+      let i = inside .within t a 0 (all-out (T .members) (S .table t a) e 0 (fine .some-member)) in
+      let w : ltb a (T .members) && ltb 0 (T .members) ≡ true = rw (bare-columns (formula T (pastEntry T t)) bare) at (i .1) in
+      (i .0, ltb-true a (T .members) (and-left (ltb a (T .members)) _ w))
 
   some-full : 0 < full
   some-full = let p : 2 ^ 1 ≤ 2 ^ T .members = pow-mono (let q : 1 ≤ T .members = omega (arith, fine .some-member) in q) in omega arith
@@ -101,10 +104,10 @@ module _ (T : Terms) (fine : Good T) (S : State) (inside : Inside (tables T) (T 
       eqb (cond (p && q) (getD (wordsOf T S) (tableAt t a) 0) 0) full ≡ allBelow (T .members) (S .table t a)
   full-word true p true q =
       bool-iff _ _
-      (λ e. all-true (T .members) (λ b bl. and-right (ltb b (T .members)) _ (and-right (ltb a (T .members)) _ (and-right (ltb t (tables T)) _
-      (sym (word-table T S t a b tl al) ∙ ap (λ (w : ℕ). bit w b) (eqb-true _ full e) ∙ bit-mask (T .members) b ∙ lt-ltb b (T .members) bl)))))
+      (λ e. all-true (T .members) (λ b bl. and-right (places.inside (T .members) (tableColumns T t) a b) _ (and-right (ltb t (tables T)) _
+      (sym (word-table T S (fine .few-members) t a b tl al) ∙ ap (λ (w : ℕ). bit w b) (eqb-true _ full e) ∙ bit-mask (T .members) b ∙ lt-ltb b (T .members) bl))))
       (λ e. let i = all-inside e in
-      eq-eqb _ full (word-of-table T S t a tl al ∙ rw (lt-ltb t (tables T) (i .0), lt-ltb a (T .members) (i .1))
+      eq-eqb _ full (word-of-table T S t a tl al ∙ rw (bare-columns (formula T (pastEntry T t)) bare, lt-ltb t (tables T) (i .0), lt-ltb a (T .members) (i .1))
       (pack-cong (T .members) (λ b bl. all-out (T .members) (S .table t a) e b bl) ∙ omega (arith, pack-each (T .members)))))
     where
       tl : t < 32
@@ -143,9 +146,11 @@ module _ (f : File) (acc : Accepted f) (terms state masks : List ℕ) (holds : H
   line-partly full e (Edge k a b) = refl
   line-partly full e (Form n) = refl
   line-partly full e (TableBit t a b) =
-      ap₂ (λ (x y : Bool). x && not y) (bare-is T (acc .good) (termsOf terms) held-alike masks (holds .masked) t)
+      ap (λ (x : Bool). x && not (eqb (tableWord state t a) full)) (bare-is T (acc .good) (termsOf terms) held-alike masks (holds .masked) t)
+      ∙ and-under (closed (formula T (pastEntry T t))) _ _ (λ q. ap not
       (ap₂ (λ (w : List ℕ) (v : ℕ). eqb (tableWord w t a) v) (holds .state-is) e
-      ∙ full-word T (acc .good) (stateSaid f) (acc .bits) t a (ltb t 32) refl (ltb a 64) refl)
+      ∙ full-word T (acc .good) (stateSaid f) (acc .bits) t a q (ltb t 32) refl (ltb a 64) refl))
+  line-partly full e (PairBit t a b c) = refl
   line-partly full e (EventEdge j u v) = refl
   line-partly full e (Mark j) = refl
   line-partly full e Malformed = refl

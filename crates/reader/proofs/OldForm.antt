@@ -19,7 +19,7 @@ use Rattle.file.specs.Said.{records, formIn, storedSaid}
 use Rattle.file.specs.Reading.{tests, reading}
 use Rattle.file.specs.Reading.Reading.{accepted, refused}
 use Rattle.file.specs.declared.line.Line.{Line}
-use Rattle.file.proofs.Printed.Ranged.{members, labels, entry, policy, effect, edge, form, bit, event, mark}
+use Rattle.file.proofs.Printed.Ranged.{members, labels, entry, policy, effect, edge, form, bit, pair, event, mark}
 use Rattle.file.proofs.Taken.{passed-at, Taken, reading-accepting}
 use Rattle.file.proofs.Taken.Taken.{none, one}
 use Rattle.file.proofs.Said.{said}
@@ -42,6 +42,7 @@ no-form (one (effect i j k l m) p t) h = no-form t (inl (omega arith))
 no-form (one (edge i j k) p t) h = no-form t (inl (omega arith))
 no-form {f} (one (form i) p t) h = absurd (⊎-elim (λ l. omega (arith, eqb-true (f .phase) 0 (passed-at p 0))) (λ e. true≢false e) h)
 no-form (one (bit i j k) p t) h = no-form t (inl (omega arith))
+no-form (one (pair i j k l) p t) h = no-form t (inl (omega arith))
 no-form (one (event i j k) p t) h = no-form t (inl (omega arith))
 no-form (one (mark i) p t) h = no-form t (inl (omega arith))
 

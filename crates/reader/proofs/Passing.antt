@@ -8,27 +8,31 @@ use mathlib.Core.Bool.{true, cond}
 use lib.Dec.{eqb, ltb}
 use lib.ListN.{length, set, length-append}
 use borrow.Author.Tests.{eqb-true, ltb-true, ltb-false, leb-true}
-use Rattle.sets.proofs.Finite.{true-or-false, and-right}
+use Rattle.sets.proofs.Finite.{true-or-false, and-left, and-right}
 use Rattle.theory.specs.Formula.{Operand, firstOperand, secondOperand, thirdOperand}
-use Rattle.theory.specs.Formula as formulas
 use Rattle.theory.specs.Formula.Operand.{unused, variable, binder, label, entry, count}
-use Rattle.theory.specs.Terms.{tables}
+use Rattle.theory.specs.Columns.{pairWord, pairBit}
+use Rattle.theory.specs.Terms.{formula, tables, pastEntry}
+use Rattle.theory.specs.Formula.{columns}
+use Rattle.theory.proofs.Past.{past-entry}
+use Rattle.file.proofs.Accepted.{going-good}
+use Rattle.file.proofs.Fit.{two-few}
 use Rattle.memory.specs.Layout.{eventWord}
 use Rattle.memory.specs.Plan.{Masked}
 use Rattle.file.specs.File.{File, withEntry, eventNamed, eventSaid, after}
 use Rattle.file.specs.Reading.{inRange, isLower, tests}
 use Rattle.reader.specs.Memory.{memoryOf}
 use Rattle.reader.specs.Stepping.{Ranges, stepped}
-use Rattle.reader.specs.Testing.{FreeIn}
+use Rattle.reader.specs.Testing.{LastSet, FreeIn}
 use Rattle.reader.specs.Storing.{storedTerms, storedState, storedSets}
 use Rattle.file.specs.declared.line.Line.{Line}
-use Rattle.file.specs.declared.line.Line.the-variants.{Entry, Policy, Effect, Edge, TableBit, Mark}
+use Rattle.file.specs.declared.line.Line.the-variants.{Entry, Policy, Effect, Edge, TableBit, PairBit, Mark}
 use Rattle.file.specs.Refused.{Passed}
 use Rattle.file.proofs.Taken.{passed-at}
 use Rattle.file.proofs.Update.{update-same}
 use Rattle.file.proofs.Going.{Going, entry-phase, policy-phase, complete-phase}
 use Rattle.file.proofs.Printed.{Ranged}
-use Rattle.file.proofs.Printed.Ranged.{members, labels, entry as entryLine, policy, effect, edge, form, bit as tableBit, event, mark}
+use Rattle.file.proofs.Printed.Ranged.{members, labels, entry as entryLine, policy, effect, edge, form, bit as tableBit, pair, event, mark}
 use Rattle.reader.proofs.Stored.{members-stored, labels-stored, entry-stored, policy-stored, effect-stored, mark-stored}
 use Rattle.reader.proofs.Bits.{together, bitsMemory, bitsOf, edge-stored, table-stored, event-stored}
 use Rattle.reader.proofs.Counters.{contextOf, tables-new, slot-is, masked-new}
@@ -97,9 +101,21 @@ in-ranges (form {n = n} h) g p = eqb-true n 2 (passed-at p 2)
 in-ranges {f} (tableBit {t = t} {a = a} {b = b} h i j) g p =
     let z : 2 ≤ f .phase = complete-phase f (passed-at p 1) in
     let s : f .terms .members < 65 = g .members (omega arith) .1 in (
-      omega (arith, ltb-true t (tables (f .terms)) (passed-at p 4), g .entries .few-tables),
+      omega (arith, ltb-true t (tables (f .terms)) (passed-at p 5), g .entries .few-tables),
+      omega (arith, ltb-true a (f .terms .members) (passed-at p 6)),
+      omega (arith, ltb-true b (f .terms .members) (passed-at p 7)),
+    )
+in-ranges {f} (pair {t = t} {a = a} {b = b} {c = c} h i j k) g p =
+    let there : ltb t (tables (f .terms)) ≡ true = and-left (ltb t (tables (f .terms))) _ (passed-at p 4) in
+    let e = going-good f (passed-at p 1) g .0 in
+    let x = past-entry (f .terms) t (ltb-true t (tables (f .terms)) there) in
+    let few : f .terms .members < 17 =
+    two-few (f .terms .members) (columns (formula (f .terms) (pastEntry (f .terms) t))) (and-right (ltb t (tables (f .terms))) _ (passed-at p 4))
+    (e .entry (pastEntry (f .terms) t) (x .exists) .columns-fit (x .past)) in (
+      omega (arith, ltb-true t (tables (f .terms)) there, g .entries .few-tables),
       omega (arith, ltb-true a (f .terms .members) (passed-at p 5)),
       omega (arith, ltb-true b (f .terms .members) (passed-at p 6)),
+      omega (arith, ltb-true c (f .terms .members) (passed-at p 7)),
     )
 in-ranges {f} (event {j = j} {u = u} {v = v} h i k) g p =
     let z : 2 ≤ f .phase = complete-phase f (passed-at p 1) in
@@ -131,26 +147,44 @@ context-after {f} (effect {j = j} {c = c} {k = k} {d = d} h i q m n) g p =
 context-after (edge h i j) g p = refl
 context-after (form h) g p = refl
 context-after (tableBit h i j) g p = refl
+context-after (pair h i j k) g p = refl
 context-after (event h i k) g p = refl
 context-after (mark h) g p = refl
 
 -- the sets of free variables after it
-pub masked-after : {f : File} {l : Line} → Ranged l → Going f → Passed (tests f l) → (masks : List ℕ) → Masked (f .terms) masks →
-    (m : ℕ) → FreeIn masks l m → Masked (after f l .terms) (storedSets l m masks)
+pub masked-after : {f : File} {l : Line} → Ranged l → Going f → Passed (tests f l) → (terms masks : List ℕ) → Masked (f .terms) masks →
+    (m : ℕ) → FreeIn terms masks l m → Masked (after f l .terms) (storedSets l m masks)
 unfolding tests after storedSets
-masked-after (members h) g p masks k m is = record { long = k .long; bits = k .bits }
-masked-after (labels h i) g p masks k m is = record { long = k .long; bits = k .bits }
-masked-after {f} (entryLine {n = n} {o = o} {a = a} {b = b} {c = c} h i j q r y) g p masks k m is =
+masked-after (members h) g p terms masks k m is = record { long = k .long; bits = k .bits }
+masked-after (labels h i) g p terms masks k m is = record { long = k .long; bits = k .bits }
+masked-after {f} (entryLine {n = n} {o = o} {a = a} {b = b} {c = c} h i j q r y) g p terms masks k m is =
     let e : n ≡ f .terms .entries = eqb-true n (f .terms .entries) (passed-at p 1) in
     subst (λ (n : ℕ). Passed (tests f (Entry n o a b c)) → Masked (withEntry (f .terms) n o a b c) (set masks n m)) (sym e)
     (λ p. masked-new f o a b c g masks k m is (passed-at p 3) (passed-at p 7) (passed-at p 8) (passed-at p 9) (ltb-true (f .terms .entries) 256 (passed-at p 2))) p
-masked-after (policy h i) g p masks k m is = record { long = k .long; bits = k .bits }
-masked-after (effect h i q r n) g p masks k m is = record { long = k .long; bits = k .bits }
-masked-after (edge h i j) g p masks k m is = k
-masked-after (form h) g p masks k m is = k
-masked-after (tableBit h i j) g p masks k m is = k
-masked-after (event h i j) g p masks k m is = k
-masked-after (mark h) g p masks k m is = record { long = k .long; bits = k .bits }
+masked-after (policy h i) g p terms masks k m is = record { long = k .long; bits = k .bits }
+masked-after (effect h i q r n) g p terms masks k m is = record { long = k .long; bits = k .bits }
+masked-after (edge h i j) g p terms masks k m is = k
+masked-after (form h) g p terms masks k m is = k
+masked-after (tableBit h i j) g p terms masks k m is = k
+masked-after (pair h i j q) g p terms masks k m is = k
+masked-after (event h i j) g p terms masks k m is = k
+masked-after (mark h) g p terms masks k m is = record { long = k .long; bits = k .bits }
+
+-- after a T line the set of its table is at hand
+pub last-after : (f : File) {l : Line} → Ranged l → Passed (tests f l) → (terms masks : List ℕ) (m : ℕ) → FreeIn terms masks l m →
+    LastSet (storedTerms (contextOf f) l terms) (storedSets l m masks) (stepped (contextOf f) l .phase) (stepped (contextOf f) l .relation) m
+unfolding tests storedTerms storedSets stepped
+last-after f (members h) p terms masks m is e = absurd (omega (arith, e))
+last-after f (labels h i) p terms masks m is e = absurd (omega (arith, e))
+last-after f (entryLine h i j q r y) p terms masks m is e = absurd (omega (arith, e))
+last-after f (policy h i) p terms masks m is e = absurd (omega (arith, e))
+last-after f (effect h i q r n) p terms masks m is e = absurd (omega (arith, e))
+last-after f (edge h i j) p terms masks m is e = absurd (omega (arith, e))
+last-after f (form h) p terms masks m is e = absurd (omega (arith, e, eqb-true (f .phase) 0 (passed-at p 0)))
+last-after f (tableBit h i j) p terms masks m is e = is
+last-after f (pair h i j q) p terms masks m is e = is
+last-after f (event h i j) p terms masks m is e = absurd (omega (arith, e))
+last-after f (mark h) p terms masks m is e = absurd (omega (arith, e))
 
 -- the words after it
 pub terms-after : {f : File} {l : Line} → Ranged l → Going f → Passed (tests f l) →
@@ -178,6 +212,7 @@ terms-after {f} (effect {j = j} {c = c} {k = k} {d = d} h i q m n) g p =
 terms-after (edge h i j) g p = refl
 terms-after (form h) g p = refl
 terms-after (tableBit h i j) g p = refl
+terms-after (pair h i j k) g p = refl
 terms-after (event h i k) g p = refl
 terms-after {f} (mark {j = j} h) g p = mark-stored (f .terms) j (in-ranges {l = Mark j} (mark h) g p)
 
@@ -195,6 +230,9 @@ state-after (form h) g p = refl
 state-after {f} (tableBit {t = t} {a = a} {b = b} h i j) g p =
     let r = in-ranges {l = TableBit t a b} (tableBit h i j) g p in
     table-stored (f .edges) (f .table) t a b (r .0) (r .1) (r .2) (eventWord (f .last))
+state-after {f} (pair {t = t} {a = a} {b = b} {c = c} h i j k) g p =
+    let r = in-ranges {l = PairBit t a b c} (pair h i j k) g p in
+    table-stored (f .edges) (f .table) t (pairWord a b) (pairBit b c) (r .0) (omega (arith, r .1, r .2)) (omega (arith, r .3)) (eventWord (f .last))
 state-after {f} (event {j = j} {u = u} {v = v} h i k) g p =
     event-stored (together (f .edges) (f .table)) (eventWord (f .last)) _
     ∙ ap (bitsMemory (together (f .edges) (f .table))) (event-word j u v)

@@ -1,32 +1,32 @@
 -- The words of the state that a file says: where they keep the layout, and what the lent memory holds that an accepted text fills.
 use Prim.Native.Nat.{ℕ, zero, suc, _-_, _^_, _≤_, _<_}
 use native.Mathlib.Omega.{arith}
-use mathlib.Core.Path.{_≡_, refl, sym, ap, subst, _∙_}
+use mathlib.Core.Path.{_≡_, refl, sym, ap, ap₂, subst, _∙_}
 use mathlib.Core.Logic.{⊎-elim}
-use mathlib.Core.Bool.{true}
+use mathlib.Core.Bool.{Bool, true, false, not, _&&_}
 use mathlib.Core.List.{List, [], _∷_, _++_}
 use lib.Dec.{eqb, ltb}
 use lib.ListN.{length, getD, drop, length-append, length-drop}
 use lib.Seq.{drop-at}
-use borrow.Author.Tests.{eqb-true, lt-ltb}
+use borrow.Author.Tests.{eqb-true, lt-ltb, ltb-true, not-true}
 use Rattle.sets.specs.Sets.{bit, allBelow, pack}
-use Rattle.sets.proofs.Finite.{bool-iff, not-both, and-right, or-cases, all-true, all-out, all-cong}
+use Rattle.sets.proofs.Finite.{bool-iff, not-both, and-left, and-right, or-cases, all-true, all-out, all-cong}
 use Rattle.sets.proofs.Bits.{bit-zero, bit-mask}
 use Rattle.sets.proofs.Pack.{bit-pack}
-use Rattle.theory.specs.Formula.{number, isPast}
+use Rattle.theory.specs.Formula.{Formula, number, isPast, free, columns}
 use Rattle.theory.specs.Terms.{Terms, formula, tables, pastEntry}
 use Rattle.theory.specs.Moment.{Event}
 use Rattle.theory.specs.Tables.{State}
 use Rattle.theory.specs.Fit.{_⇒_, every, closed}
 use Rattle.theory.proofs.Spelled.{number-lt}
-use Rattle.theory.proofs.Past.{past-entry}
+use Rattle.theory.proofs.Past.{past-entry, past-is}
 use Rattle.theory.proofs.Good.{Good, implied, implies, every-at, every-in}
-use Rattle.theory.proofs.Like.{Alike, met, met-is, same-number, same-formula}
-use Rattle.memory.specs.Layout.{termsWords, stateWords, tableAt, eventAt, termsOf, stateOf, wordsOf}
-use Rattle.memory.specs.Checks.{fits, level, goodEvent, goodRelations, stateTests, goodState}
+use Rattle.theory.proofs.Like.{Alike, met, met-is, same-number, same-formula, same-past}
+use Rattle.memory.specs.Layout.{termsWords, stateWords, tableAt, eventAt, termsOf, stateOf, wordsOf, tableColumns}
+use Rattle.memory.specs.Checks.{fits, tableFits, level, goodEvent, goodRelations, stateTests, goodState}
 use Rattle.memory.specs.Outcome.{checks, opens}
 use Rattle.memory.specs.Outcome.Outcome.{passed}
-use Rattle.memory.proofs.Row.{fits-row, level-row}
+use Rattle.memory.proofs.Row.{fits-row, table-fits-row, level-row}
 use Rattle.memory.proofs.Inside.{EventInside, Inside as InsideMoment, good-event}
 use Rattle.memory.proofs.Front.{state-front, good-front}
 use Rattle.memory.proofs.Words.{length-words, word-relation, word-of-table, word-event, now-back}
@@ -34,7 +34,9 @@ use Rattle.memory.proofs.Outcomes.{check-passed, open-passed}
 use Rattle.file.specs.File.{File, stateSaid}
 use Rattle.file.specs.Reading.{reading}
 use Rattle.file.specs.Reading.Reading.{accepted}
-use Rattle.file.proofs.Fit.{Inside, EventFits}
+use Rattle.file.proofs.Fit.{InsideTables, EventFits}
+use Rattle.theory.proofs.Places.{closed-columns}
+use Rattle.theory.specs.Columns as places
 use Rattle.file.proofs.Level.{Level, level-entry}
 use Rattle.file.proofs.Accepted.{Accepted, accepted-good, accepted-level}
 use Rattle.reader.specs.Memory.{memoryOf}
@@ -43,10 +45,28 @@ use Rattle.reader.proofs.TermsMemory.{length-memory, memory-alike, memo
 -- ---- the tests of a state are those of terms that are alike
 
 module _ (T U : Terms) (a : Alike T U) (s : List ℕ) where
-  tables-met : allBelow 32 (λ t. allBelow 64 (λ x. fits (T .members) (ltb t (tables T)) x (getD s (tableAt t x) 0)))
-      ≡ allBelow 32 (λ t. allBelow 64 (λ x. fits (T .members) (ltb t (tables (met T U))) x (getD s (tableAt t x) 0)))
-  tables-met =
-      ap (λ (k : ℕ). allBelow 32 (λ t. allBelow 64 (λ x. fits (T .members) (ltb t k) x (getD s (tableAt t x) 0)))) (same-number T U a (T .entries) (omega arith))
+  tables-met : allBelow 32 (λ t. allBelow 64 (λ x. tableFits (T .members) (tableColumns T t) (ltb t (tables T)) x (getD s (tableAt t x) 0)))
+      ≡ allBelow 32 (λ t. allBelow 64 (λ x. tableFits (T .members) (tableColumns (met T U) t) (ltb t (tables (met T U))) x (getD s (tableAt t x) 0)))
+  tables-met = all-cong 32 (λ t tl. all-cong 64 (λ x xl. go t x (ltb t (tables T)) refl))
+    where
+      none : (cs : List ℕ) (x w : ℕ) → tableFits (T .members) cs false x w ≡ eqb w 0
+      none [] x w = refl
+      none (y ∷ []) x w = refl
+      none (y ∷ z ∷ zs) x w = refl
+
+      count : tables T ≡ tables (met T U)
+      count = same-number T U a (T .entries) (omega arith)
+
+      go : (t x : ℕ) (c : Bool) → ltb t (tables T) ≡ c →
+          tableFits (T .members) (tableColumns T t) (ltb t (tables T)) x (getD s (tableAt t x) 0)
+          ≡ tableFits (T .members) (tableColumns (met T U) t) (ltb t (tables (met T U))) x (getD s (tableAt t x) 0)
+      go t x true e =
+          ap₂ (λ (cs : List ℕ) (n : ℕ). tableFits (T .members) cs (ltb t n) x (getD s (tableAt t x) 0))
+          (ap columns (same-formula T U a (pastEntry T t) (past-entry T t (ltb-true t (tables T) e) .exists) ∙ ap (formula (met T U)) (same-past T U a t))) count
+      go t x false e =
+          ap (λ (b : Bool). tableFits (T .members) (tableColumns T t) b x (getD s (tableAt t x) 0)) e ∙ none (tableColumns T t) x (getD s (tableAt t x) 0)
+          ∙ sym (ap (λ (b : Bool). tableFits (T .members) (tableColumns (met T U) t) b x (getD s (tableAt t x) 0)) (sym (ap (ltb t) count) ∙ e)
+          ∙ none (tableColumns (met T U) t) x (getD s (tableAt t x) 0))
 
   level-met : (n : ℕ) → n < T .entries →
       isPast (T .entry n .op) ⇒ (closed (formula T n) ⇒ allBelow 64 (λ x. level (T .members) (getD s (tableAt (number (T .entry) n) x) 0)))
@@ -67,6 +87,11 @@ module _ (T U : Terms) (a : Alike T U) (s : List ℕ) where
 
 -- ---- the words keep the layout exactly where the tables without a free variable are level
 
+-- a formula without a free variable has one column
+pub bare-columns : (φ : Formula) → closed φ ≡ true → columns φ ≡ 0 ∷ []
+unfolding closed
+bare-columns φ q = closed-columns φ (λ v l. not-true (free φ v) (all-out 16 (λ v. not (free φ v)) q v l))
+
 pub event-inside : (T : Terms) {x : Event} → EventFits (T .events) (T .members) x → EventInside T x
 event-inside T EventFits.none = tt
 event-inside T (EventFits.happened j u v) = (j, u, v)
@@ -82,7 +107,8 @@ module _ (T : Terms) (fine : Good T) (S : State) where
       even n l p c a al =
           let t : ℕ = number (T .entry) n in
           let tl : t < tables T = number-lt (T .entry) n (T .entries) l p in
-          rw (word-of-table T S t a (omega (arith, fine .few-tables)) al, lt-ltb t (tables T) tl)
+          let one : tableColumns T t ≡ 0 ∷ [] = ap (λ (k : ℕ). columns (formula T k)) (past-is T n l p) ∙ bare-columns (formula T n) c in
+          rw (word-of-table T S t a (omega (arith, fine .few-tables)) al, one, lt-ltb t (tables T) tl)
           (level-row (T .members) (S .table t) a (S .table t a 0) (λ an b bn.
           bool-iff _ _ (λ e. level-entry T n l p v c a b 0 e (fine .some-member)) (λ e. level-entry T n l p v c a 0 b e bn)))
 
@@ -90,15 +116,15 @@ module _ (T : Terms) (fine : Good T) (S : State) where
       test zero = all-true 16 (λ k kl. all-true 64 (λ a al.
           rw (word-relation T S k a kl al) (fits-row (T .members) (ltb k (T .relations)) (S .now .edge k) a)))
       test (suc zero) = all-true 32 (λ t tl. all-true 64 (λ a al.
-          rw (word-of-table T S t a tl al) (fits-row (T .members) (ltb t (tables T)) (S .table t) a)))
+          rw (word-of-table T S t a tl al) (table-fits-row (T .members) (fine .few-members) (tableColumns T t) (ltb t (tables T)) (S .table t) a)))
       test (suc (suc zero)) = all-true (T .entries) (λ n l.
           implies (isPast (T .entry n .op)) (λ p. implies (closed (formula T n)) (λ c. all-true 64 (even n l p c))))
       test (suc (suc (suc zero))) = rw (word-event T S) (good-event T fine (S .now .event) i)
       test (suc (suc (suc (suc k)))) = refl
 
-  pub good-level : Inside (tables T) (T .members) (S .table) → goodState T (wordsOf T S) ≡ true → Level T (S .table)
+  pub good-level : InsideTables T (S .table) → goodState T (wordsOf T S) ≡ true → Level T (S .table)
   unfolding goodState
-  good-level inside g = record { level = λ t a b c q e l. each t a b c q e l (inside .within t a b e) }
+  good-level inside g = record { level = λ t a b c q e l. each t a b c q e l (placed t a b q (inside .within t a b e)) }
     where
       even : (n : ℕ) → n < T .entries → isPast (T .entry n .op) ≡ true → closed (formula T n) ≡ true → (a : ℕ) → a < 64 →
           level (T .members) (getD (wordsOf T S) (tableAt (number (T .entry) n) a) 0) ≡ true
@@ -109,6 +135,12 @@ module _ (T : Terms) (fine : Good T) (S : State) where
           allBelow 64 (λ a. level (T .members) (getD (wordsOf T S) (tableAt (number (T .entry) n) a) 0))))
           (every-at (stateTests T (wordsOf T S)) g 2) n l) p) c)
 
+      placed : (t a b : ℕ) → closed (formula T (pastEntry T t)) ≡ true → (t < tables T) × (places.inside (T .members) (tableColumns T t) a b ≡ true) →
+          (t < tables T) × (a < T .members) × (b < T .members)
+      placed t a b q w =
+          let e : ltb a (T .members) && ltb b (T .members) ≡ true = rw (bare-columns (formula T (pastEntry T t)) q) at (w .1) in
+          (w .0, ltb-true a (T .members) (and-left (ltb a (T .members)) _ e), ltb-true b (T .members) (and-right (ltb a (T .members)) _ e))
+
       each : (t a b c : ℕ) → closed (formula T (pastEntry T t)) ≡ true → S .table t a b ≡ true → c < T .members →
           (t < tables T) × (a < T .members) × (b < T .members) → S .table t a c ≡ true
       each t a b c q e l i =
@@ -116,7 +148,7 @@ module _ (T : Terms) (fine : Good T) (S : State) where
           let tl : t < 32 = omega (arith, i .0, fine .few-tables) in
           let al : a < 64 = omega (arith, i .1, fine .few-members) in
           let w : ℕ = pack (T .members) (S .table t a) in
-          let word : getD (wordsOf T S) (tableAt t a) 0 ≡ w = word-of-table T S t a tl al ∙ rw (lt-ltb t (tables T) (i .0), lt-ltb a (T .members) (i .1)) in
+          let word : getD (wordsOf T S) (tableAt t a) 0 ≡ w = word-of-table T S t a tl al ∙ rw (bare-columns (formula T (pastEntry T t)) q, lt-ltb t (tables T) (i .0), lt-ltb a (T .members) (i .1)) refl in
           let even : level (T .members) w ≡ true =
           subst (λ (x : ℕ). level (T .members) x ≡ true) (ap (λ (s : ℕ). getD (wordsOf T S) (tableAt s a) 0) (o .numbered) ∙ word)
           (even (pastEntry T t) (o .exists) (o .past) q a al) in

@@ -145,7 +145,7 @@ module _ (T : Terms) (fine : Good T) (tidy : Tidy T) (rest : List ℕ) where
       ∷ g .first d
       ∷ g .second d
       ∷ g .third d
-      ∷ implies (isPast (U .entry n .op)) (g .one-free) d
+      ∷ implies (isPast (U .entry n .op)) (g .columns-fit) d
       ∷ implies (eqb (U .entry n .op) 10) (λ e. g .reaches (eqb-true (U .entry n .op) 10 e)) d
       ∷ [])
 

@@ -19,10 +19,10 @@ use Rattle.file.specs.Reading.{tests, complete, Reading, tried, readOn}
 use Rattle.file.specs.Reading.Reading.{accepted, refused}
 use Rattle.reader.specs.Memory.{effectWord, termsWord, memoryOf}
 use Rattle.reader.specs.Stepping.{begun, isComplete, Ranges, stepped}
-use Rattle.reader.specs.Testing.{numberFrom, contextTests, FreeIn, reachIn}
+use Rattle.reader.specs.Testing.{numberFrom, contextTests, LastSet, FreeIn, reachIn}
 use Rattle.reader.specs.Storing.{storedTerms, storedState, storedSets, allRead, Holds, Reads}
 use Rattle.file.specs.declared.line.Line.{Line}
-use Rattle.file.specs.declared.line.Line.the-variants.{Members, Labels, Entry, Policy, Effect, Edge, Form, TableBit, EventEdge, Mark, Malformed}
+use Rattle.file.specs.declared.line.Line.the-variants.{Members, Labels, Entry, Policy, Effect, Edge, Form, TableBit, PairBit, EventEdge, Mark, Malformed}
 use Rattle.reader.specs.declared.step.Context.{Context}
 use Rattle.fields.proofs.Split.{place-le, lines-here, lines-cut, part-rest, rest-shorter}
 use Rattle.file.proofs.Printed.{Ranged, formed}
@@ -34,7 +34,7 @@ use Rattle.reader.proofs.TermsMemory.{entry-blank}
 use Rattle.reader.proofs.Tabulated.{tabulate-cong, tabulate-none}
 use Rattle.reader.proofs.Bits.{bitsOf, bits-none, bits-words}
 use Rattle.reader.proofs.Counters.{contextOf, tests-same}
-use Rattle.reader.proofs.Passing.{in-ranges, context-after, masked-after, terms-after, state-after}
+use Rattle.reader.proofs.Passing.{in-ranges, context-after, masked-after, last-after, terms-after, state-after}
 
 -- ---- the words before the first line are 0
 
@@ -151,6 +151,7 @@ tests-positive c m q (Effect j a k d) = refl
 tests-positive c m q (Edge k a b) = refl
 tests-positive c m q (Form n) = refl
 tests-positive c m q (TableBit t a b) = refl
+tests-positive c m q (PairBit t a b d) = refl
 tests-positive c m q (EventEdge j u v) = refl
 tests-positive c m q (Mark j) = refl
 tests-positive c m q Malformed = refl
@@ -166,7 +167,7 @@ pub record Turn (text terms state masks t : List ℕ) (c : Context) (n e : ℕ) 
   pub ends : e ≡ place 10 t
   pub inside : e < length t
   pub line : l ≡ parsed (split 9 (take e t))
-  pub set : FreeIn masks l m
+  pub set : FreeIn terms masks l m
   pub fits : m < 2 ^ 64
   pub reaches : r ≡ reachIn masks l
   pub number : k ≡ numberFrom 0 (contextTests c m r l)
@@ -190,7 +191,7 @@ module _ {text terms state masks t : List ℕ} {c : Context} {n e : ℕ} {l : Li
     read-line = sym (s .along .same) ∙ line-read f t n e l (s .ends) (s .inside) (s .line)
 
     tests-are : Same (contextTests (contextOf f) m r l) (tests f l)
-    tests-are = tests-same f (s .along .going) masks (s .along .masked) m (s .fits) r l (s .set) (s .reaches)
+    tests-are = tests-same f (s .along .going) terms (s .along .words) masks (s .along .masked) m (s .fits) r l (s .set) (s .reaches)
 
     pub few-tables : c .tables < 33
     few-tables = subst (λ (d : Context). d .tables < 33) (sym (s .along .context)) (s .along .going .entries .few-tables)
@@ -226,7 +227,7 @@ module _ {text terms state masks t : List ℕ} {c : Context} {n e : ℕ} {l : Li
         file = after f l;
         going = going ranged passes (s .along .going);
         context = ap (λ (d : Context). stepped d l) (s .along .context) ∙ context-after ranged (s .along .going) passes;
-        masked = masked-after ranged (s .along .going) passes masks (s .along .masked) m (s .set);
+        masked = masked-after ranged (s .along .going) passes terms masks (s .along .masked) m (s .set);
         words = ap₂ (λ (d : Context) (w : List ℕ). storedTerms d l w) (s .along .context) (s .along .words)
             ∙ terms-after ranged (s .along .going) passes;
         bits = ap (storedState l) (s .along .bits) ∙ state-after ranged (s .along .going) passes;
@@ -234,3 +235,8 @@ module _ {text terms state masks t : List ℕ} {c : Context} {n e : ℕ} {l : Li
         counted = omega (arith, rest-shorter e t, s .along .counted, s .inside);
         same = sym (read-line ∙ tried-passed passes n later);
       }
+
+      pub turn-last : LastSet (storedTerms c l terms) (storedSets l m masks) (stepped c l .phase) (stepped c l .relation) m
+      turn-last =
+          subst (λ (d : Context). LastSet (storedTerms d l terms) (storedSets l m masks) (stepped d l .phase) (stepped d l .relation) m)
+          (sym (s .along .context)) (last-after f ranged passes terms masks m (s .set))

@@ -14,7 +14,7 @@ use Rattle.file.specs.Reading.{partlyAt}
 use Rattle.file.specs.Reading.Reading.{accepted}
 use Rattle.reader.specs.Storing.{allRead, Holds}
 use Rattle.file.specs.declared.line.Line.{Line}
-use Rattle.file.specs.declared.line.Line.the-variants.{Members, Labels, Entry, Policy, Effect, Edge, Form, TableBit, EventEdge, Mark, Malformed}
+use Rattle.file.specs.declared.line.Line.the-variants.{Members, Labels, Entry, Policy, Effect, Edge, Form, TableBit, PairBit, EventEdge, Mark, Malformed}
 
 -- Word a of table t; 0 where there is none.
 abbrev pub tableWord : (state : List ℕ) → (t a : ℕ) → ℕ
@@ -30,6 +30,7 @@ partlyIn terms state masks full (Effect j c k d) = false
 partlyIn terms state masks full (Edge k a b) = false
 partlyIn terms state masks full (Form n) = false
 partlyIn terms state masks full (TableBit t a b) = eqb (getD masks (pastEntry (termsOf terms) t) 0) 0 && not (eqb (tableWord state t a) full)
+partlyIn terms state masks full (PairBit t a b c) = false
 partlyIn terms state masks full (EventEdge j u v) = false
 partlyIn terms state masks full (Mark j) = false
 partlyIn terms state masks full Malformed = false

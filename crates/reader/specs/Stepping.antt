@@ -4,8 +4,9 @@ use mathlib.Core.Path.{_≡_}
 use mathlib.Core.Bool.{Bool, true, false, cond, _&&_}
 use lib.Dec.{eqb, leb}
 use Rattle.theory.specs.Formula.{isPast}
+use Rattle.theory.specs.Columns.{pairWord, pairBit}
 use Rattle.file.specs.declared.line.Line.{Line}
-use Rattle.file.specs.declared.line.Line.the-variants.{Members, Labels, Entry, Policy, Effect, Edge, Form, TableBit, EventEdge, Mark, Malformed}
+use Rattle.file.specs.declared.line.Line.the-variants.{Members, Labels, Entry, Policy, Effect, Edge, Form, TableBit, PairBit, EventEdge, Mark, Malformed}
 use Rattle.reader.specs.declared.step.Context.{Context}
 
 -- No line yet.
@@ -47,6 +48,7 @@ Ranges c (Effect j a k d) = (j < 16) × (slot c j < 4) × (a < 3) × (k < 16) ×
 Ranges c (Edge k a b) = (k < 16) × (a < 64) × (b < 64)
 Ranges c (Form n) = n ≡ 2
 Ranges c (TableBit t a b) = (t < 32) × (a < 64) × (b < 64)
+Ranges c (PairBit t a b d) = (t < 32) × (a < 16) × (b < 16) × (d < 16)
 Ranges c (EventEdge j u v) = (j < 32) × (u < 64) × (v < 64)
 Ranges c (Mark j) = j < 16
 Ranges c Malformed = ⊥
@@ -180,6 +182,22 @@ stepped c (TableBit t a b) = record {
   relation = t;
   from = a;
   to = b;
+}
+stepped c (PairBit t a b d) = record {
+  stored = c .stored;
+  phase = 7;
+  members = c .members;
+  relations = c .relations;
+  events = c .events;
+  entries = c .entries;
+  tables = c .tables;
+  policies = c .policies;
+  marks = c .marks;
+  event = c .event;
+  effects = c .effects;
+  relation = t;
+  from = pairWord a b;
+  to = pairBit b d;
 }
 stepped c (EventEdge j u v) = record {
   stored = c .stored;

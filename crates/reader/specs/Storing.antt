@@ -4,6 +4,7 @@ use mathlib.Core.Path.{_≡_}
 use mathlib.Core.List.{List}
 use lib.Bits.{bitOr}
 use lib.ListN.{getD, set}
+use Rattle.theory.specs.Columns.{pairWord, pairBit}
 use Rattle.memory.specs.Layout.{entryAt, policyAt, effectAt, markAt, relationAt, tableAt, eventAt, eventUnit, fromUnit, wordsOf}
 use Rattle.memory.specs.Plan.{Masked}
 use Rattle.fields.specs.Split.{lines}
@@ -14,7 +15,7 @@ use Rattle.reader.specs.Memory.{memoryOf}
 use Rattle.reader.specs.Read.{Filling, filling}
 use Rattle.reader.specs.Stepping.{slot}
 use Rattle.file.specs.declared.line.Line.{Line}
-use Rattle.file.specs.declared.line.Line.the-variants.{Members, Labels, Entry, Policy, Effect, Edge, Form, TableBit, EventEdge, Mark, Malformed}
+use Rattle.file.specs.declared.line.Line.the-variants.{Members, Labels, Entry, Policy, Effect, Edge, Form, TableBit, PairBit, EventEdge, Mark, Malformed}
 use Rattle.reader.specs.declared.step.Context.{Context}
 
 -- Three words from a word on, and four; bit b of a word.
@@ -37,6 +38,7 @@ storedTerms c (Effect j a k d) w = three w (effectAt j (slot c j)) a k d
 storedTerms c (Edge k a b) w = w
 storedTerms c (Form n) w = w
 storedTerms c (TableBit t a b) w = w
+storedTerms c (PairBit t a b d) w = w
 storedTerms c (EventEdge j u v) w = w
 storedTerms c (Mark j) w = set w (markAt j) 1
 storedTerms c Malformed w = w
@@ -50,6 +52,7 @@ storedState (Effect j a k d) w = w
 storedState (Edge k a b) w = withBitAt w (relationAt k a) b
 storedState (Form n) w = w
 storedState (TableBit t a b) w = withBitAt w (tableAt t a) b
+storedState (PairBit t a b c) w = withBitAt w (tableAt t (pairWord a b)) (pairBit b c)
 storedState (EventEdge j u v) w = set w eventAt (1 + j * eventUnit + u * fromUnit + v)
 storedState (Mark j) w = w
 storedState Malformed w = w
@@ -63,6 +66,7 @@ storedSets (Effect j a k d) m w = w
 storedSets (Edge k a b) m w = w
 storedSets (Form n) m w = w
 storedSets (TableBit t a b) m w = w
+storedSets (PairBit t a b c) m w = w
 storedSets (EventEdge j u v) m w = w
 storedSets (Mark j) m w = w
 storedSets Malformed m w = w

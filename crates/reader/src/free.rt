@@ -1,14 +1,34 @@
 // Free variables as sets of bits, one for each entry.
+use crate::partly::past_entry;
 use file::line::Line;
 use memory::plan::free_of;
 use memory::plan::reach_fits;
 use memory::plan::set_at;
 ghost use mathlib.Core.Path.{_≡_};
-ghost use Rattle.reader.specs.Testing.{FreeIn, reachIn};
+ghost use Rattle.reader.specs.Testing.{tableSet, LastSet, FreeIn, reachIn};
 
-// The free variables that a line is tested by: those of the entry that it gives, or of the policy that it names.
-pub(crate) fn free_in(masks: &[u64], line: Line) -> u64
-    ensures { λ r. ⌜ FreeIn (now (masks .entry)) line r ⌝ }
+// The free variables of the entry of table t. Where the line before was a T line of the same table, they are `last`, at hand.
+fn table_set(phase: usize, table: usize, last: u64, terms: &[u16], masks: &[u64], t: usize) -> u64
+    requires { ⌜ LastSet (now terms) (now masks) phase table last ⌝ }
+    ensures { λ r. ⌜ r ≡ tableSet (now (terms .entry)) (now (masks .entry)) t ⌝ }
+{
+    if (phase == 7) & (table == t) {
+        return last;
+    }
+    set_at(masks, past_entry(terms, t))
+}
+
+// The free variables that a line is tested by: those of the entry that it gives, of the policy that it names, or of the entry of its table.
+pub(crate) fn free_in(
+    phase: usize,
+    table: usize,
+    last: u64,
+    terms: &[u16],
+    masks: &[u64],
+    line: Line,
+) -> u64
+    requires { ⌜ LastSet (now terms) (now masks) phase table last ⌝ }
+    ensures { λ r. ⌜ FreeIn (now (terms .entry)) (now (masks .entry)) line r ⌝ }
 {
     match line {
         Line::Entry(_, o, a, b, c) => free_of(
@@ -19,6 +39,8 @@ pub(crate) fn free_in(masks: &[u64], line: Line) -> u64
             set_at(masks, c),
         ),
         Line::Policy(_, n) => set_at(masks, n),
+        Line::TableBit(t, _, _) => table_set(phase, table, last, terms, masks, t),
+        Line::PairBit(t, _, _, _) => table_set(phase, table, last, terms, masks, t),
         _ => 0,
     }
 }

@@ -19,7 +19,7 @@ ghost use Rattle.memory.specs.Layout.{termsOf};
 ghost use Rattle.reader.specs.Partly.{tableWord, partlyIn, Found};
 
 // Past-time entry number t; 0 where there is none.
-fn past_entry(terms: &[u16], t: usize) -> usize
+pub(crate) fn past_entry(terms: &[u16], t: usize) -> usize
     ensures { λ r. ⌜ r ≡ pastEntry (termsOf (now (terms .entry))) t ⌝ }
 {
     let count = entries(terms);

@@ -35,13 +35,14 @@ fn read_lines(text: &[u8], terms: &mut [u16], state: &mut [u64], masks: &mut [u6
     let mut t = text;
     let mut c = begin();
     let mut n = 1;
+    let mut m = 0;
     while 0 < t.len() {
         let e = find(t, 10);
         if t.len() <= e {
             return Filled::Refused(1, n);
         }
         let line = parse_line(&t[..e]);
-        let m = free_in(masks, line);
+        m = free_in(c.phase, c.relation, m, terms, masks, line);
         let reaches = reach_in(masks, line);
         let k = number_of(c, line, m, reaches);
         if 0 < k {

@@ -13,18 +13,19 @@ use memory::limits::TABLES;
 use memory::limits::VARIABLES;
 use memory::operands::Kind;
 use memory::operands::operands_of;
+use memory::plan::columns_fit;
 use memory::plan::is_past;
 use sets::rest_of;
 ghost use mathlib.Core.Path.{_≡_};
-ghost use Prim.Native.Nat.{_+_, _*_};
+ghost use Prim.Native.Nat.{_+_, _*_, _/_, _%_};
 ghost use lib.Dec.{ltb};
 ghost use Rattle.theory.specs.Formula.{isPast};
 ghost use Rattle.memory.specs.Operands.{kindOf};
 ghost use Rattle.theory.specs.Fit.{_⇒_};
 ghost use Rattle.file.specs.File.{eventNamed};
 ghost use Rattle.file.specs.Reading.{test, inRange, isLower};
-ghost use Rattle.reader.specs.Testing.{refusedBy, numberFrom, rising, contextTests};
-ghost use Rattle.file.specs.declared.line.Line.the-variants.{Members, Labels, Entry, Policy, Effect, Edge, Form, TableBit, EventEdge, Mark};
+ghost use Rattle.reader.specs.Testing.{refusedBy, numberFrom, rising, risingPair, isPair, contextTests};
+ghost use Rattle.file.specs.declared.line.Line.the-variants.{Members, Labels, Entry, Policy, Effect, Edge, Form, TableBit, PairBit, EventEdge, Mark};
 
 // k, the number of the first test that failed; where none has, number if this one fails, else 0.
 fn first(k: usize, number: usize, passes: bool) -> usize
@@ -125,7 +126,7 @@ fn entry_number(
     let k = first(k, 3, is_lower(one, n, a));
     let k = first(k, 3, is_lower(two, n, b));
     let k = first(k, 3, is_lower(three, n, d));
-    let k = first(k, 4, if_past(o, rest_of(m) == 0));
+    let k = first(k, 4, if_past(o, columns_fit(m, c.members)));
     first(k, 10, reaches)
 }
 
@@ -189,9 +190,50 @@ fn bit_number(c: Context, t: usize, a: usize, b: usize, m: u64, reaches: bool) -
     let p = first(p, 1, is_complete(c));
     let p = first(p, 1, c.phase <= 7);
     let p = first(p, 1, is_rising(7, c, t, a, b));
+    let p = first(p, 1, !is_pair(c, m, t));
     let p = first(p, 2, t < c.tables);
     let p = first(p, 2, a < c.members);
     first(p, 2, b < c.members)
+}
+
+// The member of the first column, by word and bit of a table with two columns.
+fn column_of(word: usize, bit: usize) -> usize
+    ensures { λ r. ⌜ r ≡ 4 * (word % 4) + bit / 16 ⌝ }
+{
+    4 * (word % 4) + bit / 16
+}
+
+// Whether a bit of a table with two columns comes after the last bit, as they are written.
+fn is_rising_pair(c: Context, t: usize, a: usize, b: usize, d: usize) -> bool
+    ensures { λ r. ⌜ r ≡ risingPair c t a b d ⌝ }
+{
+    let e = c.from / 4;
+    let f = column_of(c.from, c.to);
+    (c.phase < 7)
+        | ((c.relation < t)
+            | ((c.relation == t)
+                & ((e < a) | ((e == a) & ((f < b) | ((f == b) & (c.to % 16 < d)))))))
+}
+
+// Whether table t is there and has two columns, where m has the free variables of its entry.
+fn is_pair(c: Context, m: u64, t: usize) -> bool
+    ensures { λ r. ⌜ r ≡ isPair c m t ⌝ }
+{
+    (t < c.tables) & (rest_of(m) != 0)
+}
+
+// The number that a T line of a table with two columns is refused with, or 0.
+fn pair_number(c: Context, t: usize, a: usize, b: usize, d: usize, m: u64, reaches: bool) -> usize
+    ensures { λ r. ⌜ r ≡ numberFrom 0 (contextTests c m reaches (PairBit t a b d)) ⌝ }
+{
+    let p = first(0, 1, c.stored);
+    let p = first(p, 1, is_complete(c));
+    let p = first(p, 1, c.phase <= 7);
+    let p = first(p, 1, is_rising_pair(c, t, a, b, d));
+    let p = first(p, 1, is_pair(c, m, t));
+    let p = first(p, 2, a < c.members);
+    let p = first(p, 2, b < c.members);
+    first(p, 2, d < c.members)
 }
 
 // The event that a V line names: granted, or denied.
@@ -236,6 +278,7 @@ pub(crate) fn number_of(c: Context, line: Line, m: u64, reaches: bool) -> usize
         Line::Edge(k, a, b) => edge_number(c, k, a, b, m, reaches),
         Line::Form(n) => form_number(c, n, m, reaches),
         Line::TableBit(t, a, b) => bit_number(c, t, a, b, m, reaches),
+        Line::PairBit(t, a, b, d) => pair_number(c, t, a, b, d, m, reaches),
         Line::EventEdge(j, u, v) => event_number(c, j, u, v, m, reaches),
         Line::Mark(j) => mark_number(c, j, m, reaches),
         Line::Malformed => 1,

@@ -108,6 +108,12 @@ pub(crate) fn step(c: Context, line: Line) -> Context
             d.from = a;
             d.to = b;
         }
+        Line::PairBit(t, a, b, e) => {
+            d.phase = 7;
+            d.relation = t;
+            d.from = 4 * a + b / 4;
+            d.to = 16 * (b % 4) + e;
+        }
         Line::EventEdge(_, _, _) => {
             d.phase = 8;
         }

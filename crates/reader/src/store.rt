@@ -162,6 +162,7 @@ pub(crate) fn store_state(state: &mut [u64], c: Context, line: Line)
     match line {
         Line::Edge(k, a, b) => store_edge(state, k, a, b),
         Line::TableBit(t, a, b) => store_bit(state, t, a, b),
+        Line::PairBit(t, a, b, d) => store_bit(state, t, 4 * a + b / 4, 16 * (b % 4) + d),
         Line::EventEdge(j, u, v) => store_event(state, j, u, v),
         _ => {}
     }

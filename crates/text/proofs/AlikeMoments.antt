@@ -5,7 +5,8 @@ use mathlib.Core.Path.{_≡_, refl, ap, _∙_}
 use mathlib.Core.Bool.{Bool, true, false, cond}
 use lib.Dec.{eqb}
 use Rattle.theory.specs.Formula.{Formula, Entry, number, below}
-use Rattle.theory.specs.Meaning.{Graph, alone, standing}
+use Rattle.theory.specs.Meaning.{Graph, alone}
+use Rattle.theory.specs.Columns.{standing, member}
 use Rattle.theory.specs.Terms.{Terms, formula}
 use Rattle.theory.specs.Moment.{Moment, graph, affectAll}
 use Rattle.theory.specs.Moment.Event.{happened}
@@ -28,7 +29,7 @@ module _ (T U : Terms) (a : Alike T U) (good : Good T) where
       let s : number (T .entry) n ≡ number (W .entry) n = same-number T U a n (omega arith) in
       let f : below (T .entry) n ≡ below (W .entry) n = below-agree (T .entry) (W .entry) n (λ k h. a .entry k (omega arith)) in
       let φ : formula T n ≡ formula W n = same-formula T U a n l in
-      λ d. cond (eqb (e d .op) 6) (store (s d) (λ i b. holdsNow (T .members) G X (f d (e d .a)) (standing (φ d) b) i) X) X
+      λ d. cond (eqb (e d .op) 6) (store (s d) (λ i b. holdsNow (T .members) G X (f d (e d .a)) (standing (φ d) i b) (member (φ d) i)) X) X
 
   prev-met : (G : Graph) (n : ℕ) → n ≤ T .entries → (X : Tables) → prevTables T G n X ≡ prevTables W G n X
   unfolding prevTables

@@ -1,13 +1,15 @@
 -- Terms that are alike have the same words of a state and at moment 0, keep the same moments inside, and the words agree with the same records.
 use Prim.Native.Nat.{ℕ, _-_, _/_, _%_}
 use native.Mathlib.Omega.{arith}
-use mathlib.Core.Path.{_≡_, ap, subst, _∙_}
-use mathlib.Core.Bool.{false, cond, _&&_}
+use mathlib.Core.Path.{_≡_, refl, ap, subst, _∙_}
+use mathlib.Core.Bool.{Bool, true, false, cond, _&&_}
 use mathlib.Core.List.{List}
 use lib.Dec.{ltb}
 use borrow.Author.Tests.{ltb-true}
 use Rattle.sets.proofs.Finite.{and-under}
-use Rattle.theory.specs.Meaning.{Starts, standing, holds}
+use Rattle.theory.specs.Formula.{columns}
+use Rattle.theory.specs.Meaning.{Starts, holds}
+use Rattle.theory.specs.Columns.{inside, standing, member}
 use Rattle.theory.specs.Terms.{Terms, formula, tables, pastEntry}
 use Rattle.theory.specs.Moment.{Relations, Event, Moment, graph, first}
 use Rattle.theory.specs.Moment.Event.{none, happened, tried}
@@ -15,7 +17,7 @@ use Rattle.theory.specs.Keeper.{recordOf, last, keeperHolds}
 use Rattle.theory.specs.Tables.{State, opening}
 use Rattle.theory.proofs.Past.{past-entry}
 use Rattle.theory.proofs.Like.{Alike, met, met-is, same-number, same-formula, same-past, since-met}
-use Rattle.memory.specs.Layout.{stateWords, relationWords, eventAt, eventWord, row, wordAt, tabulate, wordsOf}
+use Rattle.memory.specs.Layout.{stateWords, relationWords, eventAt, eventWord, row, tableRow, tableColumns, wordAt, tabulate, wordsOf}
 use Rattle.memory.proofs.Inside.{EventInside, Inside}
 use Rattle.calls.specs.Agreement.{Agrees}
 
@@ -23,40 +25,53 @@ module _ (T U : Terms) (a : Alike T U) where
   abbrev W : Terms
   W = met T U
 
+  -- the entry of a table is the same formula
+  pub same-entry : (t : ℕ) → ltb t (tables T) ≡ true → formula T (pastEntry T t) ≡ formula W (pastEntry W t)
+  same-entry t l = same-formula T U a (pastEntry T t) (past-entry T t (ltb-true t (tables T) l) .exists) ∙ ap (formula W) (same-past T U a t)
+
   agrees-met : (s : Starts) {m₀ m : List ℕ} {Ms : List Moment} → Agrees T s m₀ m Ms → Agrees W s m₀ m Ms
   agrees-met s {m₀} {m} {Ms} h = record {
     edges = h .edges;
-    tables = λ t i b tl al bl. h .tables t i b tl al bl ∙ ap (λ x. ltb i (T .members) && (ltb b (T .members) && x)) (table t i b);
+    tables = λ t i b tl al bl. h .tables t i b tl al bl ∙ table t i b;
     event = h .event;
     long = h .long;
     further = h .further;
   }
     where
       table : (t i b : ℕ) →
-          (ltb t (tables T) && keeperHolds T s Ms (pastEntry T t) (standing (formula T (pastEntry T t)) b) i)
-          ≡ (ltb t (tables W) && keeperHolds W s Ms (pastEntry W t) (standing (formula W (pastEntry W t)) b) i)
+          (ltb t (tables T) && (inside (T .members) (tableColumns T t) i b
+          && keeperHolds T s Ms (pastEntry T t) (standing (formula T (pastEntry T t)) i b) (member (formula T (pastEntry T t)) i)))
+          ≡ (ltb t (tables W) && (inside (T .members) (tableColumns W t) i b
+          && keeperHolds W s Ms (pastEntry W t) (standing (formula W (pastEntry W t)) i b) (member (formula W (pastEntry W t)) i)))
       table t i b =
           and-under (ltb t (tables T)) _ _ (λ tl.
-          let φ : formula T (pastEntry T t) ≡ formula W (pastEntry W t) =
-          same-formula T U a (pastEntry T t) (past-entry T t (ltb-true t (tables T) tl) .exists) ∙ ap (formula W) (same-past T U a t) in
-          λ d. holds (T .members) s (recordOf T Ms) (φ d) (last Ms) (standing (φ d) b) i)
-          ∙ (λ d. ltb t (same-number T U a (T .entries) (omega arith) d) && keeperHolds W s Ms (pastEntry W t) (standing (formula W (pastEntry W t)) b) i)
+          let φ : formula T (pastEntry T t) ≡ formula W (pastEntry W t) = same-entry t tl in
+          λ d. inside (T .members) (columns (φ d)) i b && holds (T .members) s (recordOf T Ms) (φ d) (last Ms) (standing (φ d) i b) (member (φ d) i))
+          ∙ (λ d. ltb t (same-number T U a (T .entries) (omega arith) d) && (inside (T .members) (tableColumns W t) i b
+          && keeperHolds W s Ms (pastEntry W t) (standing (formula W (pastEntry W t)) i b) (member (formula W (pastEntry W t)) i)))
+
+  -- a word of a table
+  row-met : (t : ℕ) (p : ℕ → ℕ → Bool) (i : ℕ) →
+      cond (ltb t (tables T)) (tableRow (T .members) (tableColumns T t) p i) 0 ≡ cond (ltb t (tables W)) (tableRow (T .members) (tableColumns W t) p i) 0
+  row-met t p i = go (ltb t (tables T)) refl ∙ (λ d. cond (ltb t (same-number T U a (T .entries) (omega arith) d)) (tableRow (T .members) (tableColumns W t) p i) 0)
+    where
+      go : (c : Bool) → ltb t (tables T) ≡ c → cond c (tableRow (T .members) (tableColumns T t) p i) 0 ≡ cond c (tableRow (T .members) (tableColumns W t) p i) 0
+      go true e = λ d. tableRow (T .members) (columns (same-entry t e d)) p i
+      go false e = refl
 
   state-met : (S : State) → wordsOf T S ≡ wordsOf W S
   unfolding wordsOf wordAt
   state-met S = λ d. tabulate stateWords (λ i.
       cond (ltb i relationWords) (cond (ltb (i / 64) (T .relations)) (row (T .members) (S .now .edge (i / 64)) (i % 64)) 0)
-      (cond (ltb i eventAt) (cond (ltb ((i - relationWords) / 64) (same-number T U a (T .entries) (omega arith) d))
-      (row (T .members) (S .table ((i - relationWords) / 64)) (i % 64)) 0)
+      (cond (ltb i eventAt) (row-met ((i - relationWords) / 64) (S .table ((i - relationWords) / 64)) (i % 64) d)
       (eventWord (S .now .event))))
 
+  opening-met : (R : Relations) → opening T R ≡ opening W R
+  unfolding opening
+  opening-met R = λ d. record { now = first R; table = since-met T U a (graph T (first R)) (λ t a b. false) (T .entries) (omega arith) d }
+
   words-met : (R : Relations) → wordsOf T (opening T R) ≡ wordsOf W (opening W R)
-  unfolding wordsOf wordAt opening
-  words-met R = λ d. tabulate stateWords (λ i.
-      cond (ltb i relationWords) (cond (ltb (i / 64) (T .relations)) (row (T .members) (R (i / 64)) (i % 64)) 0)
-      (cond (ltb i eventAt) (cond (ltb ((i - relationWords) / 64) (same-number T U a (T .entries) (omega arith) d))
-      (row (T .members) (since-met T U a (graph T (first R)) (λ t a b. false) (T .entries) (omega arith) d ((i - relationWords) / 64)) (i % 64)) 0)
-      0))
+  words-met R = state-met (opening T R) ∙ ap (wordsOf W) (opening-met R)
 
   pub agrees-alike : (s : Starts) {m₀ m : List ℕ} {Ms : List Moment} → Agrees T s m₀ m Ms → Agrees U s m₀ m Ms
   agrees-alike s {m₀} {m} {Ms} h = subst (λ X. Agrees X s m₀ m Ms) (met-is T U a) (agrees-met s h)

@@ -124,7 +124,7 @@ module _ (m s out : List ℕ) (n : ℕ) (e : storeGives m s out ≡ bytes n) whe
         good-memory = good';
         room = sl';
         held = subst (λ (w : List ℕ). Held (termsOf m') (B .start) (good m' good') state (w ++ drop stateWords state) (B .moments))
-            (sym (state-alike U (termsOf m') like' (stateOf s)) ∙ named-words U s (checked .long-state) (checked .good-state))
+            (sym (state-alike U (termsOf m') like' (stateOf s)) ∙ named-words U (good m (checked .good-terms) .few-members) s (checked .long-state) (checked .good-state))
             (held-words (termsOf m') (B .start) (good m' good') state state sl' refl refl (stateOf s) (B .moments)
             (kept-alike U (termsOf m') like' (B .start) (stateOf s) (B .moments) (l .held .kept))
             (inside-alike U (termsOf m') like' (stateOf s .now) (state-inside U s (checked .good-state))));

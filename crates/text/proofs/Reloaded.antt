@@ -1,5 +1,5 @@
 -- What is stored of memory that passes the checks, read again into other memory: the very same named words of terms and state.
-use Prim.Native.Nat.{ℕ, _≤_}
+use Prim.Native.Nat.{ℕ, _≤_, _<_}
 use native.Mathlib.Omega.{arith}
 use mathlib.Core.Path.{_≡_, refl, sym, ap, _∙_}
 use mathlib.Core.Bool.{Bool, true, false, cond, _&&_, and-false}
@@ -10,18 +10,20 @@ use lib.Seq.{take-at}
 use borrow.Author.Tests.{ltb-true}
 use Rattle.sets.specs.Sets.{bit}
 use Rattle.theory.specs.Terms.{Terms, tables}
+use Rattle.theory.specs.Columns as places
 use Rattle.theory.specs.Tables.{State, opening}
 use Rattle.theory.proofs.Good.{Good}
-use Rattle.memory.specs.Layout.{termsWords, stateWords, tableAt, termsOf, stateOf, wordsOf}
+use Rattle.memory.specs.Layout.{termsWords, stateWords, tableAt, tableColumns, termsOf, stateOf, wordsOf}
 use Rattle.memory.specs.Checks.{goodMemory, goodState}
 use Rattle.memory.proofs.Inside.{Inside as InsideMoment}
+use Rattle.memory.proofs.Accepted.{good}
 use Rattle.memory.proofs.Front.{state-front}
 use Rattle.memory.proofs.Words.{length-words, word-table, now-back, table-back, canonical}
 use Rattle.file.specs.File.{File, stateSaid}
 use Rattle.file.specs.Reading.{reading}
 use Rattle.file.specs.Reading.Reading.{accepted}
 use Rattle.file.specs.Writing.{stored}
-use Rattle.file.proofs.Fit.{Inside}
+use Rattle.file.proofs.Fit.{InsideTables}
 use Rattle.file.proofs.Accepted.{accepted-good}
 use Rattle.file.proofs.Reread.{reread-stored}
 use Rattle.file.proofs.AlikeText.{stored-alike}
@@ -36,26 +38,25 @@ use Rattle.text.proofs.Tidied.{tidied, tidied-alike, tidied-good, tidie
 use Rattle.text.proofs.Yields.{read-terms, read-state}
 
 -- The words of a state that keeps the layout are the named words of its memory.
-pub named-words : (T : Terms) (w : List ℕ) → stateWords ≤ length w → goodState T w ≡ true → wordsOf T (stateOf w) ≡ take stateWords w
-named-words T w long g =
-    sym (ap (take stateWords) (canonical T w long g) ∙ take-at (wordsOf T (stateOf w)) (drop stateWords w) stateWords (length-words T (stateOf w)))
+pub named-words : (T : Terms) → T .members < 65 → (w : List ℕ) → stateWords ≤ length w → goodState T w ≡ true → wordsOf T (stateOf w) ≡ take stateWords w
+named-words T few w long g =
+    sym (ap (take stateWords) (canonical T few w long g) ∙ take-at (wordsOf T (stateOf w)) (drop stateWords w) stateWords (length-words T (stateOf w)))
 
 -- A state whose bits and event are inside the terms is read from its words as it is.
-module _ (T : Terms) (fine : Good T) (S : State) (now : InsideMoment T (S .now)) (bits : Inside (tables T) (T .members) (S .table)) where
+module _ (T : Terms) (fine : Good T) (S : State) (now : InsideMoment T (S .now)) (bits : InsideTables T (S .table)) where
   bit-back : (t a b : ℕ) → stateOf (wordsOf T S) .table t a b ≡ S .table t a b
   unfolding stateOf
   bit-back t a b = go (S .table t a b) refl
     where
       under : (c : Bool) → ltb t 32 ≡ c → (d : Bool) → ltb a 64 ≡ d → S .table t a b ≡ false → (c && (d && bit (getD (wordsOf T S) (tableAt t a) 0) b)) ≡ false
       under true p true q e =
-          word-table T S t a b (ltb-true t 32 p) (ltb-true a 64 q)
-          ∙ rw e (ap (λ x. ltb t (tables T) && (ltb a (T .members) && x)) (and-false (ltb b (T .members)))
-          ∙ ap (λ x. ltb t (tables T) && x) (and-false (ltb a (T .members))) ∙ and-false (ltb t (tables T)))
+          word-table T S (fine .few-members) t a b (ltb-true t 32 p) (ltb-true a 64 q)
+          ∙ rw e (ap (λ x. ltb t (tables T) && x) (and-false (places.inside (T .members) (tableColumns T t) a b)) ∙ and-false (ltb t (tables T)))
       under true p false q e = refl
       under false p d q e = refl
 
       go : (x : Bool) → S .table t a b ≡ x → (ltb t 32 && (ltb a 64 && bit (getD (wordsOf T S) (tableAt t a) 0) b)) ≡ S .table t a b
-      go true e = let i = bits .within t a b e in table-back T fine S t a b (i .0) (i .1) (i .2)
+      go true e = let i = bits .within t a b e in table-back T fine S t a b (i .0) (i .1)
       go false e = under (ltb t 32) refl (ltb a 64) refl e ∙ sym e
 
   pub state-back : stateOf (wordsOf T S) ≡ S
@@ -107,5 +108,5 @@ module _ (terms state : List ℕ) (long-terms : termsWords ≤ length terms) (lo
               ∙ ap (λ v. v ++ drop termsWords terms') (ap memoryOf (r .terms-are) ∙ tidied-words terms g long-terms),
           read-state (storedText terms state) f (r .accepts) terms' state' tl sl
               ∙ ap (λ v. v ++ drop stateWords state')
-              ((λ d. wordsOf (r .terms-are d) (begins d)) ∙ sym (state-alike U (tidied U) (tidied-alike U) (stateOf state)) ∙ named-words U state long-state h),
+              ((λ d. wordsOf (r .terms-are d) (begins d)) ∙ sym (state-alike U (tidied U) (tidied-alike U) (stateOf state)) ∙ named-words U (good terms g .few-members) state long-state h),
         )

@@ -9,7 +9,7 @@ use lib.ListN.{getD}
 use borrow.Author.Tests.{ltb-true, lt-ltb, eqb-true, eq-eqb}
 use Rattle.sets.specs.Sets.{anyBelow, allBelow, countBelow}
 use Rattle.sets.proofs.Finite.{and-left, and-both}
-use Rattle.theory.specs.Formula.{node, number, below, spelled, free, highest}
+use Rattle.theory.specs.Formula.{node, number, below, spelled, free, those}
 use Rattle.theory.specs.Formula.Formula.{top, neg}
 use Rattle.theory.specs.Meaning.{Record, fromFirst, Assignment, holds}
 use Rattle.theory.specs.Terms.{Effect, Terms}
@@ -110,7 +110,7 @@ nestedAnswers =
     ∷ yes ∷ yes ∷ yes ∷ no ∷ no ∷ []
 
 pub nested-answers : (keeper nested own nestedCalls .0 ≡ nestedAnswers) × (byTables nested (opening nested own) nestedCalls ≡ nestedAnswers)
-unfolding nested nestedCalls nestedAnswers own judge keep keepAll holds anyBelow allBelow node number below spelled affectAll byTables holdsNow free highest prevTables sinceTables opening advance
+unfolding nested nestedCalls nestedAnswers own judge keep keepAll holds anyBelow allBelow node number below spelled affectAll byTables holdsNow free those prevTables sinceTables opening advance
 nested-answers = (refl, refl)
 
 -- ---- denied requests that are kept, by the keeper and by the tables
@@ -140,5 +140,32 @@ unfoldable pub triesAnswers : List Answer
 triesAnswers = no ∷ no ∷ no ∷ yes ∷ no ∷ no ∷ yes ∷ yes ∷ yes ∷ no ∷ no ∷ no ∷ no ∷ []
 
 pub tries-answers : (keeper trying own tries .0 ≡ triesAnswers) × (byTables trying (opening trying own) tries ≡ triesAnswers)
-unfolding trying tries triesAnswers own judge keep keepAll holds anyBelow allBelow node number below spelled affectAll byTables holdsNow free highest prevTables sinceTables opening advance
+unfolding trying tries triesAnswers own judge keep keepAll holds anyBelow allBelow node number below spelled affectAll byTables holdsNow free those prevTables sinceTables opening advance
 tries-answers = (refl, refl)
+
+-- ---- terms about three people, by the keeper and by the tables
+
+-- The preset's load by a since with two free variables: 1 has shared with 2 and not withdrawn since. Its columns are 1 and 2.
+unfoldable pub pairs : Terms
+pairs = record {
+  members = 3;
+  relations = 1;
+  events = 3;
+  entries = 12;
+  entry = λ n. getD (
+      line 1 2 0 ∷ line 4 1 0 ∷ line 9 1 1 ∷ line 4 2 0 ∷ line 9 1 3 ∷ line 2 4 0 ∷ line 7 5 2 ∷ line 8 1 6 ∷ line 5 0 7 ∷ line 9 0 8 ∷ line 8 2 9 ∷ line 0 0 0 ∷ []
+      ) n (line 0 0 0);
+  policy = λ j. getD (11 ∷ 11 ∷ 10 ∷ []) j 0;
+  effects = λ j. [];
+  kept = λ j. false;
+}
+
+unfoldable pub pairCalls : List Call
+pairCalls = requests 2 1 2 ∷ requests 0 0 1 ∷ requests 2 1 2 ∷ requests 1 0 1 ∷ requests 2 1 2 ∷ requests 0 2 1 ∷ looks 2 1 2 ∷ []
+
+unfoldable pub pairAnswers : List Answer
+pairAnswers = no ∷ yes ∷ yes ∷ yes ∷ no ∷ yes ∷ no ∷ []
+
+pub pair-answers : (keeper pairs own pairCalls .0 ≡ pairAnswers) × (byTables pairs (opening pairs own) pairCalls ≡ pairAnswers)
+unfolding pairs pairCalls pairAnswers own judge keep keepAll holds anyBelow allBelow node number below spelled affectAll byTables holdsNow free those prevTables sinceTables opening advance
+pair-answers = (refl, refl)

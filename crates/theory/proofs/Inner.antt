@@ -7,17 +7,18 @@ use mathlib.Core.List.{List}
 use mathlib.Core.Bool.{Bool, true, false, cond}
 use lib.Dec.{ltb}
 use borrow.Author.Tests.{lt-ltb, ltb-true, ltb-false}
-use Rattle.theory.specs.Formula.{Formula, Operand, firstOperand, secondOperand, number, isPast, renumbered, bare}
+use Rattle.theory.specs.Formula.{Formula, Operand, firstOperand, secondOperand, number, isPast, renumbered, bare, columns}
 use Rattle.theory.specs.Formula.Formula.{top, var, neg, or, out, into, prev, since, bind, at, reach, many}
 use Rattle.theory.specs.Formula.Operand.{entry}
-use Rattle.theory.specs.Meaning.{Starts, Assignment, assign, standing, holds}
+use Rattle.theory.specs.Meaning.{Starts, holds}
+use Rattle.theory.specs.Columns.{inside, memberAt, standingAt, standing, member}
 use Rattle.theory.specs.Terms.{Terms, formula, firstSame}
 use Rattle.theory.specs.Keeper.{Book, recordOf, last, revisedStart, revisedBook}
 use Rattle.theory.specs.Tables.{State, revised}
 use Rattle.theory.proofs.Spelled.{tableOf, table-spelled}
 use Rattle.theory.proofs.Good.{Good}
-use Rattle.theory.proofs.Now.{Same}
-use Rattle.theory.proofs.Renumbered.{Everywhere, everywhere-spelled, same-meaning, column-bare, past-same}
+use Rattle.theory.proofs.Now.{SameAt}
+use Rattle.theory.proofs.Renumbered.{Everywhere, everywhere-spelled, same-meaning, columns-bare, past-same}
 use Rattle.theory.proofs.Kept.{Together, Kept}
 use Rattle.theory.proofs.Taken.{first-cong, first-bare, first-has, first-le, startOf, start-new, start-old, taken-meaning}
 use Rattle.theory.proofs.Revised.{revised-kept}
@@ -126,14 +127,14 @@ module _ (B : Book) (S : State) (kept : Kept (B .terms) (B .start) S (B .moments
 
   -- two old entries with the same formula have the same start, by the invariant, and so the same table
   pub same-tables : (k n : ℕ) → k < T .entries → n < T .entries → isPast (T .entry k .op) ≡ true → isPast (T .entry n .op) ≡ true →
-      bare (formula T k) ≡ bare (formula T n) → Same (T .members) (S .table (number (T .entry) k)) (S .table (number (T .entry) n))
-  same-tables k n kl nl p q e a b al bl =
-      kept .tables k kl p a b al bl
+      bare (formula T k) ≡ bare (formula T n) → SameAt (T .members) (columns (formula T k)) (S .table (number (T .entry) k)) (S .table (number (T .entry) n))
+  same-tables k n kl nl p q e a b z =
+      let cs : columns (formula T k) ≡ columns (formula T n) = columns-bare (formula T k) (formula T n) e in
+      kept .tables k kl p a b z
       ∙ same-meaning (T .members) (recordOf T (B .moments)) (startOf B) (B .start) (B .start) (formula T k) (formula T n) e
-      (started-old B (kept .together) k kl) (started-old B (kept .together) n nl) (last (B .moments)) (standing (formula T k) b) a
-      ∙ ap (λ (x : ℕ). holds (T .members) (B .start) (recordOf T (B .moments)) (formula T n) (last (B .moments)) (assign (λ y. 0) x b) a)
-      (column-bare (formula T k) (formula T n) e)
-      ∙ sym (kept .tables n nl q a b al bl)
+      (started-old B (kept .together) k kl) (started-old B (kept .together) n nl) (last (B .moments)) (standing (formula T k) a b) (member (formula T k) a)
+      ∙ ap (λ (xs : List ℕ). holds (T .members) (B .start) (recordOf T (B .moments)) (formula T n) (last (B .moments)) (standingAt xs a b) (memberAt xs a)) cs
+      ∙ sym (kept .tables n nl q a b (ap (λ (xs : List ℕ). inside (T .members) xs a b) (sym cs) ∙ z))
 
   -- an entry of new terms starts with any old entry that has its formula, not only the first
   pub starts-with : (U : Terms) (n k : ℕ) → n < U .entries → isPast (U .entry n .op) ≡ true → k < T .entries → bare (formula T k) ≡ bare (formula U n) →
@@ -171,11 +172,11 @@ module _ (B : Book) (S : State) (kept : Kept (B .terms) (B .start) S (B .moments
 -- new terms that are the old ones leave every table as it is, in a run; (in a state that no run leaves, two entries with the same formula may have two
 -- tables, and then both take the first's)
 pub revised-same : (B : Book) (S : State) → (kept : Kept (B .terms) (B .start) S (B .moments)) → Good (B .terms) → (n : ℕ) → n < B .terms .entries → isPast (B .terms .entry n .op) ≡ true →
-    Same (B .terms .members) (revised (B .terms) S (B .terms) .table (number (B .terms .entry) n)) (S .table (number (B .terms .entry) n))
-revised-same B S kept good n l p a b al bl =
-    revised-kept B S kept (B .terms) good refl refl refl .tables n l p a b al bl
-    ∙ taken-meaning B (B .terms) (B .terms .members) (recordOf (B .terms) (B .moments)) (kept .together) n n l l refl (last (B .moments)) (standing (formula (B .terms) n) b) a
-    ∙ sym (kept .tables n l p a b al bl)
+    SameAt (B .terms .members) (columns (formula (B .terms) n)) (revised (B .terms) S (B .terms) .table (number (B .terms .entry) n)) (S .table (number (B .terms .entry) n))
+revised-same B S kept good n l p a b z =
+    revised-kept B S kept (B .terms) good refl refl refl .tables n l p a b z
+    ∙ taken-meaning B (B .terms) (B .terms .members) (recordOf (B .terms) (B .moments)) (kept .together) n n l l refl (last (B .moments)) (standing (formula (B .terms) n) a b) (member (formula (B .terms) n) a)
+    ∙ sym (kept .tables n l p a b z)
 
 -- ---- nesting of starts
 

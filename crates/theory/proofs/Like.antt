@@ -7,8 +7,9 @@ use mathlib.Core.List.{List, [], _∷_, _++_}
 use lib.Dec.{eqb, ltb, leb}
 use borrow.Author.Tests.{ltb-true, leb-false}
 use Rattle.sets.proofs.Finite.{and-under}
-use Rattle.theory.specs.Formula.{Formula, Entry, node, firstOperand, secondOperand, thirdOperand, isPast, number, below, spelled, highest, bare, same}
-use Rattle.theory.specs.Meaning.{Graph, Starts, fromFirst, standing, holds}
+use Rattle.theory.specs.Formula.{Formula, Entry, node, firstOperand, secondOperand, thirdOperand, isPast, number, below, spelled, highest, bare, same, columns}
+use Rattle.theory.specs.Meaning.{Graph, Starts, fromFirst, holds}
+use Rattle.theory.specs.Columns.{columnsFit, standing, member, inside}
 use Rattle.theory.specs.Terms.{Terms, Effect, labels, formula}
 use Rattle.theory.specs.Moment.{Relations, Moment, graph, affectAll, denied, first}
 use Rattle.theory.specs.Moment.Event.{happened}
@@ -18,7 +19,7 @@ use Rattle.theory.specs.Keeper.Step.{call, revise}
 use Rattle.theory.specs.Keeper.Verdict.{grant, deny}
 use Rattle.theory.specs.Keeper.Answer.{decided, done, refused}
 use Rattle.theory.specs.Terms.{tables, pastEntry, firstSame, sameSize}
-use Rattle.theory.specs.Fit.{operandFits, lone, onlyFree, reachFits}
+use Rattle.theory.specs.Fit.{operandFits, onlyFree, reachFits}
 use Rattle.theory.specs.Tables.{Tables, State, store, holdsNow, operandNow, sinceTables, opening, startBits, startStep, startTables, revised}
 use Rattle.theory.proofs.Good.{Good, GoodEntry, Within, second-lower, third-lower}
 use Rattle.theory.proofs.Past.{past-entry}
@@ -137,7 +138,7 @@ module _ (T U : Terms) (a : Alike T U) where
             first = subst (λ (e : Entry). operandFits (firstOperand (e .op)) (labels T) n (e .a) ≡ true) same (h .first);
             second = subst (λ (e : Entry). operandFits (secondOperand (e .op)) (labels T) n (e .b) ≡ true) same (h .second);
             third = subst (λ (e : Entry). operandFits (thirdOperand (e .op)) (labels T) n (e .c) ≡ true) same (h .third);
-            one-free = λ p. subst (λ φ. lone φ ≡ true) (same-formula n l) (h .one-free (subst (λ (e : Entry). isPast (e .op) ≡ true) (sym same) p));
+            columns-fit = λ p. subst (λ φ. columnsFit (T .members) (columns φ) ≡ true) (same-formula n l) (h .columns-fit (subst (λ (e : Entry). isPast (e .op) ≡ true) (sym same) p));
             reaches = λ p.
                 let op-is : T .entry n .op ≡ 10 = ap (λ (e : Entry). e .op) same ∙ p in
                 let lb : T .entry n .b < T .entries = (let q = second-lower h (ap secondOperand op-is) in omega arith) in
@@ -199,8 +200,8 @@ module _ (T U : Terms) (a : Alike T U) where
       let f : below (T .entry) n ≡ below (W .entry) n = same-below n (omega arith) in
       let φ : formula T n ≡ formula W n = same-formula n l in
       λ d. cond (eqb (e d .op) 7)
-      (store (s d) (λ i b. holdsNow (T .members) G (Y d) (f d (e d .b)) (standing (φ d) b) i
-      || (holdsNow (T .members) G (Y d) (f d (e d .a)) (standing (φ d) b) i && Y d (s d) i b)) (Y d))
+      (store (s d) (λ i b. holdsNow (T .members) G (Y d) (f d (e d .b)) (standing (φ d) i b) (member (φ d) i)
+      || (holdsNow (T .members) G (Y d) (f d (e d .a)) (standing (φ d) i b) (member (φ d) i) && Y d (s d) i b)) (Y d))
       (Y d)
 
   past-back : (n : ℕ) → n < T .entries → isPast (W .entry n .op) ≡ true → isPast (T .entry n .op) ≡ true
@@ -215,10 +216,10 @@ module _ (T U : Terms) (a : Alike T U) where
         ap s (sym (same-number k (omega arith)))
         ∙ kept .together k n kl nl (past-back k kl p) (past-back n nl q) (ap bare (same-formula k kl) ∙ e ∙ sym (ap bare (same-formula n nl)))
         ∙ ap s (same-number n (omega arith));
-    tables = λ n l p b c bl cl.
+    tables = λ n l p b c i.
         ap (λ t. S .table t b c) (sym (same-number n (omega arith)))
-        ∙ kept .tables n l (past-back n l p) b c bl cl
-        ∙ (λ d. holds (T .members) s (recordOf T Ms) (same-formula n l d) (last Ms) (standing (same-formula n l d) c) b);
+        ∙ kept .tables n l (past-back n l p) b c (subst (λ φ. inside (T .members) (columns φ) b c ≡ true) (sym (same-formula n l)) i)
+        ∙ (λ d. holds (T .members) s (recordOf T Ms) (same-formula n l d) (last Ms) (standing (same-formula n l d) b c) (member (same-formula n l d) b));
     unused = λ t b c h. kept .unused t b c (subst (λ n. n ≤ t) (sym (same-number (T .entries) (omega arith))) h);
   }
 

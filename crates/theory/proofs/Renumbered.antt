@@ -3,11 +3,12 @@ use Prim.Native.Nat.{ℕ, zero, suc, _-_, _≤_, _<_}
 use native.Mathlib.Omega.{arith}
 use native.Mathlib.Decide.{ℕ-discrete}
 use mathlib.Core.Path.{_≡_, refl, sym, ap, ap₂, subst, _∙_}
+use mathlib.Core.List.{_∷_}
 use mathlib.Core.Bool.{Bool, true, false, cond, not, _&&_, _||_, true≢false, false≢true}
 use lib.Dec.{eqb, ltb, leb}
 use borrow.Author.Tests.{ne-eqb}
 use Rattle.sets.proofs.Finite.{any-cong, count-cong, all-cong}
-use Rattle.theory.specs.Formula.{Formula, Formula-discrete, Entry, node, number, below, spelled, isPast, renumbered, bare, same, free, highest, column}
+use Rattle.theory.specs.Formula.{Formula, Formula-discrete, Entry, node, number, below, spelled, isPast, renumbered, bare, same, free, those, orTarget, columns}
 use Rattle.theory.specs.Formula.Formula.{top, var, neg, or, out, into, prev, since, bind, at, reach, many}
 use Rattle.theory.specs.Meaning.{Record, Starts, Assignment, assign, holds}
 use Rattle.theory.proofs.Spelled.{tableOf}
@@ -62,15 +63,15 @@ free-renumbered s (at y f) x = ap (λ c. eqb x y || c) (free-renumbered s f x)
 free-renumbered s (reach y f h) x = free-renumbered s h x
 free-renumbered s (many l f k) x = free-renumbered s f x
 
-pub highest-cong : (n : ℕ) (p q : ℕ → Bool) → ((x : ℕ) → p x ≡ q x) → highest n p ≡ highest n q
-unfolding highest
-highest-cong zero p q h = refl
-highest-cong (suc n) p q h = ap₂ (λ c k. cond c n k) (h n) (highest-cong n p q h)
+those-cong : (n k : ℕ) (p q : ℕ → Bool) → ((x : ℕ) → p x ≡ q x) → those n k p ≡ those n k q
+unfolding those
+those-cong zero k p q h = refl
+those-cong (suc n) k p q h = ap₂ (λ c xs. cond c (k ∷ xs) xs) (h k) (those-cong n (suc k) p q h)
 
-pub column-bare : (f h : Formula) → bare f ≡ bare h → column f ≡ column h
-column-bare f h e =
-    highest-cong 16 (free f) (free h)
-    (λ x. sym (free-renumbered (λ t. 0) f x) ∙ ap (λ (φ : Formula). free φ x) e ∙ free-renumbered (λ t. 0) h x)
+pub columns-bare : (f h : Formula) → bare f ≡ bare h → columns f ≡ columns h
+columns-bare f h e =
+    ap orTarget (those-cong 16 0 (free f) (free h)
+    (λ x. sym (free-renumbered (λ t. 0) f x) ∙ ap (λ (φ : Formula). free φ x) e ∙ free-renumbered (λ t. 0) h x))
 
 -- ---- past-time formulas
 

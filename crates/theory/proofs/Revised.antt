@@ -9,9 +9,10 @@ use lib.Dec.{eqb, ltb}
 use lib.ListN.{getD}
 use borrow.Author.Tests.{eqb-true, eq-eqb, ne-eqb, ltb-true}
 use Rattle.sets.proofs.Finite.{last-or-below}
-use Rattle.theory.specs.Formula.{Formula, number, below, isPast, bare, column}
+use Rattle.theory.specs.Formula.{Formula, number, below, isPast, bare, columns}
 use Rattle.theory.specs.Formula.Formula.{prev, since}
-use Rattle.theory.specs.Meaning.{Graph, Record, Starts, Assignment, assign, standing, holds}
+use Rattle.theory.specs.Meaning.{Graph, Record, Starts, Assignment, holds}
+use Rattle.theory.specs.Columns.{inside, memberAt, standingAt, standing, member}
 use Rattle.theory.specs.Terms.{Terms, formula, pastEntry, firstSame}
 use Rattle.theory.specs.Moment.{Moment, eventEdge, graph, first}
 use Rattle.theory.specs.Keeper.{Book, recordOf, last, lastMoment, revisedStart, revisedBook}
@@ -19,9 +20,10 @@ use Rattle.theory.specs.Tables.{Tables, store, operandNow, sinceBits, St
 use Rattle.theory.proofs.Spelled.{Visible, tableOf, or-cases, number-le, number-lt, spelled-prev, spelled-since, table-spelled, visible-below}
 use Rattle.theory.proofs.Good.{Good, column-free}
 use Rattle.theory.proofs.Record.{prev-start, since-start}
-use Rattle.theory.proofs.Now.{Among, among-standing, Same, Right, now-holds}
+use Rattle.theory.proofs.Places.{inside-among, inside-member}
+use Rattle.theory.proofs.Now.{Same, SameAt, Right, now-holds}
 use Rattle.theory.proofs.Sweeps.{stored, untouched, meant}
-use Rattle.theory.proofs.Renumbered.{column-bare, past-same}
+use Rattle.theory.proofs.Renumbered.{columns-bare, past-same}
 use Rattle.theory.proofs.Kept.{Together, Kept}
 use Rattle.theory.proofs.Taken.{first-cong, first-has, startOf, start-new, taken-meaning}
 
@@ -68,7 +70,7 @@ module _ (B : Book) (S : State) (kept : Kept (B .terms) (B .start) S (B .moments
 
     -- the bits of one entry, from right tables of the lower ones
     module _ (n : ℕ) (nl : n < U .entries) (p : isPast (U .entry n .op) ≡ true) (X : Tables)
-        (lower : (j : ℕ) → j < n → isPast (U .entry j .op) ≡ true → Right (U .members) s γ i X (formula U j)) (a b : ℕ) (al : a < U .members) (bl : b < U .members)
+        (lower : (j : ℕ) → j < n → isPast (U .entry j .op) ≡ true → Right (U .members) s γ i X (formula U j)) (a b : ℕ) (z : inside (U .members) (columns (formula U n)) a b ≡ true)
       where
         abbrev k : ℕ
         k = taken T S U n
@@ -80,11 +82,13 @@ module _ (B : Book) (S : State) (kept : Kept (B .terms) (B .start) S (B .moments
         over c =
             let kl : k < T .entries = ltb-true k (T .entries) c in
             let e : bare (formula T k) ≡ bare φ = first-has T φ kl in
-            let g : Assignment = standing (formula T k) b in
-            kept .tables k kl (past-same (T .entry) (U .entry) k n e ∙ p) a b (omega arith) (omega arith)
-            ∙ ap₂ (λ (N : ℕ) (δ : Record). holds N (B .start) δ (formula T k) i g a) em same-record
-            ∙ sym (taken-meaning B U (U .members) γ (kept .together) n k nl kl (sym e) i g a)
-            ∙ ap (λ (x : ℕ). holds (U .members) s γ φ i (assign (λ y. 0) x b) a) (column-bare (formula T k) φ e)
+            let cs : columns (formula T k) ≡ columns φ = columns-bare (formula T k) φ e in
+            let g : Assignment = standing (formula T k) a b in
+            let m : ℕ = member (formula T k) a in
+            kept .tables k kl (past-same (T .entry) (U .entry) k n e ∙ p) a b (ap₂ (λ (N : ℕ) (xs : List ℕ). inside N xs a b) em cs ∙ z)
+            ∙ ap₂ (λ (N : ℕ) (δ : Record). holds N (B .start) δ (formula T k) i g m) em same-record
+            ∙ sym (taken-meaning B U (U .members) γ (kept .together) n k nl kl (sym e) i g m)
+            ∙ ap (λ (xs : List ℕ). holds (U .members) s γ φ i (standingAt xs a b) (memberAt xs a)) cs
 
         starts-now : ltb k (T .entries) ≡ false → i ≡ s (number (U .entry) n)
         starts-now c = sym (start-new B U n nl p ∙ ap (λ (d : Bool). cond d (B .start (number (T .entry) k)) i) c)
@@ -94,18 +98,19 @@ module _ (B : Book) (S : State) (kept : Kept (B .terms) (B .start) S (B .moments
             let t : ℕ = number (U .entry) n in
             let f : Formula = below (U .entry) n (U .entry n .a) in
             let h : Formula = below (U .entry) n (U .entry n .b) in
-            let g : Assignment = standing φ b in
+            let g : Assignment = standing φ a b in
+            let m : ℕ = member φ a in
             or-cases (eqb (U .entry n .op) 6) (eqb (U .entry n .op) 7) p
             (λ q. let six : U .entry n .op ≡ 6 = eqb-true (U .entry n .op) 6 q in
             ap (λ (d : Bool). d && operandNow U G n (U .entry n .b) X a b) (ne-eqb (U .entry n .op) 7 (λ z. omega arith))
-            ∙ sym (prev-start (U .members) s γ t f g a i (omega (arith, starts-now c)))
-            ∙ ap (λ (ψ : Formula). holds (U .members) s γ ψ i g a) (sym (spelled-prev (U .entry) n six)))
+            ∙ sym (prev-start (U .members) s γ t f g m i (omega (arith, starts-now c)))
+            ∙ ap (λ (ψ : Formula). holds (U .members) s γ ψ i g m) (sym (spelled-prev (U .entry) n six)))
             (λ q. let seven : U .entry n .op ≡ 7 = eqb-true (U .entry n .op) 7 q in
             ap (λ (d : Bool). d && operandNow U G n (U .entry n .b) X a b) q
-            ∙ now-holds (U .members) G X s γ i now-same h g a (among-standing (U .members) φ b bl) al
+            ∙ now-holds (U .members) G X s γ i now-same h g m (inside-among (U .members) (columns φ) a b z) (inside-member (U .members) (columns φ) a b z)
             (visible-below (U .entry) (Right (U .members) s γ i X) n lower (U .entry n .b))
-            ∙ sym (since-start (U .members) s γ t f h g a i (starts-now c))
-            ∙ ap (λ (ψ : Formula). holds (U .members) s γ ψ i g a) (sym (spelled-since (U .entry) n seven)))
+            ∙ sym (since-start (U .members) s γ t f h g m i (starts-now c))
+            ∙ ap (λ (ψ : Formula). holds (U .members) s γ ψ i g m) (sym (spelled-since (U .entry) n seven)))
 
         start-bits : startBits T S U n X a b ≡ meant U s γ i n a b
         start-bits = go (ltb k (T .entries)) refl
@@ -116,33 +121,35 @@ module _ (B : Book) (S : State) (kept : Kept (B .terms) (B .start) S (B .moments
             go false c = anew c
 
     start-worked : (n : ℕ) → n ≤ U .entries → (k : ℕ) → k < n → isPast (U .entry k .op) ≡ true →
-        Same (U .members) (startTables T S U n (λ t a b. false) (number (U .entry) k)) (meant U s γ i k)
+        SameAt (U .members) (columns (formula U k)) (startTables T S U n (λ t a b. false) (number (U .entry) k)) (meant U s γ i k)
     unfolding startTables
-    start-worked zero le k h p a b al bl = absurd (omega arith)
-    start-worked (suc n) le k h p a b al bl = go (start-worked n (omega arith)) (last-or-below k n h)
+    start-worked zero le k h p a b z = absurd (omega arith)
+    start-worked (suc n) le k h p a b z = go (start-worked n (omega arith)) (last-or-below k n h)
       where
         Y : Tables
         Y = startTables T S U n (λ t a b. false)
 
         Done : Type 0
-        Done = (k : ℕ) → k < n → isPast (U .entry k .op) ≡ true → Same (U .members) (Y (number (U .entry) k)) (meant U s γ i k)
+        Done = (k : ℕ) → k < n → isPast (U .entry k .op) ≡ true → SameAt (U .members) (columns (formula U k)) (Y (number (U .entry) k)) (meant U s γ i k)
 
         lower : Done → (j : ℕ) → j < n → isPast (U .entry j .op) ≡ true → Right (U .members) s γ i Y (formula U j)
         lower ih j jl q = record {
-          one = column-free U good j (omega arith) q;
+          fit = good .entry j (omega arith) .columns-fit q;
+          all = column-free U good j (omega arith);
           bits = rw (table-spelled (U .entry) j q) (ih j jl q);
         }
 
         go : Done → (k < n) ⊎ (k ≡ n) → startStep T S U n Y (number (U .entry) k) a b ≡ meant U s γ i k a b
         go ih (inl kl) =
             untouched (number (U .entry) n) (startBits T S U n Y) Y (isPast (U .entry n .op)) (number (U .entry) k)
-            (λ _ z. omega (arith, number-lt (U .entry) k n kl p)) a b
-            ∙ ih k kl p a b al bl
+            (λ _ y. omega (arith, number-lt (U .entry) k n kl p)) a b
+            ∙ ih k kl p a b z
         go ih (inr kn) =
-            subst (λ j. isPast (U .entry j .op) ≡ true → startStep T S U n Y (number (U .entry) j) a b ≡ meant U s γ i j a b) (sym kn)
-            (λ q. stored (number (U .entry) n) (startBits T S U n Y) Y (isPast (U .entry n .op)) q a b
-            ∙ start-bits n le q Y (lower ih) a b al bl)
-            p
+            subst (λ j. inside (U .members) (columns (formula U j)) a b ≡ true → isPast (U .entry j .op) ≡ true →
+            startStep T S U n Y (number (U .entry) j) a b ≡ meant U s γ i j a b) (sym kn)
+            (λ y q. stored (number (U .entry) n) (startBits T S U n Y) Y (isPast (U .entry n .op)) q a b
+            ∙ start-bits n le q Y (lower ih) a b y)
+            z p
 
     -- two new entries with the same formula take from the same old one
     revised-together : Together U s

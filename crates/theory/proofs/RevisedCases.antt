@@ -7,7 +7,7 @@ use mathlib.Core.List.{List, [], _∷_}
 use lib.Dec.{eqb, ltb, leb}
 use lib.ListN.{getD, length}
 use Rattle.sets.specs.Sets.{anyBelow, allBelow}
-use Rattle.theory.specs.Formula.{Entry, node, number, below, spelled, renumbered, same, free, lowest, highest}
+use Rattle.theory.specs.Formula.{Entry, node, number, below, spelled, renumbered, same, free, lowest, those, highest}
 use Rattle.theory.specs.Meaning.{holds, fromFirst}
 use Rattle.theory.specs.Terms.{Terms, firstSame}
 use Rattle.theory.specs.Moment.{Relations, affectAll}
@@ -70,7 +70,7 @@ abbrev nobody : Relations
 nobody k a b = false
 
 pub season-answers : (keepSteps (firstBook before nobody) season .0 ≡ seasonAnswers) × (byTables before (opening before nobody) season ≡ seasonAnswers)
-unfolding keepSteps keepStep judge keep holds season seasonAnswers before newer spelled below node number anyBelow allBelow affectAll free highest firstSame same renumbered lowest ℕ-discrete byTables holdsNow opening advance prevTables sinceTables revised startTables
+unfolding keepSteps keepStep judge keep holds season seasonAnswers before newer spelled below node number anyBelow allBelow affectAll free those highest firstSame same renumbered lowest ℕ-discrete byTables holdsNow opening advance prevTables sinceTables revised startTables
 season-answers = (refl, refl)
 
 -- The carried event edge is included.
@@ -78,7 +78,7 @@ unfoldable pub carried : List Step
 carried = asks 0 0 1 ∷ takes newer ∷ sees 4 0 0 ∷ []
 
 pub carried-answers : (keepSteps (firstBook before nobody) carried .0 ≡ yes ∷ done ∷ yes ∷ []) × (byTables before (opening before nobody) carried ≡ yes ∷ done ∷ yes ∷ [])
-unfolding keepSteps keepStep judge keep holds carried before newer spelled below node number anyBelow allBelow affectAll free highest firstSame same renumbered lowest ℕ-discrete byTables holdsNow opening advance prevTables sinceTables revised startTables
+unfolding keepSteps keepStep judge keep holds carried before newer spelled below node number anyBelow allBelow affectAll free those highest firstSame same renumbered lowest ℕ-discrete byTables holdsNow opening advance prevTables sinceTables revised startTables
 carried-answers = (refl, refl)
 
 -- Terms of another size, words that no file yields and short memory are refused, and the old terms stay: under them event 1 is granted, under the new ones it would not be.
@@ -88,7 +88,7 @@ refusals =
     ∷ revise (record { words = leastTerms; state = 3072; sound = true; terms = newer }) ∷ sees 1 0 0 ∷ takes newer ∷ sees 1 0 0 ∷ []
 
 pub refusals-answered : keepSteps (firstBook before nobody) refusals .0 ≡ refused 13 0 ∷ refused 7 0 ∷ refused 6 0 ∷ yes ∷ done ∷ no ∷ []
-unfolding keepSteps keepStep judge keep holds refusals before newer spelled below node number anyBelow allBelow affectAll free highest firstSame same renumbered lowest ℕ-discrete
+unfolding keepSteps keepStep judge keep holds refusals before newer spelled below node number anyBelow allBelow affectAll free those highest firstSame same renumbered lowest ℕ-discrete
 refusals-answered = refl
 
 -- Were an entry judged over the record cut off at its start, entries inside included, once prev top would fail at the moment that it starts. This is

@@ -10,12 +10,12 @@ use lib.ListN.{getD}
 use borrow.Author.Tests.{eqb-true, eq-eqb}
 use Rattle.sets.specs.Sets.{anyBelow, allBelow}
 use Rattle.sets.proofs.Finite.{and-left, and-right, or-cases, all-out, not-both}
-use Rattle.theory.specs.Formula.{node, number, below, spelled, free}
+use Rattle.theory.specs.Formula.{node, number, below, spelled, free, those}
 use Rattle.theory.specs.Meaning.{holds}
 use Rattle.theory.specs.Terms.{Terms, formula}
 use Rattle.theory.specs.Moment.{Relations, affectAll}
 use Rattle.theory.specs.Keeper.{Call, judge, keep, keepAll, keeper}
-use Rattle.theory.specs.Fit.{every, operandFits, lone, onlyFree, reachFits, entryTests}
+use Rattle.theory.specs.Fit.{every, operandFits, onlyFree, reachFits, entryTests}
 use Rattle.theory.specs.Cases.{line, reaching, requests, looks, yes, no, own, adds, small, keeping}
 use Rattle.theory.specs.Strangers.{Circle, WithoutReach, SeparateFirst, AgreeWithin}
 use Rattle.theory.proofs.Good.{Good, good-entry}
@@ -64,7 +64,7 @@ abbrev plain : ℕ → Bool
 plain n = not (eqb (before .entry n .op) 10)
 
 fits : (allBelow 4 fit ≡ true) × (allBelow 4 plain ≡ true)
-unfolding allBelow every operandFits lone reachFits onlyFree free node number below spelled
+unfolding allBelow every operandFits reachFits onlyFree free those node number below spelled
 fits = (refl, refl)
 
 good-before : Good before

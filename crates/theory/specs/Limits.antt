@@ -25,6 +25,10 @@ maxEffects = 4
 abbrev pub variables : ℕ
 variables = 16
 
+-- members with which a past-time entry may have two free variables
+abbrev pub pairMembers : ℕ
+pairMembers = 16
+
 -- the most that `many` asks for
 abbrev pub maxCount : ℕ
 maxCount = 64

@@ -1,4 +1,5 @@
 pub mod Placed
+pub mod Paired
 pub mod Listing
 pub mod Fitting
 pub mod Sized

@@ -15,9 +15,9 @@ use Rattle.file.specs.Line.{printed}
 use Rattle.fields.specs.Put.{Put}
 use Rattle.theory.specs.Terms.{Terms}
 use Rattle.file.specs.Writing.{listed, markLine, effectLines, bitAt, eventEdgeLine, printedAll}
-use Rattle.writer.specs.Kinds.{edgeLines, tableLines, tripleOf, says, bitOf, rowOf, rowsOf}
+use Rattle.writer.specs.Kinds.{Paired, edgeLines, tableLines, tripleOf, says, bitOf, rowOf, rowsOf}
 use Rattle.file.specs.declared.line.Line.{Line}
-use Rattle.file.specs.declared.line.Line.the-variants.{EventEdge, Mark}
+use Rattle.file.specs.declared.line.Line.the-variants.{TableBit, PairBit, EventEdge, Mark}
 use Rattle.fields.proofs.Output.{put-none, put-then}
 use Rattle.file.proofs.SoFar.{event-line}
 
@@ -84,69 +84,79 @@ running-end {n = n} {i = i} l g = let e : i ≡ n = (let w = g .within in omega 
 
 -- ---- the lines of a word: those of number 64 i to 64 i + 63
 
-bit-at : (t : Bool) (w i b : ℕ) → b < 64 → bitOf t w i b ≡ cond (bit w b) (says t (i / 64) (i % 64) b ∷ []) []
-bit-at t w i b h =
+bit-at : (t : Bool) (s w i b : ℕ) → b < 64 → bitOf t s w i b ≡ cond (bit w b) (says t s (i / 64) (i % 64) b ∷ []) []
+bit-at t s w i b h =
     let p : (64 * i + b) / 4096 ≡ i / 64 = omega arith in
     let q : (64 * i + b) / 64 % 64 ≡ i % 64 = omega arith in
     let r : (64 * i + b) % 64 ≡ b = omega arith in
     rw (p, q, r)
 
-module _ (t : Bool) (w i b : ℕ) (h : b < 64) where
+module _ (t : Bool) (s w i b : ℕ) (h : b < 64) where
   pub put-bit-there : {o p : List ℕ} {at m : ℕ} (c : Bool) → c ≡ bit w b → c ≡ true
-      → Put o p at m (printed (says t (i / 64) (i % 64) b) ++ (10 ∷ [])) → Put o p at m (printedAll (bitOf t w i b))
-  put-bit-there c e y x = rw (bit-at t w i b h, ← e, y) (put-line (says t (i / 64) (i % 64) b) x)
+      → Put o p at m (printed (says t s (i / 64) (i % 64) b) ++ (10 ∷ [])) → Put o p at m (printedAll (bitOf t s w i b))
+  put-bit-there c e y x = rw (bit-at t s w i b h, ← e, y) (put-line (says t s (i / 64) (i % 64) b) x)
 
-  pub put-bit-none : (o : List ℕ) (at : ℕ) (c : Bool) → c ≡ bit w b → c ≡ false → Put o o at at (printedAll (bitOf t w i b))
+  pub put-bit-none : (o : List ℕ) (at : ℕ) (c : Bool) → c ≡ bit w b → c ≡ false → Put o o at at (printedAll (bitOf t s w i b))
   unfolding printedAll
-  put-bit-none o at c e y = rw (bit-at t w i b h, ← e, y) (put-none o at)
+  put-bit-none o at c e y = rw (bit-at t s w i b h, ← e, y) (put-none o at)
+
+-- a table's bit is said by its columns
+module _ (s t i k : ℕ) {o p : List ℕ} {at m : ℕ} where
+  pub put-one-said : (c : Bool) → c ≡ bit s t → c ≡ false → Put o p at m (printed (TableBit t i k) ++ (10 ∷ [])) → Put o p at m (printed (says true s t i k) ++ (10 ∷ []))
+  put-one-said c e y x = rw (← e, y) x
+
+  pub put-two-said : (c : Bool) → c ≡ bit s t → c ≡ true
+      → Put o p at m (printed (PairBit t (i / 4) (4 * (i % 4) + k / 16) (k % 16)) ++ (10 ∷ [])) → Put o p at m (printed (says true s t i k) ++ (10 ∷ []))
+  put-two-said c e y x = rw (← e, y) x
 
 -- a word without bits
-pub put-row-none : (o : List ℕ) (at : ℕ) (t : Bool) (w i : ℕ) → w ≡ 0 → Put o o at at (printedAll (rowOf t w i))
+pub put-row-none : (o : List ℕ) (at : ℕ) (t : Bool) (s w i : ℕ) → w ≡ 0 → Put o o at at (printedAll (rowOf t s w i))
 unfolding printedAll
-put-row-none o at t w i e =
-    let none : rowOf t w i ≡ [] = listed-cong 64 (λ b h. bit-at t w i b h ∙ rw (e, bit-zero b) refl) ∙ listed-empty 64 in
+put-row-none o at t s w i e =
+    let none : rowOf t s w i ≡ [] = listed-cong 64 (λ b h. bit-at t s w i b h ∙ rw (e, bit-zero b) refl) ∙ listed-empty 64 in
     rw none (put-none o at)
 
 -- ---- the lines of n words from one on are those of the relations or tables that they hold
 
-module _ (t : Bool) (R : (k a b : ℕ) → Bool) (w : List ℕ) (first : ℕ) where
+module _ (t : Bool) (s : ℕ) (R : (k a b : ℕ) → Bool) (w : List ℕ) (first : ℕ) where
   abbrev Holds : ℕ → Type 0
   Holds n = (i b : ℕ) → i < n → R (i / 64) (i % 64) b ≡ bit (getD w (first + i) 0) b
 
-  bit-held : (n : ℕ) → Holds n → (i b : ℕ) → i < n → b < 64 → bitOf t (getD w (first + i) 0) i b ≡ bitAt (says t) R (64 * i + b)
+  bit-held : (n : ℕ) → Holds n → (i b : ℕ) → i < n → b < 64 → bitOf t s (getD w (first + i) 0) i b ≡ bitAt (says t s) R (64 * i + b)
   bit-held n h i b l g =
       let p : (64 * i + b) / 4096 ≡ i / 64 = omega arith in
       let q : (64 * i + b) / 64 % 64 ≡ i % 64 = omega arith in
       let r : (64 * i + b) % 64 ≡ b = omega arith in
       rw (p, q, r, h i b l) refl
 
-  rows-held : (n : ℕ) → Holds n → rowsOf t w first n ≡ listed (64 * n) (bitAt (says t) R)
+  rows-held : (n : ℕ) → Holds n → rowsOf t s w first n ≡ listed (64 * n) (bitAt (says t s) R)
   rows-held zero h = unfold listed in refl
   rows-held (suc n) h =
-      let f : ℕ → List Line = bitAt (says t) R in
+      let f : ℕ → List Line = bitAt (says t s) R in
       let e : 64 * suc n ≡ 64 * n + 64 = omega arith in
-      listed-suc n (λ i. rowOf t (getD w (first + i) 0) i)
+      listed-suc n (λ i. rowOf t s (getD w (first + i) 0) i)
       ∙ ap₂ _++_ (rows-held n (λ i b l. h i b (omega arith))) (listed-cong 64 (λ b g. bit-held (suc n) h n b (omega arith) g))
       ∙ listed-span (64 * n) 64 f ∙ ap (λ (m : ℕ). listed m f) (sym e)
 
-edges-held : (w : List ℕ) → Holds false (stateOf w .now .edge) w 0 1024
+edges-held : (w : List ℕ) → Holds false 0 (stateOf w .now .edge) w 0 1024
 unfolding stateOf
 edges-held w i b l =
     let e : 64 * (i / 64) + i % 64 ≡ 0 + i = omega arith in
     rw (lt-ltb (i / 64) 16 (omega arith), lt-ltb (i % 64) 64 (omega arith), e) refl
 
-tables-held : (w : List ℕ) → Holds true (stateOf w .table) w 1024 2048
+tables-held : (w : List ℕ) (s : ℕ) → Holds true s (stateOf w .table) w 1024 2048
 unfolding stateOf
-tables-held w i b l =
+tables-held w s i b l =
     let e : 1024 + 64 * (i / 64) + i % 64 ≡ 1024 + i = omega arith in
     rw (lt-ltb (i / 64) 32 (omega arith), lt-ltb (i % 64) 64 (omega arith), e) refl
 
 module _ {o p : List ℕ} {at m : ℕ} (w : List ℕ) where
-  pub put-all-edges : Put o p at m (printedAll (rowsOf false w 0 1024)) → Put o p at m (printedAll (edgeLines (stateOf w .now .edge)))
-  put-all-edges x = subst (Put _ _ _ _) (ap printedAll (rows-held false (stateOf w .now .edge) w 0 1024 (edges-held w))) x
+  pub put-all-edges : Put o p at m (printedAll (rowsOf false 0 w 0 1024)) → Put o p at m (printedAll (edgeLines (stateOf w .now .edge)))
+  put-all-edges x = subst (Put _ _ _ _) (ap printedAll (rows-held false 0 (stateOf w .now .edge) w 0 1024 (edges-held w))) x
 
-  pub put-all-tables : Put o p at m (printedAll (rowsOf true w 1024 2048)) → Put o p at m (printedAll (tableLines (stateOf w .table)))
-  put-all-tables x = subst (Put _ _ _ _) (ap printedAll (rows-held true (stateOf w .table) w 1024 2048 (tables-held w))) x
+  pub put-all-tables : (s : ℕ) → Put o p at m (printedAll (rowsOf true s w 1024 2048)) → (T : Terms) → Paired T s → Put o p at m (printedAll (tableLines T (stateOf w .table)))
+  put-all-tables s x T e =
+      subst (Put _ _ _ _) (ap printedAll (rows-held true s (stateOf w .table) w 1024 2048 (tables-held w s) ∙ listed-cong 131072 (λ q l. rw (e (q / 4096)) refl))) x
 
 -- ---- the line of an event word
 

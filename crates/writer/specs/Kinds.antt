@@ -1,16 +1,19 @@
 -- The lines of a text kind by kind, as `allLines` and `storedLines` have them one after the other.
 use Prim.Native.Nat.{ℕ, _+_, _*_}
+use mathlib.Core.Path.{_≡_}
 use mathlib.Core.Bool.{Bool, true, false, cond}
 use mathlib.Core.List.{List, [], _∷_}
 use lib.Dec.{eqb}
 use lib.ListN.{getD}
 use Rattle.sets.specs.Sets.{bit}
+use Rattle.theory.specs.Columns.{pairMember, pairFirst, pairLast}
 use Rattle.theory.specs.Terms.{Terms}
 use Rattle.theory.specs.Moment.{Relations}
 use Rattle.theory.specs.Tables.{Tables}
-use Rattle.file.specs.Writing.{listed, lineOfEntry, markLine, effectLines, bitAt}
+use Rattle.file.specs.Writing.{listed, lineOfEntry, markLine, effectLines, bitAt, tableSays}
+use Rattle.file.specs.File.{pairTable}
 use Rattle.file.specs.declared.line.Line.{Line}
-use Rattle.file.specs.declared.line.Line.the-variants.{Members, Labels, Policy, Effect, Edge, TableBit}
+use Rattle.file.specs.declared.line.Line.the-variants.{Members, Labels, Policy, Effect, Edge, TableBit, PairBit}
 
 abbrev pub frontLines : Terms → List Line
 frontLines T = Members (T .members) ∷ Labels (T .relations) (T .events) ∷ []
@@ -40,8 +43,8 @@ eventLines T = listed (T .events) (effectsOf T)
 abbrev pub edgeLines : Relations → List Line
 edgeLines R = listed 65536 (bitAt Edge R)
 
-abbrev pub tableLines : Tables → List Line
-tableLines X = listed 131072 (bitAt TableBit X)
+abbrev pub tableLines : Terms → Tables → List Line
+tableLines T X = listed 131072 (bitAt (tableSays T) X)
 
 -- ---- as memory holds them
 
@@ -49,17 +52,21 @@ tableLines X = listed 131072 (bitAt TableBit X)
 abbrev pub tripleOf : List ℕ → (j from : ℕ) → List Line
 tripleOf w j from = Effect j (cond (eqb (getD w from 0) 1) 1 2) (getD w (from + 1) 0) (cond (eqb (getD w (from + 2) 0) 1) 1 0) ∷ []
 
--- What a set bit of a relation or of a table says.
-abbrev pub says : (table : Bool) → (k a b : ℕ) → Line
-says false = Edge
-says true = TableBit
+-- The tables with two columns are those of a set.
+abbrev pub Paired : Terms → ℕ → Type 0
+Paired T pairs = (t : ℕ) → bit pairs t ≡ pairTable T t
+
+-- What a set bit of a relation or of a table says, where the tables with two columns are those of a set.
+abbrev pub says : (table : Bool) → (pairs k a b : ℕ) → Line
+says false pairs = Edge
+says true pairs = λ t i k. cond (bit pairs t) (PairBit t (pairMember i) (pairFirst i k) (pairLast k)) (TableBit t i k)
 
 -- The line of bit b of word i of the relations or tables, where that word is w; the lines of all its bits; and those of n words from word `first` of a state on.
-abbrev pub bitOf : (table : Bool) → (w i b : ℕ) → List Line
-bitOf table w i b = bitAt (says table) (λ k a. bit w) (64 * i + b)
+abbrev pub bitOf : (table : Bool) → (pairs w i b : ℕ) → List Line
+bitOf table pairs w i b = bitAt (says table pairs) (λ k a. bit w) (64 * i + b)
 
-abbrev pub rowOf : (table : Bool) → (w i : ℕ) → List Line
-rowOf table w i = listed 64 (bitOf table w i)
+abbrev pub rowOf : (table : Bool) → (pairs w i : ℕ) → List Line
+rowOf table pairs w i = listed 64 (bitOf table pairs w i)
 
-abbrev pub rowsOf : (table : Bool) → (state : List ℕ) → (first n : ℕ) → List Line
-rowsOf table state first n = listed n (λ i. rowOf table (getD state (first + i) 0) i)
+abbrev pub rowsOf : (table : Bool) → (pairs : ℕ) → (state : List ℕ) → (first n : ℕ) → List Line
+rowsOf table pairs state first n = listed n (λ i. rowOf table pairs (getD state (first + i) 0) i)

@@ -1,6 +1,7 @@
 // The writer of a terms file and of its stored form, over lent memory.
 mod bits;
 mod kind;
+mod pairs;
 mod print;
 pub mod store;
 mod vocabulary;

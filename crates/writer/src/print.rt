@@ -108,6 +108,27 @@ pub(crate) fn put_triple(
     put_byte(out, third, 10)
 }
 
+// Puts a line of a kind and four numbers: T of a table with two columns.
+pub(crate) fn put_quad(
+    out: &mut [u8],
+    at: usize,
+    kind: usize,
+    n: usize,
+    a: usize,
+    b: usize,
+    c: usize,
+) -> usize
+    requires { ⌜ (n < 100000) × (a < 100000) × (b < 100000) × (c < 100000) × (at < 2 ^ 58) ⌝ }
+    ensures { λ r. ⌜ Put (now (out .entry)) (now (out .exit)) at r (join 9 (getD kindWords kind [] ∷ digits n ∷ digits a ∷ digits b ∷ digits c ∷ []) ++ (10 ∷ [])) ⌝ }
+    ensures { λ r. ⌜ r ≤ at + 32 ⌝ }
+{
+    let first = put_head(out, at, kind, n);
+    let second = put_field(out, first, a);
+    let third = put_field(out, second, b);
+    let fourth = put_field(out, third, c);
+    put_byte(out, fourth, 10)
+}
+
 // Puts an F line, with a sixth field where its operator has a third operand.
 pub(crate) fn put_entry(
     out: &mut [u8],

@@ -3,21 +3,24 @@
 use crate::Written;
 use crate::bits::put_tables;
 use crate::kind;
+use crate::pairs::pair_tables;
 use crate::print::put_single;
 use crate::print::put_triple;
 use crate::write::put_text;
 use memory::Outcome;
-use memory::check;
+use memory::inspect;
 use memory::layout;
+use memory::limits::ENTRIES;
 ghost use mathlib.Core.Path.{_≡_};
 ghost use Prim.Native.Nat.{_+_, _*_, _^_, _<_, _≤_};
 ghost use lib.ListN.{length, getD};
 ghost use Rattle.theory.specs.Limits.{maxEvents};
-ghost use Rattle.memory.specs.Layout.{stateWords, eventAt, eventUnit, eventOf};
+ghost use Rattle.memory.specs.Layout.{termsOf, stateWords, eventAt, eventUnit, eventOf};
 ghost use Rattle.memory.specs.Outcome.{checks};
 ghost use Rattle.memory.specs.Outcome.Outcome.{passed};
 ghost use Rattle.fields.specs.Put.{Put};
 ghost use Rattle.file.specs.Writing.{eventEdgeLine, printedAll};
+ghost use Rattle.writer.specs.Kinds.{Paired};
 ghost use Rattle.writer.specs.Write.{storedText, writingOf, storeSizeGives, storeGives, storeLeaves};
 
 // The number of the form, which its S line names.
@@ -48,38 +51,38 @@ fn put_event(out: &mut [u8], at: usize, w: u64) -> usize
     )
 }
 
-// Puts the whole text.
-fn put_stored(terms: &[u16], state: &[u64], out: &mut [u8], at: usize) -> usize
-    requires { ⌜ (stateWords ≤ length (now state)) × (getD (now state) eventAt 0 ≤ 2 * maxEvents * eventUnit) × (at < 2 ^ 54) ⌝ }
+// Puts the whole text, where the tables with two columns are those of a set.
+fn put_stored(terms: &[u16], state: &[u64], out: &mut [u8], at: usize, pairs: u64) -> usize
+    requires { ⌜ Paired (termsOf (now terms)) pairs × (stateWords ≤ length (now state)) × (getD (now state) eventAt 0 ≤ 2 * maxEvents * eventUnit) × (at < 2 ^ 54) ⌝ }
     ensures { λ r. ⌜ Put (now (out .entry)) (now (out .exit)) at r (storedText (now (terms .entry)) (now (state .entry))) ⌝ }
     ensures { λ r. ⌜ r ≤ at + 2 ^ 25 ⌝ }
 {
     let text = put_single(out, at, kind::FORM, FORM);
     let tables = put_text(terms, state, out, text);
-    let event = put_tables(state, out, tables);
+    let event = put_tables(state, out, tables, pairs);
     put_event(out, event, state[layout::EVENT_AT])
 }
 
 // The count of bytes of the text, found by putting it into one byte.
-fn count(terms: &[u16], state: &[u64]) -> usize
-    requires { ⌜ (stateWords ≤ length (now state)) × (getD (now state) eventAt 0 ≤ 2 * maxEvents * eventUnit) ⌝ }
+fn count(terms: &[u16], state: &[u64], pairs: u64) -> usize
+    requires { ⌜ Paired (termsOf (now terms)) pairs × (stateWords ≤ length (now state)) × (getD (now state) eventAt 0 ≤ 2 * maxEvents * eventUnit) ⌝ }
     ensures { λ r. ⌜ r ≡ length (storedText (now (terms .entry)) (now (state .entry))) ⌝ }
 {
     let mut one = [0u8; 1];
-    put_stored(terms, state, &mut one, 0)
+    put_stored(terms, state, &mut one, 0, pairs)
 }
 
 // Writes the text of checked terms and state, if the output has room for all of it.
-fn store_checked(terms: &[u16], state: &[u64], out: &mut [u8]) -> Written
-    requires { ⌜ passed ≡ checks (now terms) (now state) ⌝ }
+fn store_checked(terms: &[u16], state: &[u64], out: &mut [u8], pairs: u64) -> Written
+    requires { ⌜ (passed ≡ checks (now terms) (now state)) × Paired (termsOf (now terms)) pairs ⌝ }
     ensures { λ r. ⌜ writingOf r ≡ storeGives (now (terms .entry)) (now (state .entry)) (now (out .entry)) ⌝ }
     ensures { λ r. ⌜ now (out .exit) ≡ storeLeaves (now (terms .entry)) (now (state .entry)) (now (out .entry)) ⌝ }
 {
-    let n = count(terms, state);
+    let n = count(terms, state, pairs);
     if out.len() < n {
         return Written::Refused(6, 0);
     }
-    put_stored(terms, state, out, 0);
+    put_stored(terms, state, out, 0, pairs);
     Written::Bytes(n)
 }
 
@@ -87,8 +90,9 @@ fn store_checked(terms: &[u16], state: &[u64], out: &mut [u8]) -> Written
 pub fn store_size(terms: &[u16], state: &[u64]) -> Written
     ensures { λ r. ⌜ writingOf r ≡ storeSizeGives (now (terms .entry)) (now (state .entry)) ⌝ }
 {
-    match check(terms, state) {
-        Outcome::Done => Written::Bytes(count(terms, state)),
+    let mut plan = [0u16; ENTRIES];
+    match inspect(terms, state, &mut plan) {
+        Outcome::Done => Written::Bytes(count(terms, state, pair_tables(terms, &plan))),
         Outcome::Refused(n, l) => Written::Refused(n, l),
     }
 }
@@ -99,8 +103,9 @@ pub fn store(terms: &[u16], state: &[u64], out: &mut [u8]) -> Written
     ensures { λ r. ⌜ writingOf r ≡ storeGives (now (terms .entry)) (now (state .entry)) (now (out .entry)) ⌝ }
     ensures { λ r. ⌜ now (out .exit) ≡ storeLeaves (now (terms .entry)) (now (state .entry)) (now (out .entry)) ⌝ }
 {
-    match check(terms, state) {
-        Outcome::Done => store_checked(terms, state, out),
+    let mut plan = [0u16; ENTRIES];
+    match inspect(terms, state, &mut plan) {
+        Outcome::Done => store_checked(terms, state, out, pair_tables(terms, &plan)),
         Outcome::Refused(n, l) => Written::Refused(n, l),
     }
 }

@@ -67,7 +67,7 @@ impl Other for Library<'_> {
         let got = archive::call(bank, call, lent, scratch);
         // Scratch is lent full of noise, and left 0 by a moment.
         let made = scratch[bank].iter().take(SCRATCH_WORDS).all(|&word| word == 0);
-        self.tally.call(call, got, made);
+        self.tally.call(&lent.terms, call, got, made);
         got
     }
 
@@ -93,7 +93,7 @@ impl Other for Library<'_> {
         if (&single_lent, &single_scratch) != (lent, scratch) {
             self.disagreement = Some("memory");
         }
-        self.tally.set_list(&got, items);
+        self.tally.set_list(&lent.terms, &got, items);
         got
     }
 

@@ -178,7 +178,7 @@ impl Other for Library<'_> {
         };
         let got = answer(got);
         let moved = state.get(STATE_WORDS - 1).copied() != before;
-        self.tally.call(call, got, moved);
+        self.tally.call(terms, call, got, moved);
         if let (Some(monitor), true) = (&mut self.monitor, scratch.len() >= SCRATCH_WORDS) {
             let bound = answer(named(call).and_then(|request| match call.look {
                 true => monitor.look(request),
@@ -218,7 +218,7 @@ impl Other for Library<'_> {
             let raw::Record { event, from, to, answer } = *record;
             *item = Item { event, from, to, answer };
         }
-        self.tally.set_list(&got, items);
+        self.tally.set_list(terms, &got, items);
         got
     }
 

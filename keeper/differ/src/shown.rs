@@ -2,7 +2,7 @@
 
 use cuckooormolu::{Action, Answer, Direction, Entry, Label, Monitor};
 use keeper::terms::memory::State;
-use keeper::terms::{self, Effect, EventEdge, Past, Terms};
+use keeper::terms::{self, Bit, Effect, EventEdge, Past, Terms};
 
 /// The terms, without edges.
 pub fn terms(monitor: &Monitor) -> Terms {
@@ -60,12 +60,13 @@ pub fn state(monitor: &Monitor) -> State {
         assert!(shown.has_edge(edge));
         (edge.relation.into(), edge.from.into(), edge.to.into())
     };
+    let paired = terms(monitor).paired();
     let table = |t| {
-        let pairs = shown.table(t).map(|(at, other)| {
+        let bits = shown.table(t).map(|(at, other)| {
             assert!(shown.table_holds(t, at, other));
-            (at.into(), other.into())
+            bit(paired.contains(&t), at.into(), other.into())
         });
-        pairs.collect()
+        bits.collect()
     };
     let event = |edge: cuckooormolu::EventEdge| {
         let cuckooormolu::Request { event, from, to } = edge.request;
@@ -75,4 +76,13 @@ pub fn state(monitor: &Monitor) -> State {
     let tables = (0..monitor.terms().tables().count()).map(table).collect();
     let past = Past { tables, event: shown.event().map(event) };
     State { edges: shown.edges().map(edge).collect(), past }
+}
+
+/// The bit of a table at a place of one of its words.
+fn bit(is_paired: bool, word: usize, place: usize) -> Bit {
+    if is_paired {
+        Bit::Triple(word / 4, 4 * (word % 4) + place / 16, place % 16)
+    } else {
+        Bit::Pair(word, place)
+    }
 }

@@ -3,7 +3,7 @@
 use keeper::record::{Answer, Call};
 use keeper::set_list::Item;
 use keeper::terms::formula::first_same;
-use keeper::terms::{self, memory, Refusal};
+use keeper::terms::{self, memory, Refusal, Terms, MOST_PAIRED};
 use std::collections::BTreeMap;
 use std::fmt;
 
@@ -32,6 +32,11 @@ impl fmt::Display for Tallies {
 
 type Seen = (&'static str, String);
 
+/// What has to come up with terms that have tables of two free variables: what
+/// these terms give, and texts that are refused for such a table, its entry or its
+/// lines.
+const PAIRED: &str = "two free";
+
 /// What calls, set lists and revisions have to give.
 fn steps() -> Vec<Seen> {
     let mut wanted = Vec::new();
@@ -46,6 +51,25 @@ fn steps() -> Vec<Seen> {
     wanted.extend([6, 7, 8, 13].map(|number| ("revise", format!("refuse {number}"))));
     wanted.push(("revise", "done".into()));
     wanted.extend(["carried", "begun"].map(|outcome| ("past-time", outcome.into())));
+    let paired = [
+        "request grant",
+        "request deny",
+        "request deny, kept",
+        "request refuse 8",
+        "look grant",
+        "look deny",
+        "look refuse 8",
+        "in a list grant",
+        "in a list deny",
+        "above 8 members",
+        "read accepted",
+        "read padded",
+        "read refuse 4",
+        "read refuse 4 of 17",
+        "carried",
+        "begun",
+    ];
+    wanted.extend(paired.map(|outcome| (PAIRED, outcome.into())));
     wanted
 }
 
@@ -57,6 +81,8 @@ fn one_bank() -> Vec<Seen> {
     wanted.extend([6, 7, 8].map(|number| refused("store", number)));
     wanted.extend(["accepted", "padded", "stored"].map(|form| ("read", form.into())));
     wanted.extend(["write", "store"].map(|kind| (kind, "written".into())));
+    let paired = ["read stored", "T line refuse 1", "T line refuse 2"];
+    wanted.extend(paired.map(|outcome| (PAIRED, outcome.into())));
     wanted
 }
 
@@ -75,6 +101,8 @@ pub struct Tally {
     counts: BTreeMap<Seen, usize>,
     calls: usize,
     shrinking: bool,
+    /// The words of terms that were looked at last, and what they say.
+    last: (Vec<u16>, Terms),
 }
 
 impl Tally {
@@ -102,7 +130,64 @@ impl Tally {
             [b'S', ..] => "stored",
             _ => "accepted",
         };
-        self.count("read", got.map_or_else(refused, |()| accepted.into()));
+        let outcome = got.map_or_else(refused, |()| accepted.into());
+        if !self.shrinking {
+            self.read_paired(text, got, &outcome);
+        }
+        self.count("read", outcome);
+    }
+
+    /// Texts with a table of two free variables, and those that are refused for the
+    /// free variables of an entry or at a T line of five fields.
+    fn read_paired(&mut self, text: &[u8], got: &Result<(), Refusal>, outcome: &str) {
+        let mut lines = text.split(|&byte| byte == b'\n').map(terms::read::fields);
+        match got {
+            Ok(()) => {
+                let paired = terms::read(text).is_ok_and(|file| !file.terms.paired().is_empty());
+                if paired {
+                    self.count(PAIRED, format!("read {outcome}"));
+                }
+            }
+            Err(Refusal { number: 4, .. }) => {
+                let members = lines.find_map(|line| match line[..] {
+                    [b"M", members] => terms::read::number(members),
+                    _ => None,
+                });
+                let many = members.is_some_and(|members| members > MOST_PAIRED);
+                self.count(PAIRED, format!("read {outcome}{}", if many { " of 17" } else { "" }));
+            }
+            Err(Refusal { line, .. }) => {
+                let faulty = line.checked_sub(1).and_then(|line| lines.nth(line));
+                if matches!(faulty.as_deref(), Some([b"T", _, _, _, _])) {
+                    self.count(PAIRED, format!("T line {outcome}"));
+                }
+            }
+        }
+    }
+
+    /// How many tables of two free variables the words of terms have, and how many
+    /// members.
+    fn paired(&mut self, words: &[u16]) -> (usize, usize) {
+        if self.last.0 != words {
+            let enough = words.len() >= memory::TERMS_WORDS;
+            let said = enough.then(|| memory::terms_of_words(words)).flatten();
+            self.last = (words.to_vec(), said.unwrap_or_default());
+        }
+        (self.last.1.paired().len(), self.last.1.members)
+    }
+
+    /// Counts what was done under terms with tables of two free variables.
+    fn count_paired(&mut self, words: &[u16], outcome: &str) {
+        if self.shrinking {
+            return;
+        }
+        let (tables, members) = self.paired(words);
+        if tables > 0 {
+            self.count(PAIRED, outcome.into());
+        }
+        if tables > 0 && members > 8 {
+            self.count(PAIRED, "above 8 members".into());
+        }
     }
 
     /// Opening.
@@ -116,7 +201,7 @@ impl Tally {
     }
 
     /// A request or a look, and whether it moved the event word or cleared scratch.
-    pub fn call(&mut self, call: &Call, got: Answer, moved: bool) {
+    pub fn call(&mut self, terms: &[u16], call: &Call, got: Answer, moved: bool) {
         let kind = if call.look { "look" } else { "request" };
         let outcome = match got {
             Answer::Grant => "grant".into(),
@@ -125,11 +210,12 @@ impl Tally {
             Answer::Refused(refusal) => refused(refusal),
         };
         self.calls += 1;
+        self.count_paired(terms, &format!("{kind} {outcome}"));
         self.count(kind, outcome);
     }
 
     /// A set list, and its answers if it has any.
-    pub fn set_list(&mut self, got: &Result<usize, Refusal>, items: &[Item]) {
+    pub fn set_list(&mut self, terms: &[u16], got: &Result<usize, Refusal>, items: &[Item]) {
         let answered = if items.is_empty() { "empty" } else { "answered" };
         self.count("set list", got.map_or_else(refused, |_| answered.into()));
         for item in items.iter().filter(|_| got.is_ok()) {
@@ -138,6 +224,7 @@ impl Tally {
                 1 => "grant".into(),
                 number => format!("refuse {number}"),
             };
+            self.count_paired(terms, &format!("in a list {outcome}"));
             self.count("in a list", outcome);
         }
     }
@@ -149,10 +236,13 @@ impl Tally {
             return;
         }
         let [old, new] = [old, new].map(|words| memory::terms_of_words(words).unwrap_or_default());
-        let same = first_same(&old, &new);
-        for entry in new.past() {
+        let (same, paired) = (first_same(&old, &new), new.paired());
+        for (t, entry) in new.past().into_iter().enumerate() {
             let outcome = if same[entry].is_some() { "carried" } else { "begun" };
             self.count("past-time", outcome.into());
+            if paired.contains(&t) {
+                self.count(PAIRED, outcome.into());
+            }
         }
     }
 
@@ -170,7 +260,7 @@ fn refused(refusal: Refusal) -> String {
 impl fmt::Display for Tally {
     fn fmt(&self, out: &mut fmt::Formatter<'_>) -> fmt::Result {
         for ((kind, outcome), count) in &self.counts {
-            writeln!(out, "{kind:<9} {outcome:<10} {count:>9}")?;
+            writeln!(out, "{kind:<9} {outcome:<20} {count:>9}")?;
         }
         Ok(())
     }

@@ -12,8 +12,7 @@ const BEYOND: usize = 10;
 /// Bytes that a writing has room for where the case says nothing.
 const ROOM: usize = 8_192;
 
-/// The result of a case; none if its kind or arguments are not known, or if
-/// nothing decides it.
+/// The result of a case; none if its kind or arguments are not known.
 pub fn result(case: &Case) -> Option<String> {
     let head = &case.head;
     let size = |index| case.size(index);
@@ -193,7 +192,8 @@ fn damaged_state(case: &Case) -> Option<Lent> {
 }
 
 /// Lent memory after reading a text. It was lent as zeros, which a refused
-/// text leaves; the record is lost when a word is changed.
+/// text leaves; the record is lost when a word is changed, and what the words
+/// say then stands for one.
 struct Lent {
     terms: Vec<u16>,
     state: Vec<u64>,
@@ -209,14 +209,15 @@ impl Lent {
         Lent { terms, state, record: terms::read(text).ok().map(Record::of) }
     }
 
-    /// Answers a call with so many words of terms and state. None if it is
-    /// not refused and there is no record to decide it by.
+    /// Answers a call with so many words of terms and state; none if there are
+    /// fewer.
     fn call(&mut self, terms_words: usize, state_words: usize, call: &Call) -> Option<Answer> {
         let (terms, state) = (self.terms.get(..terms_words)?, self.state.get(..state_words)?);
-        if let Err(refusal) = expect::calling(terms, state, call) {
-            return Some(Answer::Refused(refusal));
-        }
-        let record = self.record.as_mut()?;
+        let (terms, state) = match expect::calling(terms, state, call) {
+            Err(refusal) => return Some(Answer::Refused(refusal)),
+            Ok(lent) => lent,
+        };
+        let record = self.record.get_or_insert_with(|| expect::going_on(&terms, &state));
         let answer = record.answer(call);
         self.state[..STATE_WORDS].copy_from_slice(&record.state_words());
         Some(answer)

@@ -28,9 +28,10 @@ pub fn case(seed: u64, largest: usize) -> Case<Step> {
 
 /// Large less often than for one bank, since the state of each is worked out.
 fn size(rng: &mut Rng) -> Size {
-    match rng.below(4) {
-        0 => Size::random(rng),
-        1 => Size::middle(rng),
+    match rng.below(40) {
+        0..=9 => Size::random(rng),
+        10..=18 => Size::middle(rng),
+        19 => Size::paired(rng),
         _ => related(rng),
     }
 }

@@ -5,7 +5,11 @@ use crate::terms::{Effect, Entry, File, Terms, MOST_ENTRIES, MOST_PAST};
 
 /// A text of either form with one damage, now and then two.
 pub fn text(rng: &mut Rng) -> Vec<u8> {
-    let size = if rng.percent(4) { Size::large(rng) } else { Size::small(rng) };
+    let size = match rng.below(100) {
+        0..=3 => Size::large(rng),
+        4..=8 => Size::paired(rng),
+        _ => Size::small(rng),
+    };
     let mut file = File { terms: formulas::terms(rng, &size), past: None };
     if rng.percent(40) {
         file = stored::file(rng, &file.terms);
@@ -37,10 +41,10 @@ pub fn text(rng: &mut Rng) -> Vec<u8> {
 /// Breaks a rule of the terms themselves.
 fn damage_terms(rng: &mut Rng, terms: &mut Terms) {
     let place = rng.below(terms.entries.len() + 1);
-    match rng.below(17) {
+    match rng.below(18) {
         15 | 16 => bad_count(rng, terms, place),
         0 | 1 => operand_not_lower(rng, terms, place),
-        2 | 3 => two_free_variables(rng, terms, place),
+        2 | 3 | 17 => too_many_free(rng, terms, place),
         4 | 5 => free_policy(rng, terms, place),
         12..=14 => bad_reach(rng, terms, place),
         6 => too_many_past(rng, terms),
@@ -73,22 +77,34 @@ fn operand_not_lower(rng: &mut Rng, terms: &mut Terms, place: usize) {
     terms.put_in(place, &[entry]);
 }
 
-fn two_free_variables(rng: &mut Rng, terms: &mut Terms, place: usize) {
+/// A past-time entry with three free variables, or with two of more members than
+/// that may be; or one that just has not.
+fn too_many_free(rng: &mut Rng, terms: &mut Terms, place: usize) {
     let x = rng.below(16);
     let y = if rng.percent(80) { (x + rng.between(1, 15)) % 16 } else { x };
     let (first, second) = (Entry::Var(x), Entry::Var(y));
-    let new = match rng.below(5) {
-        0 => vec![first, second, Entry::Since(place, place + 1)],
-        1 => vec![first, second, Entry::Since(place + 1, place)],
-        2 => vec![first, Entry::At(y, place), Entry::Prev(place + 1)],
-        3 => vec![first, second, Entry::Or(place, place + 1), Entry::Prev(place + 2)],
+    let mut new = vec![first, second];
+    if rng.percent(50) {
+        // A third variable takes the place of the first.
+        let z = if rng.percent(80) { (y + rng.between(1, 15)) % 16 } else { y };
+        let third = [Entry::At(z, place), Entry::Var(z)];
+        new.extend([rng.pick(&third), Entry::Or(place, place + 2)]);
+    } else {
+        terms.members = terms.members.max(rng.pick(&[1, 16, 17, 17, 17, 18, 64]));
+    }
+    let end = place + new.len();
+    let f = if new.len() == 2 { place } else { end - 1 };
+    new.extend(match rng.below(5) {
+        0 => vec![Entry::Since(f, place + 1)],
+        1 => vec![Entry::Since(place + 1, f)],
+        2 => vec![Entry::At(y, f), Entry::Prev(end)],
+        3 => vec![Entry::Or(f, place + 1), Entry::Prev(end)],
         _ => {
             // Bound, or not, before it is looked back on.
-            let z = rng.between(1, 15);
-            let or = Entry::Or(place, place + 1);
-            vec![first, second, or, Entry::Bind(z, place + 2), Entry::Since(place, place + 3)]
+            let bound = if rng.percent(50) { y.max(1) } else { rng.between(1, 15) };
+            vec![Entry::Or(f, place + 1), Entry::Bind(bound, end), Entry::Since(f, end + 1)]
         }
-    };
+    });
     terms.put_in(place, &new);
 }
 
@@ -119,8 +135,9 @@ fn bad_reach(rng: &mut Rng, terms: &mut Terms, place: usize) {
         4 => vec![first, Entry::At(y, place), Entry::Top, Entry::Reach(x, place + 1, place + 2)],
         _ => {
             // A since over it: then 4 may come before 10.
-            let or = Entry::Or(place, place + 1);
-            vec![first, second, or, Entry::Since(place, place + 2), Entry::Reach(x, place, place)]
+            let (or, at) = (Entry::Or(place, place + 1), Entry::At(rng.below(16), place + 2));
+            let since = Entry::Since(place, place + 3);
+            vec![first, second, or, at, since, Entry::Reach(x, place, place)]
         }
     };
     terms.put_in(place, &new);

@@ -1,12 +1,13 @@
 //! Sound terms, built so that the rules on free variables hold.
 
 use super::{kept, Rng, Size};
-use crate::terms::{Effect, Entry, Terms, Variables, MOST_COUNTED, MOST_EFFECTS};
+use crate::terms::{most_free, Effect, Entry, Terms, Variables, MOST_COUNTED, MOST_EFFECTS};
 
 /// Random terms within the given size.
 pub fn terms(rng: &mut Rng, size: &Size) -> Terms {
     let mut builder = Builder::new(rng, size);
     let room = size.entries - 1;
+    builder.start(room - room / 5);
     builder.grow(room - room / 5);
     let policies = builder.policies();
     if size.fill {
@@ -70,7 +71,7 @@ pub(super) struct Builder<'a> {
     pub rng: &'a mut Rng,
     pub size: &'a Size,
     pub entries: Vec<Entry>,
-    free: Vec<Variables>,
+    pub free: Vec<Variables>,
     steps: Vec<usize>,
     past: usize,
     table_steps: usize,
@@ -89,6 +90,7 @@ impl<'a> Builder<'a> {
         let free = entry.free(&self.free);
         let inner: usize = entry.operands().iter().map(|&f| self.steps[f]).sum();
         let scan = 1 + self.size.members / 8;
+        let bits = self.size.members.pow(1 + free.count_ones().max(1));
         let (steps, table) = match entry {
             Entry::Out(l, _) | Entry::In(l, _) | Entry::Many(l, _, _)
                 if l < self.size.relations =>
@@ -96,7 +98,7 @@ impl<'a> Builder<'a> {
                 (scan + self.size.degree() * inner, 0)
             }
             Entry::Out(_, _) | Entry::In(_, _) | Entry::Many(_, _, _) => (scan + inner, 0),
-            Entry::Prev(_) | Entry::Since(_, _) => (1, self.size.members.pow(2) * (1 + inner)),
+            Entry::Prev(_) | Entry::Since(_, _) => (1, bits.saturating_mul(1 + inner)),
             Entry::Reach(_, _, _) => (self.size.members * (1 + inner), 0),
             _ => (1 + inner, 0),
         };
@@ -104,7 +106,7 @@ impl<'a> Builder<'a> {
             Entry::Reach(x, f, g) => {
                 x > 0 && self.free[f] & !(1 << x) == 0 && self.free[g] & 1 << x == 0
             }
-            _ => !entry.is_past() || (self.past < self.size.past && free.count_ones() < 2),
+            _ => !entry.is_past() || (self.past < self.size.past && self.allows(free)),
         };
         let bounded = self.entries.len() < self.bound
             && steps <= self.size.entry_steps
@@ -118,6 +120,24 @@ impl<'a> Builder<'a> {
         self.free.push(free);
         self.steps.push(steps);
         Some(self.entries.len() - 1)
+    }
+
+    /// Whether a past-time entry may have these variables free.
+    fn allows(&self, free: Variables) -> bool {
+        free.count_ones() <= self.most_free()
+    }
+
+    pub fn most_free(&self) -> u32 {
+        most_free(self.size.members)
+    }
+
+    /// Begins with formulas of two free variables, as far as there are to be any.
+    fn start(&mut self, count: usize) {
+        self.bound = count;
+        for _ in 0..self.size.paired {
+            self.paired();
+        }
+        self.bound = self.size.entries;
     }
 
     /// Adds entries up to a count, as far as the bounds allow.
@@ -187,11 +207,14 @@ impl<'a> Builder<'a> {
         }
     }
 
-    /// An operand that, together with the given variables, has at most one free.
+    /// An operand that, together with the given variables, has no more free than a
+    /// past-time entry may have; where that is two, now and then not fewer.
     pub fn past_operand(&mut self, with: Variables) -> usize {
+        let most = self.most_free();
+        let least = if most == 2 && self.rng.percent(30) { 2 } else { 0 };
         let mut operand = self.operand();
         for _ in 0..8 {
-            if (self.free[operand] | with).count_ones() < 2 {
+            if (least..=most).contains(&(self.free[operand] | with).count_ones()) {
                 break;
             }
             operand = self.operand();

@@ -6,14 +6,18 @@ use crate::terms::Entry;
 impl Builder<'_> {
     /// One pattern, as far as the bounds allow.
     pub fn pattern(&mut self) {
-        match self.rng.below(19) {
+        if self.most_free() == 2 && self.rng.percent(14) {
+            self.paired();
+            return;
+        }
+        match self.rng.below(21) {
             0 | 1 => self.once_and_not_since(),
             2 | 3 => self.bind_again(),
             4 | 5 => self.before_the_past(),
             6 => self.both(),
-            7..=10 => self.reached(),
-            11..=13 => self.counted(),
-            14..=16 => self.tried(),
+            7..=12 => self.reached(),
+            13..=15 => self.counted(),
+            16..=18 => self.tried(),
             _ => self.shown(),
         };
     }

@@ -4,11 +4,12 @@ use super::{formulas, words, Rng, Size};
 use crate::record::Call;
 use crate::step::{Revision, Step};
 use crate::terms::memory::{self, STATE_WORDS, TERMS_WORDS};
-use crate::terms::{Effect, Entry, Field, Terms, MOST_EFFECTS, OPERATORS};
+use crate::terms::{Effect, Entry, Field, Terms, MOST_EFFECTS, MOST_PAIRED, OPERATORS};
 
 /// Above so many members no formula is made that was not there, since it might
-/// take the keeper too long.
+/// take the keeper too long; of few entries it may.
 const MOST_MEMBERS: usize = 8;
+const FEW_ENTRIES: usize = 24;
 
 /// The calls with revisions among them: none, a few or many.
 pub fn steps(rng: &mut Rng, terms: &Terms, calls: Vec<Call>) -> Vec<Step> {
@@ -126,8 +127,9 @@ pub fn edited(rng: &mut Rng, terms: &Terms) -> Terms {
 fn edit(rng: &mut Rng, terms: &mut Terms) {
     let entry = rng.below(terms.entries.len());
     let event = rng.below(terms.events);
-    let free = terms.members <= MOST_MEMBERS;
-    match rng.below(12) {
+    let few = terms.members <= MOST_PAIRED && terms.entries.len() <= FEW_ENTRIES;
+    let free = few || terms.members <= MOST_MEMBERS;
+    match rng.below(13) {
         0 | 1 => move_about(rng, terms),
         2 => terms.take_out(some_past(rng, terms)),
         3 => terms.take_out(entry),
@@ -136,6 +138,7 @@ fn edit(rng: &mut Rng, terms: &mut Terms) {
         7 | 8 if free => add_past(rng, terms),
         9 => terms.policies[event] = rng.below(terms.entries.len()),
         10 => terms.effects[event] = effects(rng, terms),
+        11 if free => swap_variables(rng, terms),
         _ => {
             if !terms.kept.remove(&event) {
                 terms.kept.insert(event);
@@ -202,6 +205,23 @@ fn change_inside(rng: &mut Rng, terms: &mut Terms, entry: usize) {
         (Entry::Out(l, f), 0) => Entry::In(l, f),
         _ => Entry::of_parts(operator, fields).unwrap_or(old),
     };
+}
+
+/// Two variables in each other's places, so that their order is the other one.
+fn swap_variables(rng: &mut Rng, terms: &mut Terms) {
+    let x = rng.between(1, 3);
+    let y = rng.between(1, 15);
+    for entry in &mut terms.entries {
+        let (operator, mut fields) = entry.parts();
+        for (field, kind) in fields.iter_mut().zip(OPERATORS[operator].fields) {
+            *field = match kind {
+                Field::Variable | Field::BoundVariable if *field == x => y,
+                Field::Variable | Field::BoundVariable if *field == y => x,
+                _ => *field,
+            };
+        }
+        *entry = Entry::of_parts(operator, fields).unwrap_or(*entry);
+    }
 }
 
 /// A past-time entry over those that are there, past-time ones among them;

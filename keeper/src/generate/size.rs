@@ -12,6 +12,8 @@ pub struct Size {
     pub past: usize,
     pub first_edges: usize,
     pub calls: usize,
+    /// How many formulas of two free variables come first.
+    pub paired: usize,
     /// Fill the entry list up to its bound.
     pub fill: bool,
     /// The most steps one entry may take, worked out without remembering.
@@ -27,19 +29,22 @@ impl Size {
             0..=1 => Size::full(rng),
             2..=7 => Size::large(rng),
             8..=34 => Size::middle(rng),
+            35..=38 => Size::paired(rng),
             _ => Size::small(rng),
         }
     }
 
     pub fn small(rng: &mut Rng) -> Size {
+        let paired = usize::from(rng.percent(30));
         Size {
             members: rng.between(1, 4).max(rng.between(1, 4)),
             relations: rng.below(3),
             events: rng.between(1, 3),
-            entries: rng.between(1, 20).max(rng.between(1, 20)),
-            past: 5,
+            entries: rng.between(1, 20).max(rng.between(1, 20)) + 7 * paired,
+            past: 5 + paired,
             first_edges: rng.below(12),
             calls: 24,
+            paired,
             fill: false,
             entry_steps: 2_000,
             table_steps: 20_000,
@@ -51,13 +56,32 @@ impl Size {
             members: rng.between(1, 8),
             relations: rng.below(5),
             events: rng.between(1, 5),
-            entries: rng.between(4, 48),
+            entries: rng.between(8, 52),
             past: 10,
             first_edges: rng.below(24),
             calls: 20,
+            paired: rng.below(2),
             fill: false,
             entry_steps: 4_000,
             table_steps: 100_000,
+        }
+    }
+
+    /// About as many members as tables of two free variables have room for, and
+    /// now and then one more.
+    pub fn paired(rng: &mut Rng) -> Size {
+        Size {
+            members: rng.pick(&[9, 11, 12, 13, 14, 15, 15, 16, 16, 16, 16, 17, 17]),
+            relations: rng.below(4),
+            events: rng.between(1, 4),
+            entries: rng.between(8, 24),
+            past: 4,
+            first_edges: rng.below(40),
+            calls: 6,
+            paired: rng.between(1, 2),
+            fill: false,
+            entry_steps: 2_000,
+            table_steps: 300_000,
         }
     }
 
@@ -70,6 +94,7 @@ impl Size {
             past: 32,
             first_edges: rng.below(200),
             calls: 6,
+            paired: 0,
             fill: false,
             entry_steps: 4_000,
             table_steps: 1_000_000,

@@ -1,10 +1,9 @@
 //! Stored files, and damage to the lines that only the stored form has.
 
-use super::lines::{join, line, places, some, split};
+use super::lines::{join, line, places, some, split, Lines};
 use super::{calls, Rng};
 use crate::record::Record;
-use crate::terms::memory::pairs;
-use crate::terms::{Entry, EventEdge, File, Past, Tables, Terms, MOST_EVENTS, MOST_PAST};
+use crate::terms::{Bit, Entry, EventEdge, File, Past, Tables, Terms, MOST_EVENTS, MOST_PAST};
 use std::collections::BTreeSet;
 
 /// A stored file of sound terms: that of a record after some calls, or one
@@ -33,13 +32,14 @@ fn drawn_tables(rng: &mut Rng, terms: &Terms) -> Tables {
         let share = rng.pick(&[0, 3, 30, 70, 100]);
         let closed = free[entry] == 0;
         let mut full = false;
-        let chosen = pairs(terms.members).filter(|&(_, b)| {
-            if b == 0 || !closed {
+        let mut bits = Bit::all(terms.members, free[entry]);
+        bits.retain(|bit| {
+            if !closed || bit.place().1 == 0 {
                 full = rng.percent(share);
             }
             full
         });
-        chosen.collect()
+        bits.into_iter().collect()
     };
     terms.past().into_iter().map(&mut table).collect()
 }
@@ -74,9 +74,9 @@ pub fn partly_fill(rng: &mut Rng, file: &mut File) {
     for _ in 0..if rng.percent(80) { 1 } else { 2 } {
         let a = rng.below(terms.members);
         let left = rng.below(terms.members);
-        tables[t].retain(|&(at, _)| at != a);
+        tables[t].retain(|bit| bit.parts().0 != a);
         let kept = (0..terms.members).filter(|&b| b != left && rng.percent(60));
-        tables[t].extend(kept.map(|b| (a, b)));
+        tables[t].extend(kept.map(|b| Bit::Pair(a, b)));
     }
 }
 
@@ -87,7 +87,7 @@ pub fn damage(rng: &mut Rng, terms: &Terms, text: &mut Vec<u8>) {
     let count = lines.len();
     let bits = places(&lines, b"T");
     let events = places(&lines, b"V");
-    match rng.below(12) {
+    match rng.below(18) {
         0 => lines[0] = line("S", &[rng.pick(&[0, 1, 2, 3, 20, 22, 99_999])]),
         1 => {
             lines.remove(0);
@@ -110,10 +110,13 @@ pub fn damage(rng: &mut Rng, terms: &Terms, text: &mut Vec<u8>) {
             let bit = lines.remove(some(rng, &bits, count));
             lines.insert(rng.below(count), bit);
         }
-        7 => lines.insert(rng.below(count + 1), line("T", &bit(rng, terms))),
+        7 => {
+            let bit = line("T", &bit(rng, terms, &lines));
+            lines.insert(rng.below(count + 1), bit);
+        }
         8 => {
             let place = some(rng, &bits, count);
-            lines[place] = line("T", &bit(rng, terms));
+            lines[place] = line("T", &bit(rng, terms, &lines));
         }
         9 => {
             let place = if rng.percent(70) { count } else { some(rng, &events, count) };
@@ -123,6 +126,32 @@ pub fn damage(rng: &mut Rng, terms: &Terms, text: &mut Vec<u8>) {
             let place = some(rng, &events, count);
             lines[place] = line("V", &event(rng, terms));
         }
+        11 => {
+            // Neighbours in the other order.
+            let place = some(rng, &bits, count);
+            lines.swap(place, (place + 1).min(count - 1));
+        }
+        12..=15 => {
+            // Another number in one field.
+            let place = long(rng, &lines, &bits);
+            let field = rng.between(1, lines[place].len().max(2) - 1);
+            let bound = if field == 1 { terms.past().len() } else { terms.members };
+            let number = if rng.percent(50) { bound } else { near(rng, bound) };
+            let number = number.to_string().into_bytes();
+            match lines[place].get_mut(field) {
+                Some(field) => *field = number,
+                None => lines[place].push(number),
+            }
+        }
+        16 => {
+            // A field more, or less.
+            let place = long(rng, &lines, &bits);
+            if rng.percent(50) {
+                lines[place].pop();
+            } else {
+                lines[place].push(rng.below(terms.members).to_string().into_bytes());
+            }
+        }
         _ => {
             let after = [("G", [0, 0, 0]), ("T", [0, 0, 0]), ("V", [0, 0, 0])];
             let (kind, numbers) = rng.pick(&after);
@@ -130,6 +159,14 @@ pub fn damage(rng: &mut Rng, terms: &Terms, text: &mut Vec<u8>) {
         }
     }
     *text = join(&lines);
+}
+
+/// The place of a T line, mostly of one with three members where there is any; or
+/// of any line.
+fn long(rng: &mut Rng, lines: &Lines, bits: &[usize]) -> usize {
+    let long: Vec<usize> = bits.iter().copied().filter(|&place| lines[place].len() == 5).collect();
+    let chosen = if long.is_empty() || rng.percent(20) { bits } else { &long };
+    some(rng, chosen, lines.len())
 }
 
 /// A number below a bound, at it, or far.
@@ -141,8 +178,14 @@ fn near(rng: &mut Rng, bound: usize) -> usize {
     }
 }
 
-fn bit(rng: &mut Rng, terms: &Terms) -> [usize; 3] {
-    [near(rng, terms.past().len()), near(rng, terms.members), near(rng, terms.members)]
+/// What a T line names, mostly with as many members as other lines of its table.
+fn bit(rng: &mut Rng, terms: &Terms, lines: &Lines) -> Vec<usize> {
+    let t = near(rng, terms.past().len());
+    let first = line("T", &[t]);
+    let is_triple = lines.iter().any(|line| line.starts_with(&first) && line.len() == 5);
+    let is_triple = is_triple != rng.percent(8);
+    let members = (0..if is_triple { 3 } else { 2 }).map(|_| near(rng, terms.members));
+    std::iter::once(t).chain(members).collect()
 }
 
 /// What a V line names. Of an event the numbers below 16 are grants, those from

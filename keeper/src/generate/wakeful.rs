@@ -1,7 +1,7 @@
 //! Entries that see each moment: what it holds, and that it was made.
 
 use super::Rng;
-use crate::terms::{Entry, Terms, MOST_ENTRIES, MOST_PAST};
+use crate::terms::{Entry, Terms, MOST_ENTRIES, MOST_PAIRED, MOST_PAST};
 
 /// The most entries that one chain has.
 const CHAIN: usize = 6;
@@ -13,7 +13,8 @@ pub fn wake(rng: &mut Rng, terms: &mut Terms) {
         if terms.entries.len() + CHAIN > MOST_ENTRIES {
             return;
         }
-        let entry = chain(rng, terms);
+        let is_paired = terms.members <= MOST_PAIRED && rng.percent(30);
+        let entry = if is_paired { paired(rng, terms) } else { chain(rng, terms) };
         if rng.percent(70) {
             let event = rng.below(terms.events);
             terms.policies[event] = entry;
@@ -51,6 +52,25 @@ fn chain(rng: &mut Rng, terms: &mut Terms) -> usize {
         true => push(terms, rng.pick(&more)),
         false => past,
     }
+}
+
+/// A past-time entry over an edge between the target and whoever is bound around
+/// it.
+fn paired(rng: &mut Rng, terms: &mut Terms) -> usize {
+    let top = push(terms, Entry::Top);
+    if terms.past().len() >= MOST_PAST {
+        return top;
+    }
+    let (x, label) = (rng.between(1, 15), rng.below(terms.labels()));
+    let who = push(terms, Entry::Var(x));
+    let edge = match rng.below(3) {
+        0 => push(terms, Entry::In(label, who)),
+        _ => push(terms, Entry::Out(label, who)),
+    };
+    let between = push(terms, Entry::At(0, edge));
+    let past = [Entry::Prev(between), Entry::Since(top, between), Entry::Since(edge, between)];
+    let past = push(terms, rng.pick(&past));
+    push(terms, Entry::Bind(x, past))
 }
 
 fn push(terms: &mut Terms, entry: Entry) -> usize {

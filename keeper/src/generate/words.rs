@@ -2,7 +2,7 @@
 
 use super::Rng;
 use crate::terms::memory::*;
-use crate::terms::{Terms, MOST_EFFECTS, MOST_EVENTS};
+use crate::terms::{Bit, Terms, MOST_EFFECTS, MOST_EVENTS, MOST_PAIRED};
 
 /// Changes one word of terms, now and then more.
 pub fn damage_terms(rng: &mut Rng, words: &mut [u16]) {
@@ -36,6 +36,10 @@ pub fn damage_terms(rng: &mut Rng, words: &mut [u16]) {
 /// Changes one word of state, now and then more.
 pub fn damage_state(rng: &mut Rng, terms: &Terms, words: &mut [u64]) {
     for _ in 0..if rng.percent(80) { 1 } else { 3 } {
+        if let (Some((place, bit)), true) = (paired_bit(rng, terms), rng.percent(40)) {
+            words[place] ^= 1 << bit;
+            continue;
+        }
         let past = terms.past().len();
         let used_row = rng.below(terms.members);
         let place = match rng.below(9) {
@@ -60,6 +64,22 @@ pub fn damage_state(rng: &mut Rng, terms: &Terms, words: &mut [u64]) {
             }
         };
     }
+}
+
+/// The word and the place of a bit in a table of two free variables, if there is
+/// one: of three members, or of a number that is none's.
+fn paired_bit(rng: &mut Rng, terms: &Terms) -> Option<(usize, usize)> {
+    let paired = terms.paired();
+    let t = (!paired.is_empty()).then(|| rng.pick(&paired))?;
+    let last = MOST_PAIRED - 1;
+    let mut members = [(); 3].map(|()| rng.below(terms.members));
+    if rng.percent(60) {
+        let beyond = [terms.members.min(last), rng.between(terms.members.min(last), last)];
+        members[rng.below(3)] = rng.pick(&beyond);
+    }
+    let [a, b, c] = members;
+    let (word, bit) = Bit::Triple(a, b, c).place();
+    Some((FIRST_TABLE + 64 * t + word, bit))
 }
 
 /// An event word near the bounds of what it may name.

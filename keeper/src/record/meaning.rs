@@ -2,7 +2,7 @@
 //! from its own start.
 
 use super::{Graph, Start};
-use crate::terms::{Entry, Terms, Variables, VARIABLES};
+use crate::terms::{variables, Bit, Entry, Terms, Variables};
 use std::collections::HashMap;
 use std::hash::{BuildHasherDefault, Hasher};
 
@@ -20,6 +20,14 @@ impl Assigned {
         let others = self.0 & !(63 << (6 * variable));
         Assigned(others | (member as u128) << (6 * variable))
     }
+
+    /// What a bit of a table is about: the member, and the free variables of the
+    /// entry standing for the others, the lower-numbered first.
+    pub fn by(free: Variables, bit: Bit) -> (usize, Assigned) {
+        let (member, others) = bit.parts();
+        let standing = variables(free).zip(others);
+        (member, standing.fold(Assigned::default(), |all, (x, other)| all.with(x, other)))
+    }
 }
 
 /// One evaluation. What it has found out is remembered as long as it lives,
@@ -29,8 +37,8 @@ pub struct Meaning<'a> {
     graphs: &'a [Graph],
     /// For each entry, the bits of an assignment that its free variables take.
     relevant: Vec<u128>,
-    /// For each past-time entry, its start and its free variable, if any.
-    past: HashMap<usize, (&'a Start, Option<usize>)>,
+    /// For each past-time entry, its start and its free variables.
+    past: HashMap<usize, (&'a Start, Variables)>,
     known: Vec<HashMap<u128, bool, BuildHasherDefault<Mix>>>,
 }
 
@@ -41,17 +49,13 @@ impl<'a> Meaning<'a> {
         graphs: &'a [Graph],
         starts: &'a [Start],
     ) -> Meaning<'a> {
-        let bits = |&set: &Variables| {
-            let chosen = (0..VARIABLES).filter(|x| set >> x & 1 == 1);
-            chosen.fold(0, |bits, x| bits | 63 << (6 * x))
-        };
-        let variable = |entry: usize| (0..VARIABLES).find(|x| free[entry] >> x & 1 == 1);
+        let bits = |&set: &Variables| variables(set).fold(0, |bits, x| bits | 63 << (6 * x));
         let past = terms.past().into_iter().zip(starts);
         Meaning {
             terms,
             graphs,
             relevant: free.iter().map(bits).collect(),
-            past: past.map(|(entry, start)| (entry, (start, variable(entry)))).collect(),
+            past: past.map(|(entry, start)| (entry, (start, free[entry]))).collect(),
             known: vec![HashMap::default(); terms.entries.len()],
         }
     }
@@ -136,9 +140,9 @@ impl<'a> Meaning<'a> {
     fn start(&self, entry: usize, m: usize, assigned: Assigned) -> (usize, Option<bool>) {
         match self.past[&entry] {
             (Start::Moment(first), _) => (*first, None),
-            (Start::Unknown(table), variable) => {
-                let other = variable.map_or(0, |x| assigned.member(x));
-                (0, Some(table.contains(&(m, other))))
+            (Start::Unknown(table), free) => {
+                let bit = Bit::at(free, m, |x| assigned.member(x));
+                (0, Some(table.contains(&bit)))
             }
         }
     }

@@ -2,7 +2,7 @@
 
 use super::Record;
 use crate::terms::formula::first_same;
-use crate::terms::{Pair, Refusal, Terms};
+use crate::terms::{Bit, Refusal, Terms};
 use std::collections::BTreeSet;
 
 /// Where the record of a past-time entry begins.
@@ -10,9 +10,9 @@ use std::collections::BTreeSet;
 pub enum Start {
     /// At this moment; none before it counts.
     Moment(usize),
-    /// Before the first graph, at moments that nobody knows. The pairs are what
+    /// Before the first graph, at moments that nobody knows. The bits are what
     /// the entry is said to be at the first graph.
-    Unknown(BTreeSet<Pair>),
+    Unknown(BTreeSet<Bit>),
 }
 
 impl Record {

@@ -1,6 +1,6 @@
 //! Files and revisions with one thing less.
 
-use crate::terms::{Entry, EventEdge, File, Pair, Past, Terms};
+use crate::terms::{Bit, Entry, EventEdge, File, Past, Terms};
 use std::collections::BTreeSet;
 
 /// Files of the same size with less in them; some are not sound.
@@ -31,7 +31,26 @@ pub fn candidates(file: &File) -> Vec<File> {
             all.push(File { terms: other, past });
         }
     }
+    all.iter_mut().for_each(fit);
     all
+}
+
+/// Fits the bits of each table to the free variables that its entry has come to
+/// have, where the terms are sound.
+fn fit(file: &mut File) {
+    let File { terms, past: Some(Past { tables, .. }) } = file else { return };
+    if !terms.is_sound() {
+        return;
+    }
+    let (free, members) = (terms.free(), terms.members);
+    for (table, entry) in tables.iter_mut().zip(terms.past()) {
+        let fitted = |bit: &Bit| match (free[entry].count_ones(), bit.parts()) {
+            (0, (a, _)) => (0..members).map(|b| Bit::Pair(a, b)).collect(),
+            (1, (a, [b, _])) => vec![Bit::Pair(a, b)],
+            (_, (a, [b, c])) => vec![Bit::Triple(a, b, c)],
+        };
+        *table = table.iter().flat_map(fitted).collect();
+    }
 }
 
 /// What had passed, without the table of an entry, if it has one.
@@ -92,9 +111,10 @@ fn last_member_less(terms: &Terms, past: &Past) -> Past {
     let less =
         |edge: EventEdge| EventEdge { from: edge.from.min(last), to: edge.to.min(last), ..edge };
     let event = past.event.map(less);
-    let pairs =
-        |table: &BTreeSet<Pair>| table.iter().map(|&(a, b)| (a.min(last), b.min(last))).collect();
-    Past { tables: past.tables.iter().map(pairs).collect(), event }
+    let bits = |table: &BTreeSet<Bit>| {
+        table.iter().map(|bit| bit.map(|member| member.min(last))).collect()
+    };
+    Past { tables: past.tables.iter().map(bits).collect(), event }
 }
 
 /// The labels above one move down by one.

@@ -11,9 +11,8 @@ pub struct File {
     pub past: Option<Past>,
 }
 
-/// One set for each past-time entry: the pairs (a, b) such that the entry holds
-/// now at a with its free variable, if any, standing for b.
-pub type Tables = Vec<BTreeSet<Pair>>;
+/// One set for each past-time entry: the bits that are set, where it holds now.
+pub type Tables = Vec<BTreeSet<Bit>>;
 
 /// What is left of the moments before: T lines and V line.
 #[derive(Clone, Debug, Default, PartialEq, Eq)]

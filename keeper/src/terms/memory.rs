@@ -117,8 +117,8 @@ pub fn state_words(state: &State) -> Vec<u64> {
         words[64 * relation + from] |= 1 << to;
     }
     for (t, table) in state.past.tables.iter().enumerate() {
-        for &(a, b) in table {
-            words[FIRST_TABLE + 64 * t + a] |= 1 << b;
+        for (word, place) in table.iter().map(|bit| bit.place()) {
+            words[FIRST_TABLE + 64 * t + word] |= 1 << place;
         }
     }
     if let Some(edge) = state.past.event {
@@ -145,11 +145,13 @@ pub fn state_of_words(terms: &Terms, words: &[u64]) -> Option<State> {
     }
     let free = terms.free();
     for (t, entry) in terms.past().into_iter().enumerate() {
-        // Without a free variable bit 0 speaks for all bits of its word.
-        let speaks = |b: usize| if free[entry] == 0 { 0 } else { b };
-        let place = FIRST_TABLE + 64 * t;
-        let holds = |&(a, b): &Pair| bit(place + a, speaks(b));
-        state.past.tables.push(pairs(members).filter(holds).collect());
+        let holds = |said: &Bit| {
+            let (word, place) = said.place();
+            // Without a free variable bit 0 speaks for all bits of its word.
+            bit(FIRST_TABLE + 64 * t + word, if free[entry] == 0 { 0 } else { place })
+        };
+        let table = Bit::all(members, free[entry]).into_iter().filter(holds);
+        state.past.tables.push(table.collect());
     }
     state.past.event = match words[EVENT_WORD] {
         0 => None,
@@ -165,6 +167,6 @@ fn event_of_word(terms: &Terms, code: u64) -> Option<EventEdge> {
 }
 
 /// All pairs of members.
-pub fn pairs(members: usize) -> impl Iterator<Item = Pair> {
+pub fn pairs(members: usize) -> impl Iterator<Item = (usize, usize)> {
     (0..members).flat_map(move |a| (0..members).map(move |b| (a, b)))
 }

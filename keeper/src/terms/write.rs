@@ -15,12 +15,17 @@ pub fn store(terms: &Terms, state: &State) -> Vec<u8> {
     let mut lines = vec!["S\t2".to_string()];
     lines.extend(old_lines(terms, &state.edges));
     for (t, table) in state.past.tables.iter().enumerate() {
-        lines.extend(table.iter().map(|(a, b)| format!("T\t{t}\t{a}\t{b}")));
+        lines.extend(table.iter().map(|bit| table_line(t, *bit)));
     }
     if let Some(edge) = state.past.event {
         lines.push(format!("V\t{}\t{}\t{}", edge.number(), edge.from, edge.to));
     }
     text(lines)
+}
+
+fn table_line(t: usize, bit: Bit) -> String {
+    let members: String = bit.members().iter().map(|member| format!("\t{member}")).collect();
+    format!("T\t{t}{members}")
 }
 
 fn old_lines(terms: &Terms, edges: &BTreeSet<Edge>) -> Vec<String> {

@@ -73,8 +73,8 @@ fn impostors_are_caught() {
     let cases: Vec<Case<Step>> = small(0..300).collect();
     for fault in faults {
         let in_cases = cases.iter().filter(|case| case_differs(fault, case).is_some()).count();
-        let drawn = (0..250).filter(|&seed| drawn_differs(fault, seed).is_some()).count();
-        println!("{fault:?}: {in_cases} of {} cases, {drawn} of 250 drawn", cases.len());
+        let drawn = (0..400).filter(|&seed| drawn_differs(fault, seed).is_some()).count();
+        println!("{fault:?}: {in_cases} of {} cases, {drawn} of 400 drawn", cases.len());
         let enough = in_cases > 3 && (drawn > 3 || fault == StoredIsRead);
         assert!(enough, "{fault:?}: {in_cases}, {drawn}");
     }

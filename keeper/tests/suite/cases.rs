@@ -133,8 +133,11 @@ fn thirty_two_past_time_entries() {
 #[test]
 fn refusals_3_4_and_5() {
     assert_eq!(refused(&slashes("M 2/L 0 1/F 0 not 0 0/P 0 0")), (3, 3));
-    let since = "M 2/L 0 1/F 0 var 1 0/F 1 var 2 0/F 2 since 0 1/P 0 0";
-    assert_eq!(refused(&slashes(since)), (4, 5));
+    let since = "L 0 1/F 0 var 1 0/F 1 var 2 0/F 2 since 0 1/P 0 0";
+    assert_eq!(refused(&slashes(&format!("M 17/{since}"))), (4, 5));
+    assert_eq!(refused(&slashes(&format!("M 16/{since}"))), (5, 6));
+    let three = "M 2/L 0 1/F 0 var 1 0/F 1 at 2 0/F 2 at 3 1/F 3 prev 2 0/P 0 0";
+    assert_eq!(refused(&slashes(three)), (4, 6));
     assert_eq!(refused(&slashes("M 2/L 0 1/F 0 var 1 0/P 0 0")), (5, 4));
 }
 

@@ -55,7 +55,11 @@ fn impostors_are_caught() {
         DenialKeepsScratch,
     ];
     for fault in faults {
-        let caught = (0..30).filter(|&seed| differs(fault, &generate::case(seed, 99_999))).count();
+        let caught = (0..60).filter(|&seed| differs(fault, &generate::case(seed, 99_999))).count();
+        assert!(caught > 3, "{fault:?}: {caught}");
+    }
+    for fault in [VariablesSwapped, StoresThemSwapped] {
+        let caught = (0..90).filter(|&seed| differs(fault, &generate::case(seed, 99_999))).count();
         assert!(caught > 3, "{fault:?}: {caught}");
     }
     let named = |seed| {

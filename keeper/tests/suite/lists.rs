@@ -35,6 +35,9 @@ fn results_of_cases() {
     assert_eq!(result("asks_with\tlabel\t1252\t3073\t2047\t1\t0\t1").unwrap(), "refuse\t6");
     assert_eq!(result("asks_damaged_terms\tlabel\t0\t0").unwrap(), "refuse\t7");
     assert_eq!(result("asks_damaged_state\tlabel\t0\t1").unwrap(), "refuse\t8");
+    // Words that were changed within the layout stand for a record.
+    assert_eq!(result("asks_damaged_terms\tlabel\t0\t3").unwrap(), "grant");
+    assert_eq!(result("asks_damaged_state\tlabel\t3072\t1").unwrap(), "grant");
     assert_eq!(result("writes\tlabel\t1252\t3073\t27").unwrap(), "6\t0");
     assert_eq!(result("writes_back\tlabel").unwrap(), "bytes\t28");
     assert_eq!(result("writes_after\tlabel\t1\t0\t1\tM 2/").unwrap(), "different");
@@ -49,8 +52,7 @@ fn results_of_cases() {
 
 #[test]
 fn cases_without_a_result() {
-    // Nothing decides a request over words that were changed within the layout.
-    assert_eq!(result("asks_damaged_terms\tlabel\t0\t3"), None);
+    assert_eq!(result("asks_damaged_terms\tlabel\t1252\t3"), None);
     assert_eq!(result("writes_damaged_terms\tlabel\t1252\t3"), None);
     assert_eq!(result("reads_backwards\tlabel\tM 65/"), None);
     assert_eq!(result("reads\tlabel"), None);

@@ -6,7 +6,7 @@ use keeper::record::meaning::Assigned;
 use keeper::record::{Graph, Record, Start};
 use keeper::step::Step;
 use keeper::terms::memory::pairs;
-use keeper::terms::{Entry, EventEdge, Terms};
+use keeper::terms::{variables, Entry, EventEdge, Terms};
 
 type Members = [usize; 16];
 
@@ -118,4 +118,46 @@ fn remembering_changes_nothing() {
     }
     println!("{compared} compared, {later} with an entry that started later");
     assert!(compared > 20_000 && later > 50, "{compared} {later}");
+}
+
+/// Each bit of each table, by the sentence on tables of its number of free
+/// variables.
+#[test]
+fn words_of_tables() {
+    let mut set = [0; 3];
+    for seed in 0..1_500 {
+        let case = generate::case(seed, 99_999);
+        let file = file(&case.text);
+        if file.terms.members > 4 || file.terms.past().len() > 3 || file.past.is_some() {
+            continue;
+        }
+        let mut record = Record::of(file);
+        case.calls().take(5).for_each(|call| {
+            record.answer(call);
+        });
+        let (terms, words) = (record.terms(), record.state_words());
+        let (now, free, n) = (record.graphs().len() - 1, terms.free(), terms.members);
+        let literal = Literal { terms, graphs: record.graphs(), starts: starts(&record) };
+        let holds = |entry: usize, a: usize, others: &[usize]| {
+            let mut members = [0; 16];
+            variables(free[entry]).zip(others).for_each(|(x, other)| members[x] = *other);
+            literal.holds(entry, now, a, members)
+        };
+        for (t, entry) in terms.past().into_iter().enumerate() {
+            let count = variables(free[entry]).count();
+            let mut table = [0u64; 64];
+            for (a, b) in pairs(n) {
+                if count < 2 && holds(entry, a, &[b]) {
+                    table[a] |= 1 << b;
+                }
+                for c in (0..n).filter(|&c| count == 2 && holds(entry, a, &[b, c])) {
+                    table[4 * a + b / 4] |= 1 << (16 * (b % 4) + c);
+                }
+            }
+            assert_eq!(words[1_024 + 64 * t..][..64], table, "seed {seed}, table {t}");
+            set[count] += usize::from(table.iter().any(|&word| word != 0));
+        }
+    }
+    println!("{set:?} tables with bits, by free variables");
+    assert!(set.iter().all(|&count| count > 100), "{set:?}");
 }

@@ -18,6 +18,7 @@ mod memory;
 mod mirror;
 mod mutants;
 mod page;
+mod paired;
 mod program;
 mod refusals;
 mod revised;

@@ -6,7 +6,7 @@ use keeper::expect;
 use keeper::record::{Answer, Call, Record};
 use keeper::set_list::{self, Item};
 use keeper::terms::formula::first_same;
-use keeper::terms::{self, memory, Entry, Refusal, Terms};
+use keeper::terms::{self, memory, Bit, Entry, Refusal, Terms};
 
 #[derive(Clone, Copy, PartialEq, Debug)]
 pub enum Fault {
@@ -42,6 +42,21 @@ pub enum Fault {
     RevisesAnySize,
     WritesRefusedSecond,
     StaysWithOldTerms,
+    VariablesSwapped,
+    StoresThemSwapped,
+}
+
+/// The words with the two variables of each table that has two in the other order.
+fn swapped(terms: &Terms, words: &[u64]) -> Vec<u64> {
+    let mut state = memory::state_of_words(terms, words).expect("words of these terms");
+    for table in &mut state.past.tables {
+        let swap = |bit: &Bit| match *bit {
+            Bit::Triple(a, b, c) => Bit::Triple(a, c, b),
+            pair => pair,
+        };
+        *table = table.iter().map(swap).collect();
+    }
+    memory::state_words(&state)
 }
 
 pub struct Mirror {
@@ -155,7 +170,10 @@ impl Other for Mirror {
         let before = record.graphs().len();
         let answer = record.answer(&Call { look, ..*call });
         if record.graphs().len() > before {
-            let words = record.state_words();
+            let mut words = record.state_words();
+            if self.fault == Fault::VariablesSwapped {
+                words = swapped(record.terms(), &words);
+            }
             let tables = match self.fault {
                 Fault::MovesNoTable => false,
                 Fault::MovesTablesOnce => record.graphs().len() < 3,
@@ -254,6 +272,11 @@ impl Other for Mirror {
     }
 
     fn store(&mut self, terms: &[u16], state: &[u64], output: &mut [u8]) -> Result<usize, Refusal> {
+        if self.fault == Fault::StoresThemSwapped {
+            let (said, _) = expect::lent(terms, state)?;
+            let text = expect::storing(terms, &swapped(&said, state), output.len());
+            return self.put(text?, output);
+        }
         let mut text = expect::storing(terms, state, output.len())?;
         let last = match self.fault {
             Fault::StoresNoEvent => b"V\t",

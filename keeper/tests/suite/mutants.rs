@@ -6,8 +6,7 @@ use crate::spelled::spelled;
 use keeper::generate;
 use keeper::record::{Answer, Call, Record};
 use keeper::step::Step;
-use keeper::terms::memory::pairs;
-use keeper::terms::Terms;
+use keeper::terms::{variables, Bit, Terms};
 
 /// A record, read with a fault.
 struct Run {
@@ -46,13 +45,12 @@ impl Run {
         let mut shown = false;
         for (entry, table) in terms.past().into_iter().zip(&state.past.tables) {
             let free = terms.free()[entry];
-            for (a, b) in pairs(terms.members) {
+            for bit in Bit::all(terms.members, free) {
+                let (a, others) = bit.parts();
                 let mut members = [0; 16];
-                if free != 0 {
-                    members[free.trailing_zeros() as usize] = b;
-                }
+                variables(free).zip(others).for_each(|(x, other)| members[x] = other);
                 let value = faulty.holds(entry, moments - 1, a, &mut members);
-                shown |= value != table.contains(&(a, b));
+                shown |= value != table.contains(&bit);
             }
         }
         self.shown |= shown;
@@ -78,7 +76,7 @@ fn shows(fault: Fault, seed: u64) -> Option<bool> {
     let case = generate::case(seed, 99_999);
     let file = file(&case.text);
     let terms = &file.terms;
-    let small = terms.members <= 5 && terms.entries.len() <= 20 && terms.past().len() <= 5;
+    let small = terms.members <= 5 && terms.entries.len() <= 24 && terms.past().len() <= 5;
     if !small || file.past.is_some() {
         return None;
     }

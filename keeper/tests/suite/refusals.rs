@@ -168,9 +168,21 @@ fn many_entries() {
 #[test]
 fn free_variables() {
     let vars = "F 0 var 1 0/F 1 var 0 0";
-    assert_eq!(after_head(&format!("{vars}/F 2 since 0 1")), (4, 5));
-    assert_eq!(after_head(&format!("{vars}/F 2 at 2 0/F 3 prev 2 0")), (4, 6));
-    assert_eq!(after_head(&format!("{vars}/F 2 or 0 1/F 3 prev 2 0")), (4, 6));
+    // Two are too many for 17 members, three for any number.
+    let of_17 = |lines: &str| text(&format!("M 17/L 2 2/{vars}/{lines}"));
+    for line in ["F 2 since 0 1", "F 2 since 1 0"] {
+        assert_eq!(of_17(line), (4, 5));
+        assert_eq!(after_head(&format!("{vars}/{line}")), (1, 6), "the text ends too soon");
+    }
+    for lines in ["F 2 at 2 0/F 3 prev 2 0", "F 2 or 0 1/F 3 prev 2 0"] {
+        assert_eq!(of_17(lines), (4, 6));
+        assert_eq!(after_head(&format!("{vars}/{lines}")), (1, 7), "the text ends too soon");
+    }
+    assert_eq!(after_head(&format!("{vars}/F 2 at 2 0/F 3 since 2 1")), (4, 6));
+    assert_eq!(after_head(&format!("{vars}/F 2 at 2 0/F 3 or 1 2/F 4 prev 3 0")), (4, 7));
+    assert_eq!(text("M 1/L 0 1/F 0 var 5 0/F 1 at 6 0/F 2 at 7 1/F 3 prev 2 0"), (4, 6));
+    accepted(&slashes(&format!("M 16/L 2 2/{vars}/F 2 since 0 1/F 3 bind 1 2/P 0 3/P 1 1")));
+    accepted(&slashes(&format!("M 1/L 2 2/{vars}/F 2 since 0 1/F 3 bind 1 2/P 0 3/P 1 1")));
     assert_eq!(after_head(&format!("{vars}/P 0 0")), (5, 5));
     assert_eq!(after_head(&format!("{vars}/F 2 at 1 1/P 0 2")), (5, 6));
     assert_eq!(after_head(&format!("{vars}/F 2 bind 2 0/P 0 1/P 1 2")), (5, 7));
@@ -183,7 +195,7 @@ fn thirty_third_past_entry_beats_later_faults() {
     let past = (1..=32).map(|entry| format!("/F {entry} prev 0 0"));
     let full = format!("{HEAD}/F 0 var 1 0{}", past.collect::<String>());
     assert_eq!(text(&format!("{full}/F 33 prev 33 0")), (2, 36));
-    assert_eq!(text(&format!("{full}/F 33 at 2 0/F 34 prev 33 0")), (2, 37));
+    assert_eq!(text(&format!("{full}/F 33 at 2 0/F 34 at 3 33/F 35 prev 34 0")), (2, 38));
     assert_eq!(text(&format!("{full}/F 33 not 33 0")), (3, 36));
 }
 
@@ -210,7 +222,7 @@ fn reach() {
     assert_eq!(after("F 5 reach 2 2 1"), (10, 8));
     assert_eq!(after("F 5 reach 1 2 0"), (10, 8));
     assert_eq!(after("F 5 reach 1 2 4/P 0 5"), (5, 9));
-    assert_eq!(after("F 5 reach 1 2 4/F 6 since 5 3"), (4, 9));
+    assert_eq!(after("F 5 reach 1 2 4/F 6 at 1 5/F 7 since 6 3"), (4, 10));
 }
 
 #[test]
@@ -232,5 +244,5 @@ fn many() {
     assert_eq!(after("F 1 many 0 1 0"), (2, 4));
     assert_eq!(after("F 1 many 0 1 1"), (3, 4));
     assert_eq!(after("F 1 var 1 0/F 2 many 0 1 2/P 0 2"), (5, 6));
-    assert_eq!(after("F 1 var 1 0/F 2 var 0 0/F 3 or 1 2/F 4 many 0 3 2/F 5 prev 4 0"), (4, 8));
+    assert_eq!(after("F 1 var 1 0/F 2 at 0 1/F 3 at 2 2/F 4 many 0 3 2/F 5 prev 4 0"), (4, 8));
 }

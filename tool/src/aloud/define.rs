@@ -70,12 +70,12 @@ pub fn clause(called: &Called, of: Who, given: &[(usize, Who)], holds: bool, tim
 
 /// What stands before the clause of a definition: `A member M is suspended`.
 pub fn head(called: &Called) -> String {
-    let person = |variable: &Option<usize>| match variable {
-        None => ("M".to_string(), false),
-        Some(0) => ("the target".to_string(), false),
-        Some(x) => (format!("x{x}"), false),
+    let person = |(place, variable): (usize, &Option<usize>)| match variable {
+        None => (name(Who::Here), false),
+        Some(0) => (name(Who::Target), false),
+        Some(_) => (name(Who::Guest(place)), false),
     };
-    let people: Vec<(String, bool)> = called.people.iter().map(person).collect();
+    let people: Vec<(String, bool)> = called.people.iter().enumerate().map(person).collect();
     let said = said(called, &people, Time::Now, true);
     match said.starts_with("the target") || people.len() == 2 && verb(&called.name).is_none() {
         true => said.replacen("the target", "The target", 1),

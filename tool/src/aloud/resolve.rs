@@ -34,22 +34,19 @@ pub fn of_entry(forms: &Forms, entry: usize) -> Clause {
     Resolver { forms, guests: 0 }.inside(forms.node(entry, true), Who::Here, named)
 }
 
-/// What an entry that is a definition says of its people. Whoever else it speaks
-/// of is the initiator or the target.
+/// What an entry that is a definition says of its people: the member it is said of,
+/// the target, or else guests, by their places. Whoever else it speaks of is the
+/// initiator or the target.
 pub fn of_defined(forms: &Forms, entry: usize, called: &Called) -> Clause {
     let mut named = Named([Who::You; VARIABLES]).with(0, Who::Target);
-    for variable in called.people.iter().flatten() {
-        named = named.with(*variable, Who::Given(*variable));
+    for (place, variable) in called.people.iter().enumerate() {
+        if let Some(variable @ 1..) = variable {
+            named = named.with(*variable, Who::Guest(place));
+        }
     }
     let here = if called.people.contains(&None) { Who::Here } else { Who::You };
-    Resolver { forms, guests: 0 }.inside(Node { entry, holds: true }, here, named)
-}
-
-/// What a past-time entry says of one member with its free variable, if any,
-/// standing for another.
-pub fn of_pair(forms: &Forms, entry: usize, member: usize, other: usize) -> Clause {
-    let named = Named([Who::Member(other); VARIABLES]);
-    Resolver { forms, guests: 0 }.inside(forms.node(entry, true), Who::Member(member), named)
+    let guests = called.people.len();
+    Resolver { forms, guests }.inside(Node { entry, holds: true }, here, named)
 }
 
 /// What an entry, or its negation, says at a member, with every variable
@@ -79,11 +76,12 @@ fn standing(assigned: Assigned) -> Named {
     named
 }
 
-/// What a past-time entry says at somebody with its free variable, if any,
-/// standing for somebody else. Both may be the guests 0 and 1.
-pub fn of_table(forms: &Forms, entry: usize, here: Who, other: Who) -> Clause {
-    let named = Named([other; VARIABLES]);
-    Resolver { forms, guests: 2 }.inside(forms.node(entry, true), here, named)
+/// What a past-time entry says at somebody with its free variables standing for
+/// others. They may be the guests 0, 1 and 2.
+pub fn of_table(forms: &Forms, entry: usize, here: Who, others: &[(usize, Who)]) -> Clause {
+    let named = Named([here; VARIABLES]);
+    let named = others.iter().fold(named, |named, &(variable, who)| named.with(variable, who));
+    Resolver { forms, guests: 3 }.inside(forms.node(entry, true), here, named)
 }
 
 struct Resolver<'a> {

@@ -8,7 +8,9 @@ use super::render::Speaker;
 use super::words::{letters, named};
 use super::{outline, resolve, Sentence};
 use crate::names::Names;
+use keeper::record::meaning::Assigned;
 use keeper::record::Record;
+use keeper::terms::Bit;
 
 /// So many lines are told of a table.
 const MOST: usize = 12;
@@ -25,14 +27,15 @@ pub fn stored(
     for (entry, table) in forms.terms.past().into_iter().zip(tables) {
         // Without a free variable a member's bits are all set: one sentence says it.
         let closed = forms.free[entry] == 0;
-        let pairs: Vec<(usize, usize)> =
-            table.iter().copied().filter(|&(_, other)| other == 0 || !closed).collect();
-        for &(member, other) in pairs.iter().take(MOST) {
-            let clause = resolve::of_pair(forms, entry, member, other);
+        let told = |bit: &Bit| !closed || bit.parts().1[0] == 0;
+        let bits: Vec<Bit> = table.into_iter().filter(told).collect();
+        for &bit in bits.iter().take(MOST) {
+            let (member, assigned) = Assigned::by(forms.free[entry], bit);
+            let clause = resolve::of_place(forms, (entry, member, assigned), true);
             outline(speaker.say(&clause, Time::Now, None), 1, &mut lines);
         }
-        if pairs.len() > MOST {
-            lines.push((1, format!("and {} more like these", pairs.len() - MOST)));
+        if bits.len() > MOST {
+            lines.push((1, format!("and {} more like these", bits.len() - MOST)));
         }
     }
     if let Some(edge) = record.graphs()[0].event {

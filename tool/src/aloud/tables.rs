@@ -1,4 +1,4 @@
-//! What the past-time entries say, each of the two whom its table speaks of.
+//! What the past-time entries say, each of those whom its table speaks of.
 
 use super::clause::Who;
 use super::form::Forms;
@@ -8,11 +8,13 @@ use super::render::Speaker;
 use super::words::Words;
 use super::{resolve, Sentence};
 use crate::names::Names;
-use keeper::terms::{Entry, Terms, VARIABLES};
+use keeper::terms::{variables, Entry, Terms, Variables, VARIABLES};
 
 /// The sentence of a past-time entry.
 pub struct Table {
     pub entry: usize,
+    /// How many of those it is said of are sought by a policy.
+    pub sought: usize,
     words: Words,
 }
 
@@ -39,9 +41,15 @@ pub fn tables(terms: &Terms, names: &Names) -> Vec<Table> {
     }
     let people = People::of(terms);
     let table = |entry: usize| {
-        let (here, other) = people.met(entry, forms.free[entry].trailing_zeros() as usize);
-        let clause = resolve::of_table(&forms, entry, here, other);
-        Table { entry, words: speaker.say(&clause, Time::Now, None) }
+        let (here, others) = people.met(entry, forms.free[entry]);
+        let clause = resolve::of_table(&forms, entry, here, &others);
+        let met = others.iter().map(|(_, who)| *who).chain([here]);
+        let numbers = met.filter_map(|who| match who {
+            Who::Guest(number) => Some(number + 1),
+            _ => None,
+        });
+        let sought = numbers.max().unwrap_or(0);
+        Table { entry, sought, words: speaker.say(&clause, Time::Now, None) }
     };
     terms.past().into_iter().map(table).collect()
 }
@@ -102,16 +110,23 @@ impl People<'_> {
         Who::Guest(self.guests)
     }
 
-    /// At whom an entry is said and whom a variable stands for there, guests as
-    /// guest 0 and guest 1. An entry of no policy is said of two guests.
-    fn met(&self, entry: usize, variable: usize) -> (Who, Who) {
-        let guest = |who: Who, number: usize| match who {
-            Who::Guest(_) => Who::Guest(number),
+    /// At whom an entry is said and whom its free variables stand for there, guests
+    /// as guests 0, 1 and 2. An entry of no policy is said of guests.
+    fn met(&self, entry: usize, free: Variables) -> (Who, Vec<(usize, Who)>) {
+        let (here, named) = self.said[entry]
+            .unwrap_or_else(|| (Who::Guest(VARIABLES), std::array::from_fn(Who::Guest)));
+        let mut guests = Vec::new();
+        let mut met = |who: Who| match who {
+            Who::Guest(_) => {
+                let known = guests.iter().position(|guest| *guest == who);
+                Who::Guest(known.unwrap_or_else(|| {
+                    guests.push(who);
+                    guests.len() - 1
+                }))
+            }
             who => who,
         };
-        let Some((here, named)) = self.said[entry] else { return (Who::Guest(0), Who::Guest(1)) };
-        let other = named.get(variable).copied().unwrap_or(here);
-        let second = usize::from(other != here);
-        (guest(here, 0), guest(other, second))
+        let here = met(here);
+        (here, variables(free).map(|variable| (variable, met(named[variable]))).collect())
     }
 }

@@ -29,7 +29,7 @@ const PLAIN: &str = "
     confirm contact contain copy create decline delete deny disable discharge dismiss dominate
     download drop edit employ enable endorse enter expel export fetch fire flag follow greet
     guard help hire ignore import include inspect install invite join judge kick lift like list load
-    lock love manage mark mention mentor merge move mute name nominate notify open order own pass pause pin
+    lock love manage mark mention mentor merge move mute name nominate notify open order own pass pause pick pin
     play praise prescribe preview print promote publish query quote raise rate receive recommend record refer
     refuse reject release remove rename remix rent repair replace report request reserve restore resume return
     review revoke save scan seize share shield sign sponsor star start stop store submit supervise support suspect

@@ -8,12 +8,13 @@ use super::reader::Reader;
 use crate::aloud::listed;
 use crate::names::{Kind, Names};
 use keeper::terms::{
-    Entry, Field, Variables, MOST_COUNTED, MOST_ENTRIES, MOST_PAST, OPERATORS, VARIABLES,
+    most_free, variables, Entry, Field, Variables, MOST_COUNTED, MOST_ENTRIES, MOST_PAIRED,
+    MOST_PAST, OPERATORS, VARIABLES,
 };
 
 /// The refusal of an operand that isn't below its entry.
 const OPERAND: u16 = 3;
-/// The refusal of a past-time entry with two free variables.
+/// The refusal of a past-time entry with too many free variables.
 const PAST_VARIABLES: u16 = 4;
 /// The refusal of a reach whose variables don't fit.
 const REACH_VARIABLES: u16 = 10;
@@ -54,8 +55,8 @@ impl Reader<'_> {
             }
         }
         let free = entry.free(&self.free);
-        if entry.is_past() && free.count_ones() > 1 {
-            return Err(self.two_free(name, entry, free, word));
+        if entry.is_past() && free.count_ones() > most_free(self.terms.members) {
+            return Err(self.too_free(name, entry, free, word));
         }
         if let Entry::Reach(x, f, g) = entry {
             self.reach(x, f, g, operands)?;
@@ -118,8 +119,16 @@ impl Reader<'_> {
         Err(out_of_range(field, what, right))
     }
 
-    fn two_free(&self, name: &str, entry: Entry, free: Variables, word: Part) -> Fault {
-        let what = format!("free here: {}; a {name} may have one free variable", shown(free));
+    fn too_free(&self, name: &str, entry: Entry, free: Variables, word: Part) -> Fault {
+        let members = self.terms.members;
+        let may = match most_free(self.terms.members) {
+            1 if free.count_ones() == 2 => format!(
+                "one free variable where there are {members} members, and two where there are at most {MOST_PAIRED}"
+            ),
+            1 => "one free variable".to_string(),
+            _ => "two free variables".to_string(),
+        };
+        let what = format!("free here: {}; a {name} may have {may}", shown(free));
         let mut parts: Vec<String> = Vec::new();
         for f in entry.operands() {
             if self.free[f] != 0 {
@@ -152,9 +161,8 @@ fn other_entry_due(field: Part, index: usize, due: usize) -> Fault {
 }
 
 /// `0 and 1`.
-fn shown(variables: Variables) -> String {
-    let chosen = (0..VARIABLES).filter(|x| variables >> x & 1 == 1);
-    listed(&chosen.map(|x| x.to_string()).collect::<Vec<_>>())
+fn shown(set: Variables) -> String {
+    listed(&variables(set).map(|x| x.to_string()).collect::<Vec<_>>())
 }
 
 /// `labels are 0 to 6: 0 for the relation, 1 to 3 for the events, 4 to 6 for

@@ -62,7 +62,7 @@ fn deepest(terms: &Terms) -> (usize, usize) {
                 waiting.push((f, 1 << x, away));
                 waiting.push((g, wandering, true));
             }
-            // A table has every member for here and for its free variable.
+            // A table has every member for here and for its free variables.
             Entry::Prev(_) | Entry::Since(_, _) => {
                 for f in terms.entries[entry].operands() {
                     waiting.push((f, free[entry], true));

@@ -172,15 +172,18 @@ impl Reader<'_> {
             let right = range("relations", relations);
             return Err(out_of_range(r, format!("no relation {relation}"), right));
         }
-        self.both_members([(a, from), (b, to)])?;
+        self.are_members([(a, from), (b, to)])?;
         self.terms.edges.insert(edge);
         Ok(())
     }
 
-    /// Both ends of an edge, or both places of a bit, are members.
-    pub fn both_members(&self, ends: [(Field, usize); 2]) -> Result<(), Fault> {
+    /// Both ends of an edge, or all places of a bit, are members.
+    pub fn are_members<'f>(
+        &self,
+        places: impl IntoIterator<Item = (Field<'f>, usize)>,
+    ) -> Result<(), Fault> {
         let members = self.terms.members;
-        match ends.into_iter().find(|(_, member)| *member >= members) {
+        match places.into_iter().find(|(_, member)| *member >= members) {
             Some((field, member)) => {
                 let right = format!("{}: M says {members}", range("members", members));
                 Err(out_of_range(field, format!("no member {member}"), right))

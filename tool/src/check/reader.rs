@@ -72,6 +72,9 @@ const KINDS: [(&str, &[&str]); 10] = [
 const LONG_ENTRY: [&str; 6] =
     ["kind F", "entry number", "word", "first operand", "second operand", "third operand"];
 
+/// The fields of a T line whose table's entry has two free variables.
+const LONG_BIT: [&str; 5] = ["kind T", "table", "member", "first other", "second other"];
+
 /// Whether a field is the word of an operator that takes a third operand.
 fn is_long(word: &Field) -> bool {
     OPERATORS.iter().any(|known| known.is_long() && known.word.as_bytes() == word.bytes)
@@ -98,21 +101,24 @@ impl<'a> Reader<'a> {
         if let Some((what, right)) = self.out_of_order(word) {
             return Err(Fault::new(FORM, kind.place(), what).right(right));
         }
-        let long = *word == "F" && fields.get(2).is_some_and(is_long);
-        let counted = counted(&fields, if long { &LONG_ENTRY } else { due }, line.len());
-        counted.map_err(|fault| {
-            match *word == "F" && !long && fields.len() == LONG_ENTRY.len() {
-                true => Fault {
-                    right: format!("{}; only reach and many have one more", fault.right),
-                    ..fault
-                },
-                false => fault,
-            }
+        let due: &[&str] = match *word {
+            "F" if fields.get(2).is_some_and(is_long) => &LONG_ENTRY,
+            "T" if fields.get(1).is_some_and(|table| self.is_paired(table)) => &LONG_BIT,
+            _ => due,
+        };
+        counted(&fields, due, line.len()).map_err(|fault| {
+            let more = match (*word, fields.len(), due.len()) {
+                ("F", 6, 5) => "; only reach and many have one more",
+                ("T", 5, 4) => "; only a table whose entry has two free variables has one more",
+                ("T", 4, 5) => "; the entry of this table has two free variables",
+                _ => "",
+            };
+            Fault { right: format!("{}{more}", fault.right), ..fault }
         })?;
         match fields[1..] {
             [form] if *word == "S" => self.form(form),
             [event] if *word == "K" => self.kept(event),
-            [table, a, b] if *word == "T" => self.bit(table, a, b),
+            [table, ref others @ ..] if *word == "T" => self.bit(table, others),
             [event, from, to] if *word == "V" => self.event_edge(event, from, to),
             [n] => self.members(n),
             [relations, events] if *word == "L" => self.labels(relations, events),

@@ -12,18 +12,23 @@ const PARTLY_FILLED: u16 = 11;
 /// The one form that an S line may name.
 const FORM_NUMBER: usize = 2;
 
-/// A T line: table, member and other, and where it stands.
+/// A T line: its table, the member and the others, and where it stands.
 pub struct Bit {
     table: usize,
-    member: usize,
-    other: usize,
+    members: Vec<usize>,
     line: usize,
 }
 
 impl Bit {
-    /// Table, member and other.
-    fn place(&self) -> (usize, usize, usize) {
-        (self.table, self.member, self.other)
+    /// What T lines rise by.
+    fn place(&self) -> (usize, &[usize]) {
+        (self.table, &self.members)
+    }
+
+    /// `T 0 1 2`.
+    fn shown(&self) -> String {
+        let members: String = self.members.iter().map(|member| format!(" {member}")).collect();
+        format!("T {}{members}", self.table)
     }
 }
 
@@ -62,25 +67,36 @@ impl Reader<'_> {
         Ok(())
     }
 
-    pub fn bit(&mut self, t: Field, a: Field, b: Field) -> Result<(), Fault> {
-        let (table, member, other) = (number(t)?, number(a)?, number(b)?);
-        let bit = Bit { table, member, other, line: self.lines };
+    /// Whether a field names a table whose entry has two free variables.
+    pub fn is_paired(&self, table: &Field) -> bool {
+        let past = self.terms.past();
+        let entry = number(*table).ok().and_then(|table| past.get(table));
+        entry.is_some_and(|&entry| keeper::terms::Bit::is_triple(self.free[entry]))
+    }
+
+    /// A T line with as many members as its table takes.
+    pub fn bit(&mut self, t: Field, others: &[Field]) -> Result<(), Fault> {
+        let table = number(t)?;
+        let members = others.iter().map(|field| number(*field)).collect::<Result<Vec<_>, _>>()?;
+        let bit = Bit { table, members, line: self.lines };
         if let Some(last) = self.bits.last().filter(|last| last.place() >= bit.place()) {
-            let place = t.place().start..b.place().end;
-            let shown = |bit: &Bit| format!("T {} {} {}", bit.table, bit.member, bit.other);
+            let end = others.last().map_or(t.place().end, |field| field.place().end);
             let what = match last.place() == bit.place() {
-                true => format!("{} a second time", shown(&bit)),
-                false => format!("{} after {}", shown(&bit), shown(last)),
+                true => format!("{} a second time", bit.shown()),
+                false => format!("{} after {}", bit.shown(), last.shown()),
             };
-            let right = "T lines rise by table, then member, then other; none comes twice";
-            return Err(Fault::new(FORM, place, what).right(right));
+            let right = match bit.members.len() {
+                2 => "T lines rise by table, then member, then other; none comes twice",
+                _ => "T lines rise by table, then member, then the others; none comes twice",
+            };
+            return Err(Fault::new(FORM, t.place().start..end, what).right(right));
         }
         let tables = self.terms.past().len();
         if table >= tables {
             let right = format!("{}: one for each prev or since entry", range("tables", tables));
             return Err(out_of_range(t, format!("no table {table}"), right));
         }
-        self.both_members([(a, member), (b, other)])?;
+        self.are_members(others.iter().copied().zip(bit.members.iter().copied()))?;
         self.bits.push(bit);
         Ok(())
     }
@@ -96,7 +112,7 @@ impl Reader<'_> {
             let right = format!("{}, or {denied}", range("events", events));
             return Err(out_of_range(e, format!("no event {event}"), right));
         }
-        self.both_members([(a, from), (b, to)])?;
+        self.are_members([(a, from), (b, to)])?;
         self.event = true;
         Ok(())
     }
@@ -104,12 +120,13 @@ impl Reader<'_> {
     /// The first word of a table without a free variable that is not full.
     pub fn partly_filled(&self) -> Option<Fault> {
         let (past, members) = (self.terms.past(), self.terms.members);
-        let mut words =
-            self.bits.chunk_by(|one, next| (one.table, one.member) == (next.table, next.member));
+        let row = |bit: &Bit| (bit.table, bit.members[0]);
+        let mut words = self.bits.chunk_by(|one, next| row(one) == row(next));
         let word =
             words.find(|word| self.free[past[word[0].table]] == 0 && word.len() < members)?;
-        let Bit { table, member, line, .. } = word[0];
-        let there = |other: &usize| word.iter().any(|bit| bit.other == *other);
+        let (table, member) = row(&word[0]);
+        let line = word[0].line;
+        let there = |other: &usize| word.iter().any(|bit| bit.members[1] == *other);
         let missing = (0..members).filter(|other| !there(other));
         let missing: Vec<String> =
             missing.map(|other| format!("T {table} {member} {other}")).collect();

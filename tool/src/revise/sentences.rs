@@ -117,17 +117,20 @@ pub fn some_are_numbered(told: &[Told]) -> bool {
     told.iter().any(|told| told.table.sentence("").text().contains("clause "))
 }
 
-/// Who A and B are, if a sentence speaks of them.
+/// Who A, B and C are, if a sentence speaks of them.
 pub fn letters(told: &[Told]) -> Option<String> {
-    let said = |letter: &str| {
-        let mut texts = told.iter().map(|told| told.table.sentence("").text());
+    let said = |letter: &str, least: usize| {
+        let those = told.iter().filter(|told| told.table.sought >= least);
+        let mut texts = those.map(|told| told.table.sentence("").text());
         texts.any(|text| text.split(|c: char| !c.is_alphanumeric()).any(|word| word == letter))
     };
-    match (said("A"), said("B")) {
-        (_, true) => Some("A and B are any members whom the policy seeks.\n".to_string()),
-        (true, false) => Some("A is any member whom the policy seeks.\n".to_string()),
-        _ => None,
-    }
+    let who = match (said("A", 0), said("B", 0), said("C", 3)) {
+        (_, _, true) => "A, B and C are any members",
+        (_, true, _) => "A and B are any members",
+        (true, ..) => "A is any member",
+        _ => return None,
+    };
+    Some(format!("{who} whom the policy seeks.\n"))
 }
 
 /// The sentences with one start under their heading, if there are any. What is

@@ -11,12 +11,12 @@ use super::parse::{read, Read};
 use super::passing::passing;
 use super::resolve::Resolver;
 use super::said::Said;
-use super::tree::{Crowd, Placer, MOST_PEOPLE};
+use super::tree::{Crowd, Placer};
 use crate::names::{Called, Kind, Names, Spoken};
 use declared::{changes, declared};
 use keeper::program::MOST_BYTES;
 use keeper::terms::{self, Terms};
-use keeper::terms::{MOST_ENTRIES, MOST_PAST, VARIABLES};
+use keeper::terms::{most_free, MOST_ENTRIES, MOST_PAIRED, MOST_PAST, VARIABLES};
 use notes::Notes;
 use std::collections::HashSet;
 
@@ -126,10 +126,11 @@ fn policies(
     terms: &mut Terms,
 ) -> Result<Vec<Origin>, Vec<Mistake>> {
     let mut notes = Notes::default();
-    let mut placer = Placer::default();
+    let mut placer = Placer::new(most_free(terms.members) as usize);
     let mut entries = Entries::default();
     for (event, policy) in source.events.iter().zip(policies) {
-        let tree = placer.policy(policy).map_err(|crowd| crowded(&crowd, resolver, text));
+        let tree = placer.policy(policy);
+        let tree = tree.map_err(|crowd| crowded(&crowd, resolver, text, terms.members));
         let Some(tree) = notes.take(tree) else { continue };
         let before = (entries.list.len(), entries.past());
         let wish = |id| resolver.wish(id);
@@ -180,7 +181,7 @@ fn too_many(event: &Name, what: &str, most: usize, own: usize) -> Mistake {
 
 /// A part about the past, or one that leads to somebody, that speaks of too
 /// many people.
-fn crowded(crowd: &Crowd, resolver: &Resolver, text: &str) -> Mistake {
+fn crowded(crowd: &Crowd, resolver: &Resolver, text: &str, members: usize) -> Mistake {
     let name = |id: &Option<_>| id.map_or("whom it is said of", |id| resolver.name(id));
     let mut people: Vec<&str> = crowd.people.iter().map(name).collect();
     let last = people.pop().unwrap_or_default();
@@ -196,8 +197,21 @@ fn crowded(crowd: &Crowd, resolver: &Resolver, text: &str) -> Mistake {
             format!("say after the `:` what concerns others than `{to}` and whom it starts from");
         return Mistake::new(crowd.span, message).advise(advice);
     }
-    let message = format!("{speaks}; what is about the past may speak of {MOST_PEOPLE}");
-    let advice = "split it with `and` or `or` into parts about two people each, or seek the third \
-                  inside it with `some`";
+    let split = |each: &str, next: &str| {
+        format!(
+            "split it with `and` or `or` into parts about {each} people each, or seek the {next} \
+             inside it with `some`"
+        )
+    };
+    let past = "what is about the past may speak of";
+    if members <= MOST_PAIRED {
+        let message = format!("{speaks}; {past} 3");
+        return Mistake::new(crowd.span, message).advise(split("three", "fourth"));
+    }
+    let message = format!("{speaks}; with {members} members, {past} 2");
+    let mut advice = split("two", "third");
+    if crowd.people.len() == 3 {
+        advice += &format!("; with at most {MOST_PAIRED} members it may speak of three");
+    }
     Mistake::new(crowd.span, message).advise(advice)
 }

@@ -3,7 +3,7 @@
 
 use super::ast::Span;
 use super::said::{Form, Id, Said, Who, ME};
-use std::collections::HashMap;
+use std::collections::{HashMap, HashSet};
 use std::rc::Rc;
 
 /// A formula of the terms, its variables still people.
@@ -38,7 +38,7 @@ pub enum Node {
 }
 
 /// A part about the past, or one that leads to somebody, that speaks of more
-/// than two people.
+/// people than it may.
 pub struct Crowd {
     pub span: Span,
     /// Whom it leads to; none for a part about the past.
@@ -47,18 +47,29 @@ pub struct Crowd {
     pub people: Vec<Option<Id>>,
 }
 
-/// The most people that such a part can speak of: the member it is said of,
-/// and one variable.
-pub const MOST_PEOPLE: usize = 2;
+/// A name of the member at which a formula stands.
+#[derive(Clone, Copy, Debug, PartialEq, Eq, Hash)]
+struct Name {
+    id: Id,
+    /// Whether `at` or `as` gives it.
+    given: bool,
+}
+
+impl Name {
+    fn of(id: Id) -> Name {
+        Name { id, given: false }
+    }
+}
 
 /// The first of the numbers for people that the source doesn't name.
 const UNNAMED: Id = 1 << 30;
 
-#[derive(Default)]
 pub struct Placer {
+    /// How many free variables a part about the past may have.
+    most_free: usize,
     /// What is placed already, by formula and the names of the member at
     /// which it stands.
-    known: HashMap<(*const super::said::Fact, Vec<Id>), Tree>,
+    known: HashMap<(*const super::said::Fact, Vec<Name>), Tree>,
     /// Keeps the formulas alive that `known` points at.
     kept: Vec<Said>,
     /// How many people were named besides those of the source.
@@ -66,15 +77,21 @@ pub struct Placer {
 }
 
 impl Placer {
+    /// Places formulas whose parts about the past may have so many free variables.
+    pub fn new(most_free: usize) -> Placer {
+        Placer { most_free, known: HashMap::new(), kept: Vec::new(), named: 0 }
+    }
+
     /// A policy, said of the initiator.
     pub fn policy(&mut self, policy: &Said) -> Result<Tree, Crowd> {
-        let body = self.place(policy, &[ME])?;
+        let body = self.place(policy, &[Name::of(ME)])?;
         Ok(bound_if_free(ME, body))
     }
 
     /// The formula said of a member that has the given names.
-    fn place(&mut self, f: &Said, names: &[Id]) -> Result<Tree, Crowd> {
-        let names: Vec<Id> = names.iter().copied().filter(|id| f.others.contains(id)).collect();
+    fn place(&mut self, f: &Said, names: &[Name]) -> Result<Tree, Crowd> {
+        let spoken = |name: &Name| f.others.contains(&name.id);
+        let names: Vec<Name> = names.iter().copied().filter(spoken).collect();
         let key = (Rc::as_ptr(f), names);
         if let Some(known) = self.known.get(&key) {
             return Ok(known.clone());
@@ -85,7 +102,7 @@ impl Placer {
         Ok(placed)
     }
 
-    fn form(&mut self, f: &Said, names: &[Id]) -> Result<Tree, Crowd> {
+    fn form(&mut self, f: &Said, names: &[Name]) -> Result<Tree, Crowd> {
         let here = |who: &Who| is_here(who, names);
         Ok(match &f.form {
             Form::True => tree(Node::Top),
@@ -97,21 +114,24 @@ impl Placer {
             Form::Not(f) => tree(Node::Not(self.place(f, names)?)),
             Form::Or(f, g) => tree(Node::Or(self.place(f, names)?, self.place(g, names)?)),
             Form::Some { from, label, outwards, name, body } => {
-                let body = bound_if_free(*name, self.place(body, &[*name])?);
+                let body = bound_if_free(*name, self.place(body, &[Name::of(*name)])?);
                 let walk = if *outwards { Node::Out(*label, body) } else { Node::In(*label, body) };
                 walked(from, names, walk)
             }
             Form::Many { from, label, count, name, body } => {
-                let body = bound_if_free(*name, self.place(body, &[*name])?);
+                let body = bound_if_free(*name, self.place(body, &[Name::of(*name)])?);
                 walked(from, names, Node::Many(*label, body, *count))
             }
             Form::Step { name, leads, body, span } => {
                 self.step(*name, leads, body, names, *span)?
             }
             Form::At(Who::Here, body) => self.place(body, names)?,
-            Form::At(Who::Other(id), body) => tree(Node::At(*id, self.place(body, &[*id])?)),
+            Form::At(Who::Other(id), body) => {
+                tree(Node::At(*id, self.place(body, &[Name { id: *id, given: true }])?))
+            }
             Form::As { name, wanted, body } => {
-                let also: Vec<Id> = names.iter().copied().chain([*name]).collect();
+                let also = Name { id: *name, given: *wanted };
+                let also: Vec<Name> = names.iter().copied().chain([also]).collect();
                 let body = self.place(body, &also)?;
                 if *wanted {
                     tree(Node::Bind(*name, body))
@@ -140,7 +160,7 @@ impl Placer {
         }
     }
 
-    fn edge(&mut self, from: &Option<Who>, label: usize, to: &Option<Who>, names: &[Id]) -> Tree {
+    fn edge(&mut self, from: &Option<Who>, label: usize, to: &Option<Who>, names: &[Name]) -> Tree {
         let here = |who: &Who| is_here(who, names);
         let out = |to: Tree| tree(Node::Out(label, to));
         let into = |from: Tree| tree(Node::In(label, from));
@@ -171,10 +191,10 @@ impl Placer {
         name: Id,
         leads: &Said,
         body: &Said,
-        names: &[Id],
+        names: &[Name],
         span: Span,
     ) -> Result<Tree, Crowd> {
-        let near = |id: &Id| names.contains(id) && *id != name;
+        let near = |id: &Id| has(names, *id) && *id != name;
         let here = leads.here || leads.others.iter().any(near);
         let mut others = leads.others.iter().copied().filter(|id| *id != name && !near(id));
         let from = others.next();
@@ -185,52 +205,48 @@ impl Placer {
             let people = first.into_iter().chain(others.map(Some)).collect();
             return Err(Crowd { span, to: Some(name), people });
         }
-        let names: Vec<Id> = match from {
-            Some(from) => vec![from],
-            None => names.iter().copied().filter(|id| *id != name).collect(),
+        let names: Vec<Name> = match from {
+            Some(from) => vec![Name::of(from)],
+            None => names.iter().copied().filter(|other| other.id != name).collect(),
         };
-        let mut leads = self.place(leads, &names)?;
-        for name in &names {
-            leads = bound_if_free(*name, leads);
-        }
-        let body = bound_if_free(name, self.place(body, &[name])?);
+        let leads = bound_inside(&names, self.place(leads, &names)?);
+        let body = bound_if_free(name, self.place(body, &[Name::of(name)])?);
         let reach = tree(Node::Reach(name, leads, body));
         Ok(from.map_or(reach.clone(), |from| tree(Node::At(from, reach))))
     }
 
     /// A part about the past. It is said of one of the people it speaks of, so
-    /// that at most one other is left for its variable.
+    /// that only the others are left for its variables: none or one, or two where
+    /// there is no other way.
     fn past(
         &mut self,
         f: &Said,
         parts: &[&Said],
-        names: &[Id],
+        names: &[Name],
         span: Span,
         make: impl Fn(&[Tree]) -> Node,
     ) -> Result<Tree, Crowd> {
-        let others: Vec<Id> = f.others.iter().copied().filter(|id| !names.contains(id)).collect();
+        let others: Vec<Id> = f.others.iter().copied().filter(|id| !has(names, *id)).collect();
         let here = f.here || others.len() < f.others.len();
-        if others.len() + usize::from(here) > MOST_PEOPLE {
-            let name = f.others.iter().copied().find(|id| names.contains(id));
+        if others.len() + usize::from(here) > 1 + self.most_free {
+            let name = f.others.iter().copied().find(|id| has(names, *id));
             let first = here.then_some(name);
             let people = first.into_iter().chain(others.into_iter().map(Some)).collect();
             return Err(Crowd { span, to: None, people });
         }
         // Where `at` or `as` is written the writer has chosen the place.
-        let stays = here || others.is_empty() || f.placed && others.len() < MOST_PEOPLE;
-        let names = if stays { names.to_vec() } else { vec![others[0]] };
+        let stays = here || others.is_empty() || f.placed && others.len() <= self.most_free;
+        let names = if stays { names.to_vec() } else { vec![Name::of(others[0])] };
         let mut placed = Vec::new();
         for part in parts {
             placed.push(self.place(part, &names)?);
         }
-        let mut free: Vec<Id> = placed.iter().flat_map(|part| part.free.clone()).collect();
-        free.sort_unstable();
-        free.dedup();
-        if free.len() >= MOST_PEOPLE {
-            for part in &mut placed {
-                for name in &names {
-                    *part = bound_if_free(*name, part.clone());
-                }
+        // The member's own names are bound inside, so that the others alone are free.
+        // One that is given with `at` or `as` stays free where it may.
+        let (given, own): (Vec<Name>, Vec<Name>) = names.iter().partition(|name| name.given);
+        for (most, names) in [(1, own), (self.most_free, given)] {
+            if free(&placed).len() > most {
+                placed = placed.into_iter().map(|part| bound_inside(&names, part)).collect();
             }
         }
         let formula = tree(make(&placed));
@@ -239,9 +255,9 @@ impl Placer {
 }
 
 /// The formula with what is known of where it comes from.
-fn marked(mut placed: Tree, f: &Said, names: &[Id]) -> Tree {
+fn marked(mut placed: Tree, f: &Said, names: &[Name]) -> Tree {
     let person = |who: &Who| match who {
-        Who::Other(id) if !names.contains(id) => Some(*id),
+        Who::Other(id) if !has(names, *id) => Some(*id),
         _ => None,
     };
     if let Some(spelled) = Rc::get_mut(&mut placed) {
@@ -254,19 +270,33 @@ fn marked(mut placed: Tree, f: &Said, names: &[Id]) -> Tree {
 }
 
 /// Whether somebody is the member that has the given names.
-fn is_here(who: &Who, names: &[Id]) -> bool {
+fn is_here(who: &Who, names: &[Name]) -> bool {
     match who {
         Who::Here => true,
-        Who::Other(id) => names.contains(id),
+        Who::Other(id) => has(names, *id),
     }
 }
 
+/// Whether somebody is one of these names.
+fn has(names: &[Name], id: Id) -> bool {
+    names.iter().any(|name| name.id == id)
+}
+
 /// A walk from somebody, said of the member that has the given names.
-fn walked(from: &Who, names: &[Id], walk: Node) -> Tree {
+fn walked(from: &Who, names: &[Name], walk: Node) -> Tree {
     match from {
-        Who::Other(id) if !names.contains(id) => tree(Node::At(*id, tree(walk))),
+        Who::Other(id) if !has(names, *id) => tree(Node::At(*id, tree(walk))),
         _ => tree(walk),
     }
+}
+
+/// The people free in some formulas.
+fn free(parts: &[Tree]) -> HashSet<Id> {
+    parts.iter().flat_map(|part| part.free.iter().copied()).collect()
+}
+
+fn bound_inside(names: &[Name], body: Tree) -> Tree {
+    names.iter().fold(body, |body, name| bound_if_free(name.id, body))
 }
 
 fn bound_if_free(name: Id, body: Tree) -> Tree {

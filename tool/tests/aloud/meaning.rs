@@ -10,8 +10,7 @@ use keeper::generate::size::Size;
 use keeper::generate::{calls, formulas, Rng};
 use keeper::record::meaning::Assigned;
 use keeper::record::Record;
-use keeper::terms::memory::pairs;
-use keeper::terms::{EventEdge, VARIABLES};
+use keeper::terms::{Bit, EventEdge, VARIABLES};
 
 /// One evaluation of clauses over a record.
 struct Evaluation<'a> {
@@ -176,12 +175,12 @@ fn clauses_mean_what_entries_mean() {
             apart += 1;
         }
     }
-    assert!(compared > 10_000 && apart > 20, "{compared} {apart}");
+    assert!(compared > 10_000 && apart > 10, "{compared} {apart}");
 }
 
-/// What is said of a pair that a stored file has is what its table says.
+/// What is said of a line that a stored file has is what its table says.
 #[test]
-fn pairs_mean_what_tables_say() {
+fn bits_mean_what_tables_say() {
     let (mut compared, mut held) = (0, 0);
     for seed in 0..600 {
         let record = random_record(seed);
@@ -189,12 +188,13 @@ fn pairs_mean_what_tables_say() {
         let now = record.graphs().len() - 1;
         let tables = record.state().past.tables;
         for (entry, table) in record.terms().past().into_iter().zip(&tables) {
-            for (member, other) in pairs(record.terms().members.min(4)) {
-                let clause = resolve::of_pair(&forms, entry, member, other);
+            for bit in Bit::all(record.terms().members.min(4), forms.free[entry]) {
+                let (member, standing) = Assigned::by(forms.free[entry], bit);
+                let clause = resolve::of_place(&forms, (entry, member, standing), true);
                 let (assigned, guests) = (Assigned::default(), Vec::new());
                 let mut evaluation =
                     Evaluation { record: &record, you: 0, here: 0, assigned, guests };
-                let meant = table.contains(&(member, other));
+                let meant = table.contains(&bit);
                 assert_eq!(evaluation.holds(&clause, now), meant, "seed {seed} entry {entry}");
                 (compared, held) = (compared + 1, held + usize::from(meant));
             }

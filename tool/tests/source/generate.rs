@@ -162,11 +162,12 @@ impl Maker<'_> {
         }
     }
 
-    /// A part about the past: it mostly speaks of two people.
+    /// A part about the past: it mostly speaks of two people or three.
     fn past(&mut self, depth: usize, sight: &Sight) -> Kind {
         let mut inner = Sight { past: sight.past - 1, ..sight.clone() };
-        if self.dice.below(8) > 0 {
-            inner.people = vec![self.dice.pick(&sight.people), self.dice.pick(&sight.people)];
+        let count = [sight.people.len(), 3, 3, 3, 2, 2, 2, 2][self.dice.below(8)];
+        if count < sight.people.len() {
+            inner.people = (0..count).map(|_| self.dice.pick(&sight.people)).collect();
         }
         let part = |maker: &mut Self| Box::new(maker.formula(depth - 1, &inner));
         match self.dice.below(6) {

@@ -124,18 +124,44 @@ fn in_statements() {
 }
 
 #[test]
-fn the_past_may_speak_of_two() {
-    let message = policy("some x owns target: once (x share me and x share target)");
-    let part = "`once (x share me and x share target)` speaks of 3 people: x, me and target; what is about the past may speak of 2";
+fn the_past_may_speak_of_three() {
+    let message = policy("some x owns target: some y owns x: once (x share me and y share target)");
+    let part = "`once (x share me and y share target)` speaks of 4 people: y, x, me and target; what is about the past may speak of 3";
     assert!(message.contains(part), "{message}");
-    // Two are accepted wherever the part stands, and a third may be sought in it.
+    // Three are accepted wherever the part stands, and a fourth may be sought in it.
     for formula in [
         "some x owns target: once me share target",
         "some x owns target: some y owns x: not me share target since target share me",
         "once (me owns some x: x share target)",
         "previously (me share target and target share me)",
+        "some x owns target: once (x share me and x share target)",
+        "some x owns target: some y owns x: not x share me since y share me",
+        "some x owns target: once (x share me and (some y owns x: y share target))",
     ] {
         assert!(compile(&format!("{START}event load when {formula}")).is_ok(), "{formula}");
+    }
+}
+
+/// With 17 members the past may speak of two, and with 16 of three.
+#[test]
+fn sixteen_members_may_have_a_past_of_three() {
+    let said = |members: usize, formula: &str| {
+        let more: Vec<String> = (3..members).map(|member| format!("m{member}")).collect();
+        let text = format!("{START}members {}\nevent load when {formula}\n", more.join(", "));
+        compile(&text).map_err(|mistakes| shown(&mistakes, &text))
+    };
+    let three = "some x owns target: once (x share me and x share target)";
+    let terms = said(16, three).unwrap().terms;
+    assert_eq!(terms.paired(), [0]);
+    let message = said(17, three).unwrap_err();
+    let part = "speaks of 3 people: x, me and target; with 17 members, what is about the past may speak of 2";
+    assert!(message.contains(part), "{message}");
+    assert!(message.contains("with at most 16 members it may speak of three"), "{message}");
+    let two = "some x owns target: once (x share me and me share x)";
+    assert!(said(17, two).is_ok() && said(64, two).is_ok());
+    // What speaks of two has one variable, whatever the members.
+    for members in [4, 16, 17] {
+        assert_eq!(said(members, two).unwrap().terms.paired(), [], "{members}");
     }
 }
 

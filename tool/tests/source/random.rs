@@ -16,7 +16,7 @@ const MOMENTS: usize = 6;
 
 #[test]
 fn compiled_terms_mean_what_is_written() {
-    let (mut done, mut past, mut tally) = (0, 0, Tally::default());
+    let (mut done, mut past, mut paired, mut tally) = (0, 0, 0, Tally::default());
     for seed in 0..SOURCES {
         let mut dice = Dice::new(seed);
         let written = source(&mut dice);
@@ -36,11 +36,15 @@ fn compiled_terms_mean_what_is_written() {
         };
         done += 1;
         past += usize::from(!compiled.terms.past().is_empty());
+        paired += usize::from(!compiled.terms.paired().is_empty());
         assert!(Both::read(&compiled.text()).unwrap().is_ok(), "seed {seed}:\n{text}");
         compare(&written, compiled, &mut dice, &mut tally);
     }
-    println!("{done} compiled, {past} with a past, {tally:?}");
-    assert!(done > SOURCES as usize / 2 && past > done / 3, "{done} {past}");
+    println!("{done} compiled, {past} with a past, {paired} of them of three, {tally:?}");
+    assert!(
+        done > SOURCES as usize / 2 && past > done / 3 && paired > 100,
+        "{done} {past} {paired}"
+    );
     assert!(tally.granted > 10_000 && tally.denied > 10_000 && tally.kept > 500, "{tally:?}");
 }
 
@@ -72,6 +76,13 @@ fn names_are_kept_apart() {
         "event go when not someone denied go me since me give target\nkeep denied go, give",
         "event go when me r target or some denied go of me as x: x is target\nkeep denied go",
         "event go when some x such that (once x denied go target): here is me\nkeep denied go",
+        "event go when some x r target: once (x give me and previously x mark target)",
+        "event go when some x r target: not x drop me since (x give me and once x mark target)",
+        "event go when me r some x: always (x is not target or not me drop x)",
+        "event go when as x1: at target: (some r of here as x2: not x2 drop x1 since x1 give here)",
+        "event go when as x1: target r some x2: previously (at x1: here r x2 or x2 mark target)",
+        "event go when some x such that (some y r x: once (y give me or x mark y)): x is target",
+        "event go when some x r me: some y r x: once (x give y and x mark me)",
     ];
     for policy in policies {
         let text = format!("{start}{policy}\n");

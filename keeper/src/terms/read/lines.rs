@@ -43,15 +43,22 @@ pub struct Reader {
     terms: Terms,
     free: Vec<Variables>,
     last_effect: usize,
-    bits: Vec<Bit>,
+    bits: Vec<TableLine>,
     event: Option<EventEdge>,
 }
 
 /// A T line: what it says, and where it stands.
-struct Bit {
+struct TableLine {
     table: usize,
-    pair: Pair,
+    bit: Bit,
     line: usize,
+}
+
+impl TableLine {
+    /// Table and member: its word, where the entry has no free variable.
+    fn row(&self) -> (usize, usize) {
+        (self.table, self.bit.parts().0)
+    }
 }
 
 impl Reader {
@@ -62,8 +69,8 @@ impl Reader {
     /// What the lines said, if there is no fault.
     pub fn file(self) -> File {
         let mut tables = vec![BTreeSet::new(); self.terms.past().len()];
-        for bit in self.bits {
-            tables[bit.table].insert(bit.pair);
+        for TableLine { table, bit, .. } in self.bits {
+            tables[table].insert(bit);
         }
         let past = Past { tables, event: self.event };
         File { terms: self.terms, past: self.stored.then_some(past) }
@@ -73,10 +80,10 @@ impl Reader {
     /// without a free variable, and not all.
     pub fn partly_filled(&self) -> Option<usize> {
         let past = self.terms.past();
-        let mut words =
-            self.bits.chunk_by(|one, next| (one.table, one.pair.0) == (next.table, next.pair.0));
-        let partly =
-            |word: &&[Bit]| self.free[past[word[0].table]] == 0 && word.len() < self.terms.members;
+        let mut words = self.bits.chunk_by(|one, next| one.row() == next.row());
+        let partly = |word: &&[TableLine]| {
+            self.free[past[word[0].table]] == 0 && word.len() < self.terms.members
+        };
         words.find(partly).map(|word| word[0].line)
     }
 
@@ -100,7 +107,9 @@ impl Reader {
                 self.effect(event, action, relation, direction)
             }
             [b"G", relation, from, to] if complete && old => self.edge(relation, from, to),
-            [b"T", t, a, b] if complete && self.stored && self.event.is_none() => self.bit(t, a, b),
+            [b"T", t, members @ ..] if complete && self.stored && self.event.is_none() => {
+                self.bit(t, members)
+            }
             [b"V", event, from, to] if complete && self.stored && self.event.is_none() => {
                 self.event_edge(event, from, to)
             }
@@ -152,7 +161,7 @@ impl Reader {
         require(entry.operands().iter().all(|&operand| operand < index), 3)?;
 
         let free = entry.free(&self.free);
-        require(!entry.is_past() || free.count_ones() < 2, 4)?;
+        require(!entry.is_past() || free.count_ones() <= most_free(self.terms.members), 4)?;
         require(self.reaches(entry), 10)?;
         self.terms.entries.push(entry);
         self.free.push(free);
@@ -234,13 +243,22 @@ impl Reader {
         Ok(())
     }
 
-    fn bit(&mut self, t: &[u8], a: &[u8], b: &[u8]) -> Checked<()> {
-        let [t, a, b] = numbers([t, a, b])?;
-        let risen = |last: &Bit| (last.table, last.pair) < (t, (a, b));
+    /// A table of an entry with two free variables has lines with a member more;
+    /// any other, one that does not exist too, has none such.
+    fn bit(&mut self, t: &[u8], members: &[&[u8]]) -> Checked<()> {
+        let [t] = numbers([t])?;
+        let past = self.terms.past();
+        let is_triple = past.get(t).is_some_and(|&entry| Bit::is_triple(self.free[entry]));
+        let bit = match members {
+            [a, b] if !is_triple => numbers([a, b]).map(|[a, b]| Bit::Pair(a, b))?,
+            [a, b, c] if is_triple => numbers([a, b, c]).map(|[a, b, c]| Bit::Triple(a, b, c))?,
+            _ => return Err(1),
+        };
+        let risen = |last: &TableLine| (last.table, last.bit) < (t, bit);
         require(self.bits.last().is_none_or(risen), 1)?;
-        require(t < self.terms.past().len(), 2)?;
-        require(a < self.terms.members && b < self.terms.members, 2)?;
-        self.bits.push(Bit { table: t, pair: (a, b), line: self.lines });
+        require(t < past.len(), 2)?;
+        require(bit.members().iter().all(|&member| member < self.terms.members), 2)?;
+        self.bits.push(TableLine { table: t, bit, line: self.lines });
         Ok(())
     }
 

@@ -29,6 +29,9 @@ pub struct Teller<'a> {
     terms: &'a Terms,
     words: &'a Words,
     free: Vec<Variables>,
+    /// Whether a part about the past has two free variables. Then a binding is told
+    /// where it stands.
+    paired: bool,
     /// Which entries are told as definitions, in the exact style.
     shared: Vec<bool>,
     defined: BTreeMap<usize, Definition>,
@@ -50,7 +53,8 @@ struct Place {
 
 impl<'a> Teller<'a> {
     pub fn new(terms: &'a Terms, words: &'a Words, shared: Vec<bool>) -> Teller<'a> {
-        Teller { terms, words, free: terms.free(), shared, defined: BTreeMap::new() }
+        let (free, paired) = (terms.free(), !terms.paired().is_empty());
+        Teller { terms, words, free, paired, shared, defined: BTreeMap::new() }
     }
 
     /// The definitions that the policies told so far use.
@@ -238,7 +242,9 @@ impl<'a> Teller<'a> {
     fn named(&mut self, f: usize, place: &Place) -> (Option<Name>, Formula) {
         if place.style == Style::Exact {
             return match self.terms.entries[f] {
-                Entry::Bind(x, g) if !self.shared[f] && self.free[g] >> x & 1 == 1 => {
+                Entry::Bind(x, g)
+                    if !self.shared[f] && !self.paired && self.free[g] >> x & 1 == 1 =>
+                {
                     (Some(Name::new(&format!("x{x}"))), self.tell(g, place))
                 }
                 _ => (None, self.tell(f, place)),

@@ -14,12 +14,9 @@ use borrow.Author.Needs.{needs}
 use Rattle.file.proofs.line.triple_line.Statement.{statement}
 use Rattle.file.proofs.line.triple_line.Tie as tie
 
-pieces-requires : tie.Need-pieces-requires
-pieces-requires c κs = search needs
-
 returns : tie.Need-returns
 unfolding tripleLine
-returns c = let t = ne-eqb _ _ (λ e. c .if1 .taken (c .before .pieces .ensures ∙ e)) in (λ z. malformed _ _ 0 t, λ z. malformed _ _ 0 t, λ z. malformed _ _ 0 t)
+returns c = let t = ne-eqb _ _ (λ e. c .if1 .taken (c .before .before .pre ∙ e)) in (λ z. malformed _ _ 0 t, λ z. malformed _ _ 0 t, λ z. malformed _ _ 0 t)
 
 number-at-requires : tie.Need-number-at-requires
 number-at-requires c κs = search needs
@@ -74,7 +71,7 @@ abbrev third : tie.After-known-told3 → ℕ
 third c = c .before .b .given .0 .0
 
 abbrev fields : tie.After-known-told3 → List (List ℕ)
-fields c = split 9 (c .before .before .before .before .before .before .before .before .before .before .before .before .before .before .before .args .l .now)
+fields c = split 9 (c .before .before .before .before .before .before .before .before .before .before .before .before .before .before .args .l .now)
 
 says : (c : tie.After-known-told3) (line : ℕ → ℕ → ℕ → Line) → line (first c) (second c) (third c) ≡ tripleLine line (fields c)
 says c line =
@@ -85,11 +82,10 @@ says c line =
     let k5 = k4 .before .before in
     let k6 = k5 .before .before in
     let k7 = k6 .before in
-    let k8 = k7 .before in
     let e1 = number-is _ _ (sym (k6 .number-at .ensures) ∙ k5 .k .given .1) in
     let e2 = number-is _ _ (sym (k4 .number-at2 .ensures) ∙ k3 .a .given .1) in
     let e3 = number-is _ _ (sym (k2 .number-at3 .ensures) ∙ k1 .b .given .1) in
-    triple-says line (fields c) (eq-eqb _ _ (sym (k8 .pieces .ensures) ∙ k7 .if1 .left)) e1 e2 e3
+    triple-says line (fields c) (eq-eqb _ _ (sym (k7 .before .before .pre) ∙ k7 .if1 .left)) e1 e2 e3
 
 returns-5 : tie.Need-returns-5
 returns-5 c = let k = c .match4 .keys1 in (λ z. says (c .before) Edge, λ z. absurd (omega arith), λ z. absurd (omega arith))
@@ -104,7 +100,6 @@ pub triple-line-spec : {M : Type 1} → statement M
 triple-line-spec =
     tie.close
     (tie.spec
-    pieces-requires
     returns
     number-at-requires
     enum-known-k

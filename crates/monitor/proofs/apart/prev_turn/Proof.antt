@@ -12,8 +12,8 @@ use Rattle.deciding.proofs.Apart as parts
 use Rattle.monitor.proofs.apart.prev_turn.Statement.{statement}
 use Rattle.monitor.proofs.apart.prev_turn.Tie as tie
 
-prev-rows-requires : tie.Need-prev-rows-requires
-prev-rows-requires c κs =
+prev-table-requires : tie.Need-prev-table-requires
+prev-table-requires c κs =
     let i = c .before .before .before .before .before .before .before .before .before .before .before in
     let x = i .args in
     let op = sym (c .before .before .before .before .op-of .ensures .0) ∙ c .before .before .before .if1 .taken in
@@ -24,7 +24,7 @@ put-table-requires c κs =
     let i = c .before .before .before .before .before .before .before .before .before .before .before .before .before .before .before .before .before .before in
     let op = sym (c .before .before .before .before .before .before .before .before .before .before .before .op-of .ensures .0) ∙ c .before .before .before .before .before .before .before .before .before .before .if1 .taken in
     let fits = moves.own-fits (i .pre .0 .0) (i .args .n) (i .pre .1 .0 .0) (rw op) in
-    (omega (arith, fits, i .pre .0 .2), c .before .before .before .before .before .before .prev-rows .ensures .0 .long)
+    (omega (arith, fits, i .pre .0 .2), c .before .before .before .before .before .before .prev-table .ensures .0 .long)
 
 returns : tie.Need-returns
 returns c =
@@ -32,7 +32,7 @@ returns c =
     let x = i .args in
     let T = termsOf (x .terms .now) in
     let op = sym (c .before .before .before .before .before .before .before .before .before .before .before .before .before .before .op-of .ensures .0) ∙ c .before .before .before .before .before .before .before .before .before .before .before .before .before .if1 .taken in
-    let rows = c .before .before .before .before .before .before .before .before .before .prev-rows in
+    let rows = c .before .before .before .before .before .before .before .before .before .prev-table in
     let new = rows .last .1 .1 .1 .1 .1 .1 .0 in
     let put = c .before .before .put-table in
     let l = i .pre .1 .0 .0 in
@@ -52,7 +52,7 @@ prev-turn-spec =
     tie.close
     (tie.spec
     (λ c κs. tt)
-    prev-rows-requires
+    prev-table-requires
     put-table-requires
     (λ c. search needs)
     (λ c. search needs)

@@ -13,8 +13,8 @@ use Rattle.deciding.proofs.Apart as parts
 use Rattle.monitor.proofs.apart.since_turn.Statement.{statement}
 use Rattle.monitor.proofs.apart.since_turn.Tie as tie
 
-since-rows-requires : tie.Need-since-rows-requires
-since-rows-requires c κs =
+since-table-requires : tie.Need-since-table-requires
+since-table-requires c κs =
     let i = c .before .before .before .before .before .before .before .before .before .before .before .before .before in
     let x = i .args in
     let op = sym (c .before .before .before .before .before .op-of .ensures .0) ∙ c .before .before .before .before .if1 .taken in
@@ -25,7 +25,7 @@ put-table-requires c κs =
     let i = c .before .before .before .before .before .before .before .before .before .before .before .before .before .before .before .before .before .before .before .before .before .before in
     let op = sym (c .before .before .before .before .before .before .before .before .before .before .before .before .before .before .op-of .ensures .0) ∙ c .before .before .before .before .before .before .before .before .before .before .before .before .before .if1 .taken in
     let fits = moves.own-fits (i .pre .0 .0) (i .args .n) (i .pre .1 .0 .0) (rw op) in
-    (omega (arith, fits, i .pre .0 .2), c .before .before .before .before .before .before .before .before .since-rows .ensures .0 .long)
+    (omega (arith, fits, i .pre .0 .2), c .before .before .before .before .before .before .before .before .since-table .ensures .0 .long)
 
 returns : tie.Need-returns
 returns c =
@@ -33,7 +33,7 @@ returns c =
     let x = i .args in
     let T = termsOf (x .terms .now) in
     let op = sym (c .before .before .before .before .before .before .before .before .before .before .before .before .before .before .before .before .before .op-of .ensures .0) ∙ c .before .before .before .before .before .before .before .before .before .before .before .before .before .before .before .before .if1 .taken in
-    let rows = c .before .before .before .before .before .before .before .before .before .before .before .since-rows in
+    let rows = c .before .before .before .before .before .before .before .before .before .before .before .since-table in
     let new = rows .last .1 .1 .1 .1 .1 .1 .1 .0 in
     let put = c .before .before .put-table in
     let l = i .pre .1 .0 .0 in
@@ -59,7 +59,7 @@ since-turn-spec =
     tie.close
     (tie.spec
     (λ c κs. tt)
-    since-rows-requires
+    since-table-requires
     put-table-requires
     (λ c. search needs)
     (λ c. search needs)

@@ -5,6 +5,7 @@ use lib.ListN.{length, drop}
 use lib.Seq.{length-take-le, drop-at}
 use Rattle.theory.specs.Limits.{scratchWords}
 use Rattle.memory.specs.Layout.{relationWords, ownWords, joined}
+use Rattle.memory.proofs.Accepted.{good}
 use Rattle.deciding.proofs.Moves.{movable}
 use Rattle.deciding.proofs.Parts as parts
 use Rattle.monitor.proofs.beside.next_moments.Statement.{statement}
@@ -57,9 +58,9 @@ returns c =
     let q = m .move-on .last .1 .1 .1 .1 .0 in (
       record {
         here = parts.joined-back (x .relations .now) (x .own .now) r o (relations-long m) (own-long m)
-            ∙ parts.becomes-words (parts.joined-long (x .relations .now) (x .own .now) (l .0) (l .1)) (i .pre .1 .1 .0 .0) (m .move-on .ensures .0);
+            ∙ parts.becomes-words (good _ (i .pre .0 .1)) (parts.joined-long (x .relations .now) (x .own .now) (l .0) (l .1)) (i .pre .1 .1 .0 .0) (m .move-on .ensures .0);
         beside = parts.joined-back (x .relations .now) (x .other .now) r q (relations-long m) (other-long m)
-            ∙ parts.becomes-words (parts.joined-long (x .relations .now) (x .other .now) (l .0) (l .2)) (i .pre .1 .1 .0 .1) (m .move-on .ensures .1 .0);
+            ∙ parts.becomes-words (good _ (i .pre .0 .1)) (parts.joined-long (x .relations .now) (x .other .now) (l .0) (l .2)) (i .pre .1 .1 .0 .1) (m .move-on .ensures .1 .0);
         further-relations = drop-at r (drop relationWords (x .relations .now)) relationWords (relations-long m);
         further-own = drop-at o (drop ownWords (x .own .now)) ownWords (own-long m);
         further-other = drop-at q (drop ownWords (x .other .now)) ownWords (other-long m);

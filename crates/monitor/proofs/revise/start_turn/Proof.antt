@@ -1,5 +1,5 @@
 use borrow.Author.Needs.{needs}
-use Prim.Native.Nat.{ℕ, _+_, _*_, _/_, _≤_, _<_}
+use Prim.Native.Nat.{ℕ, _+_, _*_, _≤_, _<_}
 use native.Mathlib.Omega.{arith}
 use mathlib.Core.Path.{_≡_, sym, ap, subst, _∙_}
 use mathlib.Core.Bool.{true}
@@ -8,6 +8,7 @@ use lib.ListN.{length, getD, take, drop, length-append}
 use Rattle.theory.specs.Formula.{isPast}
 use Rattle.theory.specs.Terms.{formula, firstSame}
 use Rattle.memory.specs.Layout.{relationWords, ownWords, termsOf}
+use Rattle.memory.specs.Plan.{planTable}
 use Rattle.deciding.specs.Moving.{put}
 use Rattle.deciding.specs.Starting.{Revising, Begun}
 use Rattle.deciding.proofs.Moves as moves
@@ -24,20 +25,20 @@ module _ {old before new plan : List ℕ} (relations own : List ℕ) (r : Revisi
     lower : firstSame (termsOf old) (formula (termsOf new) n) < termsOf old .entries
     lower = subst (λ (j : ℕ). j < termsOf old .entries) e kl
 
-    fits : 64 * (getD before k 0 / 16) + 64 ≤ length own
-    fits = subst (λ (j : ℕ). 64 * (getD before j 0 / 16) + 64 ≤ length own) (sym e) (omega (arith, starting.old-fits r n nl p lower, length-append relations own, long))
+    fits : 64 * planTable (getD before k 0) + 64 ≤ length own
+    fits = subst (λ (j : ℕ). 64 * planTable (getD before j 0) + 64 ≤ length own) (sym e) (omega (arith, starting.old-fits r n nl p lower, length-append relations own, long))
 
     begins : {rest : List ℕ} (second : List ℕ) {second' : List ℕ} → Begun old (relations ++ own) new n rest (relations ++ second) →
-        second' ≡ put (64 * (getD plan n 0 / 16)) (take 64 (drop (64 * (getD before k 0 / 16)) own)) second →
+        second' ≡ put (64 * planTable (getD plan n 0)) (take 64 (drop (64 * planTable (getD before k 0)) own)) second →
         Begun old (relations ++ own) new (n + 1) rest (relations ++ second')
     begins second has q =
         starting.start-taken r n nl p lower has
-        (parts.table-behind relations own long second (64 * (getD before (firstSame (termsOf old) (formula (termsOf new) n)) 0 / 16)) (64 * (getD plan n 0 / 16))
-        (q ∙ ap (λ (j : ℕ). put (64 * (getD plan n 0 / 16)) (take 64 (drop (64 * (getD before j 0 / 16)) own)) second) e))
+        (parts.table-behind relations own long second (64 * planTable (getD before (firstSame (termsOf old) (formula (termsOf new) n)) 0)) (64 * planTable (getD plan n 0))
+        (q ∙ ap (λ (j : ℕ). put (64 * planTable (getD plan n 0)) (take 64 (drop (64 * planTable (getD before j 0)) own)) second) e))
 
     second-fits : {rest : List ℕ} (second : List ℕ) → Begun old (relations ++ own) new n rest (relations ++ second) → length second ≡ ownWords →
-        64 * (getD plan n 0 / 16) + 64 ≤ length second
-    second-fits second has size = subst (λ (m : ℕ). 64 * (getD plan n 0 / 16) + 64 ≤ m) (sym size) (moves.own-fits (starting.begun-movable r n has) n nl p)
+        64 * planTable (getD plan n 0) + 64 ≤ length second
+    second-fits second has size = subst (λ (m : ℕ). 64 * planTable (getD plan n 0) + 64 ≤ m) (sym size) (moves.own-fits (starting.begun-movable r n has) n nl p)
 
 -- the function's entry, from where the class is known
 abbrev start : tie.After-word → tie.Start

@@ -6,46 +6,32 @@ use types.Run.{OneOf, miss}
 use Rattle.memory.proofs.FreeSets.{free-entry}
 use Rattle.reader.specs.Testing.{FreeIn}
 use Rattle.file.specs.declared.line.Line.{Line}
-use Rattle.file.specs.declared.line.Line.the-variants.{Members, Labels, Entry, Policy, Effect, Edge, Form, TableBit, EventEdge, Mark, Malformed}
+use Rattle.file.specs.declared.line.Line.the-variants.{Members, Labels, Entry, Policy, Effect, Edge, Form, TableBit, PairBit, EventEdge, Mark, Malformed}
 use Rattle.file.proofs.line.Line.{the-type}
 use borrow.Author.Needs.{needs}
 use Rattle.reader.proofs.free.free_in.Statement.{statement}
 use Rattle.reader.proofs.free.free_in.Tie as tie
 
 -- the kinds that are tested by no set
-no-set : (masks : List ℕ) (l : Line) → OneOf (0 ∷ 1 ∷ 4 ∷ 5 ∷ 6 ∷ 7 ∷ 8 ∷ 9 ∷ 10 ∷ []) (tagOf the-type l) → FreeIn masks l 0
-no-set masks (Members n) h = tt
-no-set masks (Labels r e) h = tt
-no-set masks (Entry n o a b c) h = absurd (miss (0 ∷ 1 ∷ 4 ∷ 5 ∷ 6 ∷ 7 ∷ 8 ∷ 9 ∷ 10 ∷ []) 2 tt h)
-no-set masks (Policy j n) h = absurd (miss (0 ∷ 1 ∷ 4 ∷ 5 ∷ 6 ∷ 7 ∷ 8 ∷ 9 ∷ 10 ∷ []) 3 tt h)
-no-set masks (Effect j a k d) h = tt
-no-set masks (Edge k a b) h = tt
-no-set masks (Form n) h = tt
-no-set masks (TableBit t a b) h = tt
-no-set masks (EventEdge j u v) h = tt
-no-set masks (Mark j) h = tt
-no-set masks Malformed h = tt
+no-set : (terms masks : List ℕ) (l : Line) → OneOf (0 ∷ 1 ∷ 4 ∷ 5 ∷ 6 ∷ 9 ∷ 10 ∷ 11 ∷ []) (tagOf the-type l) → FreeIn terms masks l 0
+no-set terms masks (Members n) h = tt
+no-set terms masks (Labels r e) h = tt
+no-set terms masks (Entry n o a b c) h = absurd (miss (0 ∷ 1 ∷ 4 ∷ 5 ∷ 6 ∷ 9 ∷ 10 ∷ 11 ∷ []) 2 tt h)
+no-set terms masks (Policy j n) h = absurd (miss (0 ∷ 1 ∷ 4 ∷ 5 ∷ 6 ∷ 9 ∷ 10 ∷ 11 ∷ []) 3 tt h)
+no-set terms masks (Effect j a k d) h = tt
+no-set terms masks (Edge k a b) h = tt
+no-set terms masks (Form n) h = tt
+no-set terms masks (TableBit t a b) h = absurd (miss (0 ∷ 1 ∷ 4 ∷ 5 ∷ 6 ∷ 9 ∷ 10 ∷ 11 ∷ []) 7 tt h)
+no-set terms masks (PairBit t a b c) h = absurd (miss (0 ∷ 1 ∷ 4 ∷ 5 ∷ 6 ∷ 9 ∷ 10 ∷ 11 ∷ []) 8 tt h)
+no-set terms masks (EventEdge j u v) h = tt
+no-set terms masks (Mark j) h = tt
+no-set terms masks Malformed h = tt
 
-enum-known-line : tie.Need-enum-known-line
-enum-known-line c = search needs
+table-set-requires : tie.Need-table-set-requires
+table-set-requires c κs = c .before .before .before .before .before .pre
 
-set-at-requires : tie.Need-set-at-requires
-set-at-requires c κs = search needs
-
-set-at-requires-2 : tie.Need-set-at-requires-2
-set-at-requires-2 c κs = search needs
-
-set-at-requires-3 : tie.Need-set-at-requires-3
-set-at-requires-3 c κs = search needs
-
-free-of-requires : tie.Need-free-of-requires
-free-of-requires c κs = search needs
-
-enum-known-line-2 : tie.Need-enum-known-line-2
-enum-known-line-2 c = search needs
-
-set-at-requires-4 : tie.Need-set-at-requires-4
-set-at-requires-4 c κs = search needs
+table-set-requires-2 : tie.Need-table-set-requires-2
+table-set-requires-2 c κs = c .before .before .before .before .before .pre
 
 returns : tie.Need-returns
 returns c =
@@ -59,19 +45,33 @@ returns-2 : tie.Need-returns-2
 returns-2 c = rw (c .before .before .line2 .given .1) (c .set-at4 .ensures)
 
 returns-3 : tie.Need-returns-3
-returns-3 c = no-set (c .before .before .args .masks .now) (c .before .before .args .line) (c .match .keys3)
+returns-3 c = rw (c .before .before .line3 .given .1) (c .table-set .ensures)
+
+returns-4 : tie.Need-returns-4
+returns-4 c = rw (c .before .before .line4 .given .1) (c .table-set2 .ensures)
+
+returns-5 : tie.Need-returns-5
+returns-5 c =
+    let x = c .before .before .before in
+    no-set (x .args .terms .now) (x .args .masks .now) (x .args .line) (c .match .keys5)
 
 pub free-in-spec : {M : Type 1} → statement M
 free-in-spec =
     tie.close
     (tie.spec
-    enum-known-line
-    set-at-requires
-    set-at-requires-2
-    set-at-requires-3
-    free-of-requires
-    enum-known-line-2
-    set-at-requires-4
+    (λ c. search needs)
+    (λ c κs. search needs)
+    (λ c κs. search needs)
+    (λ c κs. search needs)
+    (λ c κs. search needs)
+    (λ c. search needs)
+    (λ c κs. search needs)
+    (λ c. search needs)
+    table-set-requires
+    (λ c. search needs)
+    table-set-requires-2
     returns
     returns-2
-    returns-3)
+    returns-3
+    returns-4
+    returns-5)

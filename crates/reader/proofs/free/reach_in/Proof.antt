@@ -7,22 +7,23 @@ use denote.Enum.Declared.{tagOf}
 use types.Run.{OneOf, miss}
 use Rattle.reader.specs.Testing.{reachIn}
 use Rattle.file.specs.declared.line.Line.{Line}
-use Rattle.file.specs.declared.line.Line.the-variants.{Members, Labels, Entry, Policy, Effect, Edge, Form, TableBit, EventEdge, Mark, Malformed}
+use Rattle.file.specs.declared.line.Line.the-variants.{Members, Labels, Entry, Policy, Effect, Edge, Form, TableBit, PairBit, EventEdge, Mark, Malformed}
 use Rattle.file.proofs.line.Line.{the-type}
 use borrow.Author.Needs.{needs}
 use Rattle.reader.proofs.free.reach_in.Statement.{statement}
 use Rattle.reader.proofs.free.reach_in.Tie as tie
 
 -- the kinds that are no entry
-no-entry : (masks : List ℕ) (l : Line) → OneOf (0 ∷ 1 ∷ 3 ∷ 4 ∷ 5 ∷ 6 ∷ 7 ∷ 8 ∷ 9 ∷ 10 ∷ []) (tagOf the-type l) → true ≡ reachIn masks l
+no-entry : (masks : List ℕ) (l : Line) → OneOf (0 ∷ 1 ∷ 3 ∷ 4 ∷ 5 ∷ 6 ∷ 7 ∷ 8 ∷ 9 ∷ 10 ∷ 11 ∷ []) (tagOf the-type l) → true ≡ reachIn masks l
 no-entry masks (Members n) h = refl
 no-entry masks (Labels r e) h = refl
-no-entry masks (Entry n o a b c) h = absurd (miss (0 ∷ 1 ∷ 3 ∷ 4 ∷ 5 ∷ 6 ∷ 7 ∷ 8 ∷ 9 ∷ 10 ∷ []) 2 tt h)
+no-entry masks (Entry n o a b c) h = absurd (miss (0 ∷ 1 ∷ 3 ∷ 4 ∷ 5 ∷ 6 ∷ 7 ∷ 8 ∷ 9 ∷ 10 ∷ 11 ∷ []) 2 tt h)
 no-entry masks (Policy j n) h = refl
 no-entry masks (Effect j a k d) h = refl
 no-entry masks (Edge k a b) h = refl
 no-entry masks (Form n) h = refl
 no-entry masks (TableBit t a b) h = refl
+no-entry masks (PairBit t a b c) h = refl
 no-entry masks (EventEdge j u v) h = refl
 no-entry masks (Mark j) h = refl
 no-entry masks Malformed h = refl

@@ -7,14 +7,14 @@ use denote.Enum.Declared.{tagOf}
 use types.Run.{OneOf, miss}
 use Rattle.reader.specs.Partly.{partlyIn}
 use Rattle.file.specs.declared.line.Line.{Line}
-use Rattle.file.specs.declared.line.Line.the-variants.{Members, Labels, Entry, Policy, Effect, Edge, Form, TableBit, EventEdge, Mark, Malformed}
+use Rattle.file.specs.declared.line.Line.the-variants.{Members, Labels, Entry, Policy, Effect, Edge, Form, TableBit, PairBit, EventEdge, Mark, Malformed}
 use Rattle.file.proofs.line.Line.{the-type}
 use borrow.Author.Needs.{needs}
 use Rattle.reader.proofs.partly.is_partly.Statement.{statement}
 use Rattle.reader.proofs.partly.is_partly.Tie as tie
 
 -- the kinds that are no T line
-no-bit : (terms state masks : List ℕ) (full : ℕ) (l : Line) → OneOf (0 ∷ 1 ∷ 2 ∷ 3 ∷ 4 ∷ 5 ∷ 6 ∷ 8 ∷ 9 ∷ 10 ∷ []) (tagOf the-type l) →
+no-bit : (terms state masks : List ℕ) (full : ℕ) (l : Line) → OneOf (0 ∷ 1 ∷ 2 ∷ 3 ∷ 4 ∷ 5 ∷ 6 ∷ 8 ∷ 9 ∷ 10 ∷ 11 ∷ []) (tagOf the-type l) →
     false ≡ partlyIn terms state masks full l
 unfolding partlyIn
 no-bit terms state masks full (Members n) h = refl
@@ -24,7 +24,8 @@ no-bit terms state masks full (Policy j n) h = refl
 no-bit terms state masks full (Effect j a k d) h = refl
 no-bit terms state masks full (Edge k a b) h = refl
 no-bit terms state masks full (Form n) h = refl
-no-bit terms state masks full (TableBit t a b) h = absurd (miss (0 ∷ 1 ∷ 2 ∷ 3 ∷ 4 ∷ 5 ∷ 6 ∷ 8 ∷ 9 ∷ 10 ∷ []) 7 tt h)
+no-bit terms state masks full (TableBit t a b) h = absurd (miss (0 ∷ 1 ∷ 2 ∷ 3 ∷ 4 ∷ 5 ∷ 6 ∷ 8 ∷ 9 ∷ 10 ∷ 11 ∷ []) 7 tt h)
+no-bit terms state masks full (PairBit t a b c) h = refl
 no-bit terms state masks full (EventEdge j u v) h = refl
 no-bit terms state masks full (Mark j) h = refl
 no-bit terms state masks full Malformed h = refl

@@ -8,7 +8,7 @@ use denote.Enum.Declared.{tagOf}
 use types.Run.{OneOf, miss}
 use Rattle.file.specs.Said.{formIn}
 use Rattle.file.specs.declared.line.Line.{Line}
-use Rattle.file.specs.declared.line.Line.the-variants.{Members, Labels, Entry, Policy, Effect, Edge, Form, TableBit, EventEdge, Mark, Malformed}
+use Rattle.file.specs.declared.line.Line.the-variants.{Members, Labels, Entry, Policy, Effect, Edge, Form, TableBit, PairBit, EventEdge, Mark, Malformed}
 use Rattle.file.proofs.line.Line.{the-type}
 use Rattle.reader.proofs.OldForm.{begins-cut, begins-line}
 use borrow.Author.Needs.{needs}
@@ -16,15 +16,16 @@ use Rattle.reader.proofs.read.begins_stored.Statement.{statement}
 use Rattle.reader.proofs.read.begins_stored.Tie as tie
 
 -- the kinds that are no S line
-no-form : (l : Line) → OneOf (0 ∷ 1 ∷ 2 ∷ 3 ∷ 4 ∷ 5 ∷ 7 ∷ 8 ∷ 9 ∷ 10 ∷ []) (tagOf the-type l) → false ≡ formIn l false
+no-form : (l : Line) → OneOf (0 ∷ 1 ∷ 2 ∷ 3 ∷ 4 ∷ 5 ∷ 7 ∷ 8 ∷ 9 ∷ 10 ∷ 11 ∷ []) (tagOf the-type l) → false ≡ formIn l false
 no-form (Members n) h = refl
 no-form (Labels r e) h = refl
 no-form (Entry n o a b c) h = refl
 no-form (Policy j n) h = refl
 no-form (Effect j a k d) h = refl
 no-form (Edge k a b) h = refl
-no-form (Form n) h = absurd (miss (0 ∷ 1 ∷ 2 ∷ 3 ∷ 4 ∷ 5 ∷ 7 ∷ 8 ∷ 9 ∷ 10 ∷ []) 6 tt h)
+no-form (Form n) h = absurd (miss (0 ∷ 1 ∷ 2 ∷ 3 ∷ 4 ∷ 5 ∷ 7 ∷ 8 ∷ 9 ∷ 10 ∷ 11 ∷ []) 6 tt h)
 no-form (TableBit t a b) h = refl
+no-form (PairBit t a b c) h = refl
 no-form (EventEdge j u v) h = refl
 no-form (Mark j) h = refl
 no-form Malformed h = refl

@@ -7,25 +7,27 @@ use borrow.Author.Tests.{not-true, not-false}
 use lib.ListN.{length}
 use lib.Seq.{length-take-le}
 use Rattle.fields.proofs.Split.{rest-shorter}
+use Rattle.reader.specs.Testing.{LastSet}
 use Rattle.reader.proofs.TermsMemory.{length-memory}
 use Rattle.reader.proofs.Bits.{length-bits}
-use Rattle.reader.proofs.Turns.{Along, Turn, along-first, along-done, along-short, along-cut, few-tables, turn-refused, turn-ranges, turn-next}
+use Rattle.reader.proofs.Turns.{Along, Turn, along-first, along-done, along-short, along-cut, few-tables, turn-refused, turn-ranges, turn-next, turn-last}
 use Rattle.reader.proofs.read.read_lines.Statement.{statement}
 use Rattle.reader.proofs.read.read_lines.Tie as tie
 
 abbrev Inv-loop : tie.InvT-loop
-Inv-loop text terms₀ state₀ masks₀ t₀ c₀ n₀ terms state masks t c n =
+Inv-loop text terms₀ state₀ masks₀ t₀ c₀ n₀ m₀ terms state masks t c n m =
     Along text terms state masks t c n
     × (length terms ≡ length terms₀) × (length state ≡ length state₀) × (length masks ≡ length masks₀)
+    × LastSet terms masks (c .phase) (c .relation) m
 
 abbrev μ-loop : tie.MeasureT-loop
-μ-loop text terms₀ state₀ masks₀ t₀ c₀ n₀ terms state masks t c n = length t
+μ-loop text terms₀ state₀ masks₀ t₀ c₀ n₀ m₀ terms state masks t c n m = length t
 
 abbrev numbered : tie.After-step Inv-loop μ-loop → tie.After-number-of Inv-loop μ-loop
 numbered c = c .before .before .before .before .before .before .before .before .before .before .before .before .before .before
 
 abbrev found : tie.After-number-of Inv-loop μ-loop → tie.After-find Inv-loop μ-loop
-found c = c .before .before .before .before .before .before .before .before
+found c = c .before .before .before .before .before .before .before .before .before
 
 abbrev head : tie.After-number-of Inv-loop μ-loop → tie.At-loop Inv-loop μ-loop
 head c = found c .before .before
@@ -36,29 +38,23 @@ start c = c .before .before .before .before .before .before
 turn : (c : tie.After-number-of Inv-loop μ-loop) →
     let l = head c .loop in
     Turn (start (head c) .args .text .now) (l .terms) (l .state) (l .masks) (l .t .now) (l .c) (l .n)
-    (found c .find .result) (c .before .before .before .before .before .parse-line .result) (c .before .before .before .free-in .result)
+    (found c .find .result) (c .before .before .before .before .before .before .parse-line .result) (c .before .before .before .free-in .result)
     (c .before .reach-in .result) (c .number-of .result)
 turn c = record {
   along = head c .loop .inv .0;
   ends = found c .find .ensures;
-  inside = c .before .before .before .before .before .before .before .if1 .left;
-  line = c .before .before .before .before .before .parse-line .ensures;
+  inside = c .before .before .before .before .before .before .before .before .if1 .left;
+  line = c .before .before .before .before .before .before .parse-line .ensures;
   set = c .before .before .before .free-in .ensures;
   fits = omega (arith, c .before .before .before .free-in .ok);
   reaches = c .before .reach-in .ensures;
   number = c .number-of .ensures;
 }
 
-begin-requires : tie.Need-begin-requires Inv-loop μ-loop
-begin-requires c κs = search needs
-
 loop-holds : tie.Need-loop-holds Inv-loop μ-loop
 loop-holds c =
     let k1 = c .before .before .before .before .before in
-    let p = k1 .pre in (rw (c .begin .ensures) (along-first _ _ _ _ (p .0) (p .1) (p .2)), refl, refl, refl)
-
-find-requires : tie.Need-find-requires Inv-loop μ-loop
-find-requires c κs = search needs
+    let p = k1 .pre in (rw (c .begin .ensures) (along-first _ _ _ _ (p .0) (p .1) (p .2)), refl, refl, refl, rw (c .begin .ensures) (λ e. absurd (omega (arith, e))))
 
 same-length : tie.Need-same-length Inv-loop μ-loop
 same-length c = c .before .before .before .loop .inv .1
@@ -77,31 +73,22 @@ returns c =
 slice-aggregate-parse-line : tie.Need-slice-aggregate-parse-line Inv-loop μ-loop
 slice-aggregate-parse-line c = sym (length-take-le _ _ (omega arith))
 
-parse-line-requires : tie.Need-parse-line-requires Inv-loop μ-loop
-parse-line-requires c κs = search needs
-
 free-in-requires : tie.Need-free-in-requires Inv-loop μ-loop
-free-in-requires c κs = search needs
-
-reach-in-requires : tie.Need-reach-in-requires Inv-loop μ-loop
-reach-in-requires c κs = search needs
-
-number-of-requires : tie.Need-number-of-requires Inv-loop μ-loop
-number-of-requires c κs = search needs
+free-in-requires c κs = c .before .before .before .before .before .before .before .loop .inv .4
 
 same-length-4 : tie.Need-same-length-4 Inv-loop μ-loop
 same-length-4 c =
-    let k1 = c .before .before .before .before .before .before .before .before .before .before .before in
+    let k1 = c .before .before .before .before .before .before .before .before .before .before .before .before in
     k1 .loop .inv .1
 
 same-length-5 : tie.Need-same-length-5 Inv-loop μ-loop
 same-length-5 c =
-    let k1 = c .before .before .before .before .before .before .before .before .before .before .before in
+    let k1 = c .before .before .before .before .before .before .before .before .before .before .before .before in
     k1 .loop .inv .2
 
 same-length-6 : tie.Need-same-length-6 Inv-loop μ-loop
 same-length-6 c =
-    let k1 = c .before .before .before .before .before .before .before .before .before .before .before in
+    let k1 = c .before .before .before .before .before .before .before .before .before .before .before .before in
     k1 .loop .inv .3
 
 returns-2 : tie.Need-returns-2 Inv-loop μ-loop
@@ -112,21 +99,21 @@ store-terms-requires c κs =
     let k1 = c .before in
     let k2 = k1 .before in
     let k3 = k2 .before .before .before .before .before .before .before .before .before .before in
-    (turn-ranges (turn k2) (k1 .if2 .left), ap length (k3 .loop .inv .0 .words) ∙ length-memory _)
+    (turn-ranges (turn k2) (k1 .if2 .left), ap length (k3 .before .loop .inv .0 .words) ∙ length-memory _)
 
 store-state-requires : tie.Need-store-state-requires Inv-loop μ-loop
 store-state-requires c κs =
     let k1 = c .before .before .before .before .before in
     let k2 = k1 .before in
     let k3 = k2 .before .before .before .before .before .before .before .before .before .before in
-    (turn-ranges (turn k2) (k1 .if2 .left), ap length (k3 .loop .inv .0 .bits) ∙ length-bits _ _)
+    (turn-ranges (turn k2) (k1 .if2 .left), ap length (k3 .before .loop .inv .0 .bits) ∙ length-bits _ _)
 
 store-set-requires : tie.Need-store-set-requires Inv-loop μ-loop
 store-set-requires c κs =
     let k1 = c .before .before .before .before .before .before .before .before .before in
     let k2 = k1 .before in
     let k3 = k2 .before .before .before .before .before .before .before .before .before .before in
-    (turn-ranges (turn k2) (k1 .if2 .left), k3 .loop .inv .0 .masked .long)
+    (turn-ranges (turn k2) (k1 .if2 .left), k3 .before .loop .inv .0 .masked .long)
 
 step-requires : tie.Need-step-requires Inv-loop μ-loop
 step-requires c κs =
@@ -142,9 +129,6 @@ sub-t c = omega (arith, turn (numbered c) .inside)
 
 part-t-start : tie.Need-part-t-start Inv-loop μ-loop
 part-t-start c = omega (arith, turn (numbered c) .inside)
-
-part-t-end : tie.Need-part-t-end Inv-loop μ-loop
-part-t-end c = search needs
 
 add-n : tie.Need-add-n Inv-loop μ-loop
 add-n c = omega (arith, head (numbered (c .before)) .loop .inv .0 .counted, start (head (numbered (c .before))) .good .0 .1)
@@ -162,13 +146,11 @@ loop-again c =
     let k6 = k5 .before in
     let k7 = k6 .before .before .before .before .before .before .before .before .before .before in (
       rw (k4 .store-terms .ensures, k3 .store-state .ensures, k2 .store-set .ensures, k1 .step .ensures) (turn-next (turn k6) (k5 .if2 .left)),
-      k4 .store-terms .kept .0 ∙ k7 .loop .inv .1,
-      k3 .store-state .kept .0 ∙ k7 .loop .inv .2,
-      k2 .store-set .kept .0 ∙ k7 .loop .inv .3,
+      k4 .store-terms .kept .0 ∙ k7 .before .loop .inv .1,
+      k3 .store-state .kept .0 ∙ k7 .before .loop .inv .2,
+      k2 .store-set .kept .0 ∙ k7 .before .loop .inv .3,
+      rw (k4 .store-terms .ensures, k2 .store-set .ensures, k1 .step .ensures) (turn-last (turn k6) (k5 .if2 .left)),
     )
-
-is-complete-requires : tie.Need-is-complete-requires Inv-loop μ-loop
-is-complete-requires c κs = search needs
 
 same-length-7 : tie.Need-same-length-7 Inv-loop μ-loop
 same-length-7 c = c .before .before .before .loop .inv .1
@@ -218,18 +200,18 @@ read-lines-spec =
     (tie.spec
     Inv-loop
     μ-loop
-    begin-requires
+    (λ c κs. search needs)
     loop-holds
-    find-requires
+    (λ c κs. search needs)
     same-length
     same-length-2
     same-length-3
     returns
     slice-aggregate-parse-line
-    parse-line-requires
+    (λ c κs. search needs)
     free-in-requires
-    reach-in-requires
-    number-of-requires
+    (λ c κs. search needs)
+    (λ c κs. search needs)
     same-length-4
     same-length-5
     same-length-6
@@ -241,11 +223,11 @@ read-lines-spec =
     add-t
     sub-t
     part-t-start
-    part-t-end
+    (λ c. search needs)
     add-n
     loop-less
     loop-again
-    is-complete-requires
+    (λ c κs. search needs)
     same-length-7
     same-length-8
     same-length-9

@@ -22,6 +22,9 @@ is-rising-requires c κs = search needs
 first-requires-4 : tie.Need-first-requires-4
 first-requires-4 c κs = search needs
 
+is-pair-requires : tie.Need-is-pair-requires
+is-pair-requires c κs = search needs
+
 first-requires-5 : tie.Need-first-requires-5
 first-requires-5 c κs = search needs
 
@@ -31,21 +34,28 @@ first-requires-6 c κs = search needs
 first-requires-7 : tie.Need-first-requires-7
 first-requires-7 c κs = search needs
 
+first-requires-8 : tie.Need-first-requires-8
+first-requires-8 c κs = search needs
+
 returns : tie.Need-returns
 unfolding numberFrom contextTests
 returns c =
-    let k1 = c .before .before in
+    let k0 = c .before .before in
+    let k1 = k0 .before .before in
     let k2 = k1 .before .before in
-    let k3 = k2 .before .before in
+    let j2 = k2 .before in
+    let k3 = j2 .before in
     let k4 = k3 .before in
     let k5 = k4 .before in
     let k6 = k5 .before .before in
     let k7 = k6 .before in
     let k8 = k7 .before in
     rw (
-      c .first7 .ensures,
+      c .first8 .ensures,
+      k0 .first7 .ensures,
       k1 .first6 .ensures,
       k2 .first5 .ensures,
+      j2 .is-pair .ensures,
       k3 .first4 .ensures,
       k5 .first3 .ensures,
       k6 .first2 .ensures,
@@ -64,7 +74,9 @@ bit-number-spec =
     first-requires-3
     is-rising-requires
     first-requires-4
+    is-pair-requires
     first-requires-5
     first-requires-6
     first-requires-7
+    first-requires-8
     returns)

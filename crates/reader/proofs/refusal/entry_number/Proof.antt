@@ -58,8 +58,8 @@ is-lower-requires-3 c κs = search needs
 first-requires-10 : tie.Need-first-requires-10
 first-requires-10 c κs = search needs
 
-rest-of-requires : tie.Need-rest-of-requires
-rest-of-requires c κs = search needs
+columns-fit-requires : tie.Need-columns-fit-requires
+columns-fit-requires c κs = search needs
 
 if-past-requires-2 : tie.Need-if-past-requires-2
 if-past-requires-2 c κs = search needs
@@ -118,7 +118,7 @@ returns c =
       k21 .operands-of .ensures .1 .1,
       k11 .if-past .ensures,
       k2 .if-past2 .ensures,
-      k3 .rest-of .ensures,
+      k3 .columns-fit .ensures,
     )
 
 pub entry-number-spec : {M : Type 1} → statement M
@@ -143,7 +143,7 @@ entry-number-spec =
     first-requires-9
     is-lower-requires-3
     first-requires-10
-    rest-of-requires
+    columns-fit-requires
     if-past-requires-2
     first-requires-11
     first-requires-12

@@ -55,11 +55,17 @@ bit-number-requires c κs = search needs
 enum-known-line-9 : tie.Need-enum-known-line-9
 enum-known-line-9 c = search needs
 
-event-number-requires : tie.Need-event-number-requires
-event-number-requires c κs = search needs
+pair-number-requires : tie.Need-pair-number-requires
+pair-number-requires c κs = search needs
 
 enum-known-line-10 : tie.Need-enum-known-line-10
 enum-known-line-10 c = search needs
+
+event-number-requires : tie.Need-event-number-requires
+event-number-requires c κs = search needs
+
+enum-known-line-11 : tie.Need-enum-known-line-11
+enum-known-line-11 c = search needs
 
 mark-number-requires : tie.Need-mark-number-requires
 mark-number-requires c κs = search needs
@@ -92,14 +98,17 @@ returns-8 : tie.Need-returns-8
 returns-8 c = rw (c .before .before .line8 .given .1) (c .bit-number .ensures)
 
 returns-9 : tie.Need-returns-9
-returns-9 c = rw (c .before .before .line9 .given .1) (c .event-number .ensures)
+returns-9 c = rw (c .before .before .line9 .given .1) (c .pair-number .ensures)
 
 returns-10 : tie.Need-returns-10
-returns-10 c = rw (c .before .before .line10 .given .1) (c .mark-number .ensures)
+returns-10 c = rw (c .before .before .line10 .given .1) (c .event-number .ensures)
 
 returns-11 : tie.Need-returns-11
+returns-11 c = rw (c .before .before .line11 .given .1) (c .mark-number .ensures)
+
+returns-12 : tie.Need-returns-12
 unfolding numberFrom contextTests refusedBy
-returns-11 c = rw (c .enum-told .given .1)
+returns-12 c = rw (c .enum-told .given .1)
 
 pub number-of-spec : {M : Type 1} → statement M
 number-of-spec =
@@ -122,8 +131,10 @@ number-of-spec =
     enum-known-line-8
     bit-number-requires
     enum-known-line-9
-    event-number-requires
+    pair-number-requires
     enum-known-line-10
+    event-number-requires
+    enum-known-line-11
     mark-number-requires
     enum-told
     returns
@@ -136,4 +147,5 @@ number-of-spec =
     returns-8
     returns-9
     returns-10
-    returns-11)
+    returns-11
+    returns-12)

@@ -55,14 +55,33 @@ enum-told c = search needs
 enum-known-line-7 : tie.Need-enum-known-line-7
 enum-known-line-7 c = search needs
 
-enum-told-2 : tie.Need-enum-told-2
-enum-told-2 c = search needs
-
 enum-known-line-8 : tie.Need-enum-known-line-8
 enum-known-line-8 c = search needs
 
+mul-d : tie.Need-mul-d
+mul-d c =
+    omega (arith, (subst (Ranges (c .before .before .before .args .c)) (c .before .line8 .given .1) (c .before .before .before .pre .0)) .1)
+
 add-d-5 : tie.Need-add-d-5
-add-d-5 c = omega (arith, subst (Ranges (c .before .before .before .args .c)) (c .before .line8 .given .1) (c .before .before .before .pre .0))
+add-d-5 c =
+    let r = subst (Ranges (c .before .before .before .args .c)) (c .before .line8 .given .1) (c .before .before .before .pre .0) in
+    omega (arith, r .1, r .2)
+
+mul-d-2 : tie.Need-mul-d-2
+mul-d-2 c = omega arith
+
+add-d-6 : tie.Need-add-d-6
+add-d-6 c =
+    omega (arith, (subst (Ranges (c .before .before .before .args .c)) (c .before .line8 .given .1) (c .before .before .before .pre .0)) .3)
+
+enum-told-2 : tie.Need-enum-told-2
+enum-told-2 c = search needs
+
+enum-known-line-9 : tie.Need-enum-known-line-9
+enum-known-line-9 c = search needs
+
+add-d-7 : tie.Need-add-d-7
+add-d-7 c = omega (arith, subst (Ranges (c .before .before .before .args .c)) (c .before .line9 .given .1) (c .before .before .before .pre .0))
 
 enum-told-3 : tie.Need-enum-told-3
 enum-told-3 c = search needs
@@ -110,15 +129,19 @@ returns-9 c = rw (c .before .line7 .given .1)
 
 returns-10 : tie.Need-returns-10
 unfolding stepped
-returns-10 c = rw (c .enum-told2 .given .1)
+returns-10 c = rw (c .before .line8 .given .1)
 
 returns-11 : tie.Need-returns-11
 unfolding stepped
-returns-11 c = rw (c .before .line8 .given .1)
+returns-11 c = rw (c .enum-told2 .given .1)
 
 returns-12 : tie.Need-returns-12
 unfolding stepped
-returns-12 c = rw (c .enum-told3 .given .1)
+returns-12 c = rw (c .before .line9 .given .1)
+
+returns-13 : tie.Need-returns-13
+unfolding stepped
+returns-13 c = rw (c .enum-told3 .given .1)
 
 pub step-spec : {M : Type 1} → statement M
 step-spec =
@@ -138,9 +161,14 @@ step-spec =
     enum-known-line-6
     enum-told
     enum-known-line-7
-    enum-told-2
     enum-known-line-8
+    mul-d
     add-d-5
+    mul-d-2
+    add-d-6
+    enum-told-2
+    enum-known-line-9
+    add-d-7
     enum-told-3
     returns
     returns-2
@@ -153,4 +181,5 @@ step-spec =
     returns-9
     returns-10
     returns-11
-    returns-12)
+    returns-12
+    returns-13)

@@ -7,7 +7,7 @@ use types.Run.{OneOf, miss}
 use Rattle.reader.specs.Stepping.{Ranges}
 use Rattle.reader.specs.Storing.{storedTerms}
 use Rattle.file.specs.declared.line.Line.{Line}
-use Rattle.file.specs.declared.line.Line.the-variants.{Members, Labels, Entry, Policy, Effect, Edge, Form, TableBit, EventEdge, Mark, Malformed}
+use Rattle.file.specs.declared.line.Line.the-variants.{Members, Labels, Entry, Policy, Effect, Edge, Form, TableBit, PairBit, EventEdge, Mark, Malformed}
 use Rattle.file.proofs.line.Line.{the-type}
 use Rattle.reader.specs.declared.step.Context.{Context}
 use borrow.Author.Needs.{needs}
@@ -15,18 +15,19 @@ use Rattle.reader.proofs.store.store_terms.Statement.{statement}
 use Rattle.reader.proofs.store.store_terms.Tie as tie
 
 -- the kinds that give no word of the terms
-no-word : (c : Context) (l : Line) (w : List ℕ) → OneOf (5 ∷ 6 ∷ 7 ∷ 8 ∷ 10 ∷ []) (tagOf the-type l) → w ≡ storedTerms c l w
+no-word : (c : Context) (l : Line) (w : List ℕ) → OneOf (5 ∷ 6 ∷ 7 ∷ 8 ∷ 9 ∷ 11 ∷ []) (tagOf the-type l) → w ≡ storedTerms c l w
 unfolding storedTerms
-no-word c (Members n) w h = absurd (miss (5 ∷ 6 ∷ 7 ∷ 8 ∷ 10 ∷ []) 0 tt h)
-no-word c (Labels r e) w h = absurd (miss (5 ∷ 6 ∷ 7 ∷ 8 ∷ 10 ∷ []) 1 tt h)
-no-word c (Entry n o a b d) w h = absurd (miss (5 ∷ 6 ∷ 7 ∷ 8 ∷ 10 ∷ []) 2 tt h)
-no-word c (Policy j n) w h = absurd (miss (5 ∷ 6 ∷ 7 ∷ 8 ∷ 10 ∷ []) 3 tt h)
-no-word c (Effect j a k d) w h = absurd (miss (5 ∷ 6 ∷ 7 ∷ 8 ∷ 10 ∷ []) 4 tt h)
+no-word c (Members n) w h = absurd (miss (5 ∷ 6 ∷ 7 ∷ 8 ∷ 9 ∷ 11 ∷ []) 0 tt h)
+no-word c (Labels r e) w h = absurd (miss (5 ∷ 6 ∷ 7 ∷ 8 ∷ 9 ∷ 11 ∷ []) 1 tt h)
+no-word c (Entry n o a b d) w h = absurd (miss (5 ∷ 6 ∷ 7 ∷ 8 ∷ 9 ∷ 11 ∷ []) 2 tt h)
+no-word c (Policy j n) w h = absurd (miss (5 ∷ 6 ∷ 7 ∷ 8 ∷ 9 ∷ 11 ∷ []) 3 tt h)
+no-word c (Effect j a k d) w h = absurd (miss (5 ∷ 6 ∷ 7 ∷ 8 ∷ 9 ∷ 11 ∷ []) 4 tt h)
 no-word c (Edge k a b) w h = refl
 no-word c (Form n) w h = refl
 no-word c (TableBit t a b) w h = refl
+no-word c (PairBit t a b d) w h = refl
 no-word c (EventEdge j u v) w h = refl
-no-word c (Mark j) w h = absurd (miss (5 ∷ 6 ∷ 7 ∷ 8 ∷ 10 ∷ []) 9 tt h)
+no-word c (Mark j) w h = absurd (miss (5 ∷ 6 ∷ 7 ∷ 8 ∷ 9 ∷ 11 ∷ []) 10 tt h)
 no-word c Malformed w h = refl
 
 enum-known-line : tie.Need-enum-known-line

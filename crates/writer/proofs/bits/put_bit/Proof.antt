@@ -1,10 +1,11 @@
 -- `writer::bits::put_bit` meets its contract: where the bit is set, its line is there.
+use Prim.Native.Nat.{_%_}
 use native.Mathlib.Omega.{arith}
 use mathlib.Core.Bool.{true, false}
 use borrow.Author.Needs.{needs}
 use borrow.Author.Tests.{not-true, not-false}
 use Rattle.file.specs.Line.{fieldsOf}
-use Rattle.writer.proofs.Listing.{put-bit-there, put-bit-none}
+use Rattle.writer.proofs.Listing.{put-bit-there, put-bit-none, put-one-said, put-two-said}
 use Rattle.writer.proofs.bits.put_bit.Statement.{statement}
 use Rattle.writer.proofs.bits.put_bit.Tie as tie
 
@@ -14,13 +15,10 @@ has-requires c κs = search needs
 returns : tie.Need-returns
 returns c =
     let a = c .before .before .before in
-    (put-bit-none (a .args .table) (a .args .w) (a .args .i) (a .args .b) (a .pre .1) _ _ _ (c .before .has .ensures) (not-true _ (c .if1 .taken)), omega arith)
+    (put-bit-none (a .args .table) (a .args .pairs) (a .args .w) (a .args .i) (a .args .b) (a .pre .1) _ _ _ (c .before .has .ensures) (not-true _ (c .if1 .taken)), omega arith)
 
 put-triple-requires : tie.Need-put-triple-requires
 put-triple-requires c κs = search needs
-
-put-triple-requires-2 : tie.Need-put-triple-requires-2
-put-triple-requires-2 c κs = search needs
 
 same-length : tie.Need-same-length
 same-length c = search needs
@@ -32,10 +30,22 @@ returns-2 c =
     let k = c .before .before .before .before in
     let t = k .before in
     let a = t .before .before .before in (
-      rw (k .if2 .taken)
-          (put-bit-there true (a .args .w) (a .args .i) (a .args .b) (a .pre .1) _ (t .before .has .ensures) (not-false _ (t .if1 .left)) (e .0)),
+      rw (not-true (a .args .table) (k .if2 .taken))
+          (put-bit-there false (a .args .pairs) (a .args .w) (a .args .i) (a .args .b) (a .pre .1) _ (t .before .has .ensures) (not-false _ (t .if1 .left)) (e .0)),
       e .1,
     )
+
+has-requires-2 : tie.Need-has-requires-2
+has-requires-2 c κs = search needs
+
+mul-put-quad : tie.Need-mul-put-quad
+mul-put-quad c = search needs
+
+add-put-quad : tie.Need-add-put-quad
+add-put-quad c = search needs
+
+put-quad-requires : tie.Need-put-quad-requires
+put-quad-requires c κs = search needs
 
 same-length-2 : tie.Need-same-length-2
 same-length-2 c = search needs
@@ -43,12 +53,34 @@ same-length-2 c = search needs
 returns-3 : tie.Need-returns-3
 unfolding fieldsOf
 returns-3 c =
-    let e = c .before .before .put-triple2 .ensures in
-    let k = c .before .before .before .before in
+    let e = c .before .before .put-quad .ensures in
+    let j = c .before .before .before .before in
+    let k = j .before .before in
     let t = k .before in
     let a = t .before .before .before in (
-      rw (k .if2 .left)
-          (put-bit-there false (a .args .w) (a .args .i) (a .args .b) (a .pre .1) _ (t .before .has .ensures) (not-false _ (t .if1 .left)) (e .0)),
+      rw (not-false (a .args .table) (k .if2 .left))
+          (put-bit-there true (a .args .pairs) (a .args .w) (a .args .i) (a .args .b) (a .pre .1) _ (t .before .has .ensures) (not-false _ (t .if1 .left))
+          (put-two-said (a .args .pairs) _ (a .args .i % 64) (a .args .b) _ (j .before .has2 .ensures) (j .if3 .taken) (e .0))),
+      e .1,
+    )
+
+put-triple-requires-2 : tie.Need-put-triple-requires-2
+put-triple-requires-2 c κs = search needs
+
+same-length-3 : tie.Need-same-length-3
+same-length-3 c = search needs
+
+returns-4 : tie.Need-returns-4
+unfolding fieldsOf
+returns-4 c =
+    let e = c .before .before .put-triple2 .ensures in
+    let j = c .before .before .before .before in
+    let k = j .before .before in
+    let t = k .before in
+    let a = t .before .before .before in (
+      rw (not-false (a .args .table) (k .if2 .left))
+          (put-bit-there true (a .args .pairs) (a .args .w) (a .args .i) (a .args .b) (a .pre .1) _ (t .before .has .ensures) (not-false _ (t .if1 .left))
+          (put-one-said (a .args .pairs) _ (a .args .i % 64) (a .args .b) _ (j .before .has2 .ensures) (j .if3 .left) (e .0))),
       e .1,
     )
 
@@ -59,8 +91,14 @@ put-bit-spec =
     has-requires
     returns
     put-triple-requires
-    put-triple-requires-2
     same-length
     returns-2
+    has-requires-2
+    mul-put-quad
+    add-put-quad
+    put-quad-requires
     same-length-2
-    returns-3)
+    returns-3
+    put-triple-requires-2
+    same-length-3
+    returns-4)

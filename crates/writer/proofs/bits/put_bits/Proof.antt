@@ -9,10 +9,10 @@ use Rattle.writer.proofs.bits.put_bits.Statement.{statement}
 use Rattle.writer.proofs.bits.put_bits.Tie as tie
 
 abbrev Inv-loop : tie.InvT-loop
-Inv-loop out₀ at table w i b₀ next₀ out b next = Running out₀ out at next 32 64 b (bitOf table w i)
+Inv-loop out₀ at table pairs w i b₀ next₀ out b next = Running out₀ out at next 32 64 b (bitOf table pairs w i)
 
 abbrev μ-loop : tie.MeasureT-loop
-μ-loop out₀ at table w i b₀ next₀ out b next = 64 - b
+μ-loop out₀ at table pairs w i b₀ next₀ out b next = 64 - b
 
 loop-holds : tie.Need-loop-holds Inv-loop μ-loop
 loop-holds c = running-start _ _ _ _ _

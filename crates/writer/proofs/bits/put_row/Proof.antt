@@ -9,7 +9,7 @@ put-bits-requires : tie.Need-put-bits-requires
 put-bits-requires c κs = search needs
 
 returns : tie.Need-returns
-returns c = (put-row-none _ _ (c .before .before .args .table) _ _ (c .if1 .taken), omega arith)
+returns c = (put-row-none _ _ (c .before .before .args .table) _ _ _ (c .if1 .taken), omega arith)
 
 same-length : tie.Need-same-length
 same-length c = search needs

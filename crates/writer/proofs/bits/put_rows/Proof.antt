@@ -9,10 +9,10 @@ use Rattle.writer.proofs.bits.put_rows.Statement.{statement}
 use Rattle.writer.proofs.bits.put_rows.Tie as tie
 
 abbrev Inv-loop : tie.InvT-loop
-Inv-loop state out₀ at table first count i₀ next₀ out i next = Running out₀ out at next (32 * 64) count i (λ k. rowOf table (getD state (first + k) 0) k)
+Inv-loop state out₀ at table pairs first count i₀ next₀ out i next = Running out₀ out at next (32 * 64) count i (λ k. rowOf table pairs (getD state (first + k) 0) k)
 
 abbrev μ-loop : tie.MeasureT-loop
-μ-loop state out₀ at table first count i₀ next₀ out i next = count - i
+μ-loop state out₀ at table pairs first count i₀ next₀ out i next = count - i
 
 loop-holds : tie.Need-loop-holds Inv-loop μ-loop
 loop-holds c = running-start _ _ _ _ _

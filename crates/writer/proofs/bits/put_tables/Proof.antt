@@ -11,7 +11,7 @@ same-length : tie.Need-same-length
 same-length c = search needs
 
 returns : tie.Need-returns
-returns c = let e = c .before .before .put-rows .ensures in (put-all-tables _ (e .0), e .1)
+returns c = let e = c .before .before .put-rows .ensures in (put-all-tables _ _ (e .0), e .1)
 
 pub put-tables-spec : {M : Type 1} → statement M
 put-tables-spec = tie.close (tie.spec put-rows-requires same-length returns)

@@ -1,7 +1,7 @@
 -- `writer::store::put_stored` meets its contract: the S line, the text, the T lines and the V line are all lines.
 use mathlib.Core.List.{[], _∷_}
 use borrow.Author.Needs.{needs}
-use Rattle.memory.specs.Layout.{stateOf}
+use Rattle.memory.specs.Layout.{termsOf, stateOf}
 use Rattle.file.specs.Line.{fieldsOf}
 use Rattle.file.specs.Writing.{storedLines, stored, written}
 use Rattle.file.specs.declared.line.Line.the-variants.{Form}
@@ -37,7 +37,7 @@ returns c =
     let c1 = c2 .before .before .before .before in (
       put-lines (Form 2 ∷ []) _ (put-line (Form 2) (c1 .put-single .ensures .0))
           (put-lines _ _ (c2 .put-text .ensures .0)
-          (put-lines _ _ (c3 .put-tables .ensures .0) (c4 .put-event .ensures .0))),
+          (put-lines _ _ (c3 .put-tables .ensures .0 (termsOf (c1 .before .before .before .before .before .args .terms .now)) (c1 .before .before .before .before .before .pre .0)) (c4 .put-event .ensures .0))),
       search needs,
     )
 

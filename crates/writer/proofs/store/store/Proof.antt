@@ -1,20 +1,37 @@
--- `writer::store::store` meets its contract: terms and state are checked first.
-use mathlib.Core.Path.{sym, ap, _∙_}
+-- `writer::store::store` meets its contract: terms and state are checked first, which leaves the plan.
+use mathlib.Core.Path.{_≡_, sym, ap, _∙_}
 use borrow.Author.Needs.{needs}
-use Rattle.memory.specs.Outcome.{outcomeOf}
+use Rattle.memory.specs.Outcome.{outcomeOf, hasPassed, checks}
+use Rattle.memory.specs.Outcome.Outcome.{passed}
+use Rattle.memory.proofs.Outcomes.{passed-checked}
 use Rattle.writer.specs.Write.{storedText, storeGives, storeLeaves}
 use Rattle.writer.proofs.Fitting.{ends-unchecked}
 use Rattle.writer.proofs.store.store.Statement.{statement}
 use Rattle.writer.proofs.store.store.Tie as tie
 
-check-requires : tie.Need-check-requires
-check-requires c κs = search needs
+inspect-requires : tie.Need-inspect-requires
+inspect-requires c κs = search needs
 
 enum-told : tie.Need-enum-told
 enum-told c = search needs
 
+slice-aggregate-pair-tables : tie.Need-slice-aggregate-pair-tables
+slice-aggregate-pair-tables c =
+    let k = c .before .before in
+    sym (k .before .before .inspect .ensures .1 (ap hasPassed (ap outcomeOf (k .enum-told .given .1))) .long)
+
+pair-tables-requires : tie.Need-pair-tables-requires
+pair-tables-requires c κs =
+    let k = c .before .before in
+    let i = k .before .before in
+    let e : passed ≡ checks _ _ = sym (ap outcomeOf (k .enum-told .given .1)) ∙ i .inspect .ensures .0 in
+    let p = passed-checked _ _ e in
+    (p .long-terms, p .good-terms, i .inspect .ensures .1 (ap hasPassed (ap outcomeOf (k .enum-told .given .1))))
+
 store-checked-requires : tie.Need-store-checked-requires
-store-checked-requires c κs = sym (ap outcomeOf (c .before .enum-told .given .1)) ∙ c .before .before .before .check .ensures
+store-checked-requires c κs =
+    let k = c .before .before .before in
+    (sym (ap outcomeOf (k .enum-told .given .1)) ∙ k .before .before .inspect .ensures .0, c .pair-tables .ensures)
 
 enum-known-n : tie.Need-enum-known-n
 enum-known-n c = search needs
@@ -27,14 +44,16 @@ returns c = search needs
 
 returns-2 : tie.Need-returns-2
 unfolding storeGives storeLeaves
-returns-2 c = ends-unchecked _ (storedText _ _) _ _ _ (sym (ap outcomeOf (c .before .n .given .1)) ∙ c .before .before .before .check .ensures)
+returns-2 c = ends-unchecked _ (storedText _ _) _ _ _ (sym (ap outcomeOf (c .before .n .given .1)) ∙ c .before .before .before .inspect .ensures .0)
 
 pub store-spec : {M : Type 1} → statement M
 store-spec =
     tie.close
     (tie.spec
-    check-requires
+    inspect-requires
     enum-told
+    slice-aggregate-pair-tables
+    pair-tables-requires
     store-checked-requires
     enum-known-n
     same-length

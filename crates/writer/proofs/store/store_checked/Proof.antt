@@ -8,17 +8,17 @@ use Rattle.writer.proofs.store.store_checked.Statement.{statement}
 use Rattle.writer.proofs.store.store_checked.Tie as tie
 
 count-requires : tie.Need-count-requires
-count-requires c κs = let s = c .before .before .before in (passed-checked _ _ (s .pre) .long-state, event-small _ _ (s .pre))
+count-requires c κs = let s = c .before .before .before in (s .pre .1, passed-checked _ _ (s .pre .0) .long-state, event-small _ _ (s .pre .0))
 
 returns : tie.Need-returns
 unfolding storeGives storeLeaves
 returns c =
-    let k = c .before in ends-short _ (storedText _ _) _ (k .before .before .before .before .pre) _ (k .count .ensures) (c .if1 .taken)
+    let k = c .before in ends-short _ (storedText _ _) _ (k .before .before .before .before .pre .0) _ (k .count .ensures) (c .if1 .taken)
 
 put-stored-requires : tie.Need-put-stored-requires
 put-stored-requires c κs =
     let s = c .before .before .before .before .before .before in
-    (passed-checked _ _ (s .pre) .long-state, event-small _ _ (s .pre), omega arith)
+    (s .pre .1, passed-checked _ _ (s .pre .0) .long-state, event-small _ _ (s .pre .0), omega arith)
 
 same-length : tie.Need-same-length
 same-length c = search needs
@@ -29,7 +29,7 @@ returns-2 c =
     let p = c .before .before in
     let i = p .before .before in
     let k = i .before in
-    ends-whole _ (storedText _ _) _ (k .before .before .before .before .pre) _ (k .count .ensures) (i .if1 .left) _ _ (p .put-stored .ensures .0)
+    ends-whole _ (storedText _ _) _ (k .before .before .before .before .pre .0) _ (k .count .ensures) (i .if1 .left) _ _ (p .put-stored .ensures .0)
 
 pub store-checked-spec : {M : Type 1} → statement M
 store-checked-spec =

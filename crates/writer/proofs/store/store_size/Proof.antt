@@ -1,7 +1,7 @@
--- `writer::store::store_size` meets its contract: terms and state are checked first.
+-- `writer::store::store_size` meets its contract: terms and state are checked first, which leaves the plan.
 use mathlib.Core.Path.{_≡_, sym, ap, _∙_}
 use borrow.Author.Needs.{needs}
-use Rattle.memory.specs.Outcome.{outcomeOf, checks}
+use Rattle.memory.specs.Outcome.{outcomeOf, hasPassed, checks}
 use Rattle.memory.specs.Outcome.Outcome.{passed}
 use Rattle.memory.proofs.Outcomes.{passed-checked}
 use Rattle.writer.specs.Write.{storedText, storeSizeGives}
@@ -9,16 +9,30 @@ use Rattle.writer.proofs.Fitting.{event-small, size-unchecked, size-who
 use Rattle.writer.proofs.store.store_size.Statement.{statement}
 use Rattle.writer.proofs.store.store_size.Tie as tie
 
-check-requires : tie.Need-check-requires
-check-requires c κs = search needs
+inspect-requires : tie.Need-inspect-requires
+inspect-requires c κs = search needs
 
 enum-told : tie.Need-enum-told
 enum-told c = search needs
 
+slice-aggregate-pair-tables : tie.Need-slice-aggregate-pair-tables
+slice-aggregate-pair-tables c =
+    let k = c .before in
+    sym (k .before .before .inspect .ensures .1 (ap hasPassed (ap outcomeOf (k .enum-told .given .1))) .long)
+
+pair-tables-requires : tie.Need-pair-tables-requires
+pair-tables-requires c κs =
+    let k = c .before in
+    let i = k .before .before in
+    let e : passed ≡ checks _ _ = sym (ap outcomeOf (k .enum-told .given .1)) ∙ i .inspect .ensures .0 in
+    let p = passed-checked _ _ e in
+    (p .long-terms, p .good-terms, i .inspect .ensures .1 (ap hasPassed (ap outcomeOf (k .enum-told .given .1))))
+
 count-requires : tie.Need-count-requires
 count-requires c κs =
-    let e : passed ≡ checks _ _ = sym (ap outcomeOf (c .enum-told .given .1)) ∙ c .before .before .check .ensures in
-    (passed-checked _ _ e .long-state, event-small _ _ e)
+    let k = c .before .before in
+    let e : passed ≡ checks _ _ = sym (ap outcomeOf (k .enum-told .given .1)) ∙ k .before .before .inspect .ensures .0 in
+    (c .pair-tables .ensures, passed-checked _ _ e .long-state, event-small _ _ e)
 
 enum-known-n : tie.Need-enum-known-n
 enum-known-n c = search needs
@@ -26,13 +40,22 @@ enum-known-n c = search needs
 returns : tie.Need-returns
 unfolding storeSizeGives
 returns c =
-    let k = c .before in
-    size-whole _ (storedText _ _) (sym (ap outcomeOf (k .enum-told .given .1)) ∙ k .before .before .check .ensures) _ (c .count .ensures)
+    let k = c .before .before .before in
+    size-whole _ (storedText _ _) (sym (ap outcomeOf (k .enum-told .given .1)) ∙ k .before .before .inspect .ensures .0) _ (c .count .ensures)
 
 returns-2 : tie.Need-returns-2
 unfolding storeSizeGives
-returns-2 c = size-unchecked _ (storedText _ _) _ _ (sym (ap outcomeOf (c .before .n .given .1)) ∙ c .before .before .before .check .ensures)
+returns-2 c = size-unchecked _ (storedText _ _) _ _ (sym (ap outcomeOf (c .before .n .given .1)) ∙ c .before .before .before .inspect .ensures .0)
 
 pub store-size-spec : {M : Type 1} → statement M
 store-size-spec =
-    tie.close (tie.spec check-requires enum-told count-requires enum-known-n returns returns-2)
+    tie.close
+    (tie.spec
+    inspect-requires
+    enum-told
+    slice-aggregate-pair-tables
+    pair-tables-requires
+    count-requires
+    enum-known-n
+    returns
+    returns-2)

@@ -1,0 +1,96 @@
+-- Tables with two columns: the bits that a word may have.
+use Prim.Native.Nat.{ℕ, _+_, _*_, _/_, _%_, _^_, _≤_, _<_}
+use native.Mathlib.Omega.{arith}
+use mathlib.Core.Path.{_≡_, refl, sym, ap, ap₂, _∙_}
+use mathlib.Core.Bool.{Bool, true, false, cond, _&&_, _||_}
+use lib.Bits.{bitAnd}
+use lib.Dec.{eqb, ltb}
+use borrow.Author.Tests.{lt-ltb, le-ltb, ltb-true, eq-eqb, eqb-true}
+use Rattle.sets.specs.Sets.{allBelow, bit}
+use Rattle.sets.proofs.Finite.{bool-iff, and-right, and-both, and-under, below-suc, all-true, all-out}
+use Rattle.sets.proofs.Bits.{bit-zero, bits-below, bit-and, same-bits, bit-below}
+use Rattle.theory.specs.Columns.{insidePair}
+use Rattle.theory.specs.Fit.{_⇒_}
+use Rattle.theory.proofs.Good.{implied, implies}
+use Rattle.memory.specs.Checks.{pairFits}
+
+-- ---- the bits that a word may have
+
+abbrev allowed : (n i k : ℕ) → Bool
+allowed n i k = ltb (i / 4) n && (ltb (4 * (i % 4) + k / 16) n && ltb (k % 16) n)
+
+pub record Permitting (n i s q : ℕ) : Type 0 where
+  pub step : q ≤ 4
+  pub bits : (k : ℕ) → bit s k ≡ (ltb (k / 16) q && allowed n i k)
+
+pub permitting : (n i : ℕ) → Permitting n i 0 0
+permitting n i = record { step = omega arith; bits = λ k. bit-zero k ∙ sym (ap (λ c. c && allowed n i k) (le-ltb (k / 16) 0 (omega arith))) }
+
+both-or : (x y p : Bool) → ((x && p) || (y && p)) ≡ ((y || x) && p)
+both-or true true true = refl
+both-or true true false = refl
+both-or true false true = refl
+both-or true false false = refl
+both-or false true p = refl
+both-or false false p = refl
+
+pub permitting-more : (n i s q all w s' : ℕ) → q < 4 → Permitting n i s q → ((m : ℕ) → bit all m ≡ (ltb m 64 && ltb m n)) →
+    w ≡ cond (ltb (i / 4) n && ltb (4 * (i % 4) + q) n) all 0 →
+    ((k : ℕ) → bit s' k ≡ (bit s k || (eqb (k / 16) q && bit w (k % 16)))) → Permitting n i s' (q + 1)
+permitting-more n i s q all w s' l h a e t = record {
+  step = omega arith;
+  bits = λ k.
+      t k ∙ ap₂ _||_ (h .bits k) (and-under (eqb (k / 16) q) _ _ (λ z. put k (eqb-true (k / 16) q z)))
+      ∙ both-or (ltb (k / 16) q) (eqb (k / 16) q) (allowed n i k) ∙ ap (λ c. c && allowed n i k) (sym (below-suc (k / 16) q));
+}
+  where
+    chosen : (k : ℕ) (c d : Bool) → bit (cond (c && d) all 0) (k % 16) ≡ (c && (d && ltb (k % 16) n))
+    chosen k true true = a (k % 16) ∙ ap (λ x. x && ltb (k % 16) n) (lt-ltb (k % 16) 64 (omega arith))
+    chosen k true false = bit-zero (k % 16)
+    chosen k false d = bit-zero (k % 16)
+
+    put : (k : ℕ) → k / 16 ≡ q → bit w (k % 16) ≡ allowed n i k
+    put k z =
+        ap (λ x. bit x (k % 16)) e ∙ chosen k (ltb (i / 4) n) (ltb (4 * (i % 4) + q) n)
+        ∙ ap (λ x. ltb (i / 4) n && (ltb (4 * (i % 4) + x) n && ltb (k % 16) n)) (sym z)
+
+pub permitting-all : (n i s q : ℕ) → (q < 4 → ⊥) → Permitting n i s q → (k : ℕ) → bit s k ≡ insidePair n i k
+permitting-all n i s q d h k =
+    let e : q ≡ 4 = omega (arith, h .step) in
+    h .bits k ∙ ap (λ x. ltb (k / 16) x && allowed n i k) e
+    ∙ ap (λ x. x && allowed n i k) (bool-iff (ltb (k / 16) 4) (ltb k 64)
+    (λ p. lt-ltb k 64 (omega (arith, ltb-true (k / 16) 4 p))) (λ p. lt-ltb (k / 16) 4 (omega (arith, ltb-true k 64 p))))
+    ∙ turned (ltb k 64) (ltb (i / 4) n) (ltb (4 * (i % 4) + k / 16) n) (ltb (k % 16) n)
+  where
+    turned : (d a b c : Bool) → (d && (a && (b && c))) ≡ (a && (b && (c && d)))
+    turned true true true true = refl
+    turned true true true false = refl
+    turned true true false c = refl
+    turned true false b c = refl
+    turned false true true true = refl
+    turned false true true false = refl
+    turned false true false c = refl
+    turned false false b c = refl
+
+-- a set of members of at most 16 is below 65,536
+pub mask-fits : (n w : ℕ) → n < 17 → w < 2 ^ 64 → ((m : ℕ) → bit w m ≡ (ltb m 64 && ltb m n)) → w < 65536
+mask-fits n w l h b = bits-below 16 w 64 h (λ k e. omega (arith, ltb-true k n (and-right (ltb k 64) _ (sym (b k) ∙ e))))
+
+pub only-fits : (c : Bool) (w r : ℕ) → r ≡ cond c w 0 → w < 65536 → r < 65536
+only-fits true w r e l = omega arith
+only-fits false w r e l = omega arith
+
+-- a word of such a table keeps the layout exactly when it has permitted bits only
+pub pair-fits : (N i w permitted : ℕ) → w < 2 ^ 64 → ((k : ℕ) → bit permitted k ≡ insidePair N i k) → eqb (bitAnd w permitted) w ≡ pairFits N i w
+pair-fits N i w permitted l h =
+    sym (bool-iff _ _
+    (λ e. eq-eqb (bitAnd w permitted) w (same-bits _ _ (λ k. bit-and w permitted k ∙ both k (and-right (ltb w (2 ^ 64)) _ e))))
+    (λ e. and-both _ _ (lt-ltb w (2 ^ 64) l) (all-true 64 (λ k _. implies (bit w k) (λ q.
+    sym (h k) ∙ and-right (bit w k) _ (sym (bit-and w permitted k) ∙ ap (λ v. bit v k) (eqb-true (bitAnd w permitted) w e) ∙ q))))))
+  where
+    both : (k : ℕ) → allBelow 64 (λ k. bit w k ⇒ insidePair N i k) ≡ true → (bit w k && bit permitted k) ≡ bit w k
+    both k e = go (bit w k) refl
+      where
+        go : (c : Bool) → bit w k ≡ c → (c && bit permitted k) ≡ c
+        go true q = h k ∙ implied (bit w k) _ (all-out 64 (λ k. bit w k ⇒ insidePair N i k) e k (bit-below w 64 k l q)) q
+        go false q = refl
