@@ -6,7 +6,7 @@
 
 use keeper::record::after_effects;
 use keeper::terms::memory::{state_of_words, State};
-use keeper::terms::{Edge, Entry, EventEdge, Past, Terms, Variables};
+use keeper::terms::{Bit, Edge, Entry, EventEdge, Past, Terms, Variables};
 use std::collections::BTreeSet;
 
 /// Members that variables stand for.
@@ -38,7 +38,10 @@ impl Matrices {
         let matrix = |entry: &Entry| {
             let table = if entry.is_past() { tables.next() } else { None };
             let mut matrix = vec![0; members * members];
-            table.into_iter().flatten().for_each(|(a, b)| matrix[a * members + b] = 1);
+            for bit in table.into_iter().flatten() {
+                let Bit::Pair(a, b) = bit else { panic!("a table of two variables") };
+                matrix[a * members + b] = 1;
+            }
             matrix
         };
         let mut all = Matrices {

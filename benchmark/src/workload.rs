@@ -32,6 +32,7 @@ const LARGEST: Size = Size {
     events: 8,
     entries: 256,
     past: 32,
+    paired: 0,
     first_edges: 128,
     calls: 6,
     fill: true,

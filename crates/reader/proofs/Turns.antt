@@ -236,6 +236,7 @@ module _ {text terms state masks t : List ℕ} {c : Context} {n e : ℕ} {l : Li
         same = sym (read-line ∙ tried-passed passes n later);
       }
 
+      -- and its set is at hand for the next one
       pub turn-last : LastSet (storedTerms c l terms) (storedSets l m masks) (stepped c l .phase) (stepped c l .relation) m
       turn-last =
           subst (λ (d : Context). LastSet (storedTerms d l terms) (storedSets l m masks) (stepped d l .phase) (stepped d l .relation) m)

@@ -17,9 +17,10 @@ use memory::plan::columns_fit;
 use memory::plan::is_past;
 use sets::rest_of;
 ghost use mathlib.Core.Path.{_≡_};
-ghost use Prim.Native.Nat.{_+_, _*_, _/_, _%_};
+ghost use Prim.Native.Nat.{_+_, _*_};
 ghost use lib.Dec.{ltb};
 ghost use Rattle.theory.specs.Formula.{isPast};
+ghost use Rattle.theory.specs.Columns.{pairFirst};
 ghost use Rattle.memory.specs.Operands.{kindOf};
 ghost use Rattle.theory.specs.Fit.{_⇒_};
 ghost use Rattle.file.specs.File.{eventNamed};
@@ -198,7 +199,7 @@ fn bit_number(c: Context, t: usize, a: usize, b: usize, m: u64, reaches: bool) -
 
 // The member of the first column, by word and bit of a table with two columns.
 fn column_of(word: usize, bit: usize) -> usize
-    ensures { λ r. ⌜ r ≡ 4 * (word % 4) + bit / 16 ⌝ }
+    ensures { λ r. ⌜ r ≡ pairFirst word bit ⌝ }
 {
     4 * (word % 4) + bit / 16
 }
