@@ -292,7 +292,7 @@ mod tests {
                         permits,
                         "seed {seed}"
                     );
-                    record.call(false, call.event, call.from, call.to, 2_048);
+                    record.call(false, call.event, call.from, call.to, 64);
                     matrices.request(call.event, call.from, call.to);
                 }
             }

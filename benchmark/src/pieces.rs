@@ -50,7 +50,7 @@ pub fn print() {
         ("request of a load, denied", request(LOAD, 8, 0)),
         ("request of a share, granted", request(SHARE, 1, 7)),
         ("request of a load, granted", request(LOAD, 7, 0)),
-        ("clearing 2,048 words alone", batch(move || black_box(&mut scratch).fill(0))),
+        ("clearing 64 words alone", batch(move || black_box(&mut scratch).fill(0))),
     ];
     let (names, batches): (Vec<_>, Vec<_>) = names_and_batches.into_iter().unzip();
     let times = in_turn(Duration::from_millis(1_500), 20, batches);

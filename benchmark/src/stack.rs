@@ -2,7 +2,7 @@
 //! the paint that is left is counted.
 
 use crate::archives::{is_done, is_granted, Archive};
-use crate::workload::deep;
+use crate::workload::{binding, deep, plain};
 use cuckooormolu::raw::Record;
 use cuckooormolu::{SCRATCH_WORDS, STATE_WORDS, TERMS_WORDS};
 use std::ffi::{c_int, c_void};
@@ -70,56 +70,73 @@ pub fn without_past(text: &[u8]) -> Vec<u8> {
     kept.collect::<String>().into_bytes()
 }
 
-/// Prints the stack of each call of an archive under the deepest terms of each kind.
-pub fn print(archive: &Archive) {
+/// The columns of a table, a call each.
+const CALLS: [&str; 6] = ["request", "set list", "revise", "read", "write", "store"];
+
+/// The bytes of stack that each call takes under these terms; none where the archive doesn't know an operator.
+fn calls(archive: &Archive, text: &[u8]) -> Option<[usize; 6]> {
     let bare = touched(Box::new(|| ()));
-    println!("stack under 256 entries nested 255 deep, in KiB:");
-    println!(
-        "{:<14} {:>8} {:>8} {:>8} {:>8} {:>8} {:>8}",
-        "", "request", "set list", "revise", "read", "write", "store"
-    );
+    let (mut terms, mut state) = (vec![0; TERMS_WORDS], vec![0; STATE_WORDS]);
+    let mut scratch = vec![0; SCRATCH_WORDS];
+    // The tables of a few entries over 64 members are the most that is stored.
+    let mut output = vec![0; text.len() + (1 << 20)];
+    let mut code = 0;
+    let read = touched(Box::new(|| code = archive.read(text, &mut terms, &mut state)));
+    if !is_done(code) {
+        return None;
+    }
+    let write = touched(Box::new(|| {
+        assert!(is_done(archive.write(&terms, &state, &mut output)));
+    }));
+    let store = touched(Box::new(|| {
+        assert!(archive.store(&terms, &state, &mut output).is_none_or(is_done));
+    }));
+    let request = touched(Box::new(|| {
+        assert!(is_granted(archive.request(&terms, &mut state, &mut scratch, [0, 1, 2])));
+        archive.request(&terms, &mut state, &mut scratch, [1, 1, 2]);
+    }));
+    let mut records = [0, 1].map(|event| Record { event, from: 1, to: 2, answer: 0 });
+    let list = touched(Box::new(|| {
+        let code = archive.set_list(&terms, &mut state, &mut scratch, &mut records);
+        assert!(code.is_none_or(is_done));
+    }));
+    // From terms of the same size in which nothing speaks of the past, so that every since starts.
+    let (mut plain, mut before) = (vec![0; TERMS_WORDS], vec![0; STATE_WORDS]);
+    assert!(is_done(archive.read(&without_past(text), &mut plain, &mut before)));
+    let mut second = vec![0; STATE_WORDS];
+    let revise = touched(Box::new(|| {
+        let code = archive.revise((&plain, &before), (&terms, &mut second));
+        assert!(code.is_none_or(is_done));
+    }));
+    Some([request, list, revise, read, write, store].map(|bytes| bytes.saturating_sub(bare)))
+}
+
+/// Prints a table with a row for each of these terms, and gives the most bytes of any call.
+fn table(archive: &Archive, rows: Vec<(String, Vec<u8>)>) -> usize {
+    println!("{:<22}{}", "", CALLS.map(|call| format!(" {call:>8}")).concat());
     let mut most = 0;
-    for (name, text) in deep() {
-        let (mut terms, mut state) = (vec![0; TERMS_WORDS], vec![0; STATE_WORDS]);
-        let mut scratch = vec![0; SCRATCH_WORDS];
-        // The tables of a few entries over 64 members are the most that is stored.
-        let mut output = vec![0; text.len() + (1 << 20)];
-        let mut code = 0;
-        let read = touched(Box::new(|| code = archive.read(&text, &mut terms, &mut state)));
-        if !is_done(code) {
-            // An archive that doesn't know the operator.
-            println!("{name:<14} {:>8}", "-");
+    for (name, text) in rows {
+        let Some(bytes) = calls(archive, &text) else {
+            println!("{name:<22} {:>8}", "-");
             continue;
-        }
-        let write = touched(Box::new(|| {
-            assert!(is_done(archive.write(&terms, &state, &mut output)));
-        }));
-        let store = touched(Box::new(|| {
-            assert!(archive.store(&terms, &state, &mut output).is_none_or(is_done));
-        }));
-        let request = touched(Box::new(|| {
-            assert!(is_granted(archive.request(&terms, &mut state, &mut scratch, [0, 1, 2])));
-            archive.request(&terms, &mut state, &mut scratch, [1, 1, 2]);
-        }));
-        let mut records = [0, 1].map(|event| Record { event, from: 1, to: 2, answer: 0 });
-        let list = touched(Box::new(|| {
-            let code = archive.set_list(&terms, &mut state, &mut scratch, &mut records);
-            assert!(code.is_none_or(is_done));
-        }));
-        // From terms of the same size in which nothing speaks of the past, so that every since starts.
-        let (mut plain, mut before) = (vec![0; TERMS_WORDS], vec![0; STATE_WORDS]);
-        assert!(is_done(archive.read(&without_past(&text), &mut plain, &mut before)));
-        let mut second = vec![0; STATE_WORDS];
-        let revise = touched(Box::new(|| {
-            let code = archive.revise((&plain, &before), (&terms, &mut second));
-            assert!(code.is_none_or(is_done));
-        }));
-        let bytes = [request, list, revise, read, write, store];
-        let bytes = bytes.map(|bytes| bytes.saturating_sub(bare));
+        };
         let columns = bytes.map(|bytes| format!(" {:>8.1}", bytes as f64 / 1024.0));
-        println!("{name:<14}{}", columns.concat());
+        println!("{name:<22}{}", columns.concat());
         most = bytes.into_iter().fold(most, usize::max);
     }
+    most
+}
+
+/// Prints the stack of each call of an archive: under the deepest terms of each kind, and by the depth of the terms,
+/// where deciding takes no memo and where it takes one.
+pub fn print(archive: &Archive) {
+    println!("stack under 256 entries nested 255 deep, in KiB:");
+    let most = table(archive, deep().into_iter().map(|(name, text)| (name.into(), text)).collect());
     let verdict = if most <= MOST { "met   " } else { "MISSED" };
     println!("{verdict} at most {:.1} of {} KiB", most as f64 / 1024.0, MOST >> 10);
+    println!("\nstack by the depth of the terms, in KiB:");
+    let depths = [8, 16, 32, 64, 128, 255];
+    let brief = depths.map(|depth| (format!("{depth} deep, no memo"), plain(depth)));
+    let long = depths.map(|depth| (format!("{depth} deep, memo"), binding(depth)));
+    table(archive, brief.into_iter().chain(long).collect());
 }

@@ -256,6 +256,20 @@ pub fn deep() -> Vec<(&'static str, Vec<u8>)> {
     ]
 }
 
+/// Terms nested so deep that are decided without a memo.
+pub fn plain(depth: usize) -> Vec<u8> {
+    chain(depth, |n| once("not", n))
+}
+
+/// The same with binds in each other, each for many members, so that a memo pays.
+pub fn binding(depth: usize) -> Vec<u8> {
+    chain(depth, |n| match depth - n {
+        1 | 3 => under("out", 0, n),
+        2 | 4 => under("bind", 1, n),
+        _ => once("not", n),
+    })
+}
+
 fn owner(members: usize, owned: usize) -> usize {
     match members {
         3 => 0,

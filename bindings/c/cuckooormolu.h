@@ -3,8 +3,8 @@
  *
  * Machine   the archive is machine code for x86-64 Linux. cuckooormolu.c, which
  *           `./amalgamate` writes with a header of its own, is for any machine.
- * RAM       terms 2,504 bytes, state 24,584 bytes, scratch 16,384 bytes; two
- *           banks 76,248 bytes in all. The library allocates nothing and has
+ * RAM       terms 2,504 bytes, state 24,584 bytes, scratch 512 bytes; two
+ *           banks 44,504 bytes in all. The library allocates nothing and has
  *           no state of its own.
  * Stack     measured, not proved: reading takes 191 KiB, writing a terms text
  *           or asking for its size 193 KiB, an opening, revision, look, request
@@ -71,9 +71,9 @@ extern "C" {
 #endif
 
 #define CUCKOOORMOLU_VERSION_MAJOR 0
-#define CUCKOOORMOLU_VERSION_MINOR 12
+#define CUCKOOORMOLU_VERSION_MINOR 13
 #define CUCKOOORMOLU_VERSION_PATCH 0
-#define CUCKOOORMOLU_VERSION "0.12.0"
+#define CUCKOOORMOLU_VERSION "0.13.0"
 
 /* The named words of each memory. A bank's state is the relations, which two
  * banks share, and then its own words. */
@@ -81,7 +81,7 @@ extern "C" {
 #define CUCKOOORMOLU_STATE_WORDS 3073
 #define CUCKOOORMOLU_RELATION_WORDS 1024
 #define CUCKOOORMOLU_OWN_WORDS 2049
-#define CUCKOOORMOLU_SCRATCH_WORDS 2048
+#define CUCKOOORMOLU_SCRATCH_WORDS 64
 
 /* No text of the old form that is written is longer than this many bytes, and
  * none of the stored form. */
@@ -224,10 +224,10 @@ CUCKOOORMOLU_ASSERT(sizeof(size_t) >= 4, "lengths have 32 bits or more");
 #else
 CUCKOOORMOLU_ASSERT(sizeof(size_t) == 8, "lengths and codes have 64 bits");
 #endif
-CUCKOOORMOLU_ASSERT(sizeof(struct cuckooormolu) == 2504 + 24584 + 16384,
+CUCKOOORMOLU_ASSERT(sizeof(struct cuckooormolu) == 2504 + 24584 + 512,
                     "no padding between the memories");
 CUCKOOORMOLU_ASSERT(sizeof(struct cuckooormolu_banks) ==
-                        2504 + 8192 + 2 * 16392 + 2 * 16384,
+                        2504 + 8192 + 2 * 16392 + 2 * 512,
                     "nor between those of banks");
 CUCKOOORMOLU_ASSERT(CUCKOOORMOLU_RELATION_WORDS + CUCKOOORMOLU_OWN_WORDS ==
                         CUCKOOORMOLU_STATE_WORDS,
@@ -362,7 +362,7 @@ cuckooormolu_answer_words(struct cuckooormolu_answer answer)
  * may be null, not even where its length is 0, and memory that a call may write,
  * the number behind the last pointer too, must not overlap any other.
  */
-size_t cuckooormolu_raw_version_0_12_0(void);
+size_t cuckooormolu_raw_version_0_13_0(void);
 size_t cuckooormolu_raw_read(const uint8_t *text, size_t text_length,
                              uint16_t *terms, size_t terms_length,
                              uint64_t *state, size_t state_length,
@@ -451,10 +451,10 @@ size_t cuckooormolu_raw_banks_set_list(
 
 /* Header and archive belong together: the version stands in a function's name,
  * so that an archive of another version does not link. The function gives it as
- * one number, 12000 for 0.12.0. */
+ * one number, 13000 for 0.13.0. */
 #ifdef __GNUC__
 __attribute__((used)) CUCKOOORMOLU_RETAINED static size_t (
-    *const cuckooormolu_archive)(void) = cuckooormolu_raw_version_0_12_0;
+    *const cuckooormolu_archive)(void) = cuckooormolu_raw_version_0_13_0;
 #endif
 
 /*

@@ -46,7 +46,7 @@ static void version(void)
     snprintf(words, sizeof words, "%d.%d.%d", CUCKOOORMOLU_VERSION_MAJOR,
              CUCKOOORMOLU_VERSION_MINOR, CUCKOOORMOLU_VERSION_PATCH);
     EXPECT(strcmp(words, CUCKOOORMOLU_VERSION) == 0);
-    EXPECT(cuckooormolu_raw_version_0_12_0() ==
+    EXPECT(cuckooormolu_raw_version_0_13_0() ==
            1000000 * CUCKOOORMOLU_VERSION_MAJOR +
                1000 * CUCKOOORMOLU_VERSION_MINOR + CUCKOOORMOLU_VERSION_PATCH);
 }

@@ -178,7 +178,7 @@ pub fn calls(rng: &mut Rng, terms: &Terms, count: usize, largest: usize) -> Vec<
             call.to = outside(rng, terms.members, largest);
         }
         if rng.percent(8) {
-            call.scratch_words = rng.pick(&[0, 1, 1_024, 2_047, 2_047, 2_048, 2_049, 2_100]);
+            call.scratch_words = rng.pick(&[0, 1, 32, 63, 63, 64, 65, 2_048]);
         }
         calls.push(call);
     }

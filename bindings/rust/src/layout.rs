@@ -11,6 +11,6 @@ pub const RELATION_WORDS: usize = 1_024;
 /// each of two banks has its own.
 pub const OWN_WORDS: usize = 2_049;
 /// Words of 64 bits that a call is lent besides.
-pub const SCRATCH_WORDS: usize = 2_048;
+pub const SCRATCH_WORDS: usize = 64;
 
 const _: () = assert!(RELATION_WORDS + OWN_WORDS == STATE_WORDS);

@@ -1,8 +1,8 @@
 //! The sharing-terms reference monitor.
 //!
 //! * **x86-64 Linux only.** The static library is machine code for it.
-//! * **Memory**: terms have 2,504 bytes, a state 24,584, scratch 16,384; two banks
-//!   need 76,248 in all. This crate puts them on the heap; the library allocates
+//! * **Memory**: terms have 2,504 bytes, a state 24,584, scratch 512; two banks
+//!   need 44,504 in all. This crate puts them on the heap; the library allocates
 //!   nothing.
 //! * **Stack**: measured, not proved. Reading takes 191 KiB, writing 193 KiB, an
 //!   opening, revision, look, request or set list 172 KiB, of two banks too, and

@@ -107,7 +107,7 @@ fn decided(code: usize) -> Result<Answer, Refusal> {
     }
 }
 
-/// The version of the archive as one number, 12,000 for 0.12.0. It is the crate's:
+/// The version of the archive as one number, 13,000 for 0.13.0. It is the crate's:
 /// an archive of another version does not link.
 pub fn version() -> usize {
     // Safety: the function takes nothing and gives a number.

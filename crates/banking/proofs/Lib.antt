@@ -15,3 +15,4 @@ pub mod Refused
 pub mod RefusedBoth
 pub mod BankCases
 pub mod LentCase
+pub mod BankScratch

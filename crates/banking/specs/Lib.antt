@@ -3,4 +3,5 @@ pub mod Beside
 pub mod Banking
 pub mod BankList
 pub mod BankRuns
+pub mod BankScratch
 pub mod BankRefused

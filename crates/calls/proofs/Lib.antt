@@ -10,3 +10,4 @@ pub mod Reached
 pub mod ListChecks
 pub mod Singly
 pub mod AsSingle
+pub mod Scratch

@@ -1,11 +1,12 @@
 -- What demand 3 asks (docs/SCOPE.md, The keeper): a list of calls, set lists and new terms over lent memory, and the words afterwards.
-use Prim.Native.Nat.{ℕ, _<_}
+use Prim.Native.Nat.{ℕ, _<_, _≤_}
 use mathlib.Core.Path.{_≡_}
 use mathlib.Core.Bool.{Bool, false, cond, _&&_}
 use mathlib.Core.List.{List, [], _∷_, _++_, map}
 use lib.Dec.{eqb, ltb}
 use lib.ListN.{length, getD, drop}
 use Rattle.sets.specs.Sets.{bit}
+use Rattle.theory.specs.Limits.{scratchWords}
 use Rattle.theory.specs.Meaning.{Starts}
 use Rattle.theory.specs.Columns.{inside, standing, member}
 use Rattle.theory.specs.Terms.{Terms, formula, tables, pastEntry}
@@ -73,6 +74,15 @@ fedSteps [] = []
 fedSteps (once c ∷ ss) = call (fed c) ∷ fedSteps ss
 fedSteps (setList scratch rs ∷ ss) = map (λ r. call (fedRecord (length scratch) r)) rs ++ fedSteps ss
 fedSteps (revise new second ∷ ss) = reviseStep (offered new second) ∷ fedSteps ss
+
+-- The same steps: they differ only in the scratch that is lent with a call or a set list, and each has words enough.
+pub data SameSteps : List LentStep → List LentStep → Type 0 where
+  none : SameSteps [] []
+  calls : (look : Bool) (j u v : ℕ) (small large : List ℕ) → scratchWords ≤ length small → scratchWords ≤ length large → (ss ts : List LentStep) → SameSteps ss ts →
+      SameSteps (once (record { look = look; event = j; from = u; to = v; scratch = small }) ∷ ss) (once (record { look = look; event = j; from = u; to = v; scratch = large }) ∷ ts)
+  setLists : (rs : List Record) (small large : List ℕ) → scratchWords ≤ length small → scratchWords ≤ length large → (ss ts : List LentStep) → SameSteps ss ts →
+      SameSteps (setList small rs ∷ ss) (setList large rs ∷ ts)
+  newTerms : (new second : List ℕ) (ss ts : List LentStep) → SameSteps ss ts → SameSteps (revise new second ∷ ss) (revise new second ∷ ts)
 
 -- No step is new terms.
 abbrev pub KeepsTerms : List LentStep → Type 0

@@ -244,6 +244,7 @@ pub(crate) fn next_moments(
         from,
         to,
     );
+    clear(&mut scratch[0..layout::SCRATCH]);
     clear(&mut spare[0..layout::SCRATCH]);
 }
 

@@ -13,7 +13,7 @@ use Rattle.theory.specs.Columns.{columnsFit, standing, member, inside}
 use Rattle.theory.specs.Terms.{Terms, Effect, labels, formula}
 use Rattle.theory.specs.Moment.{Relations, Moment, graph, affectAll, denied, first}
 use Rattle.theory.specs.Moment.Event.{happened}
-use Rattle.theory.specs.Limits.{leastTerms, leastState}
+use Rattle.theory.specs.Limits.{scratchWords, leastTerms, leastState}
 use Rattle.theory.specs.Keeper.{Call, Answer, Book, Step, recordOf, last, lastMoment, target, keeperHolds, judge, keep, keepAll, keeper, revisedStart, revisedBook, keepStep}
 use Rattle.theory.specs.Keeper.Step.{call, revise}
 use Rattle.theory.specs.Keeper.Verdict.{grant, deny}
@@ -164,7 +164,7 @@ module _ (T U : Terms) (a : Alike T U) where
 
       -- a call, where it is told whether its event is out of range, and what becomes of it if it is in range
       called : Bool → Answer × List Moment → Answer × List Moment
-      called b k = cond (ltb (c .scratch) 2048) (refused 6 0, []) (cond (b || leb (T .members) (c .from) || leb (T .members) (c .to)) (refused 9 0, []) k)
+      called b k = cond (ltb (c .scratch) scratchWords) (refused 6 0, []) (cond (b || leb (T .members) (c .from) || leb (T .members) (c .to)) (refused 9 0, []) k)
 
       go : (b : Bool) → leb (T .events) (c .event) ≡ b →
           called b (kept (formula T (T .policy (c .event))) (T .effects (c .event)) (T .kept (c .event)))

@@ -34,7 +34,7 @@ abbrev pub maxCount : ℕ
 maxCount = 64
 
 abbrev pub scratchWords : ℕ
-scratchWords = 2048
+scratchWords = 64
 
 -- words of terms, and of a state
 abbrev pub leastTerms : ℕ

@@ -4,7 +4,7 @@ use super::*;
 
 pub const TERMS_WORDS: usize = 1_252;
 pub const STATE_WORDS: usize = 3_073;
-pub const SCRATCH_WORDS: usize = 2_048;
+pub const SCRATCH_WORDS: usize = 64;
 
 pub const FIRST_ENTRY: usize = 4;
 pub const FIRST_POLICY: usize = entry_place(MOST_ENTRIES);

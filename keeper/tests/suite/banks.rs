@@ -104,9 +104,9 @@ fn looks_denials_and_refusals_make_no_moment() {
         assert_eq!(ask(&mut banks, bank, 0, 3), refused(9));
         // Either bank's scratch counts, and before the numbers.
         let far = Call::request(9, 9, 9);
-        let short = Call { scratch_words: 2_047, ..far };
-        assert_eq!(banks.call(bank, &far, 2_047), refused(6));
-        assert_eq!(banks.call(bank, &short, 2_048), refused(6));
+        let short = Call { scratch_words: 63, ..far };
+        assert_eq!(banks.call(bank, &far, 63), refused(6));
+        assert_eq!(banks.call(bank, &short, 64), refused(6));
     }
     for event in [0, 6] {
         looks(&mut banks, event, 0);
@@ -141,12 +141,12 @@ fn a_set_list_is_single_requests_of_one_bank() {
     let mut items = requests.map(|(event, from)| Item { event, from, to: 1, answer: 77 }).to_vec();
     let (mut listed, mut single) = (banks(), banks());
     let lent = items.clone();
-    assert_eq!(listed.set_list(1, &mut items, [2_048, 2_047]), Err(Refusal::plain(6)));
-    assert_eq!(listed.set_list(1, &mut items, [2_047, 2_048]), Err(Refusal::plain(6)));
-    assert_eq!(listed.set_list(1, &mut [], [2_047, 2_048]), Err(Refusal::plain(6)));
+    assert_eq!(listed.set_list(1, &mut items, [64, 63]), Err(Refusal::plain(6)));
+    assert_eq!(listed.set_list(1, &mut items, [63, 64]), Err(Refusal::plain(6)));
+    assert_eq!(listed.set_list(1, &mut [], [63, 64]), Err(Refusal::plain(6)));
     assert_eq!((&items, listed.moments()), (&lent, 1));
-    assert_eq!(listed.set_list(1, &mut [], [2_048; 2]), Ok(0));
-    assert_eq!(listed.set_list(1, &mut items, [2_048; 2]), Ok(3));
+    assert_eq!(listed.set_list(1, &mut [], [64; 2]), Ok(0));
+    assert_eq!(listed.set_list(1, &mut items, [64; 2]), Ok(3));
     let answers: Vec<u32> = items.iter().map(|item| item.answer).collect();
     assert_eq!(answers, [1, 1, 0, 9, 0, 1, 0]);
     for (event, from) in requests {

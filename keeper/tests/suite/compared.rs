@@ -141,7 +141,7 @@ fn damaged_memory_is_compared() {
         assert_eq!(compare::write(other, &terms, &state), Ok(()), "seed {seed}");
         let items = [(0, 0, 0), (9, 0, 0), (0, u32::MAX, 0)];
         let items = items.map(|(event, from, to)| Item { event, from, to, answer: 7 });
-        for (length, scratch) in [(3, 2_048), (3, 2_047), (0, 2_050), (0, 9)] {
+        for (length, scratch) in [(3, 64), (3, 63), (0, 66), (0, 9)] {
             let other = &mut Mirror::new(Fault::None);
             let result = compare::set_list(other, &items[..length], scratch, &terms, &state);
             assert_eq!(result, Ok(()), "seed {seed}");
@@ -157,7 +157,7 @@ fn set_lists_over_damaged_memory_are_compared() {
             let item = Item { event: 0, from: 0, to: 0, answer: 7 };
             let other = &mut Mirror::new(fault);
             let length = (*seed % 2) as usize;
-            compare::set_list(other, &[item][..length], 2_048, &terms, &state).is_err()
+            compare::set_list(other, &[item][..length], 64, &terms, &state).is_err()
         };
         (0..150).filter(differs).count()
     };

@@ -74,7 +74,7 @@ fn what_makes_no_moment() {
     let mut record = with("K 0");
     assert_eq!(look(&mut record, 0, 1, 2), Deny);
     assert_eq!(request(&mut record, 2, 1, 2), keeper::record::Answer::Refused(Refusal::plain(9)));
-    let short = Call { scratch_words: 2_047, ..Call::request(0, 1, 2) };
+    let short = Call { scratch_words: 63, ..Call::request(0, 1, 2) };
     assert_eq!(record.answer(&short), keeper::record::Answer::Refused(Refusal::plain(6)));
     assert_eq!(record.graphs().len(), 1);
     let mut unkept = with("K 1");

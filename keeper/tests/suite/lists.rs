@@ -32,7 +32,7 @@ fn results_of_cases() {
     assert_eq!(result("reads_parts\tlabel\tP 01 00/").unwrap(), "1\t5");
     assert_eq!(result("asks\tlabel\t0\t0\t1").unwrap(), "grant");
     assert_eq!(result("looks\tlabel\t1\t0\t1").unwrap(), "refuse\t9");
-    assert_eq!(result("asks_with\tlabel\t1252\t3073\t2047\t1\t0\t1").unwrap(), "refuse\t6");
+    assert_eq!(result("asks_with\tlabel\t1252\t3073\t63\t1\t0\t1").unwrap(), "refuse\t6");
     assert_eq!(result("asks_damaged_terms\tlabel\t0\t0").unwrap(), "refuse\t7");
     assert_eq!(result("asks_damaged_state\tlabel\t0\t1").unwrap(), "refuse\t8");
     // Words that were changed within the layout stand for a record.

@@ -122,7 +122,7 @@ fn refusals_over_lent_memory_come_in_order() {
     bad_state[3_072] = 1 + 3 * 4_096;
     let good = Call::request(0, 0, 0);
     let far = Call::request(3, 0, 0);
-    let short = Call { scratch_words: 2_047, ..far };
+    let short = Call { scratch_words: 63, ..far };
     let number = |terms: &[u16], state: &[u64], call: &Call| {
         expect::calling(terms, state, call).map_or_else(|refusal| refusal.number, |_| 0)
     };

@@ -186,7 +186,7 @@ impl Other for Mirror {
             }
             let kept = self.fault == Fault::DenialKeepsScratch && denied;
             if self.fault != Fault::KeepsScratch && !kept {
-                scratch[..2_048].fill(0);
+                scratch[..64].fill(0);
             }
             if let (Fault::TouchesBeyond, Some(word)) = (self.fault, state.get_mut(3_073)) {
                 *word = 0;

@@ -19,7 +19,7 @@ fn the_preset_in_one_go() {
     let mut record = preset();
     let mut items =
         [item(2, 1, 2), item(0, 0, 1), item(2, 1, 2), item(1, 0, 1), item(2, 1, 2), item(9, 0, 0)];
-    assert_eq!(answer(&mut record, &mut items, 2_048), Ok(3));
+    assert_eq!(answer(&mut record, &mut items, 64), Ok(3));
     assert_eq!(answers(&items), [0, 1, 1, 1, 0, 9]);
     assert_eq!(record.graphs().len(), 4);
 }
@@ -37,10 +37,10 @@ fn a_refused_record_does_not_stop_the_list() {
 fn short_scratch_writes_nothing() {
     let mut record = preset();
     let mut items = [item(0, 0, 1), item(9, 0, 0)];
-    assert_eq!(answer(&mut record, &mut items, 2_047), Err(Refusal::plain(6)));
+    assert_eq!(answer(&mut record, &mut items, 63), Err(Refusal::plain(6)));
     assert_eq!(answers(&items), [77, 77]);
     assert_eq!(answer(&mut record, &mut [], 0), Err(Refusal::plain(6)));
-    assert_eq!(answer(&mut record, &mut [], 2_048), Ok(0));
+    assert_eq!(answer(&mut record, &mut [], 64), Ok(0));
     assert_eq!(record.graphs().len(), 1);
 }
 
@@ -53,7 +53,7 @@ fn lists_are_single_requests_one_after_another() {
         let mut rng = Rng::new(seed);
         let mut items: Vec<Item> =
             case.calls().map(|call| generate::item(&mut rng, call)).collect();
-        let granted = answer(&mut listed, &mut items, 2_048);
+        let granted = answer(&mut listed, &mut items, 64);
         let mut grants = 0;
         for (call, item) in case.calls().zip(&items) {
             let Call { event, from, to, .. } = *call;

@@ -123,7 +123,7 @@ fn an_event_alone_is_not_seen() {
     let places = calls.map(|call| [call, Call::look(4, 0, 1)]);
     let answers = places.map(|calls| {
         let mut banks = Banks::new(accepted(&slashes(&format!("{TEXT}/G 0 0 1"))));
-        calls.map(|call| banks.call(1, &call, 2_048))[1]
+        calls.map(|call| banks.call(1, &call, 64))[1]
     });
     assert_eq!(answers, [Answer::Grant, Answer::Deny]);
 }

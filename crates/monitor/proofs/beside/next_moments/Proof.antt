@@ -3,11 +3,13 @@ use native.Mathlib.Omega.{arith}
 use mathlib.Core.Path.{_≡_, _∙_}
 use lib.ListN.{length, drop}
 use lib.Seq.{length-take-le, drop-at}
+use borrow.Rule.Slice.PartMut.{same-len-mid}
 use Rattle.theory.specs.Limits.{scratchWords}
 use Rattle.memory.specs.Layout.{relationWords, ownWords, joined}
 use Rattle.memory.proofs.Accepted.{good}
 use Rattle.deciding.proofs.Moves.{movable}
 use Rattle.deciding.proofs.Parts as parts
+use Rattle.deciding.proofs.Stored.{cleared-front}
 use Rattle.monitor.proofs.beside.next_moments.Statement.{statement}
 use Rattle.monitor.proofs.beside.next_moments.Tie as tie
 
@@ -44,13 +46,27 @@ move-on-requires c κs =
       ),
     )
 
+-- the scratch is used, and lent again to be cleared
+abbrev moved : tie.After-clear → tie.After-move-on
+moved c = c .before .before .before .before .before .before .before .before .before .before
+
+abbrev start : tie.After-move-on → tie.Start
+start c = c .before .before .before .before .before .before .before .before .before .before .before .before
+
 part-clear-end : tie.Need-part-clear-end
-part-clear-end c = omega (arith, c .before .before .before .before .before .before .before .before .before .before .before .before .before .before .before .before .before .before .before .before .pre .1 .1 .1 .1)
+part-clear-end c =
+    let m = c .before .before .before .before .before .before .before .before in
+    let i = m .before .before .before .before .before .before .before .before .before .before .before .before in
+    omega (arith, same-len-mid 0 scratchWords (i .args .scratch .now) (m .move-on .last .1 .1 .1 .1 .1 .0) (m .move-on .kept .1 .1 .1 .1 .1 .0), i .pre .1 .1 .1 .0)
+
+part-clear-end-2 : tie.Need-part-clear-end-2
+part-clear-end-2 c = omega (arith, c .before .before .before .before .before .before .before .before .before .before .before .before .before .before .before .before .before .before .before .before .before .before .before .before .pre .1 .1 .1 .1)
 
 returns : tie.Need-returns
 returns c =
-    let m = c .before .before .before .before .before .before .before .before .before .before .before .before in
-    let i = m .before .before .before .before .before .before .before .before .before .before .before .before in
+    let z = c .before .before .before .before .before .before in
+    let m = moved z in
+    let i = start m in
     let x = i .args in
     let l = i .pre .1 .0 in
     let r = m .move-on .last .1 .1 .0 in
@@ -66,8 +82,9 @@ returns c =
         further-other = drop-at q (drop ownWords (x .other .now)) ownWords (other-long m);
       },
       (
-        parts.cleared-all (x .scratch .now) (m .move-on .last .1 .1 .1 .1 .1 .0) (i .pre .1 .1 .1 .0) (m .move-on .ensures .1 .1 (omega (arith, length-take-le scratchWords (x .scratch .now) (i .pre .1 .1 .1 .0)))),
-        parts.cleared-all (x .spare .now) (c .before .before .clear .last .0) (i .pre .1 .1 .1 .1) (c .before .before .clear .ensures),
+        cleared-front (x .scratch .now) (m .move-on .last .1 .1 .1 .1 .1 .0) (z .clear .last .0) (i .pre .1 .1 .1 .0)
+            (m .move-on .kept .1 .1 .1 .1 .1 .0 ∙ length-take-le scratchWords (x .scratch .now) (i .pre .1 .1 .1 .0)) (z .clear .ensures),
+        parts.cleared-all (x .spare .now) (c .before .before .clear2 .last .0) (i .pre .1 .1 .1 .1) (c .before .before .clear2 .ensures),
       ),
     )
 
@@ -91,6 +108,10 @@ next-moments-spec =
     (λ c. search needs)
     (λ c. search needs)
     part-clear-end
+    (λ c κs. search needs)
+    (λ c. search needs)
+    (λ c. search needs)
+    part-clear-end-2
     (λ c κs. search needs)
     (λ c. search needs)
     (λ c. search needs)
