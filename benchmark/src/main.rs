@@ -13,13 +13,14 @@
 //! * `revisions`: new terms beside an opening
 //! * `banks`: two banks beside a monitor
 //! * `pairs`: tables of two variables beside tables of one
+//! * `plans`: plans against a rival, in requests
 //! * `stack`, `bank_stack`: the stack that one call takes
 //! * `archives`, `compare`: archives beside each other
 //!
-//! `benchmark pieces`, `lists`, `texts`, `counts`, `revisions`, `banks`, `pairs`
-//! and `stack` measure that only, `benchmark compare ARCHIVE...` times the calls of those
-//! archives and of the one that is built in turn, `benchmark loop` makes many
-//! requests for a profiler.
+//! `benchmark pieces`, `lists`, `texts`, `counts`, `revisions`, `banks`, `pairs`,
+//! `plans` and `stack` measure that only, `benchmark compare ARCHIVE...` times the
+//! calls of those archives and of the one that is built in turn, `benchmark loop`
+//! makes many requests for a profiler.
 
 mod archives;
 mod bank_stack;
@@ -34,6 +35,7 @@ mod matrices;
 mod measure;
 mod pairs;
 mod pieces;
+mod plans;
 mod revisions;
 mod rows;
 mod stack;
@@ -58,6 +60,7 @@ fn main() {
             revisions::print();
             banks::print();
             pairs::print();
+            plans::print();
             print_stack();
         }
         Some("pieces") => pieces::print(),
@@ -67,13 +70,14 @@ fn main() {
         Some("revisions") => revisions::print(),
         Some("banks") => banks::print(),
         Some("pairs") => pairs::print(),
+        Some("plans") => plans::print(),
         Some("stack") => print_stack(),
         Some("compare") => compare::print(&words[1..]),
         Some("loop") => repeat(),
         Some(other) => {
             eprintln!(
                 "{other}: not known; pieces, lists, texts, counts, revisions, banks, pairs, \
-                 stack, compare, loop or nothing"
+                 plans, stack, compare, loop or nothing"
             )
         }
     }

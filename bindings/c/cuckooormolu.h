@@ -4,8 +4,8 @@
  * Machine   the archive is machine code for x86-64 Linux. cuckooormolu.c, which
  *           `./amalgamate` writes with a header of its own, is for any machine.
  * RAM       terms 2,504 bytes, state 24,584 bytes, scratch 512 bytes; two
- *           banks 44,504 bytes in all. The library allocates nothing and has
- *           no state of its own.
+ *           banks 44,504 bytes in all; a plan is lent 74,264 bytes. The library
+ *           allocates nothing and has no state of its own.
  * Stack     measured, not proved: reading takes 191 KiB, writing a terms text
  *           or asking for its size 193 KiB, an opening, revision, look, request
  *           or set list 172 KiB, of two banks too, and each 1.16 KiB more for
@@ -71,9 +71,9 @@ extern "C" {
 #endif
 
 #define CUCKOOORMOLU_VERSION_MAJOR 0
-#define CUCKOOORMOLU_VERSION_MINOR 13
+#define CUCKOOORMOLU_VERSION_MINOR 14
 #define CUCKOOORMOLU_VERSION_PATCH 0
-#define CUCKOOORMOLU_VERSION "0.13.0"
+#define CUCKOOORMOLU_VERSION "0.14.0"
 
 /* The named words of each memory. A bank's state is the relations, which two
  * banks share, and then its own words. */
@@ -82,6 +82,9 @@ extern "C" {
 #define CUCKOOORMOLU_RELATION_WORDS 1024
 #define CUCKOOORMOLU_OWN_WORDS 2049
 #define CUCKOOORMOLU_SCRATCH_WORDS 64
+
+/* The named words of the scratch that a plan is lent. */
+#define CUCKOOORMOLU_PLAN_WORDS 9283
 
 /* No text of the old form that is written is longer than this many bytes, and
  * none of the stored form. */
@@ -97,7 +100,8 @@ extern "C" {
  * records of a set list have no answers then. Where several fit, reading gives
  * 6, then the first faulty line and in it the lowest number, and 11 only where
  * no line is faulty; the other calls give 6 (terms, state, scratch), 7, 8, 9, 12
- * or 13, and last 6 for the output.
+ * or 13, and last 6 for the output; a plan and a telling give 14 after 8 and
+ * before 9.
  */
 typedef enum cuckooormolu_code {
     /* The form of a line, its place, or a text that ends too soon. */
@@ -130,12 +134,24 @@ typedef enum cuckooormolu_code {
     CUCKOOORMOLU_REFUSED_FRESH = 12,
     /* New terms with another number of members, relations or events. */
     CUCKOOORMOLU_REFUSED_SIZE = 13,
+    /* A plan where there are more than 8 members or 4 events, one that is not 1
+     * to 3 requests long, or whose planner is the rival; and an entry, a plan's
+     * goal too, that does not exist or has a free variable other than 0. */
+    CUCKOOORMOLU_REFUSED_PLAN = 14,
     /* A reading, writing, check, opening, revision or set list that is done. */
     CUCKOOORMOLU_DONE = 100,
     /* A look or request whose policy does not hold. */
     CUCKOOORMOLU_DENIED = 200,
     /* A look or request whose policy holds. */
-    CUCKOOORMOLU_GRANTED = 300
+    CUCKOOORMOLU_GRANTED = 300,
+    /* A plan that the rival can keep from its goal. */
+    CUCKOOORMOLU_REJECTED = 400,
+    /* A plan that reaches its goal, whatever the rival does. */
+    CUCKOOORMOLU_ACCEPTED = 500,
+    /* An entry that does not hold. */
+    CUCKOOORMOLU_FAILS = 600,
+    /* An entry that holds. */
+    CUCKOOORMOLU_HOLDS = 700
 } cuckooormolu_code;
 
 /* What a call returns: its code in a struct, so that no call can be tested as
@@ -150,6 +166,28 @@ static inline struct cuckooormolu_result cuckooormolu_result_of(size_t code)
 {
     struct cuckooormolu_result result = {code};
     return result;
+}
+
+/* What is said of a plan, and of an entry that is asked about. They are structs
+ * of their own, since neither permits anything: only a request does. */
+struct cuckooormolu_ruling {
+    size_t cuckooormolu_private;
+};
+
+struct cuckooormolu_fact {
+    size_t cuckooormolu_private;
+};
+
+static inline struct cuckooormolu_ruling cuckooormolu_ruling_of(size_t code)
+{
+    struct cuckooormolu_ruling ruling = {code};
+    return ruling;
+}
+
+static inline struct cuckooormolu_fact cuckooormolu_fact_of(size_t code)
+{
+    struct cuckooormolu_fact fact = {code};
+    return fact;
 }
 
 /* All the memory of a monitor. Where it is zeroed, or was never read into,
@@ -169,6 +207,17 @@ struct cuckooormolu_banks {
     uint64_t right[CUCKOOORMOLU_OWN_WORDS];
     uint64_t left_scratch[CUCKOOORMOLU_SCRATCH_WORDS];
     uint64_t right_scratch[CUCKOOORMOLU_SCRATCH_WORDS];
+};
+
+/* The memory of the game that decides a plan. It need not be kept. */
+struct cuckooormolu_game {
+    uint64_t words[CUCKOOORMOLU_PLAN_WORDS];
+};
+
+/* A request of a plan; the planner is its initiator. */
+struct cuckooormolu_move {
+    uint64_t event;
+    uint64_t to;
 };
 
 /* The number that a set list writes as the answer of a record. It is no code of
@@ -232,14 +281,25 @@ CUCKOOORMOLU_ASSERT(sizeof(struct cuckooormolu_banks) ==
 CUCKOOORMOLU_ASSERT(CUCKOOORMOLU_RELATION_WORDS + CUCKOOORMOLU_OWN_WORDS ==
                         CUCKOOORMOLU_STATE_WORDS,
                     "relations and own words are a state");
+CUCKOOORMOLU_ASSERT(sizeof(struct cuckooormolu_game) == 74264,
+                    "a game has 9,283 words");
+CUCKOOORMOLU_ASSERT(sizeof(struct cuckooormolu_move) == 16 &&
+                        offsetof(struct cuckooormolu_move, event) == 0,
+                    "a move is two numbers, its event first");
 CUCKOOORMOLU_ASSERT(CUCKOOORMOLU_REFUSED_FORM > 0, "no code is 0");
-CUCKOOORMOLU_ASSERT(CUCKOOORMOLU_REFUSED_SIZE < 100,
+CUCKOOORMOLU_ASSERT(CUCKOOORMOLU_REFUSED_PLAN < 100,
                     "refusals are below 100");
 CUCKOOORMOLU_ASSERT(CUCKOOORMOLU_DONE >= 100, "done is no refusal");
 CUCKOOORMOLU_ASSERT(CUCKOOORMOLU_DENIED > CUCKOOORMOLU_DONE,
                     "denied is neither a refusal nor done");
 CUCKOOORMOLU_ASSERT(CUCKOOORMOLU_GRANTED > CUCKOOORMOLU_DENIED,
                     "granted is no other code");
+CUCKOOORMOLU_ASSERT(CUCKOOORMOLU_REJECTED > CUCKOOORMOLU_GRANTED &&
+                        CUCKOOORMOLU_ACCEPTED > CUCKOOORMOLU_REJECTED,
+                    "the codes of a plan are no codes of a request");
+CUCKOOORMOLU_ASSERT(CUCKOOORMOLU_FAILS > CUCKOOORMOLU_ACCEPTED &&
+                        CUCKOOORMOLU_HOLDS > CUCKOOORMOLU_FAILS,
+                    "nor are those of an entry");
 
 CUCKOOORMOLU_USED static inline bool
 cuckooormolu_granted(struct cuckooormolu_result result)
@@ -268,6 +328,52 @@ cuckooormolu_refusal(struct cuckooormolu_result result)
 {
     size_t code = result.cuckooormolu_private;
     return code < CUCKOOORMOLU_DONE ? code : 0;
+}
+
+/* The plan reaches its goal, whatever the rival does. It is no grant: each of
+ * its requests is still to be made. */
+CUCKOOORMOLU_USED static inline bool
+cuckooormolu_accepted(struct cuckooormolu_ruling ruling)
+{
+    return ruling.cuckooormolu_private == CUCKOOORMOLU_ACCEPTED;
+}
+
+/* False where the plan was accepted, and where it was refused. */
+CUCKOOORMOLU_USED static inline bool
+cuckooormolu_rejected(struct cuckooormolu_ruling ruling)
+{
+    return ruling.cuckooormolu_private == CUCKOOORMOLU_REJECTED;
+}
+
+/* The number by which a plan was refused; 0 where it was not, which does not
+ * say that it was accepted. */
+CUCKOOORMOLU_USED static inline size_t
+cuckooormolu_ruling_refusal(struct cuckooormolu_ruling ruling)
+{
+    return cuckooormolu_refusal(
+        cuckooormolu_result_of(ruling.cuckooormolu_private));
+}
+
+CUCKOOORMOLU_USED static inline bool
+cuckooormolu_holds(struct cuckooormolu_fact fact)
+{
+    return fact.cuckooormolu_private == CUCKOOORMOLU_HOLDS;
+}
+
+/* False where the entry holds, and where it could not be asked. */
+CUCKOOORMOLU_USED static inline bool
+cuckooormolu_fails(struct cuckooormolu_fact fact)
+{
+    return fact.cuckooormolu_private == CUCKOOORMOLU_FAILS;
+}
+
+/* The number by which an entry could not be asked; 0 where it could, which does
+ * not say that it holds. */
+CUCKOOORMOLU_USED static inline size_t
+cuckooormolu_fact_refusal(struct cuckooormolu_fact fact)
+{
+    return cuckooormolu_refusal(
+        cuckooormolu_result_of(fact.cuckooormolu_private));
 }
 
 /* A result in words. */
@@ -308,15 +414,43 @@ static inline const char *cuckooormolu_words(struct cuckooormolu_result result)
                "lose the past";
     case CUCKOOORMOLU_REFUSED_SIZE:
         return "new terms with another number of members, relations or events";
+    case CUCKOOORMOLU_REFUSED_PLAN:
+        return "plan where there are more than 8 members or 4 events, of no or "
+               "more than 3 requests, or whose planner is the rival; or an "
+               "entry that doesn't exist or has a free variable other than 0";
     case CUCKOOORMOLU_DONE:
         return "done";
     case CUCKOOORMOLU_DENIED:
         return "denied";
     case CUCKOOORMOLU_GRANTED:
         return "granted";
+    case CUCKOOORMOLU_REJECTED:
+        return "rejected";
+    case CUCKOOORMOLU_ACCEPTED:
+        return "accepted";
+    case CUCKOOORMOLU_FAILS:
+        return "does not hold";
+    case CUCKOOORMOLU_HOLDS:
+        return "holds";
     default:
         return "not a code of the monitor";
     }
+}
+
+/* What is said of a plan, in words. */
+static inline const char *
+cuckooormolu_ruling_words(struct cuckooormolu_ruling ruling)
+{
+    return cuckooormolu_words(
+        cuckooormolu_result_of(ruling.cuckooormolu_private));
+}
+
+/* What is said of an entry, in words. */
+static inline const char *
+cuckooormolu_fact_words(struct cuckooormolu_fact fact)
+{
+    return cuckooormolu_words(
+        cuckooormolu_result_of(fact.cuckooormolu_private));
 }
 
 CUCKOOORMOLU_USED static inline bool
@@ -362,7 +496,7 @@ cuckooormolu_answer_words(struct cuckooormolu_answer answer)
  * may be null, not even where its length is 0, and memory that a call may write,
  * the number behind the last pointer too, must not overlap any other.
  */
-size_t cuckooormolu_raw_version_0_13_0(void);
+size_t cuckooormolu_raw_version_0_14_0(void);
 size_t cuckooormolu_raw_read(const uint8_t *text, size_t text_length,
                              uint16_t *terms, size_t terms_length,
                              uint64_t *state, size_t state_length,
@@ -405,6 +539,15 @@ size_t cuckooormolu_raw_set_list(const uint16_t *terms, size_t terms_length,
                                  uint64_t *scratch, size_t scratch_length,
                                  struct cuckooormolu_record *records,
                                  size_t records_length, size_t *count);
+size_t cuckooormolu_raw_plan(const uint16_t *terms, size_t terms_length,
+                             const uint64_t *state, size_t state_length,
+                             uint64_t *scratch, size_t scratch_length,
+                             const uint64_t *plan, size_t plan_length,
+                             size_t planner, size_t rival, size_t goal,
+                             size_t first, size_t second);
+size_t cuckooormolu_raw_tell(const uint16_t *terms, size_t terms_length,
+                             const uint64_t *state, size_t state_length,
+                             size_t entry, size_t first, size_t second);
 size_t cuckooormolu_raw_banks_read(const uint8_t *text, size_t text_length,
                                    uint16_t *terms, size_t terms_length,
                                    uint64_t *relations,
@@ -451,10 +594,10 @@ size_t cuckooormolu_raw_banks_set_list(
 
 /* Header and archive belong together: the version stands in a function's name,
  * so that an archive of another version does not link. The function gives it as
- * one number, 13000 for 0.13.0. */
+ * one number, 14000 for 0.14.0. */
 #ifdef __GNUC__
 __attribute__((used)) CUCKOOORMOLU_RETAINED static size_t (
-    *const cuckooormolu_archive)(void) = cuckooormolu_raw_version_0_13_0;
+    *const cuckooormolu_archive)(void) = cuckooormolu_raw_version_0_14_0;
 #endif
 
 /*
@@ -745,6 +888,53 @@ cuckooormolu_set_list(const uint16_t *terms, size_t terms_length,
                 scratch_length, records, records_length, &number);
     }
     return cuckooormolu_told(code, number, count);
+}
+
+/*
+ * Whether a rival can keep a member, the planner, from a goal. A plan is 1 to 3
+ * requests of the planner, event and target of each in turn, so 2, 4 or 6
+ * numbers; between two of them the rival makes a request or passes. Accepted:
+ * whatever the rival does, after one of the planner's requests the goal, an
+ * entry, holds at the first member with variable 0 standing for the second.
+ * Denied requests have the effect that they always have. There are at most 8
+ * members and 4 events. Scratch is CUCKOOORMOLU_PLAN_WORDS words, left 0 by
+ * either verdict; nothing else is written. Refused with 6, 7, 8, 14 or 9: all
+ * memory is as lent.
+ */
+CUCKOOORMOLU_USED static inline struct cuckooormolu_ruling
+cuckooormolu_plan(const uint16_t *terms, size_t terms_length,
+                  const uint64_t *state, size_t state_length,
+                  uint64_t *scratch, size_t scratch_length,
+                  const uint64_t *plan, size_t plan_length, size_t planner,
+                  size_t rival, size_t goal, size_t first, size_t second)
+{
+    CUCKOOORMOLU_LENT(uint16_t, terms, terms_length)
+    CUCKOOORMOLU_LENT(uint64_t, state, state_length)
+    CUCKOOORMOLU_LENT(uint64_t, scratch, scratch_length)
+    CUCKOOORMOLU_LENT(uint64_t, plan, plan_length)
+    size_t code = CUCKOOORMOLU_REFUSED_SHORT;
+    if (CUCKOOORMOLU_APART_FROM(scratch, terms, state, plan))
+        code = cuckooormolu_raw_plan(terms, terms_length, state, state_length,
+                                     scratch, scratch_length, plan,
+                                     plan_length, planner, rival, goal, first,
+                                     second);
+    return cuckooormolu_ruling_of(code);
+}
+
+/*
+ * Whether an entry holds at the present moment, at the first member with
+ * variable 0 standing for the second; writes nothing. Holds, fails, 6, 7, 8, 14
+ * or 9.
+ */
+CUCKOOORMOLU_USED static inline struct cuckooormolu_fact
+cuckooormolu_tell(const uint16_t *terms, size_t terms_length,
+                  const uint64_t *state, size_t state_length, size_t entry,
+                  size_t first, size_t second)
+{
+    CUCKOOORMOLU_LENT(uint16_t, terms, terms_length)
+    CUCKOOORMOLU_LENT(uint64_t, state, state_length)
+    return cuckooormolu_fact_of(cuckooormolu_raw_tell(
+        terms, terms_length, state, state_length, entry, first, second));
 }
 
 /*
@@ -1099,6 +1289,39 @@ cuckooormolu_monitor_set_list(struct cuckooormolu *m,
     return cuckooormolu_set_list(CUCKOOORMOLU_TERMS(m), CUCKOOORMOLU_STATE(m),
                                  CUCKOOORMOLU_SCRATCH(m), records, length,
                                  count);
+}
+
+/* The entry that is the policy of an event, for a goal; where the terms have no
+ * such event, a number that is no entry's. */
+CUCKOOORMOLU_USED static inline size_t
+cuckooormolu_monitor_policy(const struct cuckooormolu *m, size_t event)
+{
+    if (m == NULL || event >= m->terms[2] || event >= 16)
+        return SIZE_MAX;
+    return m->terms[1028 + event];
+}
+
+/* A plan as so many moves. A null game is refused with 6. */
+CUCKOOORMOLU_USED static inline struct cuckooormolu_ruling
+cuckooormolu_monitor_plan(const struct cuckooormolu *m,
+                          struct cuckooormolu_game *game,
+                          const struct cuckooormolu_move *moves, size_t count,
+                          size_t planner, size_t rival, size_t goal,
+                          size_t first, size_t second)
+{
+    size_t length = count <= 3 ? 2 * count : 1; /* 1 is no plan's length */
+    return cuckooormolu_plan(CUCKOOORMOLU_TERMS(m), CUCKOOORMOLU_STATE(m),
+                             CUCKOOORMOLU_PART(game, words),
+                             CUCKOOORMOLU_PLAN_WORDS, (const uint64_t *)moves,
+                             length, planner, rival, goal, first, second);
+}
+
+CUCKOOORMOLU_USED static inline struct cuckooormolu_fact
+cuckooormolu_monitor_tell(const struct cuckooormolu *m, size_t entry,
+                          size_t first, size_t second)
+{
+    return cuckooormolu_tell(CUCKOOORMOLU_TERMS(m), CUCKOOORMOLU_STATE(m),
+                             entry, first, second);
 }
 
 /*

@@ -29,11 +29,29 @@ static void codes(void)
         EXPECT(cuckooormolu_denied(result) == (code == 200));
         EXPECT(cuckooormolu_done(result) == (code == 100));
         EXPECT(cuckooormolu_refusal(result) == (code < 100 ? code : 0));
-        bool known = (code >= 1 && code <= 13) || code == 100 || code == 200 ||
-                     code == 300;
+        bool known = (code >= 1 && code <= 14) ||
+                     (code >= 100 && code <= 700 && code % 100 == 0);
         EXPECT((strcmp(cuckooormolu_words(result),
                        "not a code of the monitor") != 0) == known);
+        struct cuckooormolu_ruling ruling = cuckooormolu_ruling_of(code);
+        EXPECT(cuckooormolu_accepted(ruling) == (code == 500));
+        EXPECT(cuckooormolu_rejected(ruling) == (code == 400));
+        EXPECT(cuckooormolu_ruling_refusal(ruling) ==
+               cuckooormolu_refusal(result));
+        EXPECT(strcmp(cuckooormolu_ruling_words(ruling),
+                      cuckooormolu_words(result)) == 0);
+        struct cuckooormolu_fact fact = cuckooormolu_fact_of(code);
+        EXPECT(cuckooormolu_holds(fact) == (code == 700));
+        EXPECT(cuckooormolu_fails(fact) == (code == 600));
+        EXPECT(cuckooormolu_fact_refusal(fact) == cuckooormolu_refusal(result));
+        EXPECT(strcmp(cuckooormolu_fact_words(fact),
+                      cuckooormolu_words(result)) == 0);
     }
+    struct cuckooormolu_ruling no_ruling;
+    struct cuckooormolu_fact no_fact;
+    memset(&no_ruling, 0, sizeof no_ruling);
+    memset(&no_fact, 0, sizeof no_fact);
+    EXPECT(!cuckooormolu_accepted(no_ruling) && !cuckooormolu_holds(no_fact));
     EXPECT(strcmp(cuckooormolu_words(cuckooormolu_result_of(9)),
                   "no such event or member") == 0);
     EXPECT(strncmp(cuckooormolu_words(cuckooormolu_result_of(10)),
@@ -46,7 +64,7 @@ static void version(void)
     snprintf(words, sizeof words, "%d.%d.%d", CUCKOOORMOLU_VERSION_MAJOR,
              CUCKOOORMOLU_VERSION_MINOR, CUCKOOORMOLU_VERSION_PATCH);
     EXPECT(strcmp(words, CUCKOOORMOLU_VERSION) == 0);
-    EXPECT(cuckooormolu_raw_version_0_13_0() ==
+    EXPECT(cuckooormolu_raw_version_0_14_0() ==
            1000000 * CUCKOOORMOLU_VERSION_MAJOR +
                1000 * CUCKOOORMOLU_VERSION_MINOR + CUCKOOORMOLU_VERSION_PATCH);
 }

@@ -93,6 +93,7 @@ run_tests() {
     silent test_overlap.c "overlapping memory" "$@"
     silent test_revise.c "new terms while playing" "$@"
     silent test_pairs.c "a past of three members" "$@"
+    silent test_plans.c "plans against a rival" "$@"
     silent test_banks.c "two banks" "$@"
     silent test_banks_lent.c "two banks over lent memory" "$@"
 }

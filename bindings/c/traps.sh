@@ -57,6 +57,20 @@ compiling not "nor a call's words of it" "if (*cuckooormolu_words(r->answer)) $t
 compiling not "nor an answer's predicate of a call" "if (cuckooormolu_answer_granted($call)) $then" "$@"
 compiling not "nor one that is not looked at" "cuckooormolu_answer_granted(r->answer);" "$@"
 
+plan='cuckooormolu_monitor_plan(m, NULL, NULL, 0, 0, 1, 0, 0, 0)'
+tell='cuckooormolu_monitor_tell(m, 0, 0, 0)'
+compiling ok "a plan that is asked for compiles" "if (cuckooormolu_accepted($plan)) $then" "$@"
+compiling not "a plan as a truth value does not" "if ($plan) $then" "$@"
+compiling not "nor an accepted plan as a grant" "if (cuckooormolu_granted($plan)) $then" "$@"
+compiling not "nor its refusal as a call's" "if (cuckooormolu_refusal($plan)) $then" "$@"
+compiling not "nor a grant as an accepted plan" "if (cuckooormolu_accepted($call)) $then" "$@"
+compiling not "nor a plan that is not looked at" "$plan;" "$@"
+compiling ok "an entry that is asked for compiles" "if (cuckooormolu_holds($tell)) $then" "$@"
+compiling not "an entry as a truth value does not" "if ($tell) $then" "$@"
+compiling not "nor an entry that holds as a grant" "if (cuckooormolu_granted($tell)) $then" "$@"
+compiling not "nor as an accepted plan" "if (cuckooormolu_accepted($tell)) $then" "$@"
+compiling not "nor an entry that is not looked at" "$tell;" "$@"
+
 left='cuckooormolu_left_request(b, 0, 0, 0)'
 compiling ok "a grant of a bank that is asked for compiles" "if (cuckooormolu_granted($left)) $then" "$@"
 compiling not "a bank's call as a truth value does not" "if ($left) $then" "$@"

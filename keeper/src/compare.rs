@@ -2,6 +2,7 @@
 
 pub mod banks;
 mod lists;
+pub mod plans;
 mod revisions;
 mod written;
 

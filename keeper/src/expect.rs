@@ -1,5 +1,6 @@
 //! What each call over lent memory must give.
 
+use crate::plan::{self, Plan, Question};
 use crate::record::{Call, Record};
 use crate::terms::memory::{self, State, SCRATCH_WORDS, STATE_WORDS, TERMS_WORDS};
 use crate::terms::{self, File, Refusal, Terms};
@@ -129,4 +130,20 @@ pub fn calling(terms: &[u16], state: &[u64], call: &Call) -> Result<(Terms, Stat
         return Err(Refusal::plain(9));
     }
     Ok((terms, state))
+}
+
+/// A plan over lent memory: whether it is accepted, or the refusal. Its tables
+/// stand for the record.
+pub fn planning(terms: &[u16], state: &[u64], plan: &Plan) -> Result<bool, Refusal> {
+    if plan.scratch_words < plan::SCRATCH_WORDS {
+        return Err(Refusal::plain(6));
+    }
+    let (terms, state) = lent(terms, state)?;
+    going_on(&terms, &state).judge(plan)
+}
+
+/// Whether an entry holds now at a pair, over lent memory, or the refusal.
+pub fn telling(terms: &[u16], state: &[u64], question: &Question) -> Result<bool, Refusal> {
+    let (terms, state) = lent(terms, state)?;
+    going_on(&terms, &state).tell(question)
 }

@@ -7,6 +7,7 @@ pub mod kept;
 pub mod lines;
 mod paired;
 mod patterns;
+pub mod plans;
 pub mod revised;
 pub mod size;
 pub mod stored;

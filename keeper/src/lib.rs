@@ -9,6 +9,7 @@
 //!   and the meaning of a formula over it; new terms while it goes on
 //! * `set_list`: many requests in one call
 //! * `step`: calls, and new terms among them
+//! * `plan`: plans against a rival, and whether an entry holds now
 //! * `banks`: two banks with a record each, their memory and their steps
 //! * `expect`: what each call over lent memory must give
 //! * `program`: what the program must print
@@ -22,6 +23,7 @@ pub mod cases;
 pub mod compare;
 pub mod expect;
 pub mod generate;
+pub mod plan;
 pub mod program;
 pub mod record;
 pub mod set_list;

@@ -2,6 +2,7 @@
 
 mod plainer;
 mod smaller;
+mod turns;
 
 pub use plainer::Shrinks;
 pub use smaller::Less;

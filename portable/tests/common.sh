@@ -89,6 +89,6 @@ differ() {
     name=$1 calls=$2 files=$3
     shift 3
     CUCKOOORMOLU_LIB="$work/$name" cargo rustc --release --quiet -p differ -- "$@"
-    quietly "$CARGO_TARGET_DIR/release/differ" --calls "$calls" --files "$files"
+    quietly "$CARGO_TARGET_DIR/release/differ" --calls "$calls" --files "$files" --plans "$((calls / 4))"
     echo "ok   $name: no difference from the keeper in $calls calls and $files files"
 }

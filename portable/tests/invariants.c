@@ -14,6 +14,9 @@
 #define MOST_BINDS 4
 #define MOST_CALLS 40
 
+#define GAME (CUCKOOORMOLU_PLAN_WORDS + BEYOND)
+#define FIRST_POLICY 1028
+
 #define LENT(m) (m).terms, TERMS, (m).state, STATE
 #define ALL_LENT(m) LENT(m), (m).scratch, SCRATCH
 
@@ -54,6 +57,10 @@ static size_t request(struct memory m, const uint8_t *call)
     struct memory before = copied(m);
     size_t looked = cuckooormolu_raw_look(ALL_LENT(m), call[1], call[2], call[3]);
     HOLDS(same(before, m));
+    if (looked == CUCKOOORMOLU_GRANTED || looked == CUCKOOORMOLU_DENIED) {
+        size_t told = cuckooormolu_raw_tell(LENT(m), m.terms[FIRST_POLICY + call[1]], call[2], call[3]);
+        HOLDS(told == (looked == CUCKOOORMOLU_GRANTED ? CUCKOOORMOLU_HOLDS : CUCKOOORMOLU_FAILS));
+    }
     size_t code = cuckooormolu_raw_request(ALL_LENT(m), call[1], call[2], call[3]);
     HOLDS(code == looked);
     bool granted = code == CUCKOOORMOLU_GRANTED;
@@ -101,6 +108,69 @@ static void set_list(struct memory m, const uint8_t *calls, size_t length)
     tell(count);
     free(words);
     released(single);
+}
+
+/* A plan by numbers: so many of its moves. */
+struct plan {
+    uint64_t moves[8];
+    size_t length, planner, rival, goal, first, second;
+};
+
+/* Whether the goal holds after one of the planner's moves, where the rival
+ * replies to each with one request, or with a pass where there is none. */
+static bool won(struct memory m, struct plan p, const uint8_t *reply)
+{
+    struct memory played = copied(m);
+    bool holds = false;
+    for (size_t i = 0; i < p.length; i += 2) {
+        if (i > 0 && reply != NULL)
+            (void)cuckooormolu_raw_request(ALL_LENT(played), reply[1], p.rival, reply[3]);
+        (void)cuckooormolu_raw_request(ALL_LENT(played), p.moves[i] & 255, p.planner, p.moves[i + 1] & 255);
+        size_t told = cuckooormolu_raw_tell(LENT(played), p.goal, p.first, p.second);
+        HOLDS(told == CUCKOOORMOLU_HOLDS || told == CUCKOOORMOLU_FAILS);
+        holds = holds || told == CUCKOOORMOLU_HOLDS;
+    }
+    released(played);
+    return holds;
+}
+
+/* What is accepted is won where the rival passes, and where it replies with any
+ * request; a plan of one move is accepted where it is won, and only there. A
+ * verdict leaves the game 0, a refusal as lent, and both all else. The first call
+ * has planner, rival and goal, a policy or any entry, the second the pair and the
+ * plan's length, the others its moves. */
+static void planned(struct memory m, const uint8_t *calls, size_t count)
+{
+    size_t goal = calls[3] < 128 ? calls[3] : m.terms[FIRST_POLICY + calls[3] % 16];
+    size_t length = 2 * (calls[7] % 4u) + (calls[7] >= 128);
+    struct plan p = {{0}, length, calls[1], calls[2], goal, calls[5], calls[6]};
+    struct memory before = copied(m);
+    for (size_t i = 0; i < 4 && i + 2 < count; i++) {
+        p.moves[2 * i] = calls[8 + 4 * i + 1];
+        p.moves[2 * i + 1] = calls[8 + 4 * i + 3];
+    }
+    uint64_t *moves = (uint64_t *)lent(p.moves, p.length * sizeof *moves);
+    uint64_t *game = (uint64_t *)lent(NULL, GAME * sizeof *game);
+    for (size_t i = 0; i < GAME; i++)
+        game[i] = FILLED;
+    HOLDS(cuckooormolu_raw_plan(LENT(m), game, CUCKOOORMOLU_PLAN_WORDS - 1, moves, p.length, p.planner, p.rival,
+                                p.goal, p.first, p.second) == CUCKOOORMOLU_REFUSED_SHORT);
+    size_t code = cuckooormolu_raw_plan(LENT(m), game, GAME, moves, p.length, p.planner, p.rival, p.goal, p.first,
+                                        p.second);
+    bool accepted = code == CUCKOOORMOLU_ACCEPTED, decided = accepted || code == CUCKOOORMOLU_REJECTED;
+    HOLDS(decided || code == CUCKOOORMOLU_REFUSED_PLAN || code == CUCKOOORMOLU_REFUSED_NAME);
+    for (size_t i = 0; i < GAME; i++)
+        HOLDS(game[i] == (decided && i < CUCKOOORMOLU_PLAN_WORDS ? 0 : FILLED));
+    HOLDS(same(before, m));
+    if (decided) {
+        bool alone = won(m, p, NULL);
+        HOLDS(!accepted || (alone && won(m, p, calls)));
+        HOLDS(p.length > 2 || accepted == alone);
+    }
+    tell(code);
+    free(game);
+    free(moves);
+    released(before);
 }
 
 typedef size_t sizing(const uint16_t *, size_t, const uint64_t *, size_t, size_t *);
@@ -234,6 +304,10 @@ static void make(struct memory m, const uint8_t *calls, size_t length, bool play
         switch (call[0] % 8) {
         default:
             (void)request(m, call);
+            break;
+        case 2:
+            if (rest > 0)
+                planned(m, call, rest + 1);
             break;
         case 3:
             rest = rest < call[1] % 16u ? rest : call[1] % 16u;

@@ -1,7 +1,7 @@
 #!/bin/sh
 # seeds.sh FOLDER: the examples as inputs of the invariants, a file each: the terms, a byte 0, and for each request four
 # bytes; of two banks, now one is asked and now the other. Every third time another call stands between: a set list of
-# the requests after it, storing, damage, short memory or a revision.
+# the requests after it, storing, damage, short memory, a revision or a plan.
 set -eu
 top=$(cd "$(dirname "$0")/../.." && pwd)
 mkdir -p "$1"
@@ -14,7 +14,7 @@ for terms in "$top"/examples/*/terms.tsv "$top"/examples/*/*/terms.tsv; do
         # shellcheck disable=SC2059
         printf "$(awk -F '\t' '
             $1 == "R" && $2 < 256 && $3 < 256 && $4 < 256 {
-                kind = 3 + NR / 3 % 5 + NR % 2 * 8
+                kind = 2 + NR / 3 % 6 + NR % 2 * 8
                 if (NR % 3 == 0) printf "\\%03o\\%03o\\%03o\\%03o", kind, NR % 4, NR % 7, NR * 11 % 256
                 printf "\\%03o\\%03o\\%03o\\%03o", NR % 4 < 2 ? 0 : 8, $2, $3, $4
             }' "$folder/requests.tsv")"

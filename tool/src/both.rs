@@ -4,6 +4,7 @@
 mod banks;
 mod revising;
 mod stored;
+mod telling;
 
 pub use banks::Banks;
 use revising::allowed;
@@ -36,6 +37,7 @@ impl fmt::Display for Verdict {
 }
 
 /// The proved monitor and the keeper's record, side by side.
+#[derive(Clone)]
 pub struct Both {
     monitor: proved::Monitor,
     record: Record,

@@ -1,9 +1,11 @@
 //! The sub-commands, one file for each.
 
 pub mod aloud;
+pub mod can;
 pub mod check;
 pub mod compile;
 pub mod new;
+pub mod plan;
 pub mod play;
 pub mod report;
 pub mod revise;
@@ -29,7 +31,7 @@ pub struct Command {
 }
 
 /// All sub-commands, in the order in which a user meets them.
-pub const COMMANDS: [Command; 13] = [
+pub const COMMANDS: [Command; 15] = [
     Command {
         name: "new",
         summary: "create a folder with a source to start from",
@@ -71,6 +73,18 @@ pub const COMMANDS: [Command; 13] = [
         summary: "show who may do what to whom",
         help: who::HELP,
         main: who::main,
+    },
+    Command {
+        name: "can",
+        summary: "find the shortest way to a request that is granted",
+        help: can::HELP,
+        main: can::main,
+    },
+    Command {
+        name: "plan",
+        summary: "say whether a rival can keep a member from a goal",
+        help: plan::HELP,
+        main: plan::main,
     },
     Command {
         name: "report",

@@ -11,6 +11,8 @@
 //! * `report`: a folder's story as one page
 //! * `requests`: requests by name
 //! * `revise`: a monitor that goes on with new terms
+//! * `plan`: whether a rival can keep a member from a goal
+//! * `reach`: the shortest way to a request that is granted
 //! * `trial`, `editing`: requests made and taken back at a prompt; a line edited at a terminal
 //! * `watch`: doing something again when files change
 //! * `testing`: tests that people write; `play`: a page to edit terms in and try them
@@ -33,7 +35,9 @@ pub mod json;
 pub mod matrix;
 pub mod names;
 pub mod pages;
+pub mod plan;
 pub mod play;
+pub mod reach;
 pub mod replay;
 pub mod report;
 pub mod requests;

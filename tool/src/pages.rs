@@ -7,8 +7,8 @@ use crate::stop::Stop;
 /// One rule for all sub-commands.
 const STATUSES: &str = "\
 Exit status: 0 done; 1 something was denied or failed, where that was asked for
-(`run --strict`, `test`, `aloud --verify`); 2 a wrong command line; 3 a file that cannot be
-read, written or compiled.
+(`run --strict`, `test`, `aloud --verify`, `can`, `plan`); 2 a wrong command line; 3 a file
+that cannot be read, written or compiled.
 ";
 
 /// What `--help` prints.

@@ -7,6 +7,7 @@
 //! * `tree`: at which member each part is said
 //! * `entries`: variables numbered, equal parts made one entry
 //! * `compile`: all of it, with what is declared
+//! * `goal`: a sentence that stands alone, as further entries of terms
 //! * `print`: a source, written; `decompile`: the way back from terms
 //! * `mistake`: what is wrong, shown at its place
 
@@ -14,6 +15,7 @@ pub mod ast;
 pub mod compile;
 pub mod decompile;
 mod entries;
+pub mod goal;
 pub(crate) mod kinds;
 pub mod mistake;
 pub mod parse;

@@ -12,5 +12,7 @@ pub const RELATION_WORDS: usize = 1_024;
 pub const OWN_WORDS: usize = 2_049;
 /// Words of 64 bits that a call is lent besides.
 pub const SCRATCH_WORDS: usize = 64;
+/// Words of 64 bits that a plan is lent besides.
+pub const PLAN_WORDS: usize = 9_283;
 
 const _: () = assert!(RELATION_WORDS + OWN_WORDS == STATE_WORDS);

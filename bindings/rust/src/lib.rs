@@ -38,6 +38,7 @@
 //! * [`Monitor`], [`Terms`] and [`State`] own their memory.
 //! * [`Banks`] are two monitors over one circle: they share terms and relations.
 //! * [`Record`] is a request of a set list: many requests in one call.
+//! * [`Plan`] asks whether a rival can keep a member from a goal.
 //! * [`Refusal`] and [`TextError`] say in words why nothing was decided.
 //! * [`raw`] has the library's functions over slices of any length.
 //!
@@ -57,6 +58,7 @@ mod answer;
 mod layout;
 mod library;
 mod names;
+mod plan;
 pub mod raw;
 mod refusal;
 
@@ -80,8 +82,9 @@ mod terms;
 mod text_error;
 
 pub use answer::Answer;
-pub use layout::{OWN_WORDS, RELATION_WORDS, SCRATCH_WORDS, STATE_WORDS, TERMS_WORDS};
+pub use layout::{OWN_WORDS, PLAN_WORDS, RELATION_WORDS, SCRATCH_WORDS, STATE_WORDS, TERMS_WORDS};
 pub use names::{Edge, Event, EventEdge, Member, Relation, Request, Variable};
+pub use plan::{Move, Plan, Ruling};
 pub use refusal::Refusal;
 
 #[cfg(feature = "alloc")]

@@ -81,6 +81,32 @@ extern "C" {
         count: *mut usize,
     ) -> usize;
 
+    pub fn cuckooormolu_raw_plan(
+        terms: *const u16,
+        terms_length: usize,
+        state: *const u64,
+        state_length: usize,
+        scratch: *mut u64,
+        scratch_length: usize,
+        plan: *const u64,
+        plan_length: usize,
+        planner: usize,
+        rival: usize,
+        goal: usize,
+        first: usize,
+        second: usize,
+    ) -> usize;
+
+    pub fn cuckooormolu_raw_tell(
+        terms: *const u16,
+        terms_length: usize,
+        state: *const u64,
+        state_length: usize,
+        entry: usize,
+        first: usize,
+        second: usize,
+    ) -> usize;
+
     pub fn cuckooormolu_raw_read(
         text: *const u8,
         text_length: usize,

@@ -1,6 +1,7 @@
 //! The monitor: terms, the present state, and scratch for its calls.
 
-use crate::{raw, Answer, Record, Refusal, Request, State, Terms, TextError, SCRATCH_WORDS};
+use crate::{raw, Answer, Member, Plan, Record, Refusal, Request, Ruling, State, Terms, TextError};
+use crate::{PLAN_WORDS, SCRATCH_WORDS};
 use alloc::boxed::Box;
 use alloc::vec;
 use alloc::vec::Vec;
@@ -153,6 +154,69 @@ impl Monitor {
         raw::revise(old, present, new.words(), &mut state.0[..])?;
         (self.terms, self.state) = (new.clone(), state);
         Ok(())
+    }
+
+    /// Whether a plan reaches its goal, whatever the rival does. It makes no
+    /// moment: a plan that is accepted permits nothing.
+    ///
+    /// ```
+    /// use cuckooormolu::{Event, Member, Monitor, Move, Plan, Ruling};
+    ///
+    /// // Event 0 takes a target that nobody has; entry 5 says that one has the target.
+    /// let text = "M 3\nL 1 1\nF 0 top 0 0\nF 1 in 0 0\nF 2 not 1 0\nF 3 at 0 2\n\
+    ///             F 4 var 0 0\nF 5 out 0 4\nP 0 3\nE 0 add 0 fwd\n";
+    /// let monitor = Monitor::read(text.replace(' ', "\t").as_bytes())?;
+    /// let take = |to| Move { event: Event(0), to: Member(to) };
+    /// let (planner, rival, pair) = (Member(0), Member(1), (Member(0), Member(2)));
+    /// let plan = Plan { moves: &[take(2)], planner, rival, goal: 5, pair };
+    /// assert_eq!(monitor.plan(plan)?, Ruling::Accepted);
+    /// // Whoever takes something else first is too late.
+    /// let late = Plan { moves: &[take(1), take(2)], ..plan };
+    /// assert_eq!(monitor.plan(late)?, Ruling::Rejected);
+    /// # Ok::<(), Box<dyn std::error::Error>>(())
+    /// ```
+    ///
+    /// # Errors
+    ///
+    /// [`Refusal::NoGame`] where there are more than 8 members or 4 events, the plan
+    /// is not one to three requests long, planner and rival are one, or the goal is
+    /// no entry or has a free variable other than 0; and then
+    /// [`Refusal::NoSuchName`] where an event or member doesn't exist.
+    pub fn plan(&self, plan: Plan<'_>) -> Result<Ruling, Refusal> {
+        let moves: Vec<u64> =
+            plan.moves.iter().flat_map(|step| [step.event.0.into(), step.to.0.into()]).collect();
+        let mut scratch = vec![0; PLAN_WORDS];
+        let plan = raw::Plan {
+            moves: &moves,
+            planner: plan.planner.into(),
+            rival: plan.rival.into(),
+            goal: plan.goal,
+            pair: (plan.pair.0.into(), plan.pair.1.into()),
+        };
+        raw::plan(self.terms.words(), self.state.words(), &mut scratch, plan)
+    }
+
+    /// Whether an entry holds now, at the first member with variable 0 standing for
+    /// the second. It makes no moment, and permits nothing.
+    ///
+    /// ```
+    /// use cuckooormolu::{Member, Monitor, Refusal};
+    ///
+    /// let text = b"M\t2\nL\t0\t1\nF\t0\tvar\t0\t0\nF\t1\tvar\t1\t0\nP\t0\t0\n";
+    /// let monitor = Monitor::read(text)?;
+    /// assert_eq!(monitor.tell(0, Member(1), Member(1)), Ok(true));
+    /// assert_eq!(monitor.tell(0, Member(1), Member(0)), Ok(false));
+    /// assert_eq!(monitor.tell(1, Member(1), Member(1)), Err(Refusal::NoGame));
+    /// # Ok::<(), cuckooormolu::TextError>(())
+    /// ```
+    ///
+    /// # Errors
+    ///
+    /// [`Refusal::NoGame`] where there is no such entry or it has a free variable
+    /// other than 0, and then [`Refusal::NoSuchName`] where a member doesn't exist.
+    pub fn tell(&self, entry: usize, first: Member, second: Member) -> Result<bool, Refusal> {
+        let (terms, state) = (self.terms.words(), self.state.words());
+        raw::tell(terms, state, entry, first.into(), second.into())
     }
 
     /// The old form: the terms with the present relations, numbers without

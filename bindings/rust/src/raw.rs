@@ -31,7 +31,7 @@
 //! }
 //! ```
 
-use crate::{library, Answer, Refusal};
+use crate::{library, Answer, Refusal, Ruling};
 
 mod banks;
 pub use banks::{banks_look, banks_open, banks_read, banks_request, banks_revise, banks_set_list};
@@ -53,6 +53,23 @@ impl From<crate::Request> for Request {
         let crate::Request { event, from, to } = request;
         Request { event: event.into(), from: from.into(), to: to.into() }
     }
+}
+
+/// A plan by any numbers, whether or not there are such events, members and an
+/// entry.
+#[derive(Clone, Copy, Debug, PartialEq, Eq, Hash)]
+pub struct Plan<'a> {
+    /// Event and target of each request in turn.
+    pub moves: &'a [u64],
+    /// Who makes them.
+    pub planner: usize,
+    /// Who may make a request between two of them.
+    pub rival: usize,
+    /// The entry that is to hold after one of them.
+    pub goal: usize,
+    /// Where it is to hold: at the first member, with variable 0 standing for the
+    /// second.
+    pub pair: (usize, usize),
 }
 
 /// A record of a set list: a request by any numbers, and its answer, which
@@ -87,6 +104,10 @@ impl Record {
 const DONE: usize = 100;
 const DENIED: usize = 200;
 const GRANTED: usize = 300;
+const REJECTED: usize = 400;
+const ACCEPTED: usize = 500;
+const FAILS: usize = 600;
+const HOLDS: usize = 700;
 
 fn refused(code: usize) -> Refusal {
     Refusal::of_number(code).unwrap_or_else(|| panic!("the library gave the unknown code {code}"))
@@ -107,7 +128,23 @@ fn decided(code: usize) -> Result<Answer, Refusal> {
     }
 }
 
-/// The version of the archive as one number, 13,000 for 0.13.0. It is the crate's:
+fn ruled(code: usize) -> Result<Ruling, Refusal> {
+    match code {
+        ACCEPTED => Ok(Ruling::Accepted),
+        REJECTED => Ok(Ruling::Rejected),
+        code => Err(refused(code)),
+    }
+}
+
+fn told(code: usize) -> Result<bool, Refusal> {
+    match code {
+        HOLDS => Ok(true),
+        FAILS => Ok(false),
+        code => Err(refused(code)),
+    }
+}
+
+/// The version of the archive as one number, 14,000 for 0.14.0. It is the crate's:
 /// an archive of another version does not link.
 pub fn version() -> usize {
     // Safety: the function takes nothing and gives a number.
@@ -252,6 +289,63 @@ pub fn set_list(
         )
     };
     done(code).map(|()| count)
+}
+
+/// Whether a plan reaches its goal, whatever the rival does. A verdict leaves the
+/// named words of scratch, [`crate::PLAN_WORDS`], 0.
+///
+/// # Errors
+///
+/// 6, 7, 8, 14 or 9, in this order.
+pub fn plan(
+    terms: &[u16],
+    state: &[u64],
+    scratch: &mut [u64],
+    plan: Plan<'_>,
+) -> Result<Ruling, Refusal> {
+    ruled(unsafe {
+        library::cuckooormolu_raw_plan(
+            terms.as_ptr(),
+            terms.len(),
+            state.as_ptr(),
+            state.len(),
+            scratch.as_mut_ptr(),
+            scratch.len(),
+            plan.moves.as_ptr(),
+            plan.moves.len(),
+            plan.planner,
+            plan.rival,
+            plan.goal,
+            plan.pair.0,
+            plan.pair.1,
+        )
+    })
+}
+
+/// Whether an entry holds now, at the first member with variable 0 standing for
+/// the second. It makes no moment.
+///
+/// # Errors
+///
+/// 6, 7, 8, 14 or 9, in this order.
+pub fn tell(
+    terms: &[u16],
+    state: &[u64],
+    entry: usize,
+    first: usize,
+    second: usize,
+) -> Result<bool, Refusal> {
+    told(unsafe {
+        library::cuckooormolu_raw_tell(
+            terms.as_ptr(),
+            terms.len(),
+            state.as_ptr(),
+            state.len(),
+            entry,
+            first,
+            second,
+        )
+    })
 }
 
 /// Reads a text of the old or the stored form and fills the named words of terms

@@ -21,6 +21,7 @@ use core::fmt;
 ///         Form | Range | Operand | PastVariables | PolicyVariables | ReachVariables => true,
 ///         PartlyFilled => true,
 ///         TooShort | BadTerms | BadState | NoSuchName | NotFresh | OtherSize => false,
+///         NoGame => false,
 ///     }
 /// }
 /// ```
@@ -56,6 +57,10 @@ pub enum Refusal {
     NotFresh,
     /// 13: new terms with another number of members, relations or events.
     OtherSize,
+    /// 14: a plan where there are more than 8 members or 4 events, of no or more
+    /// than 3 requests, or whose planner is the rival; and an entry, a plan's goal
+    /// too, that doesn't exist or has a free variable other than 0.
+    NoGame,
 }
 
 impl Refusal {
@@ -74,6 +79,7 @@ impl Refusal {
         Refusal::PartlyFilled,
         Refusal::NotFresh,
         Refusal::OtherSize,
+        Refusal::NoGame,
     ];
 
     /// The refusal's number, from 1.
@@ -116,6 +122,11 @@ impl Refusal {
                 "state that is no fresh start, of which the old form would lose the past"
             }
             Refusal::OtherSize => "new terms with another number of members, relations or events",
+            Refusal::NoGame => {
+                "plan where there are more than 8 members or 4 events, of no or more than 3 \
+                 requests, or whose planner is the rival; or an entry that doesn't exist or has a \
+                 free variable other than 0"
+            }
         }
     }
 }

@@ -4,7 +4,7 @@
 use cuckooormolu::{raw, Answer, Monitor, Refusal, State, Terms};
 use cuckooormolu::{Action, Direction, Effect, Entry, Label};
 use cuckooormolu::{Edge, Event, EventEdge, Member, Relation, Request, Variable};
-use cuckooormolu::{SCRATCH_WORDS, STATE_WORDS, TERMS_WORDS};
+use cuckooormolu::{PLAN_WORDS, SCRATCH_WORDS, STATE_WORDS, TERMS_WORDS};
 
 /// Relation 0 is own; events are 0 share, 1 withdraw, 2 load. Spaces for tabs.
 const PRESET: &str = "\
@@ -369,7 +369,7 @@ fn refusals_have_numbers_and_words() {
         assert_eq!(Refusal::of_number(index + 1), Some(refusal));
         assert!(refusal.to_string().ends_with(&format!("(refusal {})", index + 1)));
     }
-    assert_eq!((Refusal::of_number(0), Refusal::of_number(14)), (None, None));
+    assert_eq!((Refusal::of_number(0), Refusal::of_number(15)), (None, None));
 }
 
 #[test]
@@ -504,9 +504,10 @@ fn the_c_header_has_the_same_numbers() {
     assert_eq!(defined("CUCKOOORMOLU_TERMS_WORDS"), TERMS_WORDS);
     assert_eq!(defined("CUCKOOORMOLU_STATE_WORDS"), STATE_WORDS);
     assert_eq!(defined("CUCKOOORMOLU_SCRATCH_WORDS"), SCRATCH_WORDS);
+    assert_eq!(defined("CUCKOOORMOLU_PLAN_WORDS"), PLAN_WORDS);
     let refusals = [
         "FORM", "RANGE", "OPERAND", "PAST", "POLICY", "SHORT", "TERMS", "STATE", "NAME", "REACH",
-        "TABLE", "FRESH", "SIZE",
+        "TABLE", "FRESH", "SIZE", "PLAN",
     ];
     for (name, refusal) in refusals.into_iter().zip(Refusal::ALL) {
         assert_eq!(defined(&format!("CUCKOOORMOLU_REFUSED_{name}")), refusal.number());

@@ -11,3 +11,4 @@ pub mod ListChecks
 pub mod Singly
 pub mod AsSingle
 pub mod Scratch
+pub mod Telling

@@ -5,3 +5,4 @@ pub mod Refused
 pub mod Agreement
 pub mod Reached
 pub mod Listing
+pub mod Telling

@@ -1,4 +1,4 @@
-// What a call answers, and a record of a set list. The crate has definitions and laws, and no function.
+// What a call answers, a record of a set list, and what is told of an entry. The crate has definitions and laws, and no function.
 
 // What a decided request carries.
 pub enum Verdict {
@@ -24,5 +24,12 @@ pub struct Record {
 // How many records were granted, or the refusal's number and line.
 pub enum Listed {
     Granted(usize),
+    Refused(usize, usize),
+}
+
+// What is told of an entry: it holds or it fails, or the refusal's number and line.
+pub enum Told {
+    Holds,
+    Fails,
     Refused(usize, usize),
 }

@@ -1,3 +1,4 @@
 pub mod Facts
 pub mod Told
 pub mod ToldBanks
+pub mod ToldPlans

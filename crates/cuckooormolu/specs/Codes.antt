@@ -1,4 +1,5 @@
--- The code numbers that a host is given: a refusal's own number, 1 to 99 (docs/SCOPE.md, Refusals), or one of three numbers that no refusal has and that are not 0.
+-- The code numbers that a host is given: a refusal's own number, 1 to 99 (docs/SCOPE.md, Refusals), or one of seven
+-- numbers that no refusal has and that are not 0.
 use Prim.Native.Nat.{ℕ, _<_}
 use mathlib.Core.Path.{_≡_}
 use mathlib.Core.Logic.{_↔_}
@@ -9,6 +10,10 @@ use Rattle.memory.specs.Outcome.{Outcome}
 use Rattle.memory.specs.Outcome.Outcome.{passed, failed}
 use Rattle.calls.specs.SetList.{Listing}
 use Rattle.calls.specs.SetList.Listing.{counted, refused as unlisted}
+use Rattle.calls.specs.Telling.{Telling}
+use Rattle.calls.specs.Telling.Telling.{holds, fails, refused as untold}
+use Rattle.plans.specs.Game.{Ruling}
+use Rattle.plans.specs.Game.Ruling.{accept, reject, refuse}
 use Rattle.writer.specs.Write.{Writing}
 use Rattle.writer.specs.Write.Writing.{bytes, unwritten}
 
@@ -20,6 +25,20 @@ deniedCode = 200
 
 abbrev pub grantedCode : ℕ
 grantedCode = 300
+
+-- A verdict on a plan and what is told of an entry are no answers to a request: their codes are numbers of their own,
+-- so that a host cannot take one for a permission.
+abbrev pub rejectedCode : ℕ
+rejectedCode = 400
+
+abbrev pub acceptedCode : ℕ
+acceptedCode = 500
+
+abbrev pub failsCode : ℕ
+failsCode = 600
+
+abbrev pub holdsCode : ℕ
+holdsCode = 700
 
 abbrev pub codeOf : Answer → ℕ
 codeOf (decided grant) = grantedCode
@@ -54,6 +73,16 @@ abbrev pub listingCount : Listing → ℕ
 listingCount (counted n) = n
 listingCount (unlisted n l) = 0
 
+abbrev pub rulingCode : Ruling → ℕ
+rulingCode accept = acceptedCode
+rulingCode reject = rejectedCode
+rulingCode (refuse n l) = n
+
+abbrev pub tellingCode : Telling → ℕ
+tellingCode holds = holdsCode
+tellingCode fails = failsCode
+tellingCode (untold n l) = n
+
 -- ---- what a host may conclude from a code
 
 abbrev pub Low : ℕ → Type 0
@@ -75,3 +104,19 @@ pub record ToldWriting (w : Writing) : Type 0 where
 pub record ToldListing (x : Listing) : Type 0 where
   pub done : (listingCode x ≡ doneCode) ↔ (x ≡ counted (listingCount x))
   pub refuses : (n l : ℕ) → x ≡ unlisted n l → Low n
+
+-- A code of these two is that of no grant, denial or call that is done.
+abbrev pub NoAnswer : ℕ → Type 0
+NoAnswer n = (¬ (n ≡ doneCode)) × (¬ (n ≡ deniedCode)) × (¬ (n ≡ grantedCode))
+
+pub record ToldRuling (g : Ruling) : Type 0 where
+  pub accepts : (rulingCode g ≡ acceptedCode) ↔ (g ≡ accept)
+  pub rejects : (rulingCode g ≡ rejectedCode) ↔ (g ≡ reject)
+  pub refuses : (n l : ℕ) → g ≡ refuse n l → Low n
+  pub no-answer : NoAnswer (rulingCode g)
+
+pub record ToldTelling (t : Telling) : Type 0 where
+  pub affirmed : (tellingCode t ≡ holdsCode) ↔ (t ≡ holds)
+  pub denied : (tellingCode t ≡ failsCode) ↔ (t ≡ fails)
+  pub refuses : (n l : ℕ) → t ≡ untold n l → Low n
+  pub no-answer : NoAnswer (tellingCode t)

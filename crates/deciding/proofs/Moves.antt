@@ -17,7 +17,7 @@ use Rattle.theory.specs.Moment.Event.{happened, tried}
 use Rattle.memory.specs.Layout.{termsWords, stateWords, ownWords, relationAt, effectAt, effectsFrom, eventAt, eventOf, termsOf, stateOf}
 use Rattle.theory.specs.Terms.{tables}
 use Rattle.memory.specs.Checks.{goodMemory, goodEvent, stateTests, goodState}
-use Rattle.theory.specs.Tables.{named, Tables, State, decideNow, prevBits, sinceBits, prevStep, prevTables, sinceTables, made, advance}
+use Rattle.theory.specs.Tables.{named, Tables, State, holdsNow, decideNow, prevBits, sinceBits, prevStep, prevTables, sinceTables, made, advance}
 use Rattle.memory.specs.Plan.{planTable, Planned}
 use Rattle.deciding.specs.Rows.{Ready, Table, nowAt, nextPrev, nextSince}
 use Rattle.deciding.specs.Moving.{known, HasState, Movable, Becomes, put, tabled, edged, prevAt, prevMoved, effectOf, affected, allAffected, evented, entered, sinceAt, sinceBelow, sinceMoved}
@@ -76,13 +76,19 @@ module _ {terms plan m : List ℕ} (c : Movable terms plan m) where
   pub moved : {m' : List ℕ} {f : Terms → State → State} → Becomes terms f m m' → Movable terms plan m'
   moved b = has-moved (b .each (c .state) (c .rest) (c .has))
 
--- what a request asks, asked of the two parts
+-- an entry asked of the two parts
+pub asked : (T : Terms) → Good T → (m : List ℕ) → stateWords ≤ length m → goodState T m ≡ true → (n u v : ℕ) → n < T .entries → u < T .members → v < T .members →
+    nowAt T (relationsOf m) (pastOf m) (assign (λ x. 0) 0 v) n u
+    ≡ holdsNow (T .members) (graph T (stateOf m .now)) (stateOf m .table) (formula T n) (assign (λ x. 0) 0 v) u
+asked T fine m long g n u v nl ul vl =
+    seen T fine (held T (fine .few-members) m long g) (assign (λ x. 0) 0 v) n u nl (among-assign (T .members) (λ x. 0) 0 v (λ x. fine .some-member) vl) ul
+
+-- and the policy that a request asks
 pub granted : (T : Terms) → Good T → (m : List ℕ) → stateWords ≤ length m → goodState T m ≡ true → (j u v : ℕ) → Named T j u v →
     {i : ℕ} {r : Bool} → i ≡ T .policy j → r ≡ nowAt T (relationsOf m) (pastOf m) (assign (λ x. 0) 0 v) i u → r ≡ decideNow T (stateOf m) j u v
 granted T fine m long g j u v n p h =
     h ∙ ap (λ i. nowAt T (relationsOf m) (pastOf m) (assign (λ x. 0) 0 v) i u) p
-    ∙ seen T fine (held T (fine .few-members) m long g) (assign (λ x. 0) 0 v) (T .policy j) u (fine .policy-exists j (n .event))
-    (among-assign (T .members) (λ x. 0) 0 v (λ x. fine .some-member) (n .to)) (n .from)
+    ∙ asked T fine m long g (T .policy j) u v (fine .policy-exists j (n .event)) (n .from) (n .to)
 
 -- ---- one turn of each sweep
 

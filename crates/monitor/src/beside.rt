@@ -18,7 +18,7 @@ use crate::asking;
 use crate::brief;
 use crate::entering;
 use crate::memo;
-use crate::moment::clear;
+use memory::clear;
 use memory::layout;
 
 const TABLES: usize = layout::TABLES_AT;

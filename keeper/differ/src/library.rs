@@ -4,6 +4,8 @@
 //! call is made of a `Monitor`, which has to agree in answer and state. A set
 //! list is made besides by single requests.
 
+mod plans;
+
 use crate::revise;
 use crate::shown;
 use crate::tally::Tally;

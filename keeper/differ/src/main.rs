@@ -1,15 +1,17 @@
-//! `differ [--calls N] [--files N] [--seed S]` holds the static library
-//! against the keeper: N calls over accepted terms, new terms among them, N
-//! damaged texts and as many damaged memories, with calls and with new terms,
-//! and memories whose tables are drawn, with new terms; then as much of two
-//! banks. The first difference is printed with its seed, made small, and the
-//! exit status is 1.
+//! `differ [--calls N] [--files N] [--plans N] [--seed S]` holds the static
+//! library against the keeper: N calls over accepted terms, new terms among them,
+//! N damaged texts and as many damaged memories, with calls and with new terms,
+//! and memories whose tables are drawn, with new terms; N plans against a rival
+//! among calls, and two for each damaged text; then as much of two banks. The
+//! first difference is printed with its seed, made small, and the exit status is
+//! 1.
 
 mod archive;
 mod banks;
 mod library;
 mod named;
 mod options;
+mod plans;
 mod revise;
 mod rounds;
 mod shown;
@@ -24,7 +26,7 @@ fn main() -> ExitCode {
     let options = match Options::parse(std::env::args().skip(1)) {
         Ok(options) => options,
         Err(wrong) => {
-            eprintln!("{wrong}\nusage: differ [--calls N] [--files N] [--seed S]");
+            eprintln!("{wrong}\nusage: differ [--calls N] [--files N] [--plans N] [--seed S]");
             return ExitCode::from(2);
         }
     };

@@ -2,6 +2,7 @@
 //! and short memory.
 
 mod banks;
+mod plans;
 
 use crate::library::Library;
 use crate::options::Options;
@@ -24,6 +25,7 @@ const LARGEST: usize = usize::MAX;
 /// Runs every round and stops at the first difference.
 pub fn all(options: &Options, tallies: &mut Tallies) -> Result<(), Report> {
     one_bank(options, &mut tallies.one)?;
+    plans::all(options, &mut tallies.one)?;
     banks::all(options, &mut tallies.two)
 }
 
@@ -200,7 +202,7 @@ mod tests {
 
     #[test]
     fn a_short_run_finds_no_difference() {
-        let options = Options { calls: 400, files: 60, seed: 7 };
+        let options = Options { calls: 400, files: 60, plans: 200, seed: 7 };
         assert_eq!(all(&options, &mut Tallies::default()), Ok(()));
     }
 

@@ -1,6 +1,6 @@
 //! What the binding shows of terms and a state, in the keeper's words.
 
-use cuckooormolu::{Action, Answer, Direction, Entry, Label, Monitor};
+use cuckooormolu::{Action, Answer, Direction, Entry, Label, Member, Monitor};
 use keeper::terms::memory::State;
 use keeper::terms::{self, Bit, Effect, EventEdge, Past, Terms};
 
@@ -60,13 +60,14 @@ pub fn state(monitor: &Monitor) -> State {
         assert!(shown.has_edge(edge));
         (edge.relation.into(), edge.from.into(), edge.to.into())
     };
-    let paired = terms(monitor).paired();
+    let members = monitor.terms().members().len();
     let table = |t| {
-        let bits = shown.table(t).map(|(at, other)| {
-            assert!(shown.table_holds(t, at, other));
-            bit(paired.contains(&t), at.into(), other.into())
+        let table = shown.table(monitor.terms(), t).expect("each past-time entry has a table");
+        let holding = table.holding().flat_map(|holding| {
+            assert_eq!(table.holds(holding.at(), holding.others()), Some(true));
+            bits(members, holding.at().into(), holding.others())
         });
-        bits.collect()
+        holding.collect()
     };
     let event = |edge: cuckooormolu::EventEdge| {
         let cuckooormolu::Request { event, from, to } = edge.request;
@@ -78,11 +79,13 @@ pub fn state(monitor: &Monitor) -> State {
     State { edges: shown.edges().map(edge).collect(), past }
 }
 
-/// The bit of a table at a place of one of its words.
-fn bit(is_paired: bool, word: usize, place: usize) -> Bit {
-    if is_paired {
-        Bit::Triple(word / 4, 4 * (word % 4) + place / 16, place % 16)
-    } else {
-        Bit::Pair(word, place)
+/// The bits that say that an entry holds at a member, with its free variables
+/// standing for the others. Without any, all bits at the member say so.
+fn bits(members: usize, at: usize, others: &[Member]) -> Vec<Bit> {
+    match *others {
+        [] => (0..members).map(|b| Bit::Pair(at, b)).collect(),
+        [b] => vec![Bit::Pair(at, b.into())],
+        [b, c] => vec![Bit::Triple(at, b.into(), c.into())],
+        _ => unreachable!("no entry has more than two free variables"),
     }
 }

@@ -1,5 +1,7 @@
 //! What was compared, counted by outcome.
 
+mod plans;
+
 use keeper::record::{Answer, Call};
 use keeper::set_list::Item;
 use keeper::terms::formula::first_same;
@@ -83,6 +85,7 @@ fn one_bank() -> Vec<Seen> {
     wanted.extend(["write", "store"].map(|kind| (kind, "written".into())));
     let paired = ["read stored", "T line refuse 1", "T line refuse 2"];
     wanted.extend(paired.map(|outcome| (PAIRED, outcome.into())));
+    wanted.extend(plans::wanted());
     wanted
 }
 
@@ -100,6 +103,7 @@ fn two_banks() -> Vec<Seen> {
 pub struct Tally {
     counts: BTreeMap<Seen, usize>,
     calls: usize,
+    plans: usize,
     shrinking: bool,
     /// The words of terms that were looked at last, and what they say.
     last: (Vec<u16>, Terms),

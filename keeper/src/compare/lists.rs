@@ -52,7 +52,7 @@ pub fn lists(other: &mut impl Other, case: &Case) -> Result<(), Difference> {
     Ok(())
 }
 
-fn record_list(
+pub(super) fn record_list(
     other: &mut impl Other,
     items: &[Item],
     scratch: &[u64],

@@ -73,7 +73,7 @@ fn paired(rng: &mut Rng, terms: &mut Terms) -> usize {
     push(terms, Entry::Bind(x, past))
 }
 
-fn push(terms: &mut Terms, entry: Entry) -> usize {
+pub fn push(terms: &mut Terms, entry: Entry) -> usize {
     terms.entries.push(entry);
     terms.entries.len() - 1
 }

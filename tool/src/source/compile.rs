@@ -181,7 +181,7 @@ fn too_many(event: &Name, what: &str, most: usize, own: usize) -> Mistake {
 
 /// A part about the past, or one that leads to somebody, that speaks of too
 /// many people.
-fn crowded(crowd: &Crowd, resolver: &Resolver, text: &str, members: usize) -> Mistake {
+pub(super) fn crowded(crowd: &Crowd, resolver: &Resolver, text: &str, members: usize) -> Mistake {
     let name = |id: &Option<_>| id.map_or("whom it is said of", |id| resolver.name(id));
     let mut people: Vec<&str> = crowd.people.iter().map(name).collect();
     let last = people.pop().unwrap_or_default();

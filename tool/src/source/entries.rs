@@ -38,6 +38,16 @@ pub struct Entries {
 }
 
 impl Entries {
+    /// Goes on from entries that are there already.
+    pub fn over(list: &[Entry]) -> Entries {
+        let mut entries = Entries { list: list.to_vec(), ..Entries::default() };
+        entries.origins = vec![(None, None); list.len()];
+        for (place, entry) in list.iter().enumerate() {
+            entries.places.entry(entry.parts()).or_insert(place);
+        }
+        entries
+    }
+
     /// The entry of a policy, in which nobody but the target is free. `wish`
     /// gives the variable that a person asks for.
     pub fn policy(

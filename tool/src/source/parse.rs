@@ -11,7 +11,7 @@ use super::mistake::Mistake;
 use super::tokens::{tokens, Token, WORDS};
 use std::collections::HashSet;
 
-pub use read::{parse, read, Read};
+pub use read::{formula, parse, read, Read};
 pub(super) use stray::third;
 
 /// The deepest that formulas may stand in one another.

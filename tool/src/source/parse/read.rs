@@ -72,6 +72,21 @@ pub fn read(text: &str) -> Read {
     read
 }
 
+/// Reads a formula that stands alone, given the names of relations and events.
+pub fn formula(text: &str, declared: HashSet<String>) -> Result<Formula, Mistake> {
+    let (tokens, unknown) = tokens(text);
+    if let Some(mistake) = unknown.into_iter().next() {
+        return Err(mistake);
+    }
+    let begins = vec![false; tokens.len()];
+    let mut parser = Parser { tokens, begins, declared, ..Parser::default() };
+    let formula = parser.formula()?;
+    match parser.token() {
+        Token::End => Ok(formula),
+        _ => Err(parser.stray(&[])),
+    }
+}
+
 /// The words after `relation` and `event`, up to whatever is no list.
 fn declared(tokens: &[(Token, Span)]) -> HashSet<String> {
     let mut declared = HashSet::new();

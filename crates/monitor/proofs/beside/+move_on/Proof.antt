@@ -15,7 +15,7 @@ use Rattle.monitor.proofs.beside.+move_on.Lts-move_on as move-on-lts
 use Rattle.monitor.proofs.beside.move_both.Reads as move-both-reads
 use Rattle.monitor.proofs.beside.move_shared.Reads as move-shared-reads
 use Rattle.monitor.proofs.brief.are_brief.Reads as are-brief-reads
-use Rattle.monitor.proofs.moment.clear.Reads as clear-reads
+use Rattle.memory.proofs.clear.Reads as clear-reads
 use Rattle.monitor.proofs.beside.+move_on.{statement}
 use Rattle.monitor.proofs.beside.+move_on.Tie.{close}
 
