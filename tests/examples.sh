@@ -3,6 +3,7 @@
 # the requests, or `without G 0 0 2`, of the terms; the second lists the answers that differ, `5, 6 deny; 7 grant`. All others must stay. Where an example has a folder `later`, its terms
 # are what is stored after the example's requests; where it has a folder `new` too, after a revision to the terms there.
 # Where it has a folder `strangers`, that has the same terms but for first edges, and what both ask alike both answer alike.
+# Where it has a folder `renumbered`, that has what `later` has, by the members' other numbers, and the same answers.
 here=$(cd "$(dirname "$0")" && pwd)
 # shellcheck source=tests/hold.sh
 . "$here/hold.sh"
@@ -48,7 +49,7 @@ differ() {
 }
 
 for dir in "$here"/../examples/*/ "$here"/../examples/*/new/ "$here"/../examples/*/later/ \
-    "$here"/../examples/*/strangers/; do
+    "$here"/../examples/*/strangers/ "$here"/../examples/*/renumbered/; do
     example=${dir#"$here"/../examples/} example=${example%/}
     if [ -d "$dir/later" ]; then
         if [ -d "$dir/new" ]; then set -- revise "$dir" "$dir/new"; else set -- store "$dir"; fi
@@ -87,5 +88,21 @@ for dir in "$here"/../examples/*/strangers; do
         $1 != asked[FNR] { other++; next }
         { alike++; differ += $2 != said[FNR] }
         END { exit differ || !alike || !other }' "$work/told" - || { echo "FAIL $dir: the circle's answers differ" && failed=$((failed + 1)); }
+done
+
+# The same members by other numbers.
+# numbered FOLDER FILE: the lines of a file of later/, by the numbers that the names have in the folder.
+numbered() {
+    awk -F '\t' -v OFS='\t' '
+        FILENAME == ARGV[1] { if ($1 == "member") was[$3] = $2; next }
+        FILENAME == ARGV[2] { if ($1 == "member") number[was[$3]] = $2; next }
+        /^[GTVR]/ { for (i = 3; i <= NF; i++) $i = number[$i] }
+        { print }' "$1/../later/names.tsv" "$1/names.tsv" "$1/../later/$2"
+}
+for dir in "$here"/../examples/*/renumbered; do
+    numbered "$dir" requests.tsv | cmp - "$dir/requests.tsv" || failed=$((failed + 1))
+    numbered "$dir" terms.tsv | sort >"$work/terms"
+    sort "$dir/terms.tsv" | cmp - "$work/terms" || failed=$((failed + 1))
+    cmp "$dir/expected.tsv" "$dir/../later/expected.tsv" || failed=$((failed + 1))
 done
 finish

@@ -14,12 +14,13 @@
 //! * `banks`: two banks beside a monitor
 //! * `pairs`: tables of two variables beside tables of one
 //! * `plans`: plans against a rival, in requests
+//! * `renumberings`: members renumbered beside a copy of the state
 //! * `stack`, `bank_stack`: the stack that one call takes
 //! * `archives`, `compare`: archives beside each other
 //!
 //! `benchmark pieces`, `lists`, `texts`, `counts`, `revisions`, `banks`, `pairs`,
-//! `plans` and `stack` measure that only, `benchmark compare ARCHIVE...` times the
-//! calls of those archives and of the one that is built in turn, `benchmark loop`
+//! `plans`, `renumber` and `stack` measure that only, `benchmark compare ARCHIVE...` times
+//! the calls of those archives and of the one that is built in turn, `benchmark loop`
 //! makes many requests for a profiler.
 
 mod archives;
@@ -36,6 +37,7 @@ mod measure;
 mod pairs;
 mod pieces;
 mod plans;
+mod renumberings;
 mod revisions;
 mod rows;
 mod stack;
@@ -61,6 +63,7 @@ fn main() {
             banks::print();
             pairs::print();
             plans::print();
+            renumberings::print();
             print_stack();
         }
         Some("pieces") => pieces::print(),
@@ -71,13 +74,14 @@ fn main() {
         Some("banks") => banks::print(),
         Some("pairs") => pairs::print(),
         Some("plans") => plans::print(),
+        Some("renumber") => renumberings::print(),
         Some("stack") => print_stack(),
         Some("compare") => compare::print(&words[1..]),
         Some("loop") => repeat(),
         Some(other) => {
             eprintln!(
                 "{other}: not known; pieces, lists, texts, counts, revisions, banks, pairs, \
-                 plans, stack, compare, loop or nothing"
+                 plans, renumber, stack, compare, loop or nothing"
             )
         }
     }

@@ -9,8 +9,9 @@
  * Stack     measured, not proved: reading takes 191 KiB, writing a terms text
  *           or asking for its size 193 KiB, an opening, revision, look, request
  *           or set list 172 KiB, of two banks too, and each 1.16 KiB more for
- *           every level by which entries nest, at most 488 KiB; storing and the
- *           other calls take 4 KiB. Provide CUCKOOORMOLU_STACK_BYTES.
+ *           every level by which entries nest, at most 488 KiB; renumbering
+ *           takes 19 KiB, storing and the other calls 4 KiB. Provide
+ *           CUCKOOORMOLU_STACK_BYTES.
  * Time      measured, not proved. Entries that share others take no more than
  *           a memo's time; what can still take long is nested binds over
  *           entries that read their variables: about N to the depth of such
@@ -71,9 +72,9 @@ extern "C" {
 #endif
 
 #define CUCKOOORMOLU_VERSION_MAJOR 0
-#define CUCKOOORMOLU_VERSION_MINOR 14
+#define CUCKOOORMOLU_VERSION_MINOR 15
 #define CUCKOOORMOLU_VERSION_PATCH 0
-#define CUCKOOORMOLU_VERSION "0.14.0"
+#define CUCKOOORMOLU_VERSION "0.15.0"
 
 /* The named words of each memory. A bank's state is the relations, which two
  * banks share, and then its own words. */
@@ -99,8 +100,8 @@ extern "C" {
  * denied differ in five bits. Refusals leave all memory as lent, but that the
  * records of a set list have no answers then. Where several fit, reading gives
  * 6, then the first faulty line and in it the lowest number, and 11 only where
- * no line is faulty; the other calls give 6 (terms, state, scratch), 7, 8, 9, 12
- * or 13, and last 6 for the output; a plan and a telling give 14 after 8 and
+ * no line is faulty; the other calls give 6 (terms, state, scratch), 7, 8, 9, 12,
+ * 13 or 15, and last 6 for the output; a plan and a telling give 14 after 8 and
  * before 9.
  */
 typedef enum cuckooormolu_code {
@@ -138,7 +139,11 @@ typedef enum cuckooormolu_code {
      * to 3 requests long, or whose planner is the rival; and an entry, a plan's
      * goal too, that does not exist or has a free variable other than 0. */
     CUCKOOORMOLU_REFUSED_PLAN = 14,
-    /* A reading, writing, check, opening, revision or set list that is done. */
+    /* A list of members' new numbers that is not as long as there are members,
+     * or that lacks one of their numbers. */
+    CUCKOOORMOLU_REFUSED_NUMBERS = 15,
+    /* A reading, writing, check, opening, revision, renumbering or set list that
+     * is done. */
     CUCKOOORMOLU_DONE = 100,
     /* A look or request whose policy does not hold. */
     CUCKOOORMOLU_DENIED = 200,
@@ -287,7 +292,7 @@ CUCKOOORMOLU_ASSERT(sizeof(struct cuckooormolu_move) == 16 &&
                         offsetof(struct cuckooormolu_move, event) == 0,
                     "a move is two numbers, its event first");
 CUCKOOORMOLU_ASSERT(CUCKOOORMOLU_REFUSED_FORM > 0, "no code is 0");
-CUCKOOORMOLU_ASSERT(CUCKOOORMOLU_REFUSED_PLAN < 100,
+CUCKOOORMOLU_ASSERT(CUCKOOORMOLU_REFUSED_NUMBERS < 100,
                     "refusals are below 100");
 CUCKOOORMOLU_ASSERT(CUCKOOORMOLU_DONE >= 100, "done is no refusal");
 CUCKOOORMOLU_ASSERT(CUCKOOORMOLU_DENIED > CUCKOOORMOLU_DONE,
@@ -418,6 +423,9 @@ static inline const char *cuckooormolu_words(struct cuckooormolu_result result)
         return "plan where there are more than 8 members or 4 events, of no or "
                "more than 3 requests, or whose planner is the rival; or an "
                "entry that doesn't exist or has a free variable other than 0";
+    case CUCKOOORMOLU_REFUSED_NUMBERS:
+        return "list of new numbers that is not as long as there are members, "
+               "or that lacks one of their numbers";
     case CUCKOOORMOLU_DONE:
         return "done";
     case CUCKOOORMOLU_DENIED:
@@ -496,7 +504,7 @@ cuckooormolu_answer_words(struct cuckooormolu_answer answer)
  * may be null, not even where its length is 0, and memory that a call may write,
  * the number behind the last pointer too, must not overlap any other.
  */
-size_t cuckooormolu_raw_version_0_14_0(void);
+size_t cuckooormolu_raw_version_0_15_0(void);
 size_t cuckooormolu_raw_read(const uint8_t *text, size_t text_length,
                              uint16_t *terms, size_t terms_length,
                              uint64_t *state, size_t state_length,
@@ -526,6 +534,10 @@ size_t cuckooormolu_raw_revise(const uint16_t *old_terms,
                                const uint16_t *new_terms,
                                size_t new_terms_length,
                                uint64_t *state, size_t state_length);
+size_t cuckooormolu_raw_renumber(const uint16_t *terms, size_t terms_length,
+                                 const uint64_t *state, size_t state_length,
+                                 const uint8_t *numbers, size_t numbers_length,
+                                 uint64_t *second, size_t second_length);
 size_t cuckooormolu_raw_look(const uint16_t *terms, size_t terms_length,
                              const uint64_t *state, size_t state_length,
                              const uint64_t *scratch, size_t scratch_length,
@@ -594,10 +606,10 @@ size_t cuckooormolu_raw_banks_set_list(
 
 /* Header and archive belong together: the version stands in a function's name,
  * so that an archive of another version does not link. The function gives it as
- * one number, 14000 for 0.14.0. */
+ * one number, 15000 for 0.15.0. */
 #ifdef __GNUC__
 __attribute__((used)) CUCKOOORMOLU_RETAINED static size_t (
-    *const cuckooormolu_archive)(void) = cuckooormolu_raw_version_0_14_0;
+    *const cuckooormolu_archive)(void) = cuckooormolu_raw_version_0_15_0;
 #endif
 
 /*
@@ -801,6 +813,34 @@ cuckooormolu_revise(const uint16_t *old_terms, size_t old_terms_length,
         code = cuckooormolu_raw_revise(old_terms, old_terms_length, old_state,
                                        old_state_length, new_terms,
                                        new_terms_length, state, state_length);
+    return cuckooormolu_result_of(code);
+}
+
+/*
+ * Gives the members new numbers, byte m of `numbers` being that of member m:
+ * fills in the second state, in which everybody has under the new number what
+ * they had under the old one, relations, past and event edge. The terms stay.
+ * What `second` held does not count. Done: from then on the terms are lent with
+ * that state, and requests that name the new numbers are answered as those that
+ * named the old ones. The list that undoes it gives the first state back.
+ * Refused with 6, 7, 8 or 15: all memory is as lent. It is for one monitor, and
+ * not for two banks, which share relations.
+ */
+CUCKOOORMOLU_USED static inline struct cuckooormolu_result
+cuckooormolu_renumber(const uint16_t *terms, size_t terms_length,
+                      const uint64_t *state, size_t state_length,
+                      const uint8_t *numbers, size_t numbers_length,
+                      uint64_t *second, size_t second_length)
+{
+    CUCKOOORMOLU_LENT(uint16_t, terms, terms_length)
+    CUCKOOORMOLU_LENT(uint64_t, state, state_length)
+    CUCKOOORMOLU_LENT(uint8_t, numbers, numbers_length)
+    CUCKOOORMOLU_LENT(uint64_t, second, second_length)
+    size_t code = CUCKOOORMOLU_REFUSED_SHORT;
+    if (CUCKOOORMOLU_APART_FROM(second, terms, state, numbers))
+        code = cuckooormolu_raw_renumber(terms, terms_length, state,
+                                         state_length, numbers, numbers_length,
+                                         second, second_length);
     return cuckooormolu_result_of(code);
 }
 
@@ -1263,6 +1303,26 @@ cuckooormolu_monitor_revise(const struct cuckooormolu *m,
     return cuckooormolu_revise(CUCKOOORMOLU_TERMS(m), CUCKOOORMOLU_STATE(m),
                                CUCKOOORMOLU_TERMS(next),
                                CUCKOOORMOLU_STATE(next));
+}
+
+/*
+ * The members of `m` get new numbers in `next`, another monitor, which needs no
+ * terms of its own. Done: `next` has the terms and the renumbered state, and is
+ * used in the place of `m`, which is as lent. Refused: both are as lent. Where
+ * both are one monitor, it is refused with 6.
+ */
+CUCKOOORMOLU_USED static inline struct cuckooormolu_result
+cuckooormolu_monitor_renumber(const struct cuckooormolu *m,
+                              const uint8_t *numbers, size_t length,
+                              struct cuckooormolu *next)
+{
+    struct cuckooormolu_result result = cuckooormolu_renumber(
+        CUCKOOORMOLU_TERMS(m), CUCKOOORMOLU_STATE(m), numbers, length,
+        CUCKOOORMOLU_STATE(next));
+    if (cuckooormolu_done(result))
+        for (size_t i = 0; i < CUCKOOORMOLU_TERMS_WORDS; i++)
+            next->terms[i] = m->terms[i];
+    return result;
 }
 
 CUCKOOORMOLU_USED static inline struct cuckooormolu_result

@@ -29,7 +29,7 @@ static void codes(void)
         EXPECT(cuckooormolu_denied(result) == (code == 200));
         EXPECT(cuckooormolu_done(result) == (code == 100));
         EXPECT(cuckooormolu_refusal(result) == (code < 100 ? code : 0));
-        bool known = (code >= 1 && code <= 14) ||
+        bool known = (code >= 1 && code <= 15) ||
                      (code >= 100 && code <= 700 && code % 100 == 0);
         EXPECT((strcmp(cuckooormolu_words(result),
                        "not a code of the monitor") != 0) == known);
@@ -64,7 +64,7 @@ static void version(void)
     snprintf(words, sizeof words, "%d.%d.%d", CUCKOOORMOLU_VERSION_MAJOR,
              CUCKOOORMOLU_VERSION_MINOR, CUCKOOORMOLU_VERSION_PATCH);
     EXPECT(strcmp(words, CUCKOOORMOLU_VERSION) == 0);
-    EXPECT(cuckooormolu_raw_version_0_14_0() ==
+    EXPECT(cuckooormolu_raw_version_0_15_0() ==
            1000000 * CUCKOOORMOLU_VERSION_MAJOR +
                1000 * CUCKOOORMOLU_VERSION_MINOR + CUCKOOORMOLU_VERSION_PATCH);
 }

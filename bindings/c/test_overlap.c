@@ -143,6 +143,32 @@ static void states(void)
         m.terms, TERMS, room, STATE, m.terms, TERMS, room + STATE, STATE)));
 }
 
+/* Numbers may lie in what is only read, and not in the second state. */
+static void renumberings(void)
+{
+    const uint8_t swapped[] = {1, 0};
+    begin();
+    memcpy(room, swapped, sizeof swapped);
+    memcpy(before, room, sizeof room);
+    const uint8_t *inside = (const uint8_t *)room;
+    EXPECT_REFUSED(SHORT, cuckooormolu_renumber(m.terms, TERMS, room, STATE,
+                                                swapped, 2, room, STATE));
+    EXPECT_REFUSED(SHORT, cuckooormolu_renumber(m.terms, TERMS, room, STATE,
+                                                swapped, 2, room + 1, STATE));
+    EXPECT_REFUSED(SHORT,
+                   cuckooormolu_renumber((const uint16_t *)room, TERMS,
+                                         m.state, STATE, swapped, 2, room,
+                                         STATE));
+    EXPECT_REFUSED(SHORT, cuckooormolu_renumber(m.terms, TERMS, m.state, STATE,
+                                                inside, 2, room, STATE));
+    EXPECT_REFUSED(SHORT,
+                   cuckooormolu_renumber(m.terms, TERMS, m.state, STATE,
+                                         inside + 24584 - 1, 2, room, STATE));
+    expect_unchanged();
+    EXPECT(cuckooormolu_done(cuckooormolu_renumber(
+        m.terms, TERMS, m.state, STATE, inside, 2, room + STATE, STATE)));
+}
+
 /* What is only read may overlap, and the same terms may be lent twice. */
 static void readers(void)
 {
@@ -176,6 +202,7 @@ int main(void)
     lists();
     texts();
     states();
+    renumberings();
     readers();
     numbers();
     return failed;

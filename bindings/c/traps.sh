@@ -71,6 +71,16 @@ compiling not "nor an entry that holds as a grant" "if (cuckooormolu_granted($te
 compiling not "nor as an accepted plan" "if (cuckooormolu_accepted($tell)) $then" "$@"
 compiling not "nor an entry that is not looked at" "$tell;" "$@"
 
+renumbered='cuckooormolu_monitor_renumber(m, numbers, 2, &next)'
+lists='static struct cuckooormolu next; const uint8_t numbers[] = {1, 0};'
+compiling ok "a renumbering that is asked for compiles" "$lists if (cuckooormolu_done($renumbered)) *m = next;" "$@"
+compiling not "a renumbering as a truth value does not" "$lists if ($renumbered) *m = next;" "$@"
+compiling not "nor one that is not looked at" "$lists $renumbered;" "$@"
+compiling not "nor one of banks, which share relations" \
+    "$lists if (cuckooormolu_done(cuckooormolu_monitor_renumber(b, numbers, 2, &next))) *m = next;" "$@"
+compiling not "nor members' numbers of another width" "static struct cuckooormolu next; const int numbers[] = {1, 0};
+    if (cuckooormolu_done($renumbered)) *m = next;" "$@"
+
 left='cuckooormolu_left_request(b, 0, 0, 0)'
 compiling ok "a grant of a bank that is asked for compiles" "if (cuckooormolu_granted($left)) $then" "$@"
 compiling not "a bank's call as a truth value does not" "if ($left) $then" "$@"

@@ -3,10 +3,12 @@
 pub mod banks;
 mod lists;
 pub mod plans;
+mod renumberings;
 mod revisions;
 mod written;
 
 pub use lists::{lists, set_list};
+pub use renumberings::{renumber, renumbered_list, renumbered_steps};
 pub use revisions::revise;
 pub use written::write;
 
@@ -17,6 +19,7 @@ use crate::set_list::Item;
 use crate::step::Step;
 use crate::terms::memory::{SCRATCH_WORDS, STATE_WORDS, TERMS_WORDS};
 use crate::terms::{self, memory, Refusal};
+use renumberings::record_renumbering;
 use revisions::record_revision;
 use written::written_back;
 
@@ -49,6 +52,15 @@ pub trait Other {
         old_terms: &mut [u16],
         old_state: &mut [u64],
         new_terms: &mut [u16],
+        second: &mut [u64],
+    ) -> Result<(), Refusal>;
+
+    /// Fills a second state in by other numbers for the members.
+    fn renumber(
+        &mut self,
+        terms: &mut [u16],
+        state: &mut [u64],
+        numbers: &mut [u8],
         second: &mut [u64],
     ) -> Result<(), Refusal>;
 
@@ -105,6 +117,11 @@ fn noise(rng: &mut Rng, count: usize) -> Vec<u64> {
     (0..count).map(|_| rng.draw()).collect()
 }
 
+/// As many words as are lent, or all there are.
+fn front<T>(words: &[T], count: usize) -> &[T] {
+    &words[..count.min(words.len())]
+}
+
 /// Replaces the front of the lent words.
 fn over<T: Copy>(lent: &[T], front: &[T]) -> Vec<T> {
     [front, &lent[front.len()..]].concat()
@@ -154,6 +171,9 @@ pub fn case(other: &mut impl Other, case: &Case) -> Result<(), Difference> {
             Step::Call(call) => record_call(other, call, &mut record, &mut lent, &mut rng),
             Step::Revision(revision) => {
                 record_revision(other, revision, &mut record, &mut lent, &mut rng)
+            }
+            Step::Renumbering(renumbering) => {
+                record_renumbering(other, renumbering, &mut record, &mut lent, &mut rng)
             }
         };
         taken.map_err(named)?;

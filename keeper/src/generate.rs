@@ -8,6 +8,7 @@ pub mod lines;
 mod paired;
 mod patterns;
 pub mod plans;
+pub mod renumbered;
 pub mod revised;
 pub mod size;
 pub mod stored;
@@ -70,11 +71,11 @@ pub struct Case<S = Step> {
 }
 
 impl Case {
-    /// Its calls, without the new terms among them.
+    /// Its calls, without the new terms and other numbers among them.
     pub fn calls(&self) -> impl Iterator<Item = &Call> {
         self.steps.iter().filter_map(|step| match step {
             Step::Call(call) => Some(call),
-            Step::Revision(_) => None,
+            Step::Revision(_) | Step::Renumbering(_) => None,
         })
     }
 }
@@ -89,8 +90,8 @@ impl<S: fmt::Display> fmt::Display for Case<S> {
     }
 }
 
-/// An accepted text with calls and new terms among them, now and then of the
-/// stored form or with padded numbers. No number of a call is above `largest`.
+/// An accepted text with calls, and new terms and other numbers for the members
+/// among them, now and then of the stored form or with padded numbers. No number of a call is above `largest`.
 pub fn case(seed: u64, largest: usize) -> Case {
     let mut rng = Rng::new(seed);
     let size = Size::random(&mut rng);
@@ -107,6 +108,7 @@ pub fn case(seed: u64, largest: usize) -> Case {
         lines::pad(&mut rng, &mut text);
     }
     let steps = revised::steps(&mut rng, &terms, calls);
+    let steps = renumbered::among(&mut rng, terms.members, steps);
     Case { seed, text, steps }
 }
 

@@ -8,7 +8,8 @@
 //! * `record`: the list of graphs, from where on each past-time entry is judged,
 //!   and the meaning of a formula over it; new terms while it goes on
 //! * `set_list`: many requests in one call
-//! * `step`: calls, and new terms among them
+//! * `renumber`: other numbers for the members, in every graph so far
+//! * `step`: calls, and new terms and other numbers among them
 //! * `plan`: plans against a rival, and whether an entry holds now
 //! * `banks`: two banks with a record each, their memory and their steps
 //! * `expect`: what each call over lent memory must give
@@ -26,6 +27,7 @@ pub mod generate;
 pub mod plan;
 pub mod program;
 pub mod record;
+pub mod renumber;
 pub mod set_list;
 pub mod shrink;
 pub mod step;

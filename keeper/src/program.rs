@@ -31,6 +31,14 @@ pub fn revised(directory: &Path, new: &Path) -> Result<Vec<u8>, Refusal> {
     Ok(terms::store(record.terms(), &record.state()))
 }
 
+/// What is stored after the requests of a directory and a renumbering of the
+/// members; the refusal where the terms or the list are refused.
+pub fn renumbered(directory: &Path, numbers: &[u8]) -> Result<Vec<u8>, Refusal> {
+    let mut record = played(directory)?;
+    record.renumber(numbers)?;
+    Ok(terms::store(record.terms(), &record.state()))
+}
+
 /// The record after the requests of a directory.
 fn played(directory: &Path) -> Result<Record, Refusal> {
     let mut record = Record::of(terms::read(&contents(&directory.join("terms.tsv")))?);

@@ -153,6 +153,21 @@ impl Record {
         &self.starts
     }
 
+    /// Puts another graph in the place of each, and another table in the place of
+    /// each that says what an entry is at the first graph.
+    pub(crate) fn rewrite(
+        &mut self,
+        graph: impl Fn(&Graph) -> Graph,
+        table: impl Fn(&BTreeSet<Bit>) -> BTreeSet<Bit>,
+    ) {
+        self.graphs = self.graphs.iter().map(graph).collect();
+        for start in &mut self.starts {
+            if let Start::Unknown(said) = start {
+                *said = table(said);
+            }
+        }
+    }
+
     /// What the past-time entries are said to be at the first graph, where the
     /// moments before it are not known; nothing of those that started later.
     pub fn before(&self) -> Option<Tables> {

@@ -1,6 +1,8 @@
-//! What is done once a text is read: calls, and new terms among them.
+//! What is done once a text is read: calls, and new terms and other numbers for
+//! the members among them.
 
 use crate::record::{Call, Record};
+use crate::renumber::Renumbering;
 use crate::terms::memory::{self, STATE_WORDS, TERMS_WORDS};
 use crate::terms::{self, Refusal, Terms};
 use std::fmt;
@@ -10,6 +12,7 @@ use std::fmt;
 pub enum Step {
     Call(Call),
     Revision(Revision),
+    Renumbering(Renumbering),
 }
 
 /// New terms as they are lent, and how many words are lent besides.
@@ -64,6 +67,7 @@ impl fmt::Display for Step {
                 writeln!(out, "  {kind} {event} {from} {to} with {scratch_words} words of scratch")
             }
             Step::Revision(revision) => revision.fmt(out),
+            Step::Renumbering(renumbering) => renumbering.fmt(out),
         }
     }
 }

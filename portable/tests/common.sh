@@ -23,7 +23,7 @@ chmod 755 "$work"
 cp "$top"/bindings/c/*.[ch] "$here"/*.[ch] "$work"
 cp "$folder/cuckooormolu.h" "$work"
 sh "$here/seeds.sh" "$work/seeds"
-invariants="$work/invariants.c $work/banks.c"
+invariants="$work/invariants.c $work/banks.c $work/renumbered.c"
 revise=$(sed -n 's/^size_t cuckooormolu_raw_revise(.*/-DREVISE/p' "$folder/cuckooormolu.h")
 
 # has COMMAND...: whether the words compile a program; else the build is left out.

@@ -23,7 +23,7 @@ fi
 revise=$(sed -n 's/^size_t cuckooormolu_raw_revise(.*/-DREVISE/p' "$folder/cuckooormolu.h")
 # shellcheck disable=SC2086
 clang -std=c11 -O2 -g -fsanitize="$sanitizers" -fno-sanitize-recover=all $revise -I "$folder" -o "$work/fuzz" \
-    "$here/invariants.c" "$here/banks.c" "$folder/cuckooormolu.c"
+    "$here/invariants.c" "$here/banks.c" "$here/renumbered.c" "$folder/cuckooormolu.c"
 sh "$here/seeds.sh" "$work/seeds"
 for word in top var not or out in prev since bind at reach many add del fwd back; do
     printf '"%s\\x09"\n' "$word"

@@ -8,6 +8,7 @@
 
 #include "banks.h"
 #include "memory.h"
+#include "renumbered.h"
 
 /* Time grows with the members to the power of nested binds, so a text with more
  * of them is left alone. */
@@ -279,6 +280,7 @@ static void damaged(struct memory m, const uint8_t *call)
     size_t code = check(other);
     HOLDS(written(other, cuckooormolu_raw_store_size, cuckooormolu_raw_store) == code);
     opened(other);
+    hold_renumbered(other, call);
     size_t answer = request(other, call);
     HOLDS(code == CUCKOOORMOLU_DONE ? answer >= CUCKOOORMOLU_REFUSED_NAME : answer == code);
     released(second);
@@ -304,6 +306,9 @@ static void make(struct memory m, const uint8_t *calls, size_t length, bool play
         switch (call[0] % 8) {
         default:
             (void)request(m, call);
+            break;
+        case 1:
+            hold_renumbered(m, call);
             break;
         case 2:
             if (rest > 0)

@@ -2,6 +2,7 @@
 //! the keeper of the whole record. Where they differ, it is an error.
 
 mod banks;
+mod renumbering;
 mod revising;
 mod stored;
 mod telling;

@@ -7,6 +7,7 @@ pub mod compile;
 pub mod new;
 pub mod plan;
 pub mod play;
+pub mod renumber;
 pub mod report;
 pub mod revise;
 pub mod run;
@@ -31,7 +32,7 @@ pub struct Command {
 }
 
 /// All sub-commands, in the order in which a user meets them.
-pub const COMMANDS: [Command; 15] = [
+pub const COMMANDS: [Command; 16] = [
     Command {
         name: "new",
         summary: "create a folder with a source to start from",
@@ -115,6 +116,12 @@ pub const COMMANDS: [Command; 15] = [
         summary: "continue with new terms, and say what changes",
         help: revise::HELP,
         main: revise::main,
+    },
+    Command {
+        name: "renumber",
+        summary: "give the members new numbers, with the same answers",
+        help: renumber::HELP,
+        main: renumber::main,
     },
     Command {
         name: "source",

@@ -10,7 +10,7 @@
 //! * `why`: why a request is granted or denied
 //! * `report`: a folder's story as one page
 //! * `requests`: requests by name
-//! * `revise`: a monitor that goes on with new terms
+//! * `revise`: a monitor that goes on with new terms; `renumber`: members with new numbers
 //! * `plan`: whether a rival can keep a member from a goal
 //! * `reach`: the shortest way to a request that is granted
 //! * `trial`, `editing`: requests made and taken back at a prompt; a line edited at a terminal
@@ -38,6 +38,7 @@ pub mod pages;
 pub mod plan;
 pub mod play;
 pub mod reach;
+pub mod renumber;
 pub mod replay;
 pub mod report;
 pub mod requests;

@@ -1,6 +1,7 @@
 //! The names of members, relations and events.
 
 mod near;
+mod renumbered;
 mod spoken;
 
 pub use near::{did_you_mean, nearest};

@@ -311,6 +311,11 @@ fn truth_is_rebuilt_from_reasons() {
                     asked.clear();
                     let _ = revision.answer(&mut record);
                 }
+                Step::Renumbering(renumbering) => {
+                    seen.look(&record, &asked, seed);
+                    asked.clear();
+                    let _ = renumbering.answer(&mut record);
+                }
             }
         }
         seen.look(&record, &asked, seed);

@@ -77,6 +77,8 @@ fn what_is_not_named_does_not_count() {
                     asked.clear();
                     let _ = revision.said().map(|terms| banks.revise(&terms));
                 }
+                // One bank only.
+                Step::Renumbering(_) => {}
             }
         }
         seen.look(&banks, &asked, seed);

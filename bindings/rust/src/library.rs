@@ -45,6 +45,17 @@ extern "C" {
         state_length: usize,
     ) -> usize;
 
+    pub fn cuckooormolu_raw_renumber(
+        terms: *const u16,
+        terms_length: usize,
+        state: *const u64,
+        state_length: usize,
+        numbers: *const u8,
+        numbers_length: usize,
+        second: *mut u64,
+        second_length: usize,
+    ) -> usize;
+
     pub fn cuckooormolu_raw_look(
         terms: *const u16,
         terms_length: usize,

@@ -219,6 +219,52 @@ impl Monitor {
         raw::tell(terms, state, entry, first.into(), second.into())
     }
 
+    /// Gives the members new numbers, byte m of the list being that of member m.
+    /// The terms stay, and everybody has under the new number what they had under
+    /// the old one, relations, past and event edge. So requests that name the new
+    /// numbers are answered as those that named the old ones.
+    ///
+    /// ```
+    /// use cuckooormolu::{Answer, Event, Member, Monitor, Request};
+    ///
+    /// // Event 0 makes an edge; event 1 is for whoever has had one to the target.
+    /// let text = "M 3\nL 1 2\nF 0 top 0 0\nF 1 var 0 0\nF 2 out 0 1\nF 3 since 0 2\n\
+    ///             P 0 0\nP 1 3\nE 0 add 0 fwd\n";
+    /// let mut monitor = Monitor::read(text.replace(' ', "\t").as_bytes())?;
+    /// let make = Request { event: Event(0), from: Member(0), to: Member(1) };
+    /// assert_eq!(monitor.request(make)?, Answer::Grant);
+    ///
+    /// // 0, 1 and 2 become 2, 0 and 1.
+    /// let before = monitor.state().clone();
+    /// monitor.renumber(&[2, 0, 1])?;
+    /// let ask = Request { event: Event(1), from: Member(2), to: Member(0) };
+    /// assert_eq!(monitor.look(ask)?, Answer::Grant);
+    ///
+    /// // This undoes it: 0, 1 and 2 become 1, 2 and 0.
+    /// monitor.renumber(&[1, 2, 0])?;
+    /// assert_eq!(*monitor.state(), before);
+    /// # Ok::<(), Box<dyn std::error::Error>>(())
+    /// ```
+    ///
+    /// It is for one monitor, and not for two banks, which share relations:
+    ///
+    /// ```compile_fail,E0599
+    /// fn host(banks: &mut cuckooormolu::Banks) {
+    ///     let _ = banks.renumber(&[1, 0]);
+    /// }
+    /// ```
+    ///
+    /// # Errors
+    ///
+    /// [`Refusal::BadNumbers`] where the list is not as long as there are members or
+    /// lacks one of their numbers, and then the monitor is exactly as it was.
+    pub fn renumber(&mut self, numbers: &[u8]) -> Result<(), Refusal> {
+        let mut second = State::blank();
+        raw::renumber(self.terms.words(), self.state.words(), numbers, &mut second.0[..])?;
+        self.state = second;
+        Ok(())
+    }
+
     /// The old form: the terms with the present relations, numbers without
     /// leading zeros. Reading it gives the same monitor.
     ///

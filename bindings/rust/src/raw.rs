@@ -34,7 +34,9 @@
 use crate::{library, Answer, Refusal, Ruling};
 
 mod banks;
+mod renumber;
 pub use banks::{banks_look, banks_open, banks_read, banks_request, banks_revise, banks_set_list};
+pub use renumber::renumber;
 
 /// A request by any numbers, whether or not there are such an event and
 /// members.
@@ -144,7 +146,7 @@ fn told(code: usize) -> Result<bool, Refusal> {
     }
 }
 
-/// The version of the archive as one number, 14,000 for 0.14.0. It is the crate's:
+/// The version of the archive as one number, 15,000 for 0.15.0. It is the crate's:
 /// an archive of another version does not link.
 pub fn version() -> usize {
     // Safety: the function takes nothing and gives a number.

@@ -22,6 +22,7 @@ use core::fmt;
 ///         PartlyFilled => true,
 ///         TooShort | BadTerms | BadState | NoSuchName | NotFresh | OtherSize => false,
 ///         NoGame => false,
+///         BadNumbers => false,
 ///     }
 /// }
 /// ```
@@ -29,7 +30,7 @@ use core::fmt;
 #[derive(Clone, Copy, Debug, PartialEq, Eq, Hash)]
 pub enum Refusal {
     /// 1: the form of a line or its place, or the text ends too soon.
-    Form,
+    Form = 1,
     /// 2: a number out of its range, or too many of something.
     Range,
     /// 3: an operand that isn't lower than its entry.
@@ -61,6 +62,9 @@ pub enum Refusal {
     /// than 3 requests, or whose planner is the rival; and an entry, a plan's goal
     /// too, that doesn't exist or has a free variable other than 0.
     NoGame,
+    /// 15: a list of members' new numbers that is not as long as there are members,
+    /// or that lacks one of their numbers.
+    BadNumbers,
 }
 
 impl Refusal {
@@ -80,16 +84,17 @@ impl Refusal {
         Refusal::NotFresh,
         Refusal::OtherSize,
         Refusal::NoGame,
+        Refusal::BadNumbers,
     ];
 
     /// The refusal's number, from 1.
     pub fn number(self) -> usize {
-        self as usize + 1
+        self as usize
     }
 
     /// The refusal of a number, if there is one.
     pub fn of_number(number: usize) -> Option<Refusal> {
-        Refusal::ALL.get(number.checked_sub(1)?).copied()
+        Refusal::ALL.iter().copied().find(|refusal| refusal.number() == number)
     }
 
     /// What is wrong, in words.
@@ -126,6 +131,10 @@ impl Refusal {
                 "plan where there are more than 8 members or 4 events, of no or more than 3 \
                  requests, or whose planner is the rival; or an entry that doesn't exist or has a \
                  free variable other than 0"
+            }
+            Refusal::BadNumbers => {
+                "list of new numbers that is not as long as there are members, or that lacks one \
+                 of their numbers"
             }
         }
     }

@@ -364,12 +364,14 @@ fn an_error_shows_the_offending_line() {
 
 #[test]
 fn refusals_have_numbers_and_words() {
-    for (index, refusal) in Refusal::ALL.iter().copied().enumerate() {
-        assert_eq!(refusal.number(), index + 1);
-        assert_eq!(Refusal::of_number(index + 1), Some(refusal));
-        assert!(refusal.to_string().ends_with(&format!("(refusal {})", index + 1)));
+    let numbers: Vec<usize> = Refusal::ALL.iter().map(|refusal| refusal.number()).collect();
+    assert!(numbers.is_sorted_by(|a, b| a < b));
+    assert_eq!((numbers.first(), numbers.last()), (Some(&1), Some(&15)));
+    for &refusal in Refusal::ALL {
+        assert_eq!(Refusal::of_number(refusal.number()), Some(refusal));
+        assert!(refusal.to_string().ends_with(&format!("(refusal {})", refusal.number())));
     }
-    assert_eq!((Refusal::of_number(0), Refusal::of_number(15)), (None, None));
+    assert_eq!((Refusal::of_number(0), Refusal::of_number(16)), (None, None));
 }
 
 #[test]
@@ -507,8 +509,9 @@ fn the_c_header_has_the_same_numbers() {
     assert_eq!(defined("CUCKOOORMOLU_PLAN_WORDS"), PLAN_WORDS);
     let refusals = [
         "FORM", "RANGE", "OPERAND", "PAST", "POLICY", "SHORT", "TERMS", "STATE", "NAME", "REACH",
-        "TABLE", "FRESH", "SIZE", "PLAN",
+        "TABLE", "FRESH", "SIZE", "PLAN", "NUMBERS",
     ];
+    assert_eq!(refusals.len(), Refusal::ALL.len());
     for (name, refusal) in refusals.into_iter().zip(Refusal::ALL) {
         assert_eq!(defined(&format!("CUCKOOORMOLU_REFUSED_{name}")), refusal.number());
     }

@@ -60,6 +60,17 @@ fn a_state_is_stored_and_read() {
 }
 
 #[test]
+fn members_get_new_numbers() {
+    let mut host = Host::read(TEXT).unwrap();
+    assert_eq!(host.request(0, 1, 2), Ok(Answer::Grant));
+    let mut second = [0; STATE_WORDS];
+    assert_eq!(raw::renumber(&host.terms, &host.state, &[1, 2, 0], &mut second), Ok(()));
+    host.state = second;
+    assert_eq!(host.request(1, 2, 0), Ok(Answer::Grant));
+    assert_eq!(host.request(1, 1, 2), Ok(Answer::Deny));
+}
+
+#[test]
 fn two_banks_share_relations() {
     let (mut terms, mut relations) = ([0; TERMS_WORDS], [0; RELATION_WORDS]);
     let (mut left, mut right) = ([0; OWN_WORDS], [0; OWN_WORDS]);

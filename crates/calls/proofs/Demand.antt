@@ -1,4 +1,4 @@
--- Demand 3: over any list of calls, set lists and new terms the monitor answers as the keeper of the whole record does, and its memory agrees with the keeper's list.
+-- Demand 3: over any list of calls, set lists, new terms and new numbers the monitor answers as the keeper of the whole record does, and its memory agrees with the keeper's list.
 use Prim.Native.Nat.{ℕ, _≤_, _<_}
 use native.Mathlib.Omega.{arith}
 use mathlib.Core.Path.{_≡_, refl, sym, ap, ap₂, _∙_, subst}
@@ -10,9 +10,11 @@ use borrow.Author.Tests.{le-ltb, ltb-true, ltb-false}
 use Rattle.theory.specs.Meaning.{Starts, fromFirst}
 use Rattle.theory.specs.Terms.{Terms, sameSize}
 use Rattle.theory.specs.Moment.{Relations, Moment, first}
-use Rattle.theory.specs.Keeper.{Call, Answer, Book, Step, judge, keep, keepAll, keeper, firstBook, withMoments, revisedStart, revisedBook, keepStep, keepSteps}
-use Rattle.theory.specs.Keeper.Step.{call, revise as reviseStep}
+use Rattle.theory.specs.Keeper.{Call, Answer, Book, Step, judge, keep, keepAll, keeper, firstBook, withMoments, revisedStart, revisedBook, renumberedBook, keepStep, keepSteps}
+use Rattle.theory.specs.Keeper.Step.{call, revise as reviseStep, renumber as renumberStep}
 use Rattle.theory.specs.Keeper.Answer.{done, refused}
+use Rattle.theory.specs.NewNumbers.{newNumber, oldNumber, renumbers, momentBy}
+use Rattle.theory.specs.MembersRenumbered.{stateBy}
 use Rattle.theory.specs.Limits.{scratchWords}
 use Rattle.memory.specs.Layout.{termsWords, stateWords, termsOf, stateOf, wordsOf}
 use Rattle.memory.specs.Checks.{goodMemory}
@@ -22,8 +24,9 @@ use Rattle.memory.specs.Outcome.Outcome.{passed, failed}
 use Rattle.calls.specs.Monitor.{answer, stateAfter, scratchAfter, openedState}
 use Rattle.calls.specs.SetList.{singly, listChecks, listed, left}
 use Rattle.calls.specs.Revising.{revisedState}
-use Rattle.calls.specs.Agreement.{LentCall, fed, fedAll, leaves, serveAll, LentStep, fedRecord, offered, fedSteps, KeepsTerms, fedCalls, answerIn, answersIn, outcomeIn, Lent, withState, inUse, serveSteps, Agrees}
-use Rattle.calls.specs.Agreement.LentStep.{once, setList, revise}
+use Rattle.calls.specs.Renumbering.{renumbering, renumberedState}
+use Rattle.calls.specs.Agreement.{LentCall, fed, fedAll, leaves, serveAll, LentStep, fedRecord, offered, fedSteps, KeepsTerms, fedCalls, answerIn, answersIn, outcomeIn, Lent, withState, inUse, inUseBy, serveSteps, Agrees}
+use Rattle.calls.specs.Agreement.LentStep.{once, setList, revise, renumber}
 use Rattle.calls.specs.declared.Record.{Record}
 use Rattle.theory.proofs.Good.{Good}
 use Rattle.memory.proofs.Accepted.{good}
@@ -31,14 +34,18 @@ use Rattle.theory.proofs.Kept.{Kept, opening-kept}
 use Rattle.theory.proofs.Like.{Alike, alike-refl, alike-sym, good-alike, keep-alike, keepAll-alike, start-alike, size-alike}
 use Rattle.theory.proofs.Size.{same-members, same-relations, same-events}
 use Rattle.theory.proofs.Revised.{revised-kept}
+use Rattle.theory.proofs.MembersRenumbered.{renumbered-kept}
 use Rattle.memory.proofs.Inside.{relations-inside, state-inside}
-use Rattle.memory.proofs.Outcomes.{check-passed}
+use Rattle.memory.proofs.Outcomes.{Checked, check-passed}
 use Rattle.calls.proofs.Level.{relations-good, inside-size}
 use Rattle.calls.proofs.Held.{Held, held-words, agrees}
 use Rattle.memory.proofs.Front.{state-front, relations-front}
 use Rattle.memory.proofs.Words.{length-words, now-back}
 use Rattle.calls.proofs.Refused.{Opens, opened-says}
 use Rattle.calls.proofs.InStep.{step}
+use Rattle.calls.proofs.MembersNumbers.{renumbering as numbered}
+use Rattle.calls.proofs.MembersWords.{inside-renumbered}
+use Rattle.calls.proofs.MembersOutcomes.{short-second, wrong-numbers, right-numbers, second-filled}
 use Rattle.calls.proofs.ListChecks.{list-short, list-checked}
 use Rattle.calls.proofs.Singly.{answer-back, after-scratch}
 
@@ -271,6 +278,72 @@ module _ (B : Book) (L : Lent) (p : Playing B L) where
         by-length false s true g false z = stays 13 0 (revises-is ∙ rw (s, g, z)) (keeps-is ∙ rw (s, g, z))
         by-length false s true g true z = begins (revises-is ∙ rw (s, g, z)) (keeps-is ∙ rw (s, g, z)) s g z
 
+  -- new numbers
+  module _ (numbers second : List ℕ) where
+    abbrev N : ℕ
+    N = B .terms .members
+
+    checked : Checked (L .terms) (L .state)
+    checked = record {
+      long-terms = p .long;
+      long-state = omega (arith, p .room, p .held .long);
+      good-terms = p .good-memory;
+      good-state = p .held .good;
+    }
+
+    abbrev J : Answer × Book
+    J = keepStep B (renumberStep numbers (length second))
+
+    numbers-kept : J ≡ cond (ltb (length second) stateWords) (refused 6 0, B) (cond (not (renumbers N numbers)) (refused 15 0, B) (done, renumberedBook B numbers))
+    unfolding keepStep
+    numbers-kept = refl
+
+    abbrev Numbered : Type 0
+    Numbered = (outcomeIn (renumbering (L .terms) (L .state) numbers second) ≡ J .0) × Playing (J .1) (inUseBy L numbers second)
+
+    -- refused: all is as before
+    numbers-stay : (n l : ℕ) → failed n l ≡ renumbering (L .terms) (L .state) numbers second → J ≡ (refused n l, B) → Numbered
+    numbers-stay n l e k = rw (sym e, k) (refl, p)
+
+    -- done: the second state holds what the renumbered list says
+    module _ (ls : stateWords ≤ length second) (k : J ≡ (done, renumberedBook B numbers)) (ok : renumbers N numbers ≡ true) where
+      members-same : N ≡ U .members
+      members-same = p .like .members
+
+      ok' : renumbers (U .members) numbers ≡ true
+      ok' = subst (λ (n : ℕ). renumbers n numbers ≡ true) members-same ok
+
+      passes : passed ≡ renumbering (L .terms) (L .state) numbers second
+      passes = right-numbers (L .terms) (L .state) numbers second ls checked ok'
+
+      numbered-held : Held U (B .start) fine second (renumberedState (L .terms) (L .state) numbers second) (map (momentBy N numbers) (B .moments))
+      numbered-held =
+          subst (λ (n : ℕ). Held U (B .start) fine second (renumberedState (L .terms) (L .state) numbers second) (map (momentBy n numbers) (B .moments))) (sym members-same)
+          (subst (λ (m : List ℕ). Held U (B .start) fine second m (map (momentBy (U .members) numbers) (B .moments)))
+          (second-filled (L .terms) (L .state) numbers second passes)
+          (held-words U (B .start) fine second second ls refl refl (stateBy U numbers (stateOf (L .state))) (map (momentBy (U .members) numbers) (B .moments))
+          (renumbered-kept U (newNumber numbers) (oldNumber (U .members) numbers) (numbered (U .members) numbers ok') fine (B .start) (stateOf (L .state)) (B .moments) (p .held .kept))
+          (inside-renumbered U fine (newNumber numbers) (oldNumber (U .members) numbers) (numbered (U .members) numbers ok') (stateOf (L .state) .now)
+          (state-inside U (L .state) (p .held .good)))))
+
+      numbers-begin : Numbered
+      numbers-begin = rw (sym passes, k) (
+        refl,
+        record { like = p .like; long = p .long; good-memory = p .good-memory; room = ls; held = numbered-held },
+      )
+
+    play-renumber : Numbered
+    play-renumber = by-second (ltb (length second) stateWords) refl (renumbers N numbers) refl
+      where
+        by-second : (s : Bool) → ltb (length second) stateWords ≡ s → (z : Bool) → renumbers N numbers ≡ z → Numbered
+        by-second true s z zs =
+            numbers-stay 6 0 (short-second (L .terms) (L .state) numbers second (ltb-true (length second) stateWords s)) (numbers-kept ∙ rw s)
+        by-second false s false z =
+            numbers-stay 15 0
+            (wrong-numbers (L .terms) (L .state) numbers second (ltb-false (length second) stateWords s) checked (subst (λ (n : ℕ). renumbers n numbers ≡ false) (p .like .members) z))
+            (numbers-kept ∙ rw (s, z))
+        by-second false s true z = numbers-begin (ltb-false (length second) stateWords s) (numbers-kept ∙ rw (s, z)) z
+
 -- a list of steps: one induction
 pub run : (ss : List LentStep) (B : Book) (L : Lent) → Playing B L →
     (serveSteps L ss .0 ≡ keepSteps B (fedSteps ss) .0) × Playing (keepSteps B (fedSteps ss) .1) (serveSteps L ss .1)
@@ -292,6 +365,10 @@ run (setList scratch rs ∷ ss) B L p =
 run (revise new second ∷ ss) B L p =
     let now = play-revise B L p new second in
     let later = run ss (keepStep B (reviseStep (offered new second)) .1) (inUse L new second) (now .1) in
+    (ap₂ _∷_ (now .0) (later .0), later .1)
+run (renumber numbers second ∷ ss) B L p =
+    let now = play-renumber B L p numbers second in
+    let later = run ss (keepStep B (renumberStep numbers (length second)) .1) (inUseBy L numbers second) (now .1) in
     (ap₂ _∷_ (now .0) (later .0), later .1)
 
 -- What the memory in use then says of the keeper's list.
@@ -343,7 +420,7 @@ opened-playing terms state e =
       held = opened-held terms state (good terms (o .terms-good)) o e;
     }
 
--- Demand 3, with set lists and new terms. For all memory that opens, and all lists of steps over it, requests, looks, set lists and new terms, with any numbers, any scratch and
+-- Demand 3, with set lists, new terms and new numbers. For all memory that opens, and all lists of steps over it, requests, looks, set lists, new terms and new numbers, with any numbers, any scratch and
 -- any further memory: the answers are the keeper's of the same steps, the terms in use are alike the keeper's, and the state in use agrees with the keeper's list, each past-time entry judged from
 -- its own start. The keeper begins with the relations that stood there.
 pub demand-3-steps : (terms state : List ℕ) → opens terms state ≡ passed → (ss : List LentStep) →
@@ -380,6 +457,7 @@ fed-kept (setList scratch rs ∷ ss) k = ap (λ (xs : List Step). map (λ (r : R
     go [] = refl
     go (r ∷ rs) = ap (λ (xs : List Step). call (fedRecord (length scratch) r) ∷ xs) (go rs)
 fed-kept (revise new second ∷ ss) k = absurd k
+fed-kept (renumber numbers second ∷ ss) k = absurd k
 
 -- Demand 3: the same of calls alone, requests and looks.
 pub demand-3 : (terms state : List ℕ) → opens terms state ≡ passed → (cs : List LentCall) →

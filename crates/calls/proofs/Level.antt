@@ -89,21 +89,21 @@ Level T X = (n : ℕ) → n < T .entries → isPast (T .entry n .op) ≡ true �
 
 -- what is free in an operand is free in its entry
 module _ (T : Terms) (n : ℕ) where
-  free-prev : T .entry n .op ≡ 6 → (x : ℕ) → free (below (T .entry) n (T .entry n .a)) x ≡ true → free (formula T n) x ≡ true
+  pub free-prev : T .entry n .op ≡ 6 → (x : ℕ) → free (below (T .entry) n (T .entry n .a)) x ≡ true → free (formula T n) x ≡ true
   unfolding free
   free-prev e x f = ap (λ (φ : Formula). free φ x) (spelled-prev (T .entry) n e) ∙ f
 
-  free-since-a : T .entry n .op ≡ 7 → (x : ℕ) → free (below (T .entry) n (T .entry n .a)) x ≡ true → free (formula T n) x ≡ true
+  pub free-since-a : T .entry n .op ≡ 7 → (x : ℕ) → free (below (T .entry) n (T .entry n .a)) x ≡ true → free (formula T n) x ≡ true
   unfolding free
   free-since-a e x f = ap (λ (φ : Formula). free φ x) (spelled-since (T .entry) n e)
       ∙ or-left (free (below (T .entry) n (T .entry n .a)) x) (free (below (T .entry) n (T .entry n .b)) x) f
 
-  free-since-b : T .entry n .op ≡ 7 → (x : ℕ) → free (below (T .entry) n (T .entry n .b)) x ≡ true → free (formula T n) x ≡ true
+  pub free-since-b : T .entry n .op ≡ 7 → (x : ℕ) → free (below (T .entry) n (T .entry n .b)) x ≡ true → free (formula T n) x ≡ true
   unfolding free
   free-since-b e x f = ap (λ (φ : Formula). free φ x) (spelled-since (T .entry) n e)
       ∙ or-right (free (below (T .entry) n (T .entry n .a)) x) (free (below (T .entry) n (T .entry n .b)) x) f
 
-by-kind : {A : Type 0} (o : ℕ) → isPast o ≡ true → (o ≡ 6 → A) → (o ≡ 7 → A) → A
+pub by-kind : {A : Type 0} (o : ℕ) → isPast o ≡ true → (o ≡ 6 → A) → (o ≡ 7 → A) → A
 by-kind o e six seven = or-cases (eqb o 6) (eqb o 7) e (λ z. six (eqb-true o 6 z)) (λ z. seven (eqb-true o 7 z))
 
 -- an entry without a free variable has a table with one column
@@ -129,7 +129,7 @@ module _ (T : Terms) (fine : Good T) (G : Graph) where
       (alone 0 c) (alone 0 b) a (among-alone (T .members) 0 c cl) (among-alone (T .members) 0 b bl) al
       (λ x f. absurd (none x f)))
 
-  prev-level : (X : Tables) → Level T X → Level T (prevTables T G (T .entries) X)
+  pub prev-level : (X : Tables) → Level T X → Level T (prevTables T G (T .entries) X)
   prev-level X lev n l e none a b c al bl cl = by-kind (T .entry n .op) e six seven
     where
       six : T .entry n .op ≡ 6 → prevTables T G (T .entries) X (number (T .entry) n) a b ≡ prevTables T G (T .entries) X (number (T .entry) n) a c
@@ -175,7 +175,7 @@ module _ (T : Terms) (fine : Good T) (G : Graph) where
       store-level X lev n (sinceBits T G n X) (eqb (T .entry n .op) 7) (λ z. rw (eqb-true (T .entry n .op) 7 z))
       (λ z none. since-bits-level X lev n l (eqb-true (T .entry n .op) 7 z) none)
 
-  since-level : (X : Tables) → Level T X → (n : ℕ) → n ≤ T .entries → Level T (sinceTables T G n X)
+  pub since-level : (X : Tables) → Level T X → (n : ℕ) → n ≤ T .entries → Level T (sinceTables T G n X)
   unfolding sinceTables
   since-level X lev zero l = lev
   since-level X lev (suc n) l = since-step-level (sinceTables T G n X) (since-level X lev n (omega arith)) n l
@@ -190,7 +190,7 @@ level-bits N w e b c bl cl =
 
 module _ (T : Terms) (fine : Good T) where
   -- words that keep the layout have equal bits where they must
-  level-good : (w : List ℕ) → goodState T w ≡ true → Level T (stateOf w .table)
+  pub level-good : (w : List ℕ) → goodState T w ≡ true → Level T (stateOf w .table)
   unfolding goodState stateOf closed
   level-good w g n l e no-free a b c al bl cl =
       ap (λ x. ltb t 32 && (ltb a 64 && x)) (level-bits (T .members) (getD w (tableAt t a) 0) even b c bl cl)

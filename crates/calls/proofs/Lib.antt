@@ -3,6 +3,11 @@ pub mod Held
 pub mod Refused
 pub mod RefusedRevision
 pub mod InStep
+pub mod MembersNumbers
+pub mod MembersCarried
+pub mod MembersWords
+pub mod MembersOutcomes
+pub mod RefusedRenumbering
 pub mod Demand
 pub mod TwoVariables
 pub mod Answers
@@ -12,3 +17,4 @@ pub mod Singly
 pub mod AsSingle
 pub mod Scratch
 pub mod Telling
+pub mod MembersLater

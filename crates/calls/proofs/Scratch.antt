@@ -11,10 +11,11 @@ use Rattle.theory.specs.Limits.{scratchWords}
 use Rattle.theory.specs.Tables.{made, advance}
 use Rattle.memory.specs.Layout.{stateWords, termsOf, stateOf, wordsOf}
 use Rattle.memory.specs.Outcome.{Outcome, hasPassed, checks, revises}
+use Rattle.calls.specs.Renumbering.{renumbering}
 use Rattle.calls.specs.Monitor.{answer, granted, moves, stateAfter, scratchAfter}
-use Rattle.calls.specs.Agreement.{LentCall, LentStep, SameSteps, Lent, withState, inUse, leaves, answersIn, outcomeIn, serveSteps}
-use Rattle.calls.specs.Agreement.LentStep.{once, setList, revise}
-use Rattle.calls.specs.Agreement.SameSteps.{none, calls, setLists, newTerms}
+use Rattle.calls.specs.Agreement.{LentCall, LentStep, SameSteps, Lent, withState, inUse, inUseBy, leaves, answersIn, outcomeIn, serveSteps}
+use Rattle.calls.specs.Agreement.LentStep.{once, setList, revise, renumber}
+use Rattle.calls.specs.Agreement.SameSteps.{none, calls, setLists, newTerms, newNumbers}
 use Rattle.calls.specs.SetList.{Run, filled, singly, listChecks, listing, listed, left}
 use Rattle.calls.specs.declared.Record.{Record}
 use Rattle.calls.proofs.Singly.{after-scratch}
@@ -104,3 +105,5 @@ any-scratch _ _ (setLists rs small large s l ss ts rest) L =
     ∙ ap (λ (later : List Answer × Lent). (answers ++ later .0, later .1)) (any-scratch ss ts rest (withState L m))
 any-scratch _ _ (newTerms new second ss ts rest) L =
     ap (λ (later : List Answer × Lent). (outcomeIn (revises (L .terms) (L .state) new second) ∷ later .0, later .1)) (any-scratch ss ts rest (inUse L new second))
+any-scratch _ _ (newNumbers numbers second ss ts rest) L =
+    ap (λ (later : List Answer × Lent). (outcomeIn (renumbering (L .terms) (L .state) numbers second) ∷ later .0, later .1)) (any-scratch ss ts rest (inUseBy L numbers second))

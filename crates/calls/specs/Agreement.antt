@@ -12,7 +12,7 @@ use Rattle.theory.specs.Columns.{inside, standing, member}
 use Rattle.theory.specs.Terms.{Terms, formula, tables, pastEntry}
 use Rattle.theory.specs.Moment.{Moment}
 use Rattle.theory.specs.Keeper.{Call, Answer, Offer, Step, lastMoment, keeperHolds}
-use Rattle.theory.specs.Keeper.Step.{call, revise as reviseStep}
+use Rattle.theory.specs.Keeper.Step.{call, revise as reviseStep, renumber as renumberStep}
 use Rattle.memory.specs.Layout.{stateWords, relationAt, tableAt, eventAt, eventWord, termsOf, tableColumns}
 use Rattle.memory.specs.Checks.{goodMemory}
 use Rattle.memory.specs.Outcome.{Outcome, hasPassed, revises}
@@ -23,6 +23,7 @@ use Rattle.calls.specs.Monitor.{answer, stateAfter}
 use Rattle.calls.specs.SetList.{Listing, listed, left}
 use Rattle.calls.specs.SetList.Listing.{counted, refused as refusedList}
 use Rattle.calls.specs.Revising.{revisedState}
+use Rattle.calls.specs.Renumbering.{renumbering, renumberedState}
 use Rattle.calls.specs.declared.Record.{Record}
 
 -- A call over lent memory: a look or a request; event, initiator, target; the scratch that is lent with it.
@@ -52,13 +53,14 @@ serveAll terms state (c ∷ cs) =
     let later = serveAll terms (leaves terms state c) cs in
     (answer terms state (c .scratch) (c .event) (c .from) (c .to) ∷ later .0, later .1)
 
--- ---- set lists and new terms among the calls
+-- ---- set lists, new terms and new numbers among the calls
 
--- A step over lent memory: one call; a set list with the scratch that is lent with it; new terms with the second state that is lent with them.
+-- A step over lent memory: one call; a set list with the scratch that is lent with it; new terms, and new numbers, with the second state that is lent with them.
 pub data LentStep : Type 0 where
   once : LentCall → LentStep
   setList : (scratch : List ℕ) → List Record → LentStep
   revise : (new second : List ℕ) → LentStep
+  renumber : (numbers second : List ℕ) → LentStep
 
 -- The request of a record, as the keeper is fed it.
 abbrev pub fedRecord : (scratch : ℕ) → Record → Call
@@ -74,6 +76,7 @@ fedSteps [] = []
 fedSteps (once c ∷ ss) = call (fed c) ∷ fedSteps ss
 fedSteps (setList scratch rs ∷ ss) = map (λ r. call (fedRecord (length scratch) r)) rs ++ fedSteps ss
 fedSteps (revise new second ∷ ss) = reviseStep (offered new second) ∷ fedSteps ss
+fedSteps (renumber numbers second ∷ ss) = renumberStep numbers (length second) ∷ fedSteps ss
 
 -- The same steps: they differ only in the scratch that is lent with a call or a set list, and each has words enough.
 pub data SameSteps : List LentStep → List LentStep → Type 0 where
@@ -83,13 +86,15 @@ pub data SameSteps : List LentStep → List LentStep → Type 0 where
   setLists : (rs : List Record) (small large : List ℕ) → scratchWords ≤ length small → scratchWords ≤ length large → (ss ts : List LentStep) → SameSteps ss ts →
       SameSteps (setList small rs ∷ ss) (setList large rs ∷ ts)
   newTerms : (new second : List ℕ) (ss ts : List LentStep) → SameSteps ss ts → SameSteps (revise new second ∷ ss) (revise new second ∷ ts)
+  newNumbers : (numbers second : List ℕ) (ss ts : List LentStep) → SameSteps ss ts → SameSteps (renumber numbers second ∷ ss) (renumber numbers second ∷ ts)
 
--- No step is new terms.
+-- No step is new terms or new numbers.
 abbrev pub KeepsTerms : List LentStep → Type 0
 KeepsTerms [] = Unit {0}
 KeepsTerms (once c ∷ ss) = KeepsTerms ss
 KeepsTerms (setList scratch rs ∷ ss) = KeepsTerms ss
 KeepsTerms (revise new second ∷ ss) = ⊥
+KeepsTerms (renumber numbers second ∷ ss) = ⊥
 
 -- The calls of a list that keeps the terms.
 unfoldable pub fedCalls : List LentStep → List Call
@@ -97,6 +102,7 @@ fedCalls [] = []
 fedCalls (once c ∷ ss) = fed c ∷ fedCalls ss
 fedCalls (setList scratch rs ∷ ss) = map (fedRecord (length scratch)) rs ++ fedCalls ss
 fedCalls (revise new second ∷ ss) = fedCalls ss
+fedCalls (renumber numbers second ∷ ss) = fedCalls ss
 
 -- The answer that a number stands for: 0 for deny, 1 for grant, else a refusal by that number.
 abbrev pub answerIn : ℕ → Answer
@@ -107,7 +113,7 @@ abbrev pub answersIn : Listing → (after : List Record) → List Answer
 answersIn (counted n) rs = map (λ r. answerIn (r .answer)) rs
 answersIn (refusedList n l) rs = map (λ r. refused n l) rs
 
--- What new terms answer.
+-- What new terms and new numbers answer.
 abbrev pub outcomeIn : Outcome → Answer
 outcomeIn passed = done
 outcomeIn (failed n l) = refused n l
@@ -128,6 +134,13 @@ inUse L new second =
     (record { terms = new; state = revisedState (L .terms) (L .state) new second; before = second })
     L
 
+-- New numbers: the terms stay, and from then on the second state is in use; refused, all is as before.
+abbrev pub inUseBy : Lent → (numbers second : List ℕ) → Lent
+inUseBy L numbers second =
+    cond (hasPassed (renumbering (L .terms) (L .state) numbers second))
+    (record { terms = L .terms; state = renumberedState (L .terms) (L .state) numbers second; before = second })
+    L
+
 -- The steps of a list, each handed the memory in use as the last left it: the answers in order, and the memory in use at the end.
 unfoldable pub serveSteps : Lent → List LentStep → List Answer × Lent
 serveSteps L [] = ([], L)
@@ -141,6 +154,9 @@ serveSteps L (setList scratch rs ∷ ss) =
 serveSteps L (revise new second ∷ ss) =
     let later = serveSteps (inUse L new second) ss in
     (outcomeIn (revises (L .terms) (L .state) new second) ∷ later .0, later .1)
+serveSteps L (renumber numbers second ∷ ss) =
+    let later = serveSteps (inUseBy L numbers second) ss in
+    (outcomeIn (renumbering (L .terms) (L .state) numbers second) ∷ later .0, later .1)
 
 -- ---- the words afterwards
 

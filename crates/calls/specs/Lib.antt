@@ -1,8 +1,10 @@
 pub mod Monitor
 pub mod SetList
 pub mod Revising
+pub mod Renumbering
 pub mod Refused
 pub mod Agreement
 pub mod Reached
 pub mod Listing
 pub mod Telling
+pub mod MembersLater

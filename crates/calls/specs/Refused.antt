@@ -3,7 +3,7 @@ use Prim.Native.Nat.{ℕ, _≤_, _<_}
 use mathlib.Core.Path.{_≡_}
 use mathlib.Core.List.{List}
 use mathlib.Core.Bool.{true, false}
-use lib.ListN.{length}
+use lib.ListN.{length, getD}
 use Rattle.theory.specs.Limits.{scratchWords}
 use Rattle.theory.specs.Terms.{sameSize}
 use Rattle.memory.specs.Layout.{termsWords, stateWords, termsOf}
@@ -56,3 +56,22 @@ pub data RevisionRefusal (old state new second : List ℕ) : (number : ℕ) → 
       goodState (termsOf old) state ≡ false → RevisionRefusal old state new second 8
   other-size : LongToRevise old state new second → goodMemory old ≡ true → goodMemory new ≡ true → goodState (termsOf old) state ≡ true →
       sameSize (termsOf old) (termsOf new) ≡ false → RevisionRefusal old state new second 13
+
+-- The memory that is lent with new numbers is as long as named.
+pub record LongToRenumber (terms state second : List ℕ) : Type 0 where
+  pub terms-long : termsWords ≤ length terms
+  pub state-long : stateWords ≤ length state
+  pub second-long : stateWords ≤ length second
+
+-- Why new numbers are refused with a number: 15 where the list isn't as long as there are members, or lacks some member's number.
+pub data RenumberingRefusal (terms state numbers second : List ℕ) : (number : ℕ) → Type 0 where
+  short-terms : length terms < termsWords → RenumberingRefusal terms state numbers second 6
+  short-state : length state < stateWords → RenumberingRefusal terms state numbers second 6
+  short-second : length second < stateWords → RenumberingRefusal terms state numbers second 6
+  bad-terms : LongToRenumber terms state second → goodMemory terms ≡ false → RenumberingRefusal terms state numbers second 7
+  bad-state : LongToRenumber terms state second → goodMemory terms ≡ true → goodState (termsOf terms) state ≡ false →
+      RenumberingRefusal terms state numbers second 8
+  other-length : LongToRenumber terms state second → goodMemory terms ≡ true → goodState (termsOf terms) state ≡ true →
+      (length numbers ≡ termsOf terms .members → ⊥) → RenumberingRefusal terms state numbers second 15
+  number-missing : LongToRenumber terms state second → goodMemory terms ≡ true → goodState (termsOf terms) state ≡ true →
+      (m : ℕ) → m < termsOf terms .members → ((k : ℕ) → k < length numbers → getD numbers k 0 ≡ m → ⊥) → RenumberingRefusal terms state numbers second 15

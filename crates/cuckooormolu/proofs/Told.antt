@@ -19,7 +19,9 @@ use Rattle.memory.specs.Checks.{goodMemory, goodState, goodRelations}
 use Rattle.theory.specs.Terms.{sameSize}
 use Rattle.memory.specs.Outcome.{Outcome, checks, opens, revises}
 use Rattle.memory.specs.Outcome.Outcome.{passed, failed}
+use Rattle.theory.specs.NewNumbers.{renumbers}
 use Rattle.calls.specs.Monitor.{answer}
+use Rattle.calls.specs.Renumbering.{renumbering}
 use Rattle.calls.specs.SetList.{Listing, singly, listChecks, listing, listed}
 use Rattle.calls.specs.SetList.Listing.{counted, refused as unlisted}
 use Rattle.calls.specs.declared.Record.{Record}
@@ -142,6 +144,19 @@ low-revises old state new second =
     low-revising (ltb (length old) termsWords || (ltb (length state) stateWords || (ltb (length new) termsWords || ltb (length second) stateWords)))
     (not (goodMemory old && goodMemory new)) (not (goodState (termsOf old) state)) (not (sameSize (termsOf old) (termsOf new)))
 
+low-numbers : (a b c d : Bool) → LowOutcome (cond a (failed 6 0) (cond b (failed 7 0) (cond c (failed 8 0) (cond d (failed 15 0) passed))))
+low-numbers true b c d = low 6 refl
+low-numbers false true c d = low 7 refl
+low-numbers false false true d = low 8 refl
+low-numbers false false false true = low 15 refl
+low-numbers false false false false = tt
+
+low-renumbering : (terms state numbers second : List ℕ) → LowOutcome (renumbering terms state numbers second)
+unfolding renumbering
+low-renumbering terms state numbers second =
+    low-numbers (ltb (length terms) termsWords || (ltb (length state) stateWords || ltb (length second) stateWords)) (not (goodMemory terms))
+    (not (goodState (termsOf terms) state)) (not (renumbers (termsOf terms .members) numbers))
+
 low-decided : (a b c d : Bool) (v : Verdict) →
     LowAnswer (cond a (refused 6 0) (cond b (refused 7 0) (cond c (refused 8 0) (cond d (refused 9 0) (decided v)))))
 low-decided true b c d v = low 6 refl
@@ -260,6 +275,9 @@ told-open terms state = told-outcome (opens terms state) (low-opens terms state)
 
 pub told-revise : (old state new second : List ℕ) → ToldOutcome (revises old state new second)
 told-revise old state new second = told-outcome (revises old state new second) (low-revises old state new second)
+
+pub told-renumber : (terms state numbers second : List ℕ) → ToldOutcome (renumbering terms state numbers second)
+told-renumber terms state numbers second = told-outcome (renumbering terms state numbers second) (low-renumbering terms state numbers second)
 
 pub told-size : (terms state : List ℕ) → ToldWriting (oldSizeGives terms state)
 unfolding sizeGives oldSizeGives

@@ -2,4 +2,4 @@
 use Prim.Native.Nat.{ℕ, _+_, _*_}
 
 abbrev pub version : ℕ
-version = 0 * 1000000 + 14 * 1000 + 0
+version = 0 * 1000000 + 15 * 1000 + 0

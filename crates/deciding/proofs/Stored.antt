@@ -63,7 +63,7 @@ module _ (s : ℕ) (vs l : List ℕ) (fits : s + length vs ≤ length l) where
       ap (drop (s + length vs)) (sym (append-assoc (take s l) vs (drop (s + length vs) l)))
       ∙ drop-at (take s l ++ vs) (drop (s + length vs) l) (s + length vs) (length-append (take s l) vs ∙ ap (λ n. n + length vs) front)
 
-  put-after : (e : ℕ) → s + length vs ≤ e → drop e (put s vs l) ≡ drop e l
+  pub put-after : (e : ℕ) → s + length vs ≤ e → drop e (put s vs l) ≡ drop e l
   put-after e h =
       let back : s + length vs + (e - (s + length vs)) ≡ e = omega arith in
       subst (λ n. drop n (put s vs l) ≡ drop n l) back

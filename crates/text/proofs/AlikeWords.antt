@@ -9,12 +9,14 @@ use borrow.Author.Tests.{ltb-true}
 use Rattle.sets.proofs.Finite.{and-under}
 use Rattle.theory.specs.Formula.{columns}
 use Rattle.theory.specs.Meaning.{Starts, holds}
-use Rattle.theory.specs.Columns.{inside, standing, member}
+use Rattle.theory.specs.Columns.{inside, wordUnder, bitUnder, standing, member}
 use Rattle.theory.specs.Terms.{Terms, formula, tables, pastEntry}
 use Rattle.theory.specs.Moment.{Relations, Event, Moment, graph, first}
 use Rattle.theory.specs.Moment.Event.{none, happened, tried}
 use Rattle.theory.specs.Keeper.{recordOf, last, keeperHolds}
 use Rattle.theory.specs.Tables.{State, opening}
+use Rattle.theory.specs.NewNumbers.{oldNumber}
+use Rattle.theory.specs.MembersRenumbered.{stateBy}
 use Rattle.theory.proofs.Past.{past-entry}
 use Rattle.theory.proofs.Like.{Alike, met, met-is, same-number, same-formula, same-past, since-met}
 use Rattle.memory.specs.Layout.{stateWords, relationWords, eventAt, eventWord, row, tableRow, tableColumns, wordAt, tabulate, wordsOf}
@@ -66,12 +68,39 @@ module _ (T U : Terms) (a : Alike T U) where
       (cond (ltb i eventAt) (row-met ((i - relationWords) / 64) (S .table ((i - relationWords) / 64)) (i % 64) d)
       (eventWord (S .now .event))))
 
+  -- the same of a state renumbered, whose tables go by their columns
+  numbered-row : (ns : List ℕ) (S : State) (t i : ℕ) →
+      cond (ltb t (tables T)) (tableRow (T .members) (tableColumns T t) (stateBy T ns S .table t) i) 0
+      ≡ cond (ltb t (tables W)) (tableRow (T .members) (tableColumns W t) (stateBy W ns S .table t) i) 0
+  numbered-row ns S t i =
+      go (ltb t (tables T)) refl ∙ (λ d. cond (ltb t (same-number T U a (T .entries) (omega arith) d)) (tableRow (T .members) (tableColumns W t) (stateBy W ns S .table t) i) 0)
+    where
+      q : ℕ → ℕ
+      q = oldNumber (T .members) ns
+
+      row-by : List ℕ → ℕ
+      row-by cs = tableRow (T .members) cs (λ j k. S .table t (wordUnder cs q j k) (bitUnder cs q j k)) i
+
+      go : (c : Bool) → ltb t (tables T) ≡ c → cond c (row-by (tableColumns T t)) 0 ≡ cond c (row-by (tableColumns W t)) 0
+      go true e = λ d. row-by (columns (same-entry t e d))
+      go false e = refl
+
+  numbered-met : (ns : List ℕ) (S : State) → wordsOf T (stateBy T ns S) ≡ wordsOf W (stateBy W ns S)
+  unfolding wordsOf wordAt
+  numbered-met ns S = λ d. tabulate stateWords (λ i.
+      cond (ltb i relationWords) (cond (ltb (i / 64) (T .relations)) (row (T .members) (stateBy T ns S .now .edge (i / 64)) (i % 64)) 0)
+      (cond (ltb i eventAt) (numbered-row ns S ((i - relationWords) / 64) (i % 64) d)
+      (eventWord (stateBy T ns S .now .event))))
+
   opening-met : (R : Relations) → opening T R ≡ opening W R
   unfolding opening
   opening-met R = λ d. record { now = first R; table = since-met T U a (graph T (first R)) (λ t a b. false) (T .entries) (omega arith) d }
 
   words-met : (R : Relations) → wordsOf T (opening T R) ≡ wordsOf W (opening W R)
   words-met R = state-met (opening T R) ∙ ap (wordsOf W) (opening-met R)
+
+  pub numbered-alike : (ns : List ℕ) (S : State) → wordsOf T (stateBy T ns S) ≡ wordsOf U (stateBy U ns S)
+  numbered-alike ns S = numbered-met ns S ∙ ap (λ X. wordsOf X (stateBy X ns S)) (met-is T U a)
 
   pub agrees-alike : (s : Starts) {m₀ m : List ℕ} {Ms : List Moment} → Agrees T s m₀ m Ms → Agrees U s m₀ m Ms
   agrees-alike s {m₀} {m} {Ms} h = subst (λ X. Agrees X s m₀ m Ms) (met-is T U a) (agrees-met s h)

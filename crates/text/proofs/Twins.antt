@@ -1,5 +1,5 @@
 -- Two memories that pass the checks, with alike terms and the same named words of state, answer alike whatever is asked of them, also where no record is.
-use Prim.Native.Nat.{ℕ, _+_, _<_}
+use Prim.Native.Nat.{ℕ, _+_, _≤_, _<_}
 use native.Mathlib.Omega.{arith}
 use mathlib.Core.Path.{_≡_, refl, sym, ap, ap₂, subst, _∙_}
 use mathlib.Core.Bool.{Bool, true, false, cond, not, _&&_, _||_}
@@ -13,6 +13,8 @@ use Rattle.theory.specs.Keeper.{Answer}
 use Rattle.theory.specs.Keeper.Verdict.{grant, deny}
 use Rattle.theory.specs.Keeper.Answer.{decided, refused}
 use Rattle.theory.specs.Limits.{scratchWords}
+use Rattle.theory.specs.NewNumbers.{renumbers}
+use Rattle.theory.specs.MembersRenumbered.{stateBy}
 use Rattle.theory.specs.Tables.{named, State, decideNow, made, advance, revised}
 use Rattle.theory.proofs.Like.{Alike, alike-refl, size-alike, revised-alike}
 use Rattle.theory.proofs.Size.{same-members, same-relations, same-events}
@@ -27,14 +29,17 @@ use Rattle.memory.proofs.Outcomes.{Checked, check-passed, Revisable, passed-rev
 use Rattle.calls.specs.Monitor.{answer, granted, moves, stateAfter, scratchAfter}
 use Rattle.calls.specs.SetList.{Run, filled, singly, listChecks, listing, listed, left}
 use Rattle.calls.specs.SetList.Listing.{counted}
-use Rattle.calls.specs.Agreement.{LentCall, LentStep, leaves, answersIn, outcomeIn, Lent, withState, inUse, serveSteps}
+use Rattle.calls.specs.Agreement.{LentCall, LentStep, leaves, answersIn, outcomeIn, Lent, withState, inUse, inUseBy, serveSteps}
 use Rattle.calls.specs.Revising.{revisedState}
-use Rattle.calls.specs.Agreement.LentStep.{once, setList, revise}
+use Rattle.calls.specs.Renumbering.{renumbering, renumberedWords, renumberedState}
+use Rattle.calls.specs.Agreement.LentStep.{once, setList, revise, renumber}
 use Rattle.calls.specs.declared.Record.{Record}
 use Rattle.calls.proofs.Answers.{moves-decided, decided-says}
 use Rattle.calls.proofs.Level.{revised-good}
 use Rattle.calls.proofs.Singly.{after-checked}
-use Rattle.text.proofs.AlikeWords.{state-alike}
+use Rattle.calls.proofs.MembersOutcomes.{renumbered-says}
+use Rattle.calls.proofs.MembersLater.{second-good, second-long}
+use Rattle.text.proofs.AlikeWords.{state-alike, numbered-alike}
 use Rattle.text.proofs.AlikeMoments.{decide-alike, made-alike, advance-alike}
 
 pub record Twins (m s m' s' : List ℕ) : Type 0 where
@@ -266,6 +271,66 @@ module _ (m s m' s' : List ℕ) (t : Twins m s m' s') (new second : List ℕ) wh
           })
       go (failed n l) e o' e' = rw (e' ∙ e) t
 
+-- ---- new numbers
+
+module _ (m s m' s' : List ℕ) (t : Twins m s m' s') (numbers second : List ℕ) where
+  -- what is left of the checks where terms and state pass
+  abbrev toldBy : ℕ → Outcome
+  toldBy N = cond (ltb (length second) stateWords) (failed 6 0) (cond (not (renumbers N numbers)) (failed 15 0) passed)
+
+  numbers-is : (m s : List ℕ) → Checked m s → renumbering m s numbers second ≡ toldBy (termsOf m .members)
+  unfolding renumbering
+  numbers-is m s c =
+      rw (le-ltb (length m) termsWords (c .long-terms), le-ltb (length s) stateWords (c .long-state), c .good-terms, c .good-state)
+
+  pub same-renumbering : renumbering m s numbers second ≡ renumbering m' s' numbers second
+  same-renumbering = numbers-is m s (t .checked) ∙ ap toldBy (t .like .members) ∙ sym (numbers-is m' s' (t .other))
+
+  same-renumbered : renumberedState m s numbers second ≡ renumberedState m' s' numbers second
+  unfolding renumberedState
+  same-renumbered =
+      ap (λ (o : Outcome). cond (hasPassed o) (renumberedWords (termsOf m) numbers s ++ drop stateWords second) second) same-renumbering
+      ∙ ap (λ (w : List ℕ). cond (hasPassed (renumbering m' s' numbers second)) (w ++ drop stateWords second) second)
+      (numbered-alike (termsOf m) (termsOf m') (t .like) numbers (stateOf s)
+      ∙ ap (λ (S : State). wordsOf (termsOf m') (stateBy (termsOf m') numbers S)) (state-cong s s' (t .words)))
+
+  -- the second state passes the checks
+  numbered-checked : renumbering m s numbers second ≡ passed → Checked m (renumberedState m s numbers second)
+  numbered-checked e =
+      record {
+        long-terms = t .checked .long-terms;
+        long-state = omega (arith, second-long m s numbers second e, renumbered-says m s numbers second e .long-second);
+        good-terms = t .checked .good-terms;
+        good-state = second-good m s numbers second e;
+      }
+
+  -- the memory in use afterwards
+  pub same-in-use-by : (b b' : List ℕ) →
+      let L : Lent = inUseBy (record { terms = m; state = s; before = b }) numbers second in
+      let K : Lent = inUseBy (record { terms = m'; state = s'; before = b' }) numbers second in
+      Twins (L .terms) (L .state) (K .terms) (K .state)
+  same-in-use-by b b' = go (renumbering m s numbers second) refl (renumbering m' s' numbers second) (sym same-renumbering)
+    where
+      after : List ℕ → List ℕ → List ℕ → Outcome → Lent
+      after n w c o = cond (hasPassed o) (record { terms = n; state = renumberedState n w numbers second; before = second }) (record { terms = n; state = w; before = c })
+
+      go : (o : Outcome) → renumbering m s numbers second ≡ o → (o' : Outcome) → o' ≡ renumbering m s numbers second →
+          Twins (after m s b o .terms) (after m s b o .state) (after m' s' b' o' .terms) (after m' s' b' o' .state)
+      go passed e o' e' =
+          let k : Checked m (renumberedState m s numbers second) = numbered-checked e in
+          rw (e' ∙ e) (record {
+            checked = k;
+            other = record {
+              long-terms = t .other .long-terms;
+              long-state = subst (λ (w : List ℕ). stateWords ≤ length w) same-renumbered (k .long-state);
+              good-terms = t .other .good-terms;
+              good-state = second-good m' s' numbers second (sym same-renumbering ∙ e);
+            };
+            like = t .like;
+            words = λ i _. ap (λ (w : List ℕ). getD w i 0) same-renumbered;
+          })
+      go (failed n l) e o' e' = rw (e' ∙ e) t
+
 -- ---- any list of steps
 
 module _ (m m' : List ℕ) where
@@ -288,3 +353,7 @@ same-steps (setList sc rs ∷ ss) L K t =
 same-steps (revise new second ∷ ss) L K t =
     ap₂ _∷_ (ap outcomeIn (same-revises (L .terms) (L .state) (K .terms) (K .state) t new second))
     (same-steps ss (inUse L new second) (inUse K new second) (same-in-use (L .terms) (L .state) (K .terms) (K .state) t new second (L .before) (K .before)))
+same-steps (renumber numbers second ∷ ss) L K t =
+    ap₂ _∷_ (ap outcomeIn (same-renumbering (L .terms) (L .state) (K .terms) (K .state) t numbers second))
+    (same-steps ss (inUseBy L numbers second) (inUseBy K numbers second)
+    (same-in-use-by (L .terms) (L .state) (K .terms) (K .state) t numbers second (L .before) (K .before)))

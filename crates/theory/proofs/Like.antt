@@ -3,7 +3,7 @@ use Prim.Native.Nat.{ℕ, zero, suc, _+_, _-_, _/_, _%_, _≤_, _<_}
 use native.Mathlib.Omega.{arith}
 use mathlib.Core.Path.{_≡_, refl, sym, ap, ap₂, subst, _∙_, fun-ext}
 use mathlib.Core.Bool.{Bool, true, false, cond, not, _&&_, _||_, false≢true}
-use mathlib.Core.List.{List, [], _∷_, _++_}
+use mathlib.Core.List.{List, [], _∷_, _++_, map}
 use lib.Dec.{eqb, ltb, leb}
 use borrow.Author.Tests.{ltb-true, leb-false}
 use Rattle.sets.proofs.Finite.{and-under}
@@ -14,8 +14,9 @@ use Rattle.theory.specs.Terms.{Terms, Effect, labels, formula}
 use Rattle.theory.specs.Moment.{Relations, Moment, graph, affectAll, denied, first}
 use Rattle.theory.specs.Moment.Event.{happened}
 use Rattle.theory.specs.Limits.{scratchWords, leastTerms, leastState}
-use Rattle.theory.specs.Keeper.{Call, Answer, Book, Step, recordOf, last, lastMoment, target, keeperHolds, judge, keep, keepAll, keeper, revisedStart, revisedBook, keepStep}
-use Rattle.theory.specs.Keeper.Step.{call, revise}
+use Rattle.theory.specs.Keeper.{Call, Answer, Book, Step, recordOf, last, lastMoment, target, keeperHolds, judge, keep, keepAll, keeper, withMoments, revisedStart, revisedBook, keepStep}
+use Rattle.theory.specs.Keeper.Step.{call, revise, renumber}
+use Rattle.theory.specs.NewNumbers.{renumbers, momentBy}
 use Rattle.theory.specs.Keeper.Verdict.{grant, deny}
 use Rattle.theory.specs.Keeper.Answer.{decided, done, refused}
 use Rattle.theory.specs.Terms.{tables, pastEntry, firstSame, sameSize}
@@ -373,3 +374,18 @@ step-alike B C l g x =
     by (revise o) =
         go (o .terms) (ltb (o .words) leastTerms || ltb (o .state) leastState) (o .sound) (sameSize (B .terms) (o .terms)) (sameSize U (o .terms))
         (size-alike (B .terms) U (l .terms) (o .terms))
+    by (renumber ns n) = numbered (ltb n leastState) (B .terms .members) (U .members) (l .terms .members)
+      where
+        told : Bool → ℕ → Book → Answer × Book
+        told x m E =
+            cond x (refused 6 0, E) (cond (not (renumbers m ns)) (refused 15 0, E) (done, withMoments E (map (momentBy m ns) (E .moments))))
+
+        same : (x b : Bool) (m : ℕ) →
+            Kin (cond x (refused 6 0, B) (cond (not b) (refused 15 0, B) (done, withMoments B (map (momentBy m ns) (B .moments)))))
+            (cond x (refused 6 0, D) (cond (not b) (refused 15 0, D) (done, withMoments D (map (momentBy m ns) (D .moments)))))
+        same true b m = (refl, here)
+        same false false m = (refl, here)
+        same false true m = (refl, record { terms = l .terms; start = refl; moments = refl })
+
+        numbered : (x : Bool) (m k : ℕ) → m ≡ k → Kin (told x m B) (told x k D)
+        numbered x m k e = subst (λ (j : ℕ). Kin (told x m B) (told x j D)) e (same x (renumbers m ns) m)

@@ -13,9 +13,10 @@ use Rattle.theory.specs.Terms.{Terms, firstSame}
 use Rattle.theory.specs.Moment.{Relations, affectAll}
 use Rattle.theory.specs.Limits.{leastTerms, leastState}
 use Rattle.theory.specs.Keeper.{Call, Step, Answer, firstBook, judge, keep, keepStep, keepSteps}
-use Rattle.theory.specs.Keeper.Step.{call, revise}
+use Rattle.theory.specs.Keeper.Step.{call, revise, renumber}
 use Rattle.theory.specs.Keeper.Answer.{done, refused}
 use Rattle.theory.specs.Tables.{State, holdsNow, prevTables, sinceTables, opening, decideNow, made, advance, startTables, revised}
+use Rattle.theory.specs.MembersRenumbered.{stateBy}
 use Rattle.theory.specs.Cases.{line, requests, looks, yes, no}
 
 -- Two members, no relation, e events with the listed policies.
@@ -47,6 +48,7 @@ byTables T S (call c ∷ xs) =
     let g = decideNow T S (c .event) (c .from) (c .to) in
     cond g yes no ∷ byTables T (cond (g && not (c .look)) (advance T S (made T (S .now) true (c .event) (c .from) (c .to))) S) xs
 byTables T S (revise o ∷ xs) = done ∷ byTables (o .terms) (revised T S (o .terms)) xs
+byTables T S (renumber p n ∷ xs) = done ∷ byTables T (stateBy T p S) xs
 
 -- Old: entry 1 is prev top; every policy is top.
 unfoldable pub before : Terms

@@ -59,6 +59,18 @@ standingAt [] i k = λ z. 0
 standingAt (x ∷ []) i k = alone x k
 standingAt (x ∷ y ∷ zs) i k = assign (alone y (pairLast k)) x (pairFirst i k)
 
+-- From word i and bit k to those of the same place with q m in place of each member m.
+
+abbrev pub wordUnder : List ℕ → (q : ℕ → ℕ) → (i k : ℕ) → ℕ
+wordUnder [] q i k = q i
+wordUnder (x ∷ []) q i k = q i
+wordUnder (x ∷ y ∷ zs) q i k = pairWord (q (pairMember i)) (q (pairFirst i k))
+
+abbrev pub bitUnder : List ℕ → (q : ℕ → ℕ) → (i k : ℕ) → ℕ
+bitUnder [] q i k = k
+bitUnder (x ∷ []) q i k = q k
+bitUnder (x ∷ y ∷ zs) q i k = pairBit (q (pairFirst i k)) (q (pairLast k))
+
 -- Word and bit are those of members: with two columns, and with any.
 abbrev pub insidePair : (members : ℕ) → (i k : ℕ) → Bool
 insidePair N i k = ltb (pairMember i) N && (ltb (pairFirst i k) N && (ltb (pairLast k) N && ltb k 64))

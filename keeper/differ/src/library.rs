@@ -6,6 +6,7 @@
 
 mod plans;
 
+use crate::renumber;
 use crate::revise;
 use crate::shown;
 use crate::tally::Tally;
@@ -68,9 +69,9 @@ impl Library<'_> {
         let size = raw::store_size(terms, state).unwrap_or_default();
         let mut text = vec![0; size];
         let stored = raw::store(terms, state, &mut text);
-        self.same("storing what was revised", stored.is_ok(), true);
+        self.same("storing a second state", stored.is_ok(), true);
         self.monitor = Monitor::read(&text).ok();
-        self.same("loading what was revised", self.monitor.is_some(), true);
+        self.same("loading a second state", self.monitor.is_some(), true);
         self.same_words(terms, state);
     }
 
@@ -235,6 +236,21 @@ impl Other for Library<'_> {
         self.tally.revise(old_terms, new_terms, &got);
         if got.is_ok() && self.monitor.is_some() {
             self.reload(new_terms, second);
+        }
+        got
+    }
+
+    fn renumber(
+        &mut self,
+        terms: &mut [u16],
+        state: &mut [u64],
+        numbers: &mut [u8],
+        second: &mut [u64],
+    ) -> Result<(), Refusal> {
+        let got = renumber::renumber(terms, state, numbers, second);
+        self.tally.renumber((terms, state), numbers, second, &got);
+        if got.is_ok() && self.monitor.is_some() {
+            self.reload(terms, second);
         }
         got
     }

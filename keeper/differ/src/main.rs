@@ -1,10 +1,10 @@
 //! `differ [--calls N] [--files N] [--plans N] [--seed S]` holds the static
-//! library against the keeper: N calls over accepted terms, new terms among them,
-//! N damaged texts and as many damaged memories, with calls and with new terms,
-//! and memories whose tables are drawn, with new terms; N plans against a rival
-//! among calls, and two for each damaged text; then as much of two banks. The
-//! first difference is printed with its seed, made small, and the exit status is
-//! 1.
+//! library against the keeper: N calls over accepted terms, with new terms and
+//! other numbers for the members among them, N damaged texts and as many damaged
+//! memories, with calls, new terms and other numbers, and memories whose tables
+//! are drawn, with new terms and other numbers; N plans against a rival among
+//! calls, and two for each damaged text; then as much of two banks. The first
+//! difference is printed with its seed, made small, and the exit status is 1.
 
 mod archive;
 mod banks;
@@ -12,6 +12,7 @@ mod library;
 mod named;
 mod options;
 mod plans;
+mod renumber;
 mod revise;
 mod rounds;
 mod shown;

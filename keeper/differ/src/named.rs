@@ -1,7 +1,8 @@
-//! Named cases of two banks. What each step gives stands in the table, and the
-//! keeper and the library must both give it.
+//! Named cases of two banks, and of members renumbered. What each step gives stands
+//! in the table, and the keeper and the library must both give it.
 
 mod refusals;
+pub mod renumbered;
 mod scripts;
 
 use crate::banks::Library;

@@ -3,6 +3,7 @@
 
 mod banks;
 mod plans;
+mod renumbered;
 
 use crate::library::Library;
 use crate::options::Options;
@@ -26,6 +27,7 @@ const LARGEST: usize = usize::MAX;
 pub fn all(options: &Options, tallies: &mut Tallies) -> Result<(), Report> {
     one_bank(options, &mut tallies.one)?;
     plans::all(options, &mut tallies.one)?;
+    renumbered::all(options, &mut tallies.one)?;
     banks::all(options, &mut tallies.two)
 }
 

@@ -1,6 +1,7 @@
 //! What was compared, counted by outcome.
 
 mod plans;
+mod renumbered;
 
 use keeper::record::{Answer, Call};
 use keeper::set_list::Item;
@@ -78,6 +79,7 @@ fn steps() -> Vec<Seen> {
 fn one_bank() -> Vec<Seen> {
     let refused = |kind, number| (kind, format!("refuse {number}"));
     let mut wanted = steps();
+    wanted.extend(renumbered::wanted());
     wanted.extend([1, 2, 3, 4, 5, 6, 10, 11].map(|number| refused("read", number)));
     wanted.extend([6, 7, 8, 12].map(|number| refused("write", number)));
     wanted.extend([6, 7, 8].map(|number| refused("store", number)));

@@ -1,5 +1,6 @@
 //! Set lists, held against the record.
 
+use super::renumberings::record_renumbering;
 use super::revisions::record_revision;
 use super::{equal, noise, over, read_into, same, Difference, Lent, Other, BEYOND};
 use crate::expect;
@@ -11,7 +12,7 @@ use crate::terms;
 use crate::terms::memory::{SCRATCH_WORDS, STATE_WORDS, TERMS_WORDS};
 
 /// Reads a case's text and makes its calls as set lists, looks as requests; none
-/// reaches over new terms. After each list its answers, its count and every word
+/// reaches over new terms or other numbers for the members. After each list its answers, its count and every word
 /// lent are compared.
 pub fn lists(other: &mut impl Other, case: &Case) -> Result<(), Difference> {
     let mut rng = Rng::new(!case.seed);
@@ -33,6 +34,13 @@ pub fn lists(other: &mut impl Other, case: &Case) -> Result<(), Difference> {
                 left = &left[1..];
                 continue;
             }
+            Step::Renumbering(renumbering) => {
+                let named = |difference| format!("step {made}: {difference}");
+                record_renumbering(other, renumbering, &mut record, &mut lent, &mut rng)
+                    .map_err(named)?;
+                left = &left[1..];
+                continue;
+            }
         };
         let most = generate::list_length(&mut rng);
         let items: Vec<Item> = left
@@ -40,7 +48,7 @@ pub fn lists(other: &mut impl Other, case: &Case) -> Result<(), Difference> {
             .take(most)
             .map_while(|step| match step {
                 Step::Call(call) => Some(generate::item(&mut rng, call)),
-                Step::Revision(_) => None,
+                Step::Revision(_) | Step::Renumbering(_) => None,
             })
             .collect();
         let scratch = noise(&mut rng, call.scratch_words);

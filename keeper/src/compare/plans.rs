@@ -1,6 +1,7 @@
 //! Plans and questions, held against the record.
 
 use super::lists::record_list;
+use super::renumberings::record_renumbering;
 use super::revisions::record_revision;
 use super::{carried_over, equal, noise, over, read_into, record_call, same};
 use super::{Difference, Lent, BEYOND};
@@ -66,6 +67,9 @@ fn taken(
     match turn {
         Turn::Step(Step::Call(call)) => record_call(other, call, record, lent, rng),
         Turn::Step(Step::Revision(revision)) => record_revision(other, revision, record, lent, rng),
+        Turn::Step(Step::Renumbering(renumbering)) => {
+            record_renumbering(other, renumbering, record, lent, rng)
+        }
         Turn::List(items) => {
             let scratch = noise(rng, memory::SCRATCH_WORDS + BEYOND);
             record_list(other, items, &scratch, record, lent)

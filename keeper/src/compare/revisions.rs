@@ -1,6 +1,6 @@
 //! New terms, held against the record.
 
-use super::{equal, noise, over, same, Difference, Lent, Other};
+use super::{equal, front, noise, over, same, Difference, Lent, Other};
 use crate::expect;
 use crate::generate::Rng;
 use crate::record::Record;
@@ -41,11 +41,6 @@ pub fn revise(
     let wanted = record.map(|record| record.state_words());
     let mut rng = Rng::new(revision.second_words as u64);
     revised(other, revision, old_terms, old_state, wanted, &mut rng).map(drop)
-}
-
-/// As many words as are lent, or all there are.
-fn front<T>(words: &[T], count: usize) -> &[T] {
-    &words[..count.min(words.len())]
 }
 
 /// Compares the answer and every word of the four memories; the second state,

@@ -21,6 +21,7 @@ impl Turn {
         match self {
             Turn::Step(Step::Call(call)) => _ = record.answer(call),
             Turn::Step(Step::Revision(revision)) => _ = revision.answer(record),
+            Turn::Step(Step::Renumbering(renumbering)) => _ = renumbering.answer(record),
             Turn::List(items) => _ = set_list::fill(&mut items.clone(), |call| record.answer(call)),
             Turn::Plan(_) | Turn::Tell(_) => {}
         }

@@ -3,6 +3,7 @@
 use super::smaller::{candidates, Less};
 use crate::banks::step::{said, Deed, Step as BankStep};
 use crate::record::Call;
+use crate::renumber::Renumbering;
 use crate::step::{Revision, Step};
 use crate::terms::memory::SCRATCH_WORDS;
 use crate::terms::{File, Terms};
@@ -23,10 +24,16 @@ impl Shrinks for Step {
             Step::Revision(revision) => {
                 smaller_revisions(revision).into_iter().map(Step::Revision).collect()
             }
+            Step::Renumbering(renumbering) => {
+                plainer_renumberings(renumbering).into_iter().map(Step::Renumbering).collect()
+            }
         }
     }
 
     fn with_less(&self, less: Less) -> Step {
+        if let (Step::Renumbering(renumbering), Less::Member) = (self, less) {
+            return Step::Renumbering(without_last(renumbering));
+        }
         let Step::Revision(revision) = self else { return self.clone() };
         match revision.said().and_then(|terms| less.sound(&terms)) {
             Some(terms) => Step::Revision(revision.with_terms(&terms)),
@@ -79,6 +86,33 @@ fn plainer_calls(call: &Call) -> [Call; 5] {
         Call { look: false, ..*call },
         Call { scratch_words: SCRATCH_WORDS, ..*call },
     ]
+}
+
+/// Renumberings that lend just what is named, and those with one number more as it
+/// was.
+fn plainer_renumberings(renumbering: &Renumbering) -> Vec<Renumbering> {
+    let numbers = &renumbering.numbers;
+    let mut all = vec![Renumbering::by(numbers)];
+    for member in (0..numbers.len()).filter(|&member| usize::from(numbers[member]) != member) {
+        let mut other = renumbering.clone();
+        if let Some(had) = numbers.iter().position(|&number| usize::from(number) == member) {
+            other.numbers.swap(member, had);
+            all.push(other);
+        }
+    }
+    all
+}
+
+/// The renumbering without the last member; who had its number gets the one that
+/// it had.
+fn without_last(renumbering: &Renumbering) -> Renumbering {
+    let mut other = renumbering.clone();
+    if let Some(gone) = other.numbers.pop() {
+        let last = other.numbers.len();
+        let had = other.numbers.iter_mut().find(|number| usize::from(**number) == last);
+        had.into_iter().for_each(|number| *number = gone);
+    }
+    other
 }
 
 /// Revisions that lend just what is named, and those of smaller terms.

@@ -37,6 +37,11 @@ pub enum Fault {
     SinceStartsEmpty,
     CutOffOutside,
     NumbersCount,
+    NumbersUndone,
+    PastKeepsNumbers,
+    EventsKeepNumbers,
+    EventsTurn,
+    NumbersStartAgain,
 }
 
 pub type Members = [usize; 16];

@@ -93,6 +93,7 @@ fn remembering_changes_nothing() {
                 Step::Call(call) if record.graphs().len() < 8 => drop(record.answer(call)),
                 Step::Call(_) => {}
                 Step::Revision(revision) => drop(revision.answer(&mut record)),
+                Step::Renumbering(renumbering) => drop(renumbering.answer(&mut record)),
             }
         }
         if record.terms().entries.len() > 20 || record.terms().past().len() > 5 {
@@ -125,7 +126,7 @@ fn remembering_changes_nothing() {
 #[test]
 fn words_of_tables() {
     let mut set = [0; 3];
-    for seed in 0..1_500 {
+    for seed in 0..3_000 {
         let case = generate::case(seed, 99_999);
         let file = file(&case.text);
         if file.terms.members > 4 || file.terms.past().len() > 3 || file.past.is_some() {

@@ -25,6 +25,8 @@ mod plan_refusals;
 mod plans;
 mod program;
 mod refusals;
+mod renumbered;
+mod renumbered_mirror;
 mod revised;
 mod set_lists;
 mod shrinking;

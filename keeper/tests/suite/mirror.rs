@@ -1,6 +1,7 @@
 //! An implementation of lent memory that has the record itself, and perhaps a
 //! fault.
 
+use crate::renumbered_mirror::renumber;
 use keeper::compare::Other;
 use keeper::expect;
 use keeper::record::{Answer, Call, Record};
@@ -44,6 +45,15 @@ pub enum Fault {
     StaysWithOldTerms,
     VariablesSwapped,
     StoresThemSwapped,
+    TakesInverse,
+    TakesLongLists,
+    TakesNumbersTwice,
+    ChecksNumbersFirst,
+    ColumnsStay,
+    LastColumnStays,
+    TablesStay,
+    EndsSwapped,
+    EventStays,
 }
 
 /// The words with the two variables of each table that has two in the other order.
@@ -260,6 +270,16 @@ impl Other for Mirror {
             *word = 0;
         }
         Ok(())
+    }
+
+    fn renumber(
+        &mut self,
+        terms: &mut [u16],
+        state: &mut [u64],
+        numbers: &mut [u8],
+        second: &mut [u64],
+    ) -> Result<(), Refusal> {
+        renumber(self.fault, &mut self.record, (terms, state), numbers, second)
     }
 
     fn write(&mut self, terms: &[u16], state: &[u64], output: &mut [u8]) -> Result<usize, Refusal> {

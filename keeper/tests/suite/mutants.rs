@@ -4,7 +4,8 @@ use crate::faulty::{Fault, Faulty};
 use crate::help::file;
 use crate::spelled::spelled;
 use keeper::generate;
-use keeper::record::{Answer, Call, Record};
+use keeper::record::{Answer, Call, Graph, Record};
+use keeper::renumber::Numbering;
 use keeper::step::Step;
 use keeper::terms::{variables, Bit, Terms};
 
@@ -12,6 +13,8 @@ use keeper::terms::{variables, Bit, Terms};
 struct Run {
     fault: Fault,
     record: Record,
+    /// The graphs of all moments, as the fault has them.
+    graphs: Vec<Graph>,
     /// The first moment that counts for each entry, as the fault has it.
     starts: Vec<usize>,
     shown: bool,
@@ -20,7 +23,7 @@ struct Run {
 impl Run {
     /// The faulty reading of the first moments.
     fn faulty(&self, moments: usize) -> Faulty<'_> {
-        let (terms, graphs) = (self.record.terms(), &self.record.graphs()[..moments]);
+        let (terms, graphs) = (self.record.terms(), &self.graphs[..moments]);
         Faulty { fault: self.fault, terms, graphs, starts: &self.starts, bound: 0, around: 0 }
     }
 
@@ -34,6 +37,7 @@ impl Run {
             let value = self.faulty(moments).holds(policy, moments - 1, call.from, &mut members);
             self.shown |= value != (answer == Answer::Grant);
         }
+        self.graphs.extend_from_slice(&self.record.graphs()[moments..]);
     }
 
     /// Compares every table of the present moment.
@@ -69,6 +73,30 @@ impl Run {
         };
         self.starts = (0..new.entries.len()).map(start).collect();
     }
+
+    /// The graphs and starts under other numbers, as the fault has them.
+    fn renumber(&mut self, numbers: &[u8]) {
+        let mut numbering = Numbering::of(numbers.len(), numbers).unwrap();
+        if self.fault == Fault::NumbersUndone {
+            numbering = numbering.undone();
+        }
+        let now = self.graphs.len() - 1;
+        for (moment, graph) in self.graphs.iter_mut().enumerate() {
+            let mut other = numbering.graph(graph);
+            match (self.fault, &mut other.event) {
+                (Fault::PastKeepsNumbers, _) if moment < now => other = graph.clone(),
+                (Fault::EventsKeepNumbers, _) => other.event = graph.event,
+                (Fault::EventsTurn, Some(event)) => {
+                    (event.from, event.to) = (event.to, event.from);
+                }
+                _ => {}
+            }
+            *graph = other;
+        }
+        if self.fault == Fault::NumbersStartAgain {
+            self.starts.fill(now);
+        }
+    }
 }
 
 /// Whether the fault shows in an answer or in a table after the steps.
@@ -81,7 +109,8 @@ fn shows(fault: Fault, seed: u64) -> Option<bool> {
         return None;
     }
     let starts = vec![0; terms.entries.len()];
-    let mut run = Run { fault, record: Record::of(file), starts, shown: false };
+    let record = Record::of(file);
+    let mut run = Run { fault, graphs: record.graphs().to_vec(), record, starts, shown: false };
     for step in case.steps.iter().take(12) {
         match step {
             Step::Call(call) => run.call(call),
@@ -89,6 +118,12 @@ fn shows(fault: Fault, seed: u64) -> Option<bool> {
                 let old = run.record.terms().clone();
                 if revision.answer(&mut run.record).is_ok() {
                     run.revise(&old);
+                    run.tables();
+                }
+            }
+            Step::Renumbering(renumbering) => {
+                if renumbering.answer(&mut run.record).is_ok() {
+                    run.renumber(&renumbering.numbers);
                     run.tables();
                 }
             }
@@ -136,6 +171,11 @@ fn faults_show() {
         SinceStartsEmpty,
         CutOffOutside,
         NumbersCount,
+        NumbersUndone,
+        PastKeepsNumbers,
+        EventsKeepNumbers,
+        EventsTurn,
+        NumbersStartAgain,
     ];
     let count = |fault| (0..1_600).filter(|&seed| shows(fault, seed) == Some(true)).count();
     let tried = (0..1_600).filter(|&seed| shows(None, seed).is_some()).count();

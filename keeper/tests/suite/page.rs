@@ -100,6 +100,25 @@ fn its_second_state() {
 }
 
 #[test]
+fn its_renumbered_state() {
+    let mut record = Record::new(accepted(&text()));
+    assert_eq!(request(&mut record, 0, 0, 1), Grant);
+    assert_eq!(request(&mut record, 2, 1, 2), Grant);
+    let old = record.state_words();
+    assert!(PAGE.contains("by the list 2 0 1:") && PAGE.contains("The list 1 2 0 undoes it"));
+    assert_eq!(record.renumber(&[2, 0, 1]), Ok(()));
+    for (column, words) in [&old, &record.state_words()].into_iter().enumerate() {
+        let mut shown = vec![0; STATE_WORDS];
+        for row in table("| word | by the old numbers | by the new numbers |") {
+            shown[number(row[0]) as usize] = number(row[1 + column]);
+        }
+        assert_eq!(*words, shown, "column {column}");
+    }
+    assert_eq!(record.renumber(&[1, 2, 0]), Ok(()));
+    assert_eq!(record.state_words(), old);
+}
+
+#[test]
 fn its_two_banks() {
     let mut banks = Banks::new(accepted(&text()));
     let share = Call { look: false, event: 0, from: 0, to: 1, scratch_words: SCRATCH_WORDS };

@@ -227,6 +227,16 @@ impl Calls for Mirror {
         self.plain.revise(old_terms, old_state, new_terms, second)
     }
 
+    fn renumber(
+        &mut self,
+        terms: &mut [u16],
+        state: &mut [u64],
+        numbers: &mut [u8],
+        second: &mut [u64],
+    ) -> Result<(), Refusal> {
+        self.plain.renumber(terms, state, numbers, second)
+    }
+
     fn write(&mut self, terms: &[u16], state: &[u64], output: &mut [u8]) -> Result<usize, Refusal> {
         self.plain.write(terms, state, output)
     }

@@ -2,7 +2,7 @@
 
 use crate::help::*;
 use keeper::generate::{self, lines, Rng};
-use keeper::program::{output, revised, run, stored, MOST_BYTES};
+use keeper::program::{output, renumbered, revised, run, stored, MOST_BYTES};
 use keeper::terms::{normal, Refusal};
 use std::fs;
 use std::path::Path;
@@ -26,6 +26,9 @@ fn files_of_a_directory() {
     assert_eq!(run(&directory), PRINTED);
     let stored = stored(&directory).unwrap();
     assert_eq!(stored, tabs(&format!("S 2\n{PRESET}V 1 0 1\n")));
+    let moved = PRESET.replace("G 0 0 2", "G 0 1 0");
+    assert_eq!(renumbered(&directory, &[1, 2, 0]), Ok(tabs(&format!("S 2\n{moved}V 1 1 2\n"))));
+    assert_eq!(renumbered(&directory, &[1, 2]), Err(Refusal::plain(15)));
     fs::write(directory.join("terms.tsv"), &stored).unwrap();
     assert_eq!(run(&directory), PRINTED);
     fs::write(directory.join("requests.tsv"), vec![b'\n'; MOST_BYTES + 9]).unwrap();

@@ -14,12 +14,13 @@ fn parts_are_dropped() {
     assert_eq!(items, [7, 31]);
 }
 
-/// Whether a step changes something: a call that is granted, or new terms that
-/// are not refused.
+/// Whether a step changes something: a call that is granted, or new terms or other
+/// numbers that are not refused.
 fn succeeds(step: &Step, record: &mut Record) -> bool {
     match step {
         Step::Call(call) => record.answer(call) == Answer::Grant,
         Step::Revision(revision) => revision.answer(record).is_ok(),
+        Step::Renumbering(renumbering) => renumbering.answer(record).is_ok(),
     }
 }
 
@@ -104,6 +105,7 @@ fn new_terms_that_do_not_count_go() {
             let succeeds = succeeds(step, &mut record);
             match step {
                 Step::Revision(_) => is_new |= succeeds,
+                Step::Renumbering(_) => {}
                 Step::Call(_) => {
                     let has_prev = record.terms().entries.iter().any(prev);
                     if is_new && succeeds && has_prev {

@@ -3,7 +3,7 @@
 
 use crate::help::*;
 use keeper::expect;
-use keeper::generate::{self, formulas, revised, size::Size, Rng};
+use keeper::generate::{self, formulas, renumbered, revised, size::Size, Rng};
 use keeper::record::Answer::{Deny, Grant};
 use keeper::record::Record;
 use keeper::step::Step;
@@ -205,7 +205,7 @@ fn the_old_form_is_written_only_from_a_fresh_start() {
 #[test]
 fn generated_files_of_the_stored_form() {
     let (mut stored, mut bits, mut events, mut strange, mut denied) = (0, 0, 0, 0, 0);
-    for seed in 0..1_500 {
+    for seed in 0..2_000 {
         let text = generate::case(seed, 99_999).text;
         let file = file(&text);
         assert_eq!(file.text(), normal(&text), "seed {seed}");
@@ -224,17 +224,18 @@ fn generated_files_of_the_stored_form() {
     assert!(stored > 200 && bits > 100 && events > 100 && denied > 60 && strange > 30);
 }
 
-/// Run, revise, store, load, go on, any number of times: answers and words are those
+/// Run, revise, renumber, store, load, go on, any number of times: answers and words are those
 /// of a panel that never stopped.
 #[test]
 fn a_panel_that_stopped_answers_as_one_that_did_not() {
-    let (mut loads, mut grants, mut revisions) = (0, 0, 0);
+    let (mut loads, mut grants, mut revisions, mut renumberings) = (0, 0, 0, 0);
     for seed in 0..400 {
         let mut rng = Rng::new(seed);
         let size = if seed % 4 == 0 { Size::middle(&mut rng) } else { Size::small(&mut rng) };
         let terms = formulas::terms(&mut rng, &size);
         let calls = generate::calls(&mut rng, &terms, 24, 99_999);
         let steps = revised::steps(&mut rng, &terms, calls);
+        let steps = renumbered::among(&mut rng, terms.members, steps);
         let mut going = Record::new(terms);
         let mut stopped = going.clone();
         for step in &steps {
@@ -249,6 +250,11 @@ fn a_panel_that_stopped_answers_as_one_that_did_not() {
                     revisions += usize::from(answer.is_ok());
                     assert_eq!(revision.answer(&mut stopped), answer, "seed {seed}");
                 }
+                Step::Renumbering(renumbering) => {
+                    let answer = renumbering.answer(&mut going);
+                    renumberings += usize::from(answer.is_ok());
+                    assert_eq!(renumbering.answer(&mut stopped), answer, "seed {seed}");
+                }
             }
             if rng.percent(40) {
                 let text = store(stopped.terms(), &stopped.state());
@@ -260,6 +266,8 @@ fn a_panel_that_stopped_answers_as_one_that_did_not() {
             assert_eq!(stopped.state_words(), going.state_words(), "seed {seed}");
         }
     }
-    println!("{loads} loadings, {grants} grants, {revisions} revisions");
-    assert!(loads > 3_000 && grants > 3_000 && revisions > 400);
+    println!(
+        "{loads} loadings, {grants} grants, {revisions} revisions, {renumberings} renumberings"
+    );
+    assert!(loads > 3_000 && grants > 3_000 && revisions > 400 && renumberings > 400);
 }

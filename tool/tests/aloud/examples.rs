@@ -10,7 +10,9 @@ fn examples_quote_what_is_read_aloud() {
     let examples = concat!(env!("CARGO_MANIFEST_DIR"), "/../examples");
     let folders = fs::read_dir(examples).unwrap().map(|entry| entry.unwrap().path());
     let mut quoted = 0;
-    let all = |folder: PathBuf| [folder.join("later"), folder.join("new"), folder];
+    let all = |folder: PathBuf| {
+        [folder.join("later"), folder.join("new"), folder.join("renumbered"), folder]
+    };
     for folder in folders.flat_map(all) {
         let document = folder.join("README.md");
         if !document.is_file() {

@@ -1,0 +1,83 @@
+use borrow.Author.Needs.{needs}
+use native.Mathlib.Omega.{arith}
+use Prim.Native.Nat.{ℕ, _-_, _+_, _%_, _≤_}
+use mathlib.Core.Path.{_≡_, ap, subst}
+use Rattle.memory.specs.Layout.{eventAt}
+use Rattle.theory.specs.NewNumbers.{newNumber}
+use Rattle.renumber.specs.Spread.{Placed}
+use Rattle.renumber.proofs.Placing as placing
+use Rattle.renumber.proofs.move_rows.Statement.{statement}
+use Rattle.renumber.proofs.move_rows.Tie as tie
+
+abbrev Inv-loop : tie.InvT-loop
+Inv-loop state numbers bytes second₀ i₀ second i = (i ≤ eventAt) × Placed (newNumber numbers) state second₀ second i
+
+abbrev μ-loop : tie.MeasureT-loop
+μ-loop state numbers bytes second₀ i₀ second i = eventAt - i
+
+loop-holds : tie.Need-loop-holds Inv-loop μ-loop
+loop-holds c = (omega arith, placing.placed-none _ _ _)
+
+add-k : tie.Need-add-k Inv-loop μ-loop
+add-k c = omega (arith, c .new-number .ensures .1 (omega arith))
+
+mul-w : tie.Need-mul-w Inv-loop μ-loop
+mul-w c = omega (arith, c .new-number .ensures .1 (omega arith))
+
+shared-slice-read-w : tie.Need-shared-slice-read-w Inv-loop μ-loop
+shared-slice-read-w c =
+    let i = c .before .before .before .before .before .before .before .before in
+    omega (arith, i .pre .0 .0, c .before .new-number .ensures .0, i .pre .1 .1 .below (c .before .before .before .loop .i % 64) (omega arith))
+
+spread-requires : tie.Need-spread-requires Inv-loop μ-loop
+spread-requires c κs = c .before .before .before .before .before .before .before .before .pre .1 .0 .long
+
+mul-second : tie.Need-mul-second Inv-loop μ-loop
+mul-second c = omega (arith, c .before .before .new-number .ensures .1 (omega arith))
+
+slice-write-second : tie.Need-slice-write-second Inv-loop μ-loop
+slice-write-second c =
+    let l = c .before .before .before .before .loop in
+    let i = c .before .before .before .before .before .before .before .before .before in
+    omega (arith, i .pre .0 .1, l .inv .1 .long, c .before .before .new-number .ensures .0, i .pre .1 .1 .below (l .i % 64) (omega arith))
+
+loop-again : tie.Need-loop-again Inv-loop μ-loop
+loop-again c =
+    let l = c .before .before .before .before .loop in
+    let i = c .before .before .before .before .before .before .before .before .before in (
+      omega arith,
+      placing.placed-more (newNumber (i .args .numbers .now)) (i .pre .1 .1) (i .args .state .now) (i .args .second .now) (l .second) (l .i) _ (c .spread .result)
+          (i .pre .0 .1) (omega arith) (ap (λ (x : ℕ). l .i - l .i % 64 + x) (c .before .before .new-number .ensures .0))
+          (λ m. c .spread .ensures (newNumber (i .args .numbers .now)) (i .pre .1 .0) m) (l .inv .1),
+    )
+
+same-length : tie.Need-same-length Inv-loop μ-loop
+same-length c = c .before .loop .inv .1 .long
+
+returns : tie.Need-returns Inv-loop μ-loop
+returns c =
+    let l = c .before .loop in
+    let i = c .before .before .before .before .before .before in
+    let end : l .i ≡ eventAt = omega arith in
+    subst (Placed (newNumber (i .args .numbers .now)) (i .args .state .now) (i .args .second .now) (l .second)) end (l .inv .1)
+
+pub move-rows-spec : {M : Type 1} → statement M
+move-rows-spec =
+    tie.close
+    (tie.spec
+    Inv-loop
+    μ-loop
+    loop-holds
+    (λ c. search needs)
+    (λ c κs. search needs)
+    add-k
+    mul-w
+    shared-slice-read-w
+    spread-requires
+    mul-second
+    slice-write-second
+    (λ c. search needs)
+    (λ c. search needs)
+    loop-again
+    same-length
+    returns)

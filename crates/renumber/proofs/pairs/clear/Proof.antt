@@ -1,0 +1,48 @@
+-- The loop's invariant: the words before i are 0.
+use native.Mathlib.Omega.{arith}
+use Prim.Native.Nat.{ℕ, _-_, _<_, _≤_}
+use mathlib.Core.Path.{_≡_, _∙_}
+use lib.ListN.{length, getD, length-set}
+use Rattle.renumber.proofs.PairRows as rows
+use Rattle.renumber.proofs.pairs.clear.Statement.{statement}
+use Rattle.renumber.proofs.pairs.clear.Tie as tie
+
+abbrev Inv-loop : tie.InvT-loop
+Inv-loop words₀ i₀ words i = (i ≤ 64) × (length words ≡ 64) × ((j : ℕ) → j < i → getD words j 0 ≡ 0)
+
+abbrev μ-loop : tie.MeasureT-loop
+μ-loop words₀ i₀ words i = 64 - i
+
+loop-holds : tie.Need-loop-holds Inv-loop μ-loop
+loop-holds c = (omega arith, c .pre, λ j l. absurd (omega arith))
+
+slice-write-words : tie.Need-slice-write-words Inv-loop μ-loop
+slice-write-words c = omega (arith, c .before .loop .inv .1)
+
+loop-again : tie.Need-loop-again Inv-loop μ-loop
+loop-again c =
+    let l = c .before .loop in
+    (omega arith, length-set (l .words) (l .i) 0 ∙ l .inv .1, rows.cleared (l .words) (l .i) (omega (arith, l .inv .1)) (l .inv .2))
+
+same-length : tie.Need-same-length Inv-loop μ-loop
+same-length c = omega (arith, c .before .loop .inv .1, c .before .before .pre)
+
+returns : tie.Need-returns Inv-loop μ-loop
+returns c =
+    let l = c .before .loop in
+    (l .inv .1, rows.cleared-all (l .words) (l .inv .1) (l .i) (omega arith) (l .inv .2))
+
+pub clear-spec : {M : Type 1} → statement M
+clear-spec =
+    tie.close
+    (tie.spec
+    Inv-loop
+    μ-loop
+    loop-holds
+    (λ c. omega arith)
+    slice-write-words
+    (λ c. omega arith)
+    (λ c. omega arith)
+    loop-again
+    same-length
+    returns)

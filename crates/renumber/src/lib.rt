@@ -1,0 +1,178 @@
+// Members renumbered: a state is rewritten into a second lent state. Terms and state are checked as by every call.
+ghost use mathlib.Core.Path.{_≡_};
+ghost use mathlib.Core.Bool.{true};
+ghost use Prim.Native.Nat.{ℕ, _+_, _*_, _<_, _≤_};
+ghost use lib.ListN.{length, getD};
+ghost use Rattle.sets.specs.Sets.{bit};
+ghost use Rattle.memory.specs.Layout.{stateWords, eventAt, termsOf};
+ghost use Rattle.memory.specs.Outcome.{outcomeOf};
+ghost use Rattle.theory.specs.NewNumbers.{newNumber, renumbers};
+ghost use Rattle.calls.specs.Renumbering.{renumbering, renumberedState};
+ghost use Rattle.memory.specs.Checks.{goodMemory};
+ghost use Rattle.memory.specs.Plan.{Planned};
+ghost use Rattle.renumber.specs.Spread.{spread, ByteOf, Bytes, Apart, Placed, newEvent, Rewritten};
+ghost use Rattle.renumber.specs.PairRows.{Few};
+use memory::Outcome;
+use memory::layout;
+use memory::limits::ENTRIES;
+
+mod pairs;
+
+const FROM_UNIT: usize = layout::FROM_UNIT as usize;
+
+const EVENT_UNIT: usize = layout::EVENT_UNIT as usize;
+
+fn wide(x: u8) -> usize
+    ensures { λ r. ⌜ r ≡ x ⌝ }
+{
+    x as usize
+}
+
+// The new number of m. What is no member keeps its number.
+pub(crate) fn new_number(numbers: &[u8], m: usize) -> usize
+    ensures { λ r. ⌜ r ≡ newNumber (now (numbers .entry)) m ⌝ }
+    ensures { λ r. ⌜ (m < 64 → r < 256) ⌝ }
+{
+    if m < numbers.len() {
+        wide(numbers[m])
+    } else {
+        m
+    }
+}
+
+// Whether the list has n numbers, and every number below n is in it.
+fn are_new_numbers(numbers: &[u8], n: usize) -> bool
+    requires { ⌜ n < 65 ⌝ }
+    ensures { λ r. ⌜ r ≡ renumbers n (now (numbers .entry)) ⌝ }
+{
+    if numbers.len() != n {
+        return false;
+    }
+    let mut seen: u64 = 0;
+    let mut i = 0;
+    while i < n {
+        seen = sets::with(seen, wide(numbers[i]));
+        i += 1;
+    }
+    let all = sets::mask(n);
+    all ^ (all & seen) == 0
+}
+
+// The new numbers of the eight members from b on, by those of them that are in a byte. Without its least member a set comes earlier.
+fn fill_byte(numbers: &[u8], b: usize, part: &mut [u64])
+    requires { ⌜ (length (now part) ≡ 256) × (b < 64) ⌝ }
+    ensures { λ _. ⌜ (length (now (part .exit)) ≡ 256) × ByteOf (newNumber (now (numbers .entry))) b (now (part .exit)) 256 ⌝ }
+{
+    part[0] = 0;
+    let mut v = 1;
+    while v < 256 {
+        let set = v as u64;
+        let rest = sets::rest_of(set) as usize;
+        part[v] = sets::with(part[rest], new_number(numbers, b + sets::least_of(set)));
+        v += 1;
+    }
+}
+
+// The same for all 64 members.
+fn fill_bytes(numbers: &[u8], bytes: &mut [u64])
+    requires { ⌜ length (now bytes) ≡ 2048 ⌝ }
+    ensures { λ _. ⌜ Bytes (newNumber (now (numbers .entry))) (now (bytes .exit)) ⌝ }
+{
+    let mut i = 0;
+    while i < 8 {
+        let k = 256 * i;
+        fill_byte(numbers, 8 * i, &mut bytes[k..k + 256]);
+        i += 1;
+    }
+}
+
+// The new numbers of those of the 16 members from 16 i on that are in a set, whose bit 0 is the first of them.
+pub(crate) fn spread_part(bytes: &[u64], i: usize, set: u64) -> u64
+    requires { ⌜ (length (now bytes) ≡ 2048) × (i < 4) ⌝ }
+    ensures { λ r. ⌜ ((p : ℕ → ℕ) → Bytes p (now (bytes .entry)) → (m : ℕ) → bit r m ≡ spread 16 (λ k. p (16 * i + k)) set m) ⌝ }
+{
+    let k = 512 * i;
+    bytes[k + (set & 255) as usize] | bytes[k + 256 + (set / 256 & 255) as usize]
+}
+
+// The new numbers of the members of a set.
+fn spread(bytes: &[u64], set: u64) -> u64
+    requires { ⌜ length (now bytes) ≡ 2048 ⌝ }
+    ensures { λ r. ⌜ ((p : ℕ → ℕ) → Bytes p (now (bytes .entry)) → (m : ℕ) → bit r m ≡ spread 64 p set m) ⌝ }
+{
+    if set == 0 {
+        return 0;
+    }
+    let a = spread_part(bytes, 0, set);
+    let b = spread_part(bytes, 1, set / 65536);
+    let c = spread_part(bytes, 2, set / 65536 / 65536);
+    let d = spread_part(bytes, 3, set / 65536 / 65536 / 65536);
+    a | b | c | d
+}
+
+// The word of an event edge, with its members renumbered.
+fn new_event(numbers: &[u8], word: u64) -> u64
+    requires { ⌜ word < 131073 ⌝ }
+    ensures { λ r. ⌜ r ≡ newEvent (newNumber (now (numbers .entry))) word ⌝ }
+{
+    if word == 0 {
+        return 0;
+    }
+    let n = (word - 1) as usize;
+    let from = new_number(numbers, n / FROM_UNIT % FROM_UNIT);
+    let to = new_number(numbers, n % FROM_UNIT);
+    (1 + n / EVENT_UNIT * EVENT_UNIT + from * FROM_UNIT + to) as u64
+}
+
+// Puts each row of relations and tables at its new number, with its bits at theirs.
+fn move_rows(state: &[u64], numbers: &[u8], bytes: &[u64], second: &mut [u64])
+    requires { ⌜ (stateWords ≤ length (now state)) × (stateWords ≤ length (now second)) ⌝ }
+    requires { ⌜ Bytes (newNumber (now numbers)) (now bytes) × Apart (newNumber (now numbers)) ⌝ }
+    ensures { λ _. ⌜ Placed (newNumber (now (numbers .entry))) (now (state .entry)) (now (second .entry)) (now (second .exit)) eventAt ⌝ }
+{
+    let mut i: usize = 0;
+    while i < layout::EVENT_AT {
+        let a = i % layout::BLOCK;
+        let k = i - a + new_number(numbers, a);
+        let w = state[i];
+        let moved = spread(bytes, w);
+        second[k] = moved;
+        i += 1;
+    }
+}
+
+// Writes the renumbered state.
+fn rewrite(terms: &[u16], plan: &[u16], state: &[u64], numbers: &[u8], second: &mut [u64])
+    requires { ⌜ (goodMemory (now terms) ≡ true) × Planned (termsOf (now terms)) (now plan) ⌝ }
+    requires { ⌜ (stateWords ≤ length (now state)) × (stateWords ≤ length (now second)) × (getD (now state) eventAt 0 < 131073) ⌝ }
+    requires { ⌜ Apart (newNumber (now numbers)) × (termsOf (now terms) .members < 17 → Few (newNumber (now numbers))) ⌝ }
+    ensures { λ _. ⌜ Rewritten (termsOf (now (terms .entry))) (newNumber (now (numbers .entry))) (now (state .entry)) (now (second .entry)) (now (second .exit)) ⌝ }
+{
+    let mut bytes = [0u64; 2048];
+    fill_bytes(numbers, &mut bytes);
+    move_rows(state, numbers, &bytes, second);
+    pairs::move_tables(terms, plan, state, numbers, &bytes, second);
+    second[layout::EVENT_AT] = new_event(numbers, state[layout::EVENT_AT]);
+}
+
+// Rewrites a state into a second one, byte m of the list being the new number of member m. A refusal leaves the second state as lent.
+pub fn renumber(terms: &[u16], state: &[u64], numbers: &[u8], second: &mut [u64]) -> Outcome
+    ensures { λ r. ⌜ outcomeOf r ≡ renumbering (now (terms .entry)) (now (state .entry)) (now (numbers .entry)) (now (second .entry)) ⌝ }
+    ensures { λ r. ⌜ now (second .exit) ≡ renumberedState (now (terms .entry)) (now (state .entry)) (now (numbers .entry)) (now (second .entry)) ⌝ }
+{
+    if second.len() < layout::STATE {
+        return Outcome::Refused(6, 0);
+    }
+    let mut plan = [0u16; ENTRIES];
+    let checked = memory::inspect(terms, state, &mut plan);
+    match checked {
+        Outcome::Refused(n, l) => Outcome::Refused(n, l),
+        Outcome::Done => {
+            if !are_new_numbers(numbers, layout::members(terms)) {
+                return Outcome::Refused(15, 0);
+            }
+            rewrite(terms, &plan, state, numbers, second);
+            Outcome::Done
+        }
+    }
+}
