@@ -1,8 +1,10 @@
 #!/bin/sh
 # test.sh: the Rust crate's tests, those of a host without a heap without the
 # feature that needs one, its pages, and that it is not built for a machine that
-# the archive is not for, nor with an archive of another version. The archive is
-# that of CUCKOOORMOLU_LIB, as the build script says.
+# the archive is not for, nor with an archive of another version. The tests again
+# with the oldest Rust that the crate is for, where that is here: OLDEST_RUST names
+# its folder bin, else it is one of rustup's, or Debian's in /usr/bin. The archive
+# is that of CUCKOOORMOLU_LIB, as the build script says.
 set -eu
 cd "$(dirname "$0")"
 library=${CUCKOOORMOLU_LIB:-$PWD/../../target/staticlib}
@@ -10,6 +12,32 @@ library=${CUCKOOORMOLU_LIB:-$PWD/../../target/staticlib}
 cargo test --release --quiet -p cuckooormolu
 cargo test --release --quiet -p cuckooormolu --no-default-features --test without_alloc
 RUSTDOCFLAGS='-D warnings' cargo doc --quiet --no-deps -p cuckooormolu
+
+oldest=$(sed -n 's/^rust-version = "\(.*\)"$/\1/p' Cargo.toml)
+# has FOLDER: whether the folder has a cargo and the oldest rustc.
+has() {
+    [ -x "$1/cargo" ] && [ -x "$1/rustc" ] || return 1
+    case $("$1/rustc" --version) in "rustc $oldest".*) ;; *) return 1 ;; esac
+}
+old=''
+for folder in "${OLDEST_RUST:-}" "${RUSTUP_HOME:-$HOME/.rustup}/toolchains/$oldest"*/bin /usr/bin; do
+    if has "$folder"; then old=$folder; fi
+done
+if [ -n "$old" ]; then
+    # Its build is kept apart, for it knows nothing of the other's.
+    for words in '' '--no-default-features --test without_alloc'; do
+        # shellcheck disable=SC2086
+        PATH="$old:$PATH" RUSTC="$old/rustc" RUSTDOC="$old/rustdoc" \
+            CARGO_TARGET_DIR="${CARGO_TARGET_DIR:-../../target}/oldest" \
+            "$old/cargo" test --release --quiet -p cuckooormolu $words
+    done
+    echo "ok   Rust $oldest"
+elif [ -n "${OLDEST_RUST:-}" ]; then
+    echo "FAIL there is no Rust $oldest in $OLDEST_RUST"
+    exit 1
+else
+    echo "skip Rust $oldest: it is not here; OLDEST_RUST names its folder bin"
+fi
 
 # Whether or not the other target is installed, the build script comes first.
 other=aarch64-unknown-linux-gnu

@@ -1,25 +1,28 @@
 -- Circles, and what was asked of them.
 
--- A circle has its own terms and members. Words are little-endian, in the order of docs/MEMORY.md.
+-- A circle has its own terms and members. Its words, in the order of docs/MEMORY.md, are packed: each run of words that
+-- are not 0 as the place of its first word and the count of its words, of two bytes each, and then the words, all
+-- little-endian.
 create table circle (
     id      bigint primary key,
-    terms   bytea  not null check (length(terms) = 2504),   -- 1,252 words of 16 bits
-    state   bytea  not null check (length(state) = 24584),  -- 3,073 words of 64 bits
-    version bigint not null default 0                       -- the moments that were made
+    version bigint not null default 0,  -- the moments that were made
+    terms   bytea  not null,            -- 1,252 words of 16 bits
+    state   bytea  not null             -- 3,073 words of 64 bits
 );
 
--- Every request that was answered, once. Numbers rise for a circle as its requests were answered, since they are
--- drawn while its row is locked; between circles they mean nothing.
+-- Every request and revision that was answered, once. Numbers rise for a circle as its lines were written, since they
+-- are drawn while its row is locked; between circles they mean nothing.
 create table log (
     number    bigint generated always as identity,
     circle    bigint   not null,  -- its row is locked when the line is written, so it is there
     key       uuid     not null,  -- the client's, the same when it asks again
     version   bigint   not null,  -- the circle's after the request
-    event     smallint not null,
-    initiator smallint not null,
-    target    smallint not null,
-    answer    smallint not null,  -- 0 deny, 1 grant, 9 refused by that number
     answered  timestamptz not null default now(),
+    event     smallint,           -- the three of a request
+    initiator smallint,
+    target    smallint,
+    answer    smallint not null,  -- request: 0 deny, 1 grant, 9 refused by that number; revision: 100 done, 13 refused
+    terms     bytea,              -- the new ones of a revision, packed
     primary key (circle, key)
 );
 

@@ -25,9 +25,15 @@ revise=$(sed -n 's/^size_t cuckooormolu_raw_revise(.*/-DREVISE/p' "$folder/cucko
 clang -std=c11 -O2 -g -fsanitize="$sanitizers" -fno-sanitize-recover=all $revise -I "$folder" -o "$work/fuzz" \
     "$here/invariants.c" "$here/banks.c" "$here/renumbered.c" "$folder/cuckooormolu.c"
 sh "$here/seeds.sh" "$work/seeds"
-for word in top var not or out in prev since bind at reach many add del fwd back; do
-    printf '"%s\\x09"\n' "$word"
-done >"$work/words"
+{
+    for word in top var not or out in prev since bind at reach many add del fwd back; do
+        printf '"%s\\x09"\n' "$word"
+    done
+    for kind in F P K E G T V; do
+        printf '"\\x0a%s\\x09"\n' "$kind"
+    done
+    printf '"S\\x092\\x0a"\n'
+} >"$work/words"
 mkdir -p "$corpus"
 # A failing input is left beside the C file.
 "$work/fuzz" -dict="$work/words" -max_total_time="$seconds" -max_len=4096 -timeout=120 -print_final_stats=1 \

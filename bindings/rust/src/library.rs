@@ -3,13 +3,8 @@
 
 use crate::raw::Record;
 
-/// Crate and archive belong together: an archive of another version has no
-/// function of that name, and does not link.
-#[used]
-static ARCHIVE: unsafe extern "C" fn() -> usize = cuckooormolu_raw_version;
-
 extern "C" {
-    /// The version stands in the name.
+    /// Crate and archive belong together: the version stands in the name.
     #[link_name = concat!(
         "cuckooormolu_raw_version_",
         env!("CARGO_PKG_VERSION_MAJOR"),

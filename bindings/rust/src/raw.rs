@@ -111,8 +111,12 @@ const ACCEPTED: usize = 500;
 const FAILS: usize = 600;
 const HOLDS: usize = 700;
 
+/// Every call may come here and name the version, so that none links with an
+/// archive of another one, which has no function of that name.
 fn refused(code: usize) -> Refusal {
-    Refusal::of_number(code).unwrap_or_else(|| panic!("the library gave the unknown code {code}"))
+    Refusal::of_number(code).unwrap_or_else(|| {
+        panic!("the library of version {} gave the unknown code {code}", version())
+    })
 }
 
 fn done(code: usize) -> Result<(), Refusal> {

@@ -1,16 +1,20 @@
-//! Requests a second, by workers and circles, beside a plain UPDATE of a row of the same size.
+//! Requests a second, by workers and circles, beside plain UPDATEs of a row of the same size.
 //!
-//!     measure TO [SECONDS]
+//!     measure TO [SECONDS [TERMS]]
 //!
 //! TO is a connection string to a server with the tables of schema.sql. Of four requests one is a share, one a
-//! withdrawal and two are loads, of which about every other is granted. Each writes a line of the log, and the state
-//! where it is granted; the UPDATE writes a state to a table of the same columns. The two take turns of so many
-//! seconds, five times; the medians are shown.
+//! withdrawal and two are loads, of which every other is granted. Each writes a line of the log, and the state where it
+//! is granted. One UPDATE writes the words of a state as they are, the other as this host packs them, each to a table
+//! with the same columns and nothing else in its transaction. The three take turns of so many seconds, each time in
+//! another order; medians of the turns and of their ratios are shown. The processor's time, of worker and server
+//! process, is told besides: it is the same whatever else the machine does. The server is on the same machine. TERMS is
+//! a file with other terms in which the events 0, 1 and 2 are a share, a withdrawal and a load.
 
 use circles::libpq::Connection;
 use circles::{words, Circles};
 use cuckooormolu::{Event, Member, Monitor, Request};
-use std::ffi::CStr;
+use std::array;
+use std::ffi::CString;
 use std::thread;
 use std::time::{Duration, Instant, SystemTime, UNIX_EPOCH};
 
@@ -19,117 +23,210 @@ const PRESET: &str =
     F 6 at 0 5\nF 7 bind 1 6\nF 8 top 0 0\nP 0 8\nP 1 8\nP 2 7\nG 0 0 2\n";
 /// Share, load, withdraw, load.
 const ASKED: [(u8, u8, u8); 4] = [(0, 0, 1), (2, 1, 2), (1, 0, 1), (2, 1, 2)];
-const UPDATE: &CStr = c"update";
-const TURNS: usize = 5;
+const TURNS: usize = 9;
 const MOST: i64 = 10_000;
 /// Circles of no other's.
 const FIRST: i64 = 1 << 40;
+/// Tables to be updated, beside `circle`: words as they are, and packed.
+const PLAIN: &str = "plain";
+const PACKED: &str = "plain_packed";
+/// The name of the workers' connections.
+const MEASURED: &str = "measured";
+
+/// Does something once, by a number that looks random, and says whether it was granted.
+type Worker = Box<dyn FnMut(u64) -> bool + Send>;
 
 fn main() {
     let arguments = std::env::args().skip(1).collect::<Vec<_>>();
-    let [to, rest @ ..] = &arguments[..] else { panic!("usage: measure TO [SECONDS]") };
-    let seconds = rest.first().map_or(2.0, |seconds| seconds.parse().expect("seconds"));
-    let turn = Duration::from_secs_f64(seconds);
-    prepare(to);
-    println!("| circles | workers | requests/s | granted % | UPDATEs/s | ratio |\n|--:|--:|--:|--:|--:|--:|");
+    let [to, rest @ ..] = &arguments[..] else { panic!("usage: measure TO [SECONDS [TERMS]]") };
+    let seconds = rest.first().map_or(0.5, |seconds| seconds.parse().expect("seconds"));
+    let text = rest.get(1).map_or(PRESET.replace(' ', "\t").into_bytes(), |terms| {
+        std::fs::read(terms).expect("terms")
+    });
+    let monitor = Monitor::read(&text).expect("terms");
+    prepare(to, &monitor);
+    let named = format!("{to} application_name={MEASURED}");
+    println!(
+        "| circles | workers | requests/s | granted % | UPDATEs/s | ratio | packed UPDATEs/s | ratio | µs a request | \
+         µs an UPDATE | µs a packed UPDATE |"
+    );
+    println!("|{}", "--:|".repeat(11));
     for circles in [100, MOST] {
         for workers in [1, 2, 4, 8] {
-            let turns = (0..TURNS).map(|_| {
-                let (asked, granted) = rate(workers, turn, || requests(to, circles));
-                let (updated, _) = rate(workers, turn, || updates(to, circles));
-                [asked, 100.0 * granted / asked, updated, asked / updated]
-            });
-            let turns = turns.collect::<Vec<_>>();
-            let [asked, granted, updated, ratio] =
-                [0, 1, 2, 3].map(|column| median(&turns, column));
+            let sides: [&dyn Fn() -> Worker; 3] = [
+                &|| requests(&named, circles),
+                &|| updates(&named, circles, PLAIN, plain(&monitor)),
+                &|| updates(&named, circles, PACKED, words::packed(monitor.state().words())),
+            ];
+            let turns = turns(sides, to, workers, Duration::from_secs_f64(seconds));
+            let [asked, granted, updated, ratio, packed, packed_ratio, request, update, small] =
+                array::from_fn(|column| median(&turns, column));
             println!(
-                "| {circles} | {workers} | {asked:.0} | {granted:.0} | {updated:.0} | {ratio:.2} |"
+                "| {circles} | {workers} | {asked:.0} | {granted:.0} | {updated:.0} | {ratio:.2} | {packed:.0} | \
+                 {packed_ratio:.2} | {request:.0} | {update:.0} | {small:.0} |"
             );
         }
     }
 }
 
-fn median(turns: &[[f64; 4]], column: usize) -> f64 {
-    let mut numbers = turns.iter().map(|turn| turn[column]).collect::<Vec<_>>();
+/// What a turn of one side gave.
+#[derive(Clone, Copy, Default)]
+struct Turn {
+    /// Calls and grants a second.
+    rate: f64,
+    granted: f64,
+    /// Of a call, in microseconds.
+    processor: f64,
+}
+
+/// Rates and ratios of a round, and the processor's times.
+type Round = [f64; 9];
+
+/// Each side has a turn in each round.
+fn turns(sides: [&dyn Fn() -> Worker; 3], to: &str, workers: u64, turn: Duration) -> Vec<Round> {
+    let turns = (0..TURNS).map(|round| {
+        let mut turns = [Turn::default(); 3];
+        for place in 0..3 {
+            let side = (round + place) % 3;
+            turns[side] = measured(to, workers, turn, sides[side]);
+        }
+        let [asked, updated, packed] = turns;
+        [
+            asked.rate,
+            100.0 * asked.granted / asked.rate,
+            updated.rate,
+            asked.rate / updated.rate,
+            packed.rate,
+            asked.rate / packed.rate,
+            asked.processor,
+            updated.processor,
+            packed.processor,
+        ]
+    });
+    turns.collect()
+}
+
+fn median(rounds: &[Round], column: usize) -> f64 {
+    let mut numbers = rounds.iter().map(|round| round[column]).collect::<Vec<_>>();
     numbers.sort_by(f64::total_cmp);
     numbers[TURNS / 2]
 }
 
-/// Makes the circles where they are not there, and the other table from them.
-fn prepare(to: &str) {
-    let monitor = Monitor::read(PRESET.replace(' ', "\t").as_bytes()).expect("terms");
-    // Where the first is there, so are all.
-    if Circles::connect(to).expect("a server").create(FIRST, &monitor).is_ok() {
-        let more = format!(
-            "insert into circle select {FIRST} + n, terms, state, 0 from circle, generate_series(1, {MOST} - 1) as n
-             where id = {FIRST}"
-        );
-        Connection::script(to, &more).expect("circles");
-    }
-    let plain = format!(
-        "drop table if exists plain; create table plain (like circle including all);
-         insert into plain select * from circle where id >= {FIRST}; vacuum analyze"
-    );
-    for statement in plain.split(';') {
-        Connection::script(to, statement).expect("the other table");
-    }
-}
-
-/// How often a second some workers do something, each by what `worker` makes, and how often it is so.
-fn rate<W>(workers: u64, turn: Duration, worker: impl Fn() -> W) -> (f64, f64)
-where
-    W: FnMut(u64) -> bool + Send,
-{
+/// A turn of some workers, each of which `worker` makes.
+fn measured(to: &str, workers: u64, turn: Duration, worker: &dyn Fn() -> Worker) -> Turn {
     let workers = (0..workers).map(|number| (number, worker())).collect::<Vec<_>>();
-    let start = Instant::now();
-    let counts = thread::scope(|scope| {
+    let servers = servers(to);
+    let served = || servers.iter().map(|server| processor(&format!("/proc/{server}"))).sum::<f64>();
+    let (start, before) = (Instant::now(), served());
+    let (counts, worked) = thread::scope(|scope| {
         let running = workers.into_iter().map(|(mut random, mut each)| {
             scope.spawn(move || {
-                let mut counts = [0, 0];
+                let before = processor("/proc/thread-self");
+                let mut counts = [0.0, 0.0];
                 while start.elapsed() < turn {
                     random = random
                         .wrapping_mul(6_364_136_223_846_793_005)
                         .wrapping_add(1_442_695_040_888_963_407);
-                    counts[usize::from(each(random >> 33))] += 1;
+                    counts[usize::from(each(random >> 33))] += 1.0;
                 }
-                counts
+                // The connection stays open until the server's time was read.
+                (each, counts, processor("/proc/thread-self") - before)
             })
         });
         let running = running.collect::<Vec<_>>();
-        let counts = running.into_iter().map(|worker| worker.join().expect("a worker"));
-        counts.fold([0, 0], |sum: [u64; 2], count| [sum[0] + count[0], sum[1] + count[1]])
+        let ended = running.into_iter().map(|worker| worker.join().expect("a worker"));
+        let ended = ended.collect::<Vec<_>>();
+        let counts = ended
+            .iter()
+            .fold([0.0, 0.0], |sum, (_, counts, _)| [sum[0] + counts[0], sum[1] + counts[1]]);
+        let worked = ended.iter().map(|(.., worked)| worked).sum::<f64>();
+        (counts, worked + served() - before)
     });
     let seconds = start.elapsed().as_secs_f64();
-    ((counts[0] + counts[1]) as f64 / seconds, counts[1] as f64 / seconds)
+    let all: f64 = counts[0] + counts[1];
+    Turn { rate: all / seconds, granted: counts[1] / seconds, processor: worked / all }
+}
+
+/// The time that a process or thread had a processor, in microseconds.
+fn processor(folder: &str) -> f64 {
+    let text = std::fs::read_to_string(format!("{folder}/schedstat")).expect("a local server");
+    let nanoseconds: f64 = text.split(' ').next().and_then(|first| first.parse().ok()).expect("it");
+    nanoseconds / 1e3
+}
+
+/// The server's processes of the workers.
+fn servers(to: &str) -> Vec<i64> {
+    let query = CString::new(format!(
+        "select pid from pg_stat_activity where application_name = '{MEASURED}'"
+    ));
+    let query = query.expect("no zero in it");
+    let mut connection = Connection::open(to, &[(c"servers", &query)]).expect("a server");
+    let rows = connection.run(&[(c"servers", &[])]).expect("a server").remove(0);
+    (0..rows.count()).map(|row| rows.number(row, 0)).collect()
+}
+
+/// Makes the circles, every other one after a share, and tables of the same columns.
+fn prepare(to: &str, monitor: &Monitor) {
+    let mut circles = Circles::connect(to).expect("a server");
+    let mut shared = Monitor::resume(monitor.terms().clone(), monitor.state().clone()).expect("it");
+    assert!(shared.request(asked(0)).expect("a share").is_grant());
+    Connection::script(to, &format!("delete from circle where id >= {FIRST}")).expect("none");
+    circles.create(FIRST, monitor).expect("a circle");
+    circles.create(FIRST + 1, &shared).expect("another");
+    let from = format!(
+        "from circle, generate_series(2, {MOST} - 1, 2) as n where id in ({FIRST}, {FIRST} + 1)"
+    );
+    let mut script =
+        vec![format!("insert into circle select id + n, version, terms, state {from}")];
+    for table in [PLAIN, PACKED] {
+        script.push(format!("set client_min_messages = error; drop table if exists {table}"));
+        script.push(format!("create table {table} (like circle including all)"));
+        script.push(format!("insert into {table} select * from circle where id >= {FIRST}"));
+    }
+    let hex = plain(monitor).iter().map(|byte| format!("{byte:02x}")).collect::<String>();
+    script.push(format!("update {PLAIN} set state = '\\x{hex}'"));
+    script.push("vacuum (full, analyze)".to_string());
+    for statement in script {
+        Connection::script(to, &statement).expect("tables");
+    }
+}
+
+/// The words of a state as they are.
+fn plain(monitor: &Monitor) -> Vec<u8> {
+    monitor.state().words().iter().flat_map(|word| word.to_le_bytes()).collect()
+}
+
+fn asked(number: usize) -> Request {
+    let (event, from, to) = ASKED[number];
+    Request { event: Event(event), from: Member(from), to: Member(to) }
 }
 
 /// Asks, each time by a key of its own, the circle that was locked by the time before.
-fn requests(to: &str, circles: i64) -> impl FnMut(u64) -> bool + Send {
+fn requests(to: &str, circles: i64) -> Worker {
     let mut connection = Circles::connect(to).expect("a server");
     let now = SystemTime::now().duration_since(UNIX_EPOCH).expect("after 1970").as_nanos();
     let mut key = now << 32;
     let mut circle = FIRST;
-    move |random| {
-        let (event, from, to) = ASKED[random as usize % ASKED.len()];
-        let request = Request { event: Event(event), from: Member(from), to: Member(to) };
+    Box::new(move |random| {
         let next = FIRST + (random / 4) as i64 % circles;
         key += 1;
+        let request = asked(random as usize % ASKED.len());
         let told = connection.request_before(circle, key.to_be_bytes(), request, Some(next));
         circle = next;
         told.expect("a server").expect("an answer").is_grant()
-    }
+    })
 }
 
-/// Writes a state of the same size, one byte of it another each time.
-fn updates(to: &str, circles: i64) -> impl FnMut(u64) -> bool + Send {
-    let query = c"update plain set state = $2, version = version + 1 where id = $1";
-    let mut connection = Connection::open(to, &[(UPDATE, query)]).expect("a server");
-    let monitor = Monitor::read(PRESET.replace(' ', "\t").as_bytes()).expect("terms");
-    let mut state = words::bytes(monitor.state().words(), u64::to_le_bytes);
-    move |random| {
-        state[8 * 1_024] = random as u8 & 7;
+/// Writes a state, one byte of it another each time.
+fn updates(to: &str, circles: i64, table: &str, mut state: Vec<u8>) -> Worker {
+    let query = format!("update {table} set state = $2, version = version + 1 where id = $1");
+    let query = CString::new(query).expect("no zero in it");
+    let mut connection = Connection::open(to, &[(c"update", &query)]).expect("a server");
+    let place = state.len() - 1;
+    Box::new(move |random| {
+        state[place] = random as u8 & 7;
         let id = (FIRST + (random / 4) as i64 % circles).to_be_bytes();
-        connection.commit(&[(UPDATE, &[&id, &state])], &[]).expect("a server");
+        connection.commit(&[(c"update", &[&id, &state])], &[]).expect("a server");
         true
-    }
+    })
 }

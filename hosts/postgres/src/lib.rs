@@ -4,8 +4,10 @@
 //! where a moment was made, and the log gets a line. So the answers of a circle are those of one monitor, whoever asks
 //! and from wherever. An answer is told when the transaction is committed, and not before.
 //!
-//! Each request has a key of the client's choice. Where the log has that key, what was answered then is told again and
-//! nothing is written: a client that heard nothing asks again with the same key.
+//! A revision of a circle's terms is a transaction of the same kind.
+//!
+//! Each request and revision has a key of the client's choice. Where the log has that key, what was answered then is
+//! told again and nothing is written: a client that heard nothing asks again with the same key.
 
 pub mod libpq;
 mod patient;
@@ -13,8 +15,9 @@ pub mod words;
 
 pub use patient::Patient;
 
-use cuckooormolu::{raw, Answer, Monitor, Refusal, Request, Terms, SCRATCH_WORDS};
-use libpq::{Connection, Lost, Rows};
+use cuckooormolu::{raw, Answer, Monitor, Refusal, Request, Terms};
+use cuckooormolu::{SCRATCH_WORDS, STATE_WORDS, TERMS_WORDS};
+use libpq::{Connection, Lost, Rows, Statement};
 use std::ffi::CStr;
 use std::fmt;
 
@@ -25,34 +28,40 @@ const LOCK: &CStr = c"lock";
 const TOLD: &CStr = c"told";
 const LOG: &CStr = c"log";
 const MOMENT: &CStr = c"moment";
+const LOG_REVISION: &CStr = c"log_revision";
+const REVISION: &CStr = c"revision";
 const CREATE: &CStr = c"create";
 
-/// The circle's row is locked before anything is decided, so that a key of it is never written by two at a time. Where
-/// the log has the key, neither the log nor the circle is written, and no row comes back.
+/// The circle's row is locked before anything is decided, so that a key of it is never written by two at a time. The
+/// line of the log comes first: where its key is there already, the transaction fails and nothing is written.
 const STATEMENTS: &[(&CStr, &CStr)] = &[
     (LOCK, c"select version, terms, state from circle where id = $1 for no key update"),
     (
         LOG,
         c"insert into log (circle, key, version, event, initiator, target, answer)
-          values ($1, $2, $3, $4, $5, $6, $7) on conflict do nothing returning 1",
+          values ($1, $2, $3, $4, $5, $6, $7)",
     ),
+    (MOMENT, c"update circle set version = $2, state = $3 where id = $1"),
     (
-        MOMENT,
-        c"with line as (
-            insert into log (circle, key, version, event, initiator, target, answer)
-            values ($1, $2, $3, $4, $5, $6, $7) on conflict do nothing returning circle
-          )
-          update circle set state = $8, version = $3 from line where id = line.circle returning 1",
+        LOG_REVISION,
+        c"insert into log (circle, key, version, terms, answer) values ($1, $2, $3, $4, $5)",
     ),
-    (TOLD, c"select event, initiator, target, answer from log where circle = $1 and key = $2"),
+    (REVISION, c"update circle set terms = $2, state = $3 where id = $1"),
+    (
+        TOLD,
+        c"select event, initiator, target, answer, terms from log where circle = $1 and key = $2",
+    ),
     (CREATE, c"insert into circle (id, terms, state) values ($1, $2, $3)"),
 ];
 
-/// A client's key of a request: 16 bytes, as of a UUID.
+/// A client's key of a request or revision: 16 bytes, as of a UUID.
 pub type Key = [u8; 16];
 
 /// What a request is told: an answer, or that an event or member doesn't exist.
 pub type Told = Result<Answer, Refusal>;
+
+/// What a revision is told: that it is done, or that the terms have other numbers of members, relations or events.
+pub type Revised = Result<(), Refusal>;
 
 /// Why nothing is told.
 #[derive(Clone, Debug, PartialEq, Eq)]
@@ -62,7 +71,9 @@ pub enum Error {
     Lost(Lost),
     /// There is no such circle.
     NoCircle,
-    /// The key was used for another request.
+    /// There is such a circle already.
+    Circle,
+    /// The key was used for another request or revision.
     OtherRequest,
     /// The circle's words are not ones that the library accepts. Nothing was answered.
     Damaged(Refusal),
@@ -73,7 +84,10 @@ impl fmt::Display for Error {
         match self {
             Error::Lost(lost) => lost.fmt(out),
             Error::NoCircle => out.write_str("no such circle"),
-            Error::OtherRequest => out.write_str("the key was used for another request"),
+            Error::Circle => out.write_str("there is such a circle already"),
+            Error::OtherRequest => {
+                out.write_str("the key was used for another request or revision")
+            }
             Error::Damaged(refusal) => write!(out, "the circle is damaged: {refusal}"),
         }
     }
@@ -90,26 +104,39 @@ impl From<Lost> for Error {
 /// The circles of a server, by one connection. Workers have one each.
 pub struct Circles {
     connection: Connection,
-    scratch: Box<[u64; SCRATCH_WORDS]>,
+    lent: Box<Lent>,
     /// The circle whose lock was asked for with the last commit.
     ahead: Option<i64>,
+}
+
+/// The words of the circle whose row is locked.
+struct Lent {
+    version: i64,
+    terms: [u16; TERMS_WORDS],
+    state: [u64; STATE_WORDS],
+    scratch: [u64; SCRATCH_WORDS],
 }
 
 impl Circles {
     /// Connects, by a connection string of libpq.
     pub fn connect(to: &str) -> Result<Circles, Error> {
         let connection = Connection::open(to, STATEMENTS)?;
-        Ok(Circles { connection, scratch: Box::new([0; SCRATCH_WORDS]), ahead: None })
+        let lent = Lent {
+            version: 0,
+            terms: [0; TERMS_WORDS],
+            state: [0; STATE_WORDS],
+            scratch: [0; SCRATCH_WORDS],
+        };
+        Ok(Circles { connection, lent: Box::new(lent), ahead: None })
     }
 
     /// Makes a circle that stands where a monitor does.
     pub fn create(&mut self, circle: i64, monitor: &Monitor) -> Result<(), Error> {
-        let terms = words::bytes(monitor.terms().words(), u16::to_le_bytes);
-        let state = words::bytes(monitor.state().words(), u64::to_le_bytes);
+        let terms = words::packed(monitor.terms().words());
+        let state = words::packed(monitor.state().words());
         let values: [&[u8]; 3] = [&circle.to_be_bytes(), &terms, &state];
         self.give_back()?;
-        self.connection.commit(&[(CREATE, &values)], &[])?;
-        Ok(())
+        self.connection.commit(&[(CREATE, &values)], &[])?.map(drop).ok_or(Error::Circle)
     }
 
     /// Answers a request, once for each key.
@@ -126,22 +153,66 @@ impl Circles {
         request: Request,
         next: Option<i64>,
     ) -> Result<Told, Error> {
-        let id = circle.to_be_bytes();
+        self.lock(circle)?;
+        let decided = self.lent.decide(request);
+        let (told, moment) = self.or_give_back(decided)?;
+        let (id, version) =
+            (circle.to_be_bytes(), (self.lent.version + i64::from(moment)).to_be_bytes());
+        let (answer, [event, from, to]) = (words::number(told), words::numbers(request));
+        let line: [&[u8]; 7] = [&id, &key, &version, &event, &from, &to, &answer];
+        let state = moment.then(|| words::packed(&self.lent.state)).unwrap_or_default();
+        let row: [&[u8]; 3] = [&id, &version, &state];
+        let statements: [Statement; 2] = [(LOG, &line), (MOMENT, &row)];
+        if self.keep(&statements[..1 + usize::from(moment)], next)? {
+            return Ok(told);
+        }
+        let before = self.told(circle, key)?;
+        match words::request(&before, 0) {
+            Some(asked) if asked == request => Ok(words::told(&before, 0)),
+            _ => Err(Error::OtherRequest),
+        }
+    }
+
+    /// Revises the terms of a circle, once for each key: relations and event edge are carried over, and so is the past
+    /// of each entry whose formula the old terms have. It makes no moment. Terms with other numbers of members,
+    /// relations or events are refused, and then the circle is as it was.
+    pub fn revise(&mut self, circle: i64, key: Key, new: &Terms) -> Result<Revised, Error> {
+        self.lock(circle)?;
+        let mut state = [0; STATE_WORDS];
+        let revised = match raw::revise(&self.lent.terms, &self.lent.state, new.words(), &mut state)
+        {
+            Err(refusal) if refusal != Refusal::OtherSize => Err(Error::Damaged(refusal)),
+            revised => Ok(revised),
+        };
+        let revised = self.or_give_back(revised)?;
+        let (id, version) = (circle.to_be_bytes(), self.lent.version.to_be_bytes());
+        let (terms, state) = (words::packed(new.words()), words::packed(&state));
+        let answer = words::revision_number(revised);
+        let line: [&[u8]; 5] = [&id, &key, &version, &terms, &answer];
+        let row: [&[u8]; 3] = [&id, &terms, &state];
+        let statements: [Statement; 2] = [(LOG_REVISION, &line), (REVISION, &row)];
+        if self.keep(&statements[..1 + usize::from(revised.is_ok())], None)? {
+            return Ok(revised);
+        }
+        let before = self.told(circle, key)?;
+        if words::request(&before, 0).is_none() && before.bytes(0, 4) == terms {
+            Ok(words::revised(&before, 0))
+        } else {
+            Err(Error::OtherRequest)
+        }
+    }
+
+    /// Locks a circle's row, or has it from the round trip before, and takes its words.
+    fn lock(&mut self, circle: i64) -> Result<(), Error> {
         let rows = if self.ahead == Some(circle) {
             self.ahead = None;
             self.connection.rows(1)?
         } else {
             self.give_back()?;
-            self.connection.run(&[(LOCK, &[&id])])?
+            self.connection.run(&[(LOCK, &[&circle.to_be_bytes()])])?
         };
-        match self.decide(&rows[0], request) {
-            Ok(decided) => self.keep(id, key, request, decided, next),
-            Err(error) => {
-                // Nothing was written; the lock is given back.
-                self.connection.commit(&[], &[])?;
-                Err(error)
-            }
-        }
+        let taken = self.lent.take(&rows[0]);
+        self.or_give_back(taken)
     }
 
     /// Gives a lock back that was asked for ahead.
@@ -153,67 +224,52 @@ impl Circles {
         Ok(())
     }
 
-    /// Keeps what was decided, unless the key was answered before. Only then it may be told.
-    fn keep(
-        &mut self,
-        id: [u8; 8],
-        key: Key,
-        request: Request,
-        decided: Decided,
-        next: Option<i64>,
-    ) -> Result<Told, Error> {
-        let (version, answer) = (decided.version.to_be_bytes(), words::number(decided.told));
-        let [event, from, to] = words::numbers(request);
-        let mut line: Vec<&[u8]> = vec![&id, &key, &version, &event, &from, &to, &answer];
-        let statement = match &decided.state {
-            None => LOG,
-            Some(state) => {
-                line.push(state);
-                MOMENT
-            }
-        };
+    /// Gives the lock back where there is an error: nothing was written.
+    fn or_give_back<T>(&mut self, result: Result<T, Error>) -> Result<T, Error> {
+        if result.is_err() {
+            self.connection.commit(&[], &[])?;
+        }
+        result
+    }
+
+    /// Keeps a line of the log and what goes with it. Only then an answer may be told. False, and nothing is kept,
+    /// where the key was answered before.
+    fn keep(&mut self, statements: &[Statement], next: Option<i64>) -> Result<bool, Error> {
         let next_id = next.map(i64::to_be_bytes);
         let next_value = next_id.as_ref().map(|id| [&id[..]]);
         let lock = next_value.as_ref().map(|value| (LOCK, &value[..]));
-        let rows = self.connection.commit(&[(statement, &line)], lock.as_slice())?;
+        let kept = self.connection.commit(statements, lock.as_slice())?;
         self.ahead = next;
-        if !rows[0].is_empty() {
-            return Ok(decided.told);
-        }
-        self.give_back()?;
-        let rows = self.connection.commit(&[(TOLD, &[&id, &key])], &[])?;
-        if words::request(&rows[0], 0) == request {
-            Ok(words::told(&rows[0], 0))
-        } else {
-            Err(Error::OtherRequest)
-        }
+        Ok(kept.is_some())
     }
 
-    /// Lets the library answer on the words of a row.
-    fn decide(&mut self, row: &Rows, request: Request) -> Result<Decided, Error> {
-        if row.is_empty() {
-            return Err(Error::NoCircle);
-        }
-        let terms = words::words(row.bytes(0, 1), u16::from_le_bytes);
-        let mut state = words::words(row.bytes(0, 2), u64::from_le_bytes);
-        let told = raw::request(&terms, &mut state, &mut self.scratch[..], request.into());
-        let moment = match told {
-            Ok(Answer::Grant) => true,
-            Ok(Answer::Deny) => {
-                Terms::from_words(&terms).map_err(Error::Damaged)?.keeps(request.event)
-            }
-            Err(Refusal::NoSuchName) => false,
-            Err(refusal) => return Err(Error::Damaged(refusal)),
-        };
-        let version = row.number(0, 0) + i64::from(moment);
-        let state = moment.then(|| words::bytes(&state, u64::to_le_bytes));
-        Ok(Decided { told, version, state })
+    /// The line of the log of a key that was answered before.
+    fn told(&mut self, circle: i64, key: Key) -> Result<Rows, Error> {
+        self.give_back()?;
+        let rows = self.connection.commit(&[(TOLD, &[&circle.to_be_bytes(), &key])], &[])?;
+        Ok(rows.expect("nothing that fails for a key is in it").remove(0))
     }
 }
 
-/// What the library decided: the circle's version afterwards, and its state where a moment was made.
-struct Decided {
-    told: Told,
-    version: i64,
-    state: Option<Vec<u8>>,
+impl Lent {
+    /// Takes the words of a row.
+    fn take(&mut self, row: &Rows) -> Result<(), Error> {
+        if row.is_empty() {
+            return Err(Error::NoCircle);
+        }
+        self.version = row.number(0, 0);
+        words::unpack(row.bytes(0, 1), &mut self.terms).ok_or(Error::Damaged(Refusal::BadTerms))?;
+        words::unpack(row.bytes(0, 2), &mut self.state).ok_or(Error::Damaged(Refusal::BadState))
+    }
+
+    /// Lets the library answer; and whether that made a moment.
+    fn decide(&mut self, request: Request) -> Result<(Told, bool), Error> {
+        // A moment leaves scratch 0, and anything else as it is lent.
+        self.scratch[0] = 1;
+        let told = raw::request(&self.terms, &mut self.state, &mut self.scratch, request.into());
+        match told {
+            Err(refusal) if refusal != Refusal::NoSuchName => Err(Error::Damaged(refusal)),
+            told => Ok((told, self.scratch[0] == 0)),
+        }
+    }
 }

@@ -39,9 +39,11 @@ extern "C" {
     fn PQgetResult(connection: *mut RawConnection) -> *mut RawResult;
     fn PQresultStatus(result: *const RawResult) -> c_int;
     fn PQresultErrorMessage(result: *const RawResult) -> *const c_char;
+    fn PQresultErrorField(result: *const RawResult, field: c_int) -> *const c_char;
     fn PQntuples(result: *const RawResult) -> c_int;
     fn PQgetvalue(result: *const RawResult, row: c_int, column: c_int) -> *const u8;
     fn PQgetlength(result: *const RawResult, row: c_int, column: c_int) -> c_int;
+    fn PQgetisnull(result: *const RawResult, row: c_int, column: c_int) -> c_int;
     fn PQclear(result: *mut RawResult);
 }
 
@@ -51,6 +53,8 @@ const TUPLES_OK: c_int = 2;
 const PIPELINE_SYNC: c_int = 10;
 const PIPELINE_ABORTED: c_int = 11;
 const BINARY: c_int = 1;
+const SQLSTATE: c_int = b'C' as c_int;
+const UNIQUE_VIOLATION: &CStr = c"23505";
 
 /// What the server or the way to it says. Whether a transaction that was to be committed is in can't be told.
 #[derive(Clone, Debug, PartialEq, Eq)]
@@ -87,6 +91,12 @@ impl Rows {
         }
     }
 
+    /// Whether there is no value. There must be such a row and column.
+    pub fn is_null(&self, row: usize, column: usize) -> bool {
+        // Safety: as above.
+        unsafe { PQgetisnull(self.0, row as c_int, column as c_int) == 1 }
+    }
+
     /// A whole number of 2, 4 or 8 bytes.
     pub fn number(&self, row: usize, column: usize) -> i64 {
         match *self.bytes(row, column) {
@@ -94,6 +104,17 @@ impl Rows {
             [a, b, c, d] => i32::from_be_bytes([a, b, c, d]).into(),
             [a, b, c, d, e, f, g, h] => i64::from_be_bytes([a, b, c, d, e, f, g, h]),
             _ => panic!("a column that is no whole number"),
+        }
+    }
+}
+
+impl Rows {
+    /// Whether this is the failure of a row whose key another has.
+    fn is_there_already(&self) -> bool {
+        // Safety: libpq takes a null pointer too; the text ends with a zero.
+        unsafe {
+            let code = PQresultErrorField(self.0, SQLSTATE);
+            !code.is_null() && CStr::from_ptr(code) == UNIQUE_VIOLATION
         }
     }
 }
@@ -125,7 +146,7 @@ impl Connection {
             // Safety: the strings end with a zero; no types are named.
             let result =
                 unsafe { PQprepare(connection.0, name.as_ptr(), query.as_ptr(), 0, ptr::null()) };
-            connection.checked(result)?;
+            connection.checked(Rows(result))?;
         }
         // Safety: the connection is open and idle.
         match unsafe { PQenterPipelineMode(connection.0) } {
@@ -142,7 +163,7 @@ impl Connection {
     fn execute(&self, script: &CStr) -> Result<(), Lost> {
         // Safety: the string ends with a zero, and the connection is not in pipeline mode.
         let result = unsafe { PQexec(self.0, script.as_ptr()) };
-        self.checked(result).map(drop)
+        self.checked(Rows(result)).map(drop)
     }
 
     fn plain(to: &str) -> Result<Connection, Lost> {
@@ -163,13 +184,14 @@ impl Connection {
         self.rows(statements.len())
     }
 
-    /// The same, and the transaction is committed. Where this gives no rows, it may be or not. The statements of `then`
-    /// are sent along and begin the next transaction; their rows come by [`Connection::rows`].
+    /// The same, and the transaction is committed. Where this gives an error, it may be or not. It gives no rows where
+    /// a primary key is there already: then nothing is written. The statements of `then` are sent along and begin the
+    /// next transaction; their rows come by [`Connection::rows`].
     pub fn commit(
         &mut self,
         statements: &[Statement],
         then: &[Statement],
-    ) -> Result<Vec<Rows>, Lost> {
+    ) -> Result<Option<Vec<Rows>>, Lost> {
         self.send(statements)?;
         // Safety: the connection is in pipeline mode.
         if unsafe { PQpipelineSync(self.0) } != 1 {
@@ -178,7 +200,18 @@ impl Connection {
         if !then.is_empty() {
             self.start(then)?;
         }
-        let rows = self.rows(statements.len())?;
+        let mut rows = Some(Vec::new());
+        for _ in statements {
+            let result = Rows(self.next());
+            if result.is_there_already() || rows.is_none() {
+                // What follows is left out by the server.
+                rows = None;
+            } else {
+                let result = self.checked(result)?;
+                rows.as_mut().expect("looked at above").push(result);
+            }
+            self.end()?;
+        }
         let synced = Rows(self.next());
         // Safety: libpq takes a null pointer too.
         match unsafe { PQresultStatus(synced.0) } {
@@ -225,15 +258,21 @@ impl Connection {
     pub fn rows(&mut self, statements: usize) -> Result<Vec<Rows>, Lost> {
         let mut rows = Vec::new();
         for _ in 0..statements {
-            let result = self.next();
+            let result = Rows(self.next());
             rows.push(self.checked(result)?);
-            // A null pointer ends a statement's results.
-            let end = self.next();
-            if !end.is_null() {
-                self.checked(end)?;
-            }
+            self.end()?;
         }
         Ok(rows)
+    }
+
+    /// A null pointer ends a statement's results.
+    fn end(&mut self) -> Result<(), Lost> {
+        let end = self.next();
+        if end.is_null() {
+            Ok(())
+        } else {
+            self.checked(Rows(end)).map(drop)
+        }
     }
 
     fn next(&mut self) -> *mut RawResult {
@@ -242,8 +281,7 @@ impl Connection {
     }
 
     /// A result that is none of a failure.
-    fn checked(&self, result: *mut RawResult) -> Result<Rows, Lost> {
-        let rows = Rows(result);
+    fn checked(&self, rows: Rows) -> Result<Rows, Lost> {
         // Safety: libpq takes a null pointer too, and gives a text for each result.
         unsafe {
             match PQresultStatus(rows.0) {

@@ -1,8 +1,9 @@
 //! A worker: answers requests to the circles of a server.
 //!
-//!     circles schema TO                 makes the tables
-//!     circles create TO CIRCLE TERMS    makes a circle that stands as a file of either form says
-//!     circles serve TO                  answers the lines of standard input
+//!     circles schema TO                     makes the tables
+//!     circles create TO CIRCLE TERMS        makes a circle that stands as a file of either form says
+//!     circles revise TO CIRCLE KEY TERMS    gives a circle the terms of such a file; says `done`, or `refuse` and 13
+//!     circles serve TO                      answers the lines of standard input
 //!
 //! TO is a connection string of libpq. A line is `R` circle key event from to, the key 32 hexadecimal digits with or
 //! without dashes; its answer is the key and `grant`, `deny`, `refuse` and the number, or `error` and why, parted by
@@ -16,14 +17,18 @@ use std::error::Error;
 use std::io::{self, BufRead, BufReader, Write};
 use std::process::ExitCode;
 
+const USAGE: &str =
+    "usage: circles schema TO | create TO CIRCLE TERMS | revise TO CIRCLE KEY TERMS | serve TO";
+
 fn main() -> ExitCode {
     let arguments = std::env::args().skip(1).collect::<Vec<_>>();
     let words = arguments.iter().map(String::as_str).collect::<Vec<_>>();
     let done = match words[..] {
         ["schema", to] => Connection::script(to, SCHEMA).map_err(|lost| lost.to_string().into()),
         ["create", to, circle, terms] => create(to, circle, terms),
+        ["revise", to, circle, key, terms] => revise(to, circle, key, terms),
         ["serve", to] => serve(to),
-        _ => Err("usage: circles schema TO | create TO CIRCLE TERMS | serve TO".into()),
+        _ => Err(USAGE.into()),
     };
     match done {
         Ok(()) => ExitCode::SUCCESS,
@@ -37,6 +42,16 @@ fn main() -> ExitCode {
 fn create(to: &str, circle: &str, terms: &str) -> Result<(), Box<dyn Error>> {
     let monitor = Monitor::read(&std::fs::read(terms)?)?;
     Circles::connect(to)?.create(circle.parse()?, &monitor)?;
+    Ok(())
+}
+
+fn revise(to: &str, circle: &str, shown: &str, terms: &str) -> Result<(), Box<dyn Error>> {
+    let key = key(shown).ok_or("a key has 32 hexadecimal digits")?;
+    let monitor = Monitor::read(&std::fs::read(terms)?)?;
+    match Patient::new(to).revise(circle.parse()?, key, monitor.terms())? {
+        Ok(()) => println!("done"),
+        Err(refusal) => println!("refuse\t{}", refusal.number()),
+    }
     Ok(())
 }
 

@@ -1,7 +1,7 @@
 //! A client that asks again, with the same key, until it is answered.
 
-use crate::{Circles, Error, Key, Told};
-use cuckooormolu::Request;
+use crate::{Circles, Error, Key, Revised, Told};
+use cuckooormolu::{Request, Terms};
 use std::thread;
 use std::time::{Duration, Instant};
 
@@ -21,8 +21,7 @@ impl Patient {
         Patient { to: to.to_string(), circles: None }
     }
 
-    /// Answers a request as [`Circles::request_before`] does. The key is the same at each try, so that the request is
-    /// answered once though an answer was lost on the way.
+    /// Answers a request as [`Circles::request_before`] does.
     pub fn request_before(
         &mut self,
         circle: i64,
@@ -30,6 +29,17 @@ impl Patient {
         request: Request,
         next: Option<i64>,
     ) -> Result<Told, Error> {
+        self.ask(|circles| circles.request_before(circle, key, request, next))
+    }
+
+    /// Revises terms as [`Circles::revise`] does.
+    pub fn revise(&mut self, circle: i64, key: Key, new: &Terms) -> Result<Revised, Error> {
+        self.ask(|circles| circles.revise(circle, key, new))
+    }
+
+    /// Asks until there is an answer. The key is the same at each try, so that the request is answered once though an
+    /// answer was lost on the way.
+    fn ask<T>(&mut self, each: impl Fn(&mut Circles) -> Result<T, Error>) -> Result<T, Error> {
         let end = Instant::now() + PATIENCE;
         loop {
             let circles = match self.circles.take() {
@@ -37,7 +47,7 @@ impl Patient {
                 None => Circles::connect(&self.to),
             };
             let done = circles.and_then(|mut circles| {
-                let told = circles.request_before(circle, key, request, next);
+                let told = each(&mut circles);
                 // After a loss the connection is of no use.
                 self.circles = (!matches!(told, Err(Error::Lost(_)))).then_some(circles);
                 told

@@ -6,7 +6,7 @@ use circles::libpq::Connection;
 use circles::{Circles, Error};
 use cuckooormolu::{Answer, Event, Member, Refusal, Request};
 use std::thread;
-use support::{create, replay, rows, server, Random};
+use support::{create, replay, rows, server, terms, Line, Random, LARGER, ONCE, PRESET};
 
 const LOAD: Request = Request { event: Event(2), from: Member(1), to: Member(2) };
 const SHARE: Request = Request { event: Event(0), from: Member(0), to: Member(1) };
@@ -30,19 +30,76 @@ fn a_key_is_answered_once() {
 #[test]
 fn a_damaged_circle_answers_nothing() {
     create(10, 1);
-    let damage = "update circle set state = set_byte(state, 24583, 255) where id = 10";
-    Connection::script(&server(), damage).unwrap();
+    create(11, 1);
     let mut circles = Circles::connect(&server()).unwrap();
-    assert_eq!(circles.request(10, [1; 16], SHARE), Err(Error::Damaged(Refusal::BadState)));
+    // The last word of a state, and bytes that are no packed words.
+    for (column, damage, refusal) in [
+        ("state", "state || '\\x000c0100ffffffffffffffff'", Refusal::BadState),
+        ("state", "state || '\\x00'", Refusal::BadState),
+        ("state", "'\\x010c010001000000000000'", Refusal::BadState),
+        ("terms", "set_byte(terms, 4, 65)", Refusal::BadTerms),
+        ("terms", "substr(terms, 2)", Refusal::BadTerms),
+        ("terms", "''", Refusal::BadTerms),
+    ] {
+        let damage = format!("update circle set {column} = {damage} where id = 10");
+        Connection::script(&server(), &damage).unwrap();
+        let damaged = Error::Damaged(refusal);
+        assert_eq!(circles.request(10, [1; 16], SHARE), Err(damaged.clone()));
+        assert_eq!(circles.revise(10, [1; 16], &terms(ONCE)), Err(damaged));
+        // The lock is given back.
+        let mend = format!(
+            "update circle set {column} = (select {column} from circle where id = 11) where id = 10"
+        );
+        Connection::script(&server(), &mend).unwrap();
+    }
     assert!(rows("select 1 from log where circle >= $1 and circle < $2", 10, 1).is_empty());
-    // The lock is given back.
-    Connection::script(
-        &server(),
-        "update circle set state = set_byte(state, 24583, 0) where id = 10",
-    )
-    .unwrap();
     assert_eq!(circles.request(10, [1; 16], SHARE), Ok(Ok(Answer::Grant)));
     assert_eq!(replay(10, 1).len(), 1);
+}
+
+#[test]
+fn a_circle_is_made_once() {
+    create(15, 1);
+    let mut circles = Circles::connect(&server()).unwrap();
+    assert_eq!(circles.request(15, [1; 16], SHARE), Ok(Ok(Answer::Grant)));
+    let monitor = cuckooormolu::Monitor::read(&support::text(PRESET)).unwrap();
+    assert_eq!(circles.create(15, &monitor), Err(Error::Circle));
+    assert_eq!(replay(15, 1).len(), 1);
+}
+
+/// The past of what the new terms keep is carried over, any other starts now, and a key is answered once.
+#[test]
+fn terms_are_revised_while_playing() {
+    create(50, 2);
+    let mut circles = Circles::connect(&server()).unwrap();
+    let withdraw = Request { event: Event(1), ..SHARE };
+    assert_eq!(circles.request(50, [1; 16], SHARE), Ok(Ok(Answer::Grant)));
+    assert_eq!(circles.request(50, [2; 16], withdraw), Ok(Ok(Answer::Grant)));
+    assert_eq!(circles.request(50, [3; 16], LOAD), Ok(Ok(Answer::Deny)));
+    for _ in 0..2 {
+        assert_eq!(circles.revise(50, [4; 16], &terms(ONCE)), Ok(Ok(())));
+    }
+    // That there was a share is not known to what starts now.
+    assert_eq!(circles.request(50, [5; 16], LOAD), Ok(Ok(Answer::Deny)));
+    assert_eq!(circles.request(50, [6; 16], SHARE), Ok(Ok(Answer::Grant)));
+    assert_eq!(circles.request(50, [7; 16], withdraw), Ok(Ok(Answer::Grant)));
+    assert_eq!(circles.request(50, [8; 16], LOAD), Ok(Ok(Answer::Grant)));
+    // A lock ahead is given back, and other numbers of members are refused.
+    assert_eq!(circles.request_before(50, [9; 16], LOAD, Some(51)), Ok(Ok(Answer::Grant)));
+    for _ in 0..2 {
+        assert_eq!(circles.revise(50, [10; 16], &terms(LARGER)), Ok(Err(Refusal::OtherSize)));
+    }
+    assert_eq!(circles.request(50, [11; 16], LOAD), Ok(Ok(Answer::Grant)));
+    assert_eq!(circles.revise(50, [12; 16], &terms(PRESET)), Ok(Ok(())));
+    assert_eq!(circles.request(50, [13; 16], LOAD), Ok(Ok(Answer::Deny)));
+    // A key is one request's or one revision's.
+    assert_eq!(circles.revise(50, [12; 16], &terms(ONCE)), Err(Error::OtherRequest));
+    assert_eq!(circles.revise(50, [13; 16], &terms(PRESET)), Err(Error::OtherRequest));
+    assert_eq!(circles.request(50, [12; 16], LOAD), Err(Error::OtherRequest));
+    assert_eq!(circles.revise(52, [1; 16], &terms(PRESET)), Err(Error::NoCircle));
+    let answers = replay(50, 2);
+    assert_eq!(answers.len(), 13);
+    assert_eq!(answers[&[10; 16]], Line::Revised(Err(Refusal::OtherSize)));
 }
 
 #[test]
@@ -82,14 +139,16 @@ fn a_worker_has_few_rights() {
     Connection::script(&server(), grants).unwrap();
     let to = server().replace("user=circles", "user=worker");
     let mut circles = Circles::connect(&to).unwrap();
-    assert_eq!(circles.request(25, [1; 16], LOAD), Ok(Ok(Answer::Deny)));
-    assert_eq!(circles.request(25, [1; 16], LOAD), Ok(Ok(Answer::Deny)));
+    for _ in 0..2 {
+        assert_eq!(circles.request(25, [1; 16], LOAD), Ok(Ok(Answer::Deny)));
+        assert_eq!(circles.revise(25, [2; 16], &terms(ONCE)), Ok(Ok(())));
+    }
     for change in
         ["delete from circle", "update log set answer = 1", "drop trigger append_only on log"]
     {
         assert!(Connection::script(&to, change).is_err(), "{change}");
     }
-    assert_eq!(replay(25, 1).len(), 1);
+    assert_eq!(replay(25, 1).len(), 2);
 }
 
 #[test]
@@ -104,19 +163,24 @@ fn a_lost_connection_is_no_answer() {
     assert_eq!(replay(20, 1).len(), 1);
 }
 
-/// Eight clients ask the same keys of the same circle, each in an order of its own.
+/// Eight clients ask the same keys of the same circle, each in an order of its own. Every tenth is a revision.
 #[test]
 fn eight_clients_of_one_circle() {
     create(30, 1);
     let mut random = Random(30);
-    let requests = (0..60).map(|key| ([key; 16], random.request())).collect::<Vec<_>>();
+    let requests = (0..60).map(|key: u8| ([key; 16], random.request())).collect::<Vec<_>>();
     let clients = (0..8).map(|client| {
         let mut requests = requests.clone();
         requests.rotate_left(7 * client);
         thread::spawn(move || {
             let mut circles = Circles::connect(&server()).unwrap();
-            let told =
-                requests.iter().map(|&(key, request)| circles.request(30, key, request).unwrap());
+            let told = requests.iter().map(|&(key, request)| match key[0] % 10 {
+                0 => {
+                    let new = if key[0] % 20 == 0 { ONCE } else { PRESET };
+                    Line::Revised(circles.revise(30, key, &terms(new)).unwrap())
+                }
+                _ => Line::Told(circles.request(30, key, request).unwrap()),
+            });
             requests.iter().map(|&(key, _)| key).zip(told).collect::<Vec<_>>()
         })
     });

@@ -1,9 +1,10 @@
-//! Eight workers and thousands of circles. The workers are killed again and again, and the server twice; at the end
-//! every request has one answer, the one that was told, and answers and states are those of the keeper.
+//! Eight workers and thousands of circles, some of which get new terms meanwhile. Workers and revisions are killed again
+//! and again, and the server twice; at the end every request and revision has one answer, the one that was told, and
+//! answers, terms and states are those of the keeper.
 
 mod support;
 
-use circles::Patient;
+use circles::{Patient, Told};
 use cuckooormolu::Request;
 use std::env;
 use std::io::{BufRead, BufReader, Write};
@@ -11,8 +12,8 @@ use std::process::{Child, ChildStdin, ChildStdout, Command, Stdio};
 use std::sync::atomic::{AtomicUsize, Ordering};
 use std::sync::Mutex;
 use std::thread;
-use std::time::Duration;
-use support::{create, folder, replay, server, Random};
+use std::time::{Duration, Instant};
+use support::{create, folder, replay, server, text, Line, Random, ONCE, PRESET};
 
 const WORKERS: usize = 8;
 const FIRST: i64 = 1_000;
@@ -21,6 +22,10 @@ const BUSY: u64 = 40;
 
 /// Answers between two workers that are killed.
 const BETWEEN: usize = 20;
+
+/// Revisions, each of one of the busy circles. Their keys come after those of all requests.
+const REVISIONS: u64 = 60;
+const FIRST_REVISION: u128 = 1 << 64;
 
 /// A request to a circle; its key is its number.
 #[derive(Clone, Copy)]
@@ -76,6 +81,51 @@ fn drive(place: &Mutex<Option<Child>>, asked: &[Asked], done: &AtomicUsize) -> V
     told
 }
 
+/// Revises busy circles, to other terms and back, while they are asked. Tries are killed, and tried again with the same
+/// key. Gives how many were killed.
+fn revise() -> usize {
+    let mut random = Random(3);
+    let folder = env::temp_dir();
+    let files = [ONCE, PRESET].map(|terms| {
+        let file = folder.join(format!("circles-{}-{}.tsv", std::process::id(), terms.len()));
+        std::fs::write(&file, text(terms)).unwrap();
+        file
+    });
+    let mut killed = 0;
+    for number in 0..REVISIONS {
+        let circle = (FIRST + random.below(BUSY) as i64).to_string();
+        let key = format!("{:032x}", FIRST_REVISION + u128::from(number));
+        let file = files[number as usize % 2].to_str().unwrap();
+        let arguments = ["revise", &server(), &circle, &key, file];
+        let patience = [random.below(20), random.below(200)].map(Duration::from_millis);
+        killed += patience.iter().take_while(|patience| !is_done(&arguments, **patience)).count();
+        assert!(is_done(&arguments, Duration::MAX), "a revision that nobody killed fails");
+    }
+    for file in files {
+        std::fs::remove_file(file).unwrap();
+    }
+    killed
+}
+
+/// Whether a revision is done; it is killed where it takes too long.
+fn is_done(arguments: &[&str], patience: Duration) -> bool {
+    let start = Instant::now();
+    let mut child = Command::new(env!("CARGO_BIN_EXE_circles"))
+        .args(arguments)
+        .stdout(Stdio::piped())
+        .spawn()
+        .unwrap();
+    while child.try_wait().unwrap().is_none() {
+        if start.elapsed() > patience {
+            child.kill().unwrap();
+        }
+        thread::sleep(Duration::from_millis(1));
+    }
+    let output = child.wait_with_output().unwrap();
+    assert!(!output.status.success() || output.stdout == b"done\n");
+    output.status.success()
+}
+
 /// Ends the server at once and starts it again, which it may refuse until the system has cleaned up.
 fn kill_server() {
     let script = concat!(env!("CARGO_MANIFEST_DIR"), "/server.sh");
@@ -115,6 +165,12 @@ fn kill(places: &[Mutex<Option<Child>>], done: &AtomicUsize, all: usize) -> usiz
     }
 }
 
+/// A request's answer.
+fn told_of(line: Line) -> Told {
+    let Line::Told(told) = line else { panic!("a revision") };
+    told
+}
+
 #[test]
 fn nothing_is_lost_and_nothing_answered_twice() {
     let long = env::var_os("CIRCLES_LONG").is_some();
@@ -130,9 +186,10 @@ fn nothing_is_lost_and_nothing_answered_twice() {
     let places = (0..WORKERS).map(|_| Mutex::new(None)).collect::<Vec<_>>();
     let done = AtomicUsize::new(0);
     let parts = asked.chunks(all.div_ceil(WORKERS)).collect::<Vec<_>>();
-    let (told, killed) = thread::scope(|scope| {
+    let (told, killed, revisions_killed) = thread::scope(|scope| {
         let (places, done) = (&places, &done);
         let killer = scope.spawn(move || kill(places, done, all));
+        let reviser = scope.spawn(revise);
         let drivers = parts
             .iter()
             .zip(places)
@@ -140,13 +197,18 @@ fn nothing_is_lost_and_nothing_answered_twice() {
         let drivers = drivers.collect::<Vec<_>>();
         let told =
             drivers.into_iter().flat_map(|driver| driver.join().unwrap()).collect::<Vec<_>>();
-        (told, killer.join().unwrap())
+        (told, killer.join().unwrap(), reviser.join().unwrap())
     });
 
     let answers = replay(FIRST, circles);
-    assert_eq!(answers.len(), all, "each request has one line in the log");
+    let lines = all + REVISIONS as usize;
+    assert_eq!(answers.len(), lines, "each request and revision has one line in the log");
+    for number in 0..u128::from(REVISIONS) {
+        let key = (FIRST_REVISION + number).to_be_bytes();
+        assert_eq!(answers[&key], Line::Revised(Ok(())));
+    }
     for (asked, told) in asked.iter().zip(&told) {
-        let kept = match answers[&asked.key.to_be_bytes()] {
+        let kept = match told_of(answers[&asked.key.to_be_bytes()]) {
             Ok(answer) => answer.to_string(),
             Err(refusal) => format!("refuse\t{}", refusal.number()),
         };
@@ -155,8 +217,12 @@ fn nothing_is_lost_and_nothing_answered_twice() {
     let mut again = Patient::new(&server());
     for asked in asked.iter().step_by(all / 100) {
         let key = asked.key.to_be_bytes();
-        assert_eq!(again.request_before(asked.circle, key, asked.request, None), Ok(answers[&key]));
+        let told = again.request_before(asked.circle, key, asked.request, None);
+        assert_eq!(told, Ok(told_of(answers[&key])));
     }
-    assert_eq!(replay(FIRST, circles).len(), all, "asking again decides nothing");
-    println!("{all} requests to {circles} circles, {killed} workers and 2 servers killed");
+    assert_eq!(replay(FIRST, circles).len(), lines, "asking again decides nothing");
+    println!(
+        "{all} requests and {REVISIONS} revisions to {circles} circles; {killed} workers, {revisions_killed} \
+         revisions and 2 servers killed"
+    );
 }

@@ -1,16 +1,30 @@
 //! The server that test.sh started, circles in it, and the keeper's replay of their log.
 
 use circles::libpq::{Connection, Rows};
-use circles::{words, Circles, Key, Told};
-use cuckooormolu::{Answer, Event, Member, Monitor, Request};
+use circles::{words, Circles, Key, Revised, Told};
+use cuckooormolu::{Answer, Event, Member, Monitor, Refusal, Request, Terms};
+use cuckooormolu::{STATE_WORDS, TERMS_WORDS};
 use keeper::record::{self, Record};
-use keeper::terms::memory::SCRATCH_WORDS;
+use keeper::terms::memory::{terms_of_words, terms_words, SCRATCH_WORDS};
 use std::collections::HashMap;
 use std::env;
 
 /// The preset: share, withdraw, load. Load is kept and makes an owner; event 3 asks for the same and is not kept.
 pub const PRESET: &str = "M 3\nL 1 4\nF 0 var 1 0\nF 1 out 1 0\nF 2 out 2 0\nF 3 not 2 0\nF 4 since 3 1\nF 5 in 0 4\n\
     F 6 at 0 5\nF 7 bind 1 6\nF 8 top 0 0\nP 0 8\nP 1 8\nP 2 7\nP 3 7\nK 2\nE 2 add 0 fwd\nG 0 0 2\n";
+
+/// The same after a revision: whoever was once shared with may load, withdrawn or not. That starts at the revision.
+pub const ONCE: &str =
+    "M 3\nL 1 4\nF 0 top 0 0\nF 1 var 1 0\nF 2 out 1 1\nF 3 since 0 2\nF 4 in 0 3\nF 5 at 0 4\n\
+    F 6 bind 1 5\nP 0 0\nP 1 0\nP 2 6\nP 3 6\nE 2 add 0 fwd\n";
+
+/// Terms with another number of members.
+pub const LARGER: &str = "M 4\nL 1 4\nF 0 top 0 0\nP 0 0\nP 1 0\nP 2 0\nP 3 0\n";
+
+/// The terms that are written with spaces.
+pub fn terms(text: &str) -> Terms {
+    Monitor::read(&self::text(text)).unwrap().terms().clone()
+}
 
 /// The file's text of terms that are written with spaces.
 pub fn text(terms: &str) -> Vec<u8> {
@@ -45,6 +59,13 @@ impl Random {
     }
 }
 
+/// What the log says of a key: a request's answer or a revision's.
+#[derive(Clone, Copy, Debug, PartialEq, Eq)]
+pub enum Line {
+    Told(Told),
+    Revised(Revised),
+}
+
 /// Makes circles of the preset, from the first number on.
 pub fn create(first: i64, count: i64) {
     let monitor = Monitor::read(&text(PRESET)).unwrap();
@@ -66,45 +87,79 @@ pub fn rows(query: &str, first: i64, count: i64) -> Rows {
     connection.run(&[(c"query", &[&first, &end])]).unwrap().remove(0)
 }
 
-/// Holds the log of some circles to the keeper, who works every answer out from it, and their states to his. Gives
-/// what the log says of each key.
-pub fn replay(first: i64, count: i64) -> HashMap<Key, Told> {
+fn unpacked<W: words::Word, const COUNT: usize>(bytes: &[u8]) -> [W; COUNT] {
+    let mut words = [W::ZERO; COUNT];
+    words::unpack(bytes, &mut words).expect("packed words");
+    words
+}
+
+/// Holds the log of some circles to the keeper, who works every answer out from it, and their terms and states to his.
+/// Gives what the log says of each key.
+pub fn replay(first: i64, count: i64) -> HashMap<Key, Line> {
     let begun = Record::of(keeper::terms::read(&text(PRESET)).unwrap());
     let mut records = (0..count).map(|_| begun.clone()).collect::<Vec<_>>();
     let mut answers = HashMap::new();
     let log = rows(
-        "select event, initiator, target, answer, circle, key, version from log
+        "select event, initiator, target, answer, circle, key, version, terms from log
          where circle >= $1 and circle < $2 order by number",
         first,
         count,
     );
     for row in 0..log.count() {
         let record = &mut records[(log.number(row, 4) - first) as usize];
-        let request = words::request(&log, row);
-        let [event, from, to] = [request.event.0, request.from.0, request.to.0].map(usize::from);
-        let kept = match record.call(false, event, from, to, SCRATCH_WORDS) {
-            record::Answer::Grant => Ok(Answer::Grant),
-            record::Answer::Deny => Ok(Answer::Deny),
-            record::Answer::Refused(refusal) => Err(refusal.number),
+        let line = match words::request(&log, row) {
+            Some(request) => {
+                assert!(log.is_null(row, 7), "terms at a request, line {row} of the log");
+                let told = words::told(&log, row);
+                let kept = ask(record, request);
+                assert_eq!(told.map_err(number), kept, "line {row} of the log");
+                Line::Told(told)
+            }
+            None => {
+                let terms = terms_of_words(&unpacked::<u16, TERMS_WORDS>(log.bytes(row, 7)));
+                let revised = words::revised(&log, row);
+                let kept = record.revise(&terms.expect("terms")).map_err(|refusal| refusal.number);
+                assert_eq!(revised.map_err(number), kept, "line {row} of the log");
+                Line::Revised(revised)
+            }
         };
-        let told = words::told(&log, row);
-        assert_eq!(told.map_err(|refusal| refusal.number() as u16), kept, "line {row} of the log");
-        assert_eq!(
-            log.number(row, 6),
-            record.graphs().len() as i64 - 1,
-            "the version of line {row}"
-        );
+        assert_eq!(log.number(row, 6), version(record), "the version of line {row}");
         let key = log.bytes(row, 5).try_into().unwrap();
-        assert_eq!(answers.insert(key, told), None, "a request is answered twice");
+        assert_eq!(answers.insert(key, line), None, "a key is answered twice");
     }
-    let circles =
-        rows("select id, version, state from circle where id >= $1 and id < $2", first, count);
+    let circles = rows(
+        "select id, version, terms, state from circle where id >= $1 and id < $2",
+        first,
+        count,
+    );
     assert_eq!(circles.count() as i64, count, "a circle is lost");
     for row in 0..circles.count() {
-        let record = &records[(circles.number(row, 0) - first) as usize];
-        assert_eq!(circles.number(row, 1), record.graphs().len() as i64 - 1, "a version");
-        let state = words::words(circles.bytes(row, 2), u64::from_le_bytes);
-        assert_eq!(state, record.state_words(), "the state of circle {}", circles.number(row, 0));
+        let circle = circles.number(row, 0);
+        let record = &records[(circle - first) as usize];
+        assert_eq!(circles.number(row, 1), version(record), "a version");
+        let terms: [u16; TERMS_WORDS] = unpacked(circles.bytes(row, 2));
+        let state: [u64; STATE_WORDS] = unpacked(circles.bytes(row, 3));
+        assert_eq!(terms[..], terms_words(record.terms()), "the terms of circle {circle}");
+        assert_eq!(state[..], record.state_words(), "the state of circle {circle}");
     }
     answers
+}
+
+/// The keeper's answer, a refusal as its number.
+fn ask(record: &mut Record, request: Request) -> Result<Answer, u16> {
+    let [event, from, to] = [request.event.0, request.from.0, request.to.0].map(usize::from);
+    match record.call(false, event, from, to, SCRATCH_WORDS) {
+        record::Answer::Grant => Ok(Answer::Grant),
+        record::Answer::Deny => Ok(Answer::Deny),
+        record::Answer::Refused(refusal) => Err(refusal.number),
+    }
+}
+
+fn number(refusal: Refusal) -> u16 {
+    refusal.number() as u16
+}
+
+/// The moments that the keeper has seen.
+fn version(record: &Record) -> i64 {
+    record.graphs().len() as i64 - 1
 }
