@@ -1,13 +1,13 @@
--- Laws of lines as they are put: how long a word is, and one field more.
-use Prim.Native.Nat.{ℕ, zero, suc, _+_, _^_, _≤_, _<_}
+-- Laws of lines as they are put: how long a word is, the word of a number, and one field more.
+use Prim.Native.Nat.{ℕ, zero, suc, _≤_}
 use mathlib.Core.Path.{_≡_, refl, ap, subst, _∙_}
 use mathlib.Core.List.{List, [], _∷_, _++_, append-assoc}
 use native.Mathlib.Omega.{arith}
-use lib.ListN.{length, getD}
+use lib.ListN.{length, getD, List·getD-eq-default}
 use Rattle.fields.specs.Split.{join}
 use Rattle.file.specs.Words.{operatorWords, actionWords, directionWords, kindWords}
-use Rattle.fields.specs.Put.{Put, PutIf}
-use Rattle.fields.proofs.Output.{put-then}
+use Rattle.fields.specs.Put.{Put}
+use Rattle.fields.proofs.Output.{put-none, put-then}
 
 -- ---- words are short
 
@@ -54,13 +54,14 @@ kind-short (suc (suc (suc (suc (suc (suc (suc (suc zero)))))))) = omega arith
 kind-short (suc (suc (suc (suc (suc (suc (suc (suc (suc zero))))))))) = omega arith
 kind-short (suc (suc (suc (suc (suc (suc (suc (suc (suc (suc k)))))))))) = omega arith
 
--- ---- the word of a number: field k of a text whose fields are the table
+-- ---- the word of a number
 
-pub put-word : {o p : List ℕ} {at m : ℕ} (ws vs : List (List ℕ)) (k : ℕ) (w : List ℕ) → w ≡ getD ws k [] → ws ≡ vs → length (getD vs k []) ≤ 5 →
-    at < 2 ^ 61 → PutIf (at + length w < 2 ^ 62) o p at m w → Put o p at m (getD vs k [])
-put-word ws vs k w e d h l f =
-    let q : w ≡ getD vs k [] = e ∙ ap (λ (x : List (List ℕ)). getD x k []) d in
-    subst (Put _ _ _ _) q (f .all (omega (arith, ap length q)))
+pub put-at : {o p : List ℕ} {at m : ℕ} (ws : List (List ℕ)) (k n : ℕ) → n ≡ k → Put o p at m (getD ws k []) → Put o p at m (getD ws n [])
+put-at ws k n e f = rw e f
+
+-- a number past the words has none
+pub put-past : (o : List ℕ) (at : ℕ) (ws : List (List ℕ)) (n : ℕ) → length ws ≤ n → Put o o at at (getD ws n [])
+put-past o at ws n h = rw (List·getD-eq-default ws [] h) (put-none o at)
 
 -- ---- one field more
 

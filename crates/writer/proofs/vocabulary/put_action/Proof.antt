@@ -1,35 +1,34 @@
--- `writer::vocabulary::put_action` meets its contract: the fields of the text are the words of the table.
-use native.Mathlib.Omega.{arith}
+-- `writer::vocabulary::put_action` meets its contract: each arm puts the word of its number.
+use Prim.Native.Nat.{ℕ, zero, suc}
 use mathlib.Core.Path.{_≡_, refl}
 use mathlib.Core.List.{[], _∷_}
+use lib.ListN.{getD}
+use native.Mathlib.Omega.{arith}
 use borrow.Author.Needs.{needs}
-use Rattle.fields.specs.Split.{split}
+use Rattle.fields.proofs.Output.{put-none}
 use Rattle.file.specs.Words.{actionWords}
-use Rattle.writer.proofs.Placed.{action-short, put-word}
+use Rattle.writer.proofs.Placed.{put-at}
 use Rattle.writer.proofs.vocabulary.put_action.Statement.{statement}
 use Rattle.writer.proofs.vocabulary.put_action.Tie as tie
 
-words : split 9 (9 ∷ 97 ∷ 100 ∷ 100 ∷ 9 ∷ 100 ∷ 101 ∷ 108 ∷ []) ≡ ([] ∷ actionWords)
-unfolding split actionWords
-words = refl
-
-slice-aggregate-piece : tie.Need-slice-aggregate-piece
-slice-aggregate-piece c = search needs
-
-piece-requires : tie.Need-piece-requires
-piece-requires c κs = search needs
-
-put-bytes-requires : tie.Need-put-bytes-requires
-put-bytes-requires c κs = search needs
-
-same-length : tie.Need-same-length
-same-length c = search needs
-
-returns : tie.Need-returns
-returns c =
-    let p = c .before .before .before in
-    let a = p .before .before .before .before in
-    put-word _ _ (a .args .action) _ (p .piece .ensures) words (action-short (a .args .action)) (omega arith) (c .before .before .put-bytes .ensures)
+no-action : (n : ℕ) → (n ≡ 1 → ⊥) → (n ≡ 2 → ⊥) → getD ([] ∷ actionWords) n [] ≡ []
+unfolding actionWords
+no-action zero h k = refl
+no-action (suc zero) h k = absurd (h refl)
+no-action (suc (suc zero)) h k = absurd (k refl)
+no-action (suc (suc (suc n))) h k = refl
 
 pub put-action-spec : {M : Type 1} → statement M
-put-action-spec = tie.close (tie.spec slice-aggregate-piece piece-requires put-bytes-requires same-length returns)
+unfolding actionWords
+put-action-spec =
+    tie.close
+    (tie.spec
+    (λ c. search needs)
+    (λ c κs. search needs)
+    (λ c. search needs)
+    (λ c κs. search needs)
+    (λ c. search needs)
+    (λ c. put-at ([] ∷ actionWords) 1 _ (c .before .before .before .before .before .match .keys1) (c .before .before .put-bytes .ensures .all (omega arith)))
+    (λ c. search needs)
+    (λ c. put-at ([] ∷ actionWords) 2 _ (c .before .before .before .before .before .match .keys2) (c .before .before .put-bytes2 .ensures .all (omega arith)))
+    (λ c. rw (no-action _ (c .match .rest .0 .1) (c .match .rest .1)) (put-none _ _)))

@@ -1,35 +1,68 @@
--- `writer::vocabulary::put_operator` meets its contract: the fields of the text are the words of the table.
+-- `writer::vocabulary::put_operator` meets its contract: each arm puts the word of its number.
+use Prim.Native.Nat.{_≤_}
 use native.Mathlib.Omega.{arith}
-use mathlib.Core.Path.{_≡_, refl}
-use mathlib.Core.List.{[], _∷_}
 use borrow.Author.Needs.{needs}
-use Rattle.fields.specs.Split.{split}
 use Rattle.file.specs.Words.{operatorWords}
-use Rattle.writer.proofs.Placed.{operator-short, put-word}
+use Rattle.writer.proofs.Placed.{put-at, put-past}
 use Rattle.writer.proofs.vocabulary.put_operator.Statement.{statement}
 use Rattle.writer.proofs.vocabulary.put_operator.Tie as tie
 
-words : split 9 (116 ∷ 111 ∷ 112 ∷ 9 ∷ 118 ∷ 97 ∷ 114 ∷ 9 ∷ 110 ∷ 111 ∷ 116 ∷ 9 ∷ 111 ∷ 114 ∷ 9 ∷ 111 ∷ 117 ∷ 116 ∷ 9 ∷ 105 ∷ 110 ∷ 9 ∷ 112 ∷ 114 ∷ 101 ∷ 118 ∷ 9 ∷ 115 ∷ 105 ∷ 110 ∷ 99 ∷ 101 ∷ 9 ∷ 98 ∷ 105 ∷ 110 ∷ 100 ∷ 9 ∷ 97 ∷ 116 ∷ 9 ∷ 114 ∷ 101 ∷ 97 ∷ 99 ∷ 104 ∷ 9 ∷ 109 ∷ 97 ∷ 110 ∷ 121 ∷ []) ≡ operatorWords
-unfolding split operatorWords
-words = refl
-
-slice-aggregate-piece : tie.Need-slice-aggregate-piece
-slice-aggregate-piece c = search needs
-
-piece-requires : tie.Need-piece-requires
-piece-requires c κs = search needs
-
-put-bytes-requires : tie.Need-put-bytes-requires
-put-bytes-requires c κs = search needs
-
-same-length : tie.Need-same-length
-same-length c = search needs
-
-returns : tie.Need-returns
-returns c =
-    let p = c .before .before .before in
-    let a = p .before .before .before .before in
-    put-word _ _ (a .args .op) _ (p .piece .ensures) words (operator-short (a .args .op)) (omega arith) (c .before .before .put-bytes .ensures)
-
 pub put-operator-spec : {M : Type 1} → statement M
-put-operator-spec = tie.close (tie.spec slice-aggregate-piece piece-requires put-bytes-requires same-length returns)
+unfolding operatorWords
+put-operator-spec =
+    tie.close
+    (tie.spec
+    (λ c. search needs)
+    (λ c κs. search needs)
+    (λ c. search needs)
+    (λ c κs. search needs)
+    (λ c. search needs)
+    (λ c κs. search needs)
+    (λ c. search needs)
+    (λ c κs. search needs)
+    (λ c. search needs)
+    (λ c κs. search needs)
+    (λ c. search needs)
+    (λ c κs. search needs)
+    (λ c. search needs)
+    (λ c κs. search needs)
+    (λ c. search needs)
+    (λ c κs. search needs)
+    (λ c. search needs)
+    (λ c κs. search needs)
+    (λ c. search needs)
+    (λ c κs. search needs)
+    (λ c. search needs)
+    (λ c κs. search needs)
+    (λ c. search needs)
+    (λ c κs. search needs)
+    (λ c. search needs)
+    (λ c. put-at operatorWords 0 _ (c .before .before .before .before .before .match .keys1) (c .before .before .put-bytes .ensures .all (omega arith)))
+    (λ c. search needs)
+    (λ c. put-at operatorWords 1 _ (c .before .before .before .before .before .match .keys2) (c .before .before .put-bytes2 .ensures .all (omega arith)))
+    (λ c. search needs)
+    (λ c. put-at operatorWords 2 _ (c .before .before .before .before .before .match .keys3) (c .before .before .put-bytes3 .ensures .all (omega arith)))
+    (λ c. search needs)
+    (λ c. put-at operatorWords 3 _ (c .before .before .before .before .before .match .keys4) (c .before .before .put-bytes4 .ensures .all (omega arith)))
+    (λ c. search needs)
+    (λ c. put-at operatorWords 4 _ (c .before .before .before .before .before .match .keys5) (c .before .before .put-bytes5 .ensures .all (omega arith)))
+    (λ c. search needs)
+    (λ c. put-at operatorWords 5 _ (c .before .before .before .before .before .match .keys6) (c .before .before .put-bytes6 .ensures .all (omega arith)))
+    (λ c. search needs)
+    (λ c. put-at operatorWords 6 _ (c .before .before .before .before .before .match .keys7) (c .before .before .put-bytes7 .ensures .all (omega arith)))
+    (λ c. search needs)
+    (λ c. put-at operatorWords 7 _ (c .before .before .before .before .before .match .keys8) (c .before .before .put-bytes8 .ensures .all (omega arith)))
+    (λ c. search needs)
+    (λ c. put-at operatorWords 8 _ (c .before .before .before .before .before .match .keys9) (c .before .before .put-bytes9 .ensures .all (omega arith)))
+    (λ c. search needs)
+    (λ c. put-at operatorWords 9 _ (c .before .before .before .before .before .match .keys10) (c .before .before .put-bytes10 .ensures .all (omega arith)))
+    (λ c. search needs)
+    (λ c. put-at operatorWords 10 _ (c .before .before .before .before .before .match .keys11) (c .before .before .put-bytes11 .ensures .all (omega arith)))
+    (λ c. search needs)
+    (λ c. put-at operatorWords 11 _ (c .before .before .before .before .before .match .keys12) (c .before .before .put-bytes12 .ensures .all (omega arith)))
+    (λ c.
+    let n = c .before .before .args .op in
+    let r = c .match .rest in
+    let past4 : 4 ≤ n = omega (arith, r .0 .0 .0 .0 .0 .0 .0 .0 .0 .0 .0 .1, r .0 .0 .0 .0 .0 .0 .0 .0 .0 .0 .1, r .0 .0 .0 .0 .0 .0 .0 .0 .0 .1, r .0 .0 .0 .0 .0 .0 .0 .0 .1) in
+    let past8 : 8 ≤ n = omega (arith, past4, r .0 .0 .0 .0 .0 .0 .0 .1, r .0 .0 .0 .0 .0 .0 .1, r .0 .0 .0 .0 .0 .1, r .0 .0 .0 .0 .1) in
+    put-past _ _ operatorWords n (omega (arith, past8, r .0 .0 .0 .1, r .0 .0 .1, r .0 .1, r .1))))
