@@ -41,6 +41,36 @@ for (const name of all('.event-name')) {
   say(!crossed, `${picture.querySelector('title').textContent}: its name lies on a line`);
 }
 
+// Nor does it lie on a member's circle.
+for (const name of all('.event-name')) {
+  const picture = name.closest('svg');
+  const { x, y, width, height } = name.getBBox();
+  const on = (circle) => {
+    const far = (low, high, middle) => Math.max(low - middle, 0, middle - high);
+    const [cx, cy, r] = ['cx', 'cy', 'r'].map((part) => circle[part].baseVal.value);
+    return Math.hypot(far(x + 1, x + width - 1, cx), far(y + height / 4, y + height * 0.75, cy)) < r;
+  };
+  const circles = [...picture.querySelectorAll('circle'), ...all('#members circle')];
+  say(!circles.some(on), `${picture.querySelector('title').textContent}: its name lies on a circle`);
+}
+
+// Where a filter leaves nothing, that is said; and no moment is left without a request.
+const [byMember, byAnswer] = ['by-member', 'by-answer'].map((id) => document.getElementById(id));
+if (byMember) {
+  const seen = (element) => element.checkVisibility();
+  for (const member of byMember.options) {
+    for (const answer of byAnswer.options) {
+      member.selected = answer.selected = true;
+      const [requests, none] = [all('.asked > li').filter(seen).length, seen(document.querySelector('.none'))];
+      say(none === (requests === 0), `${member.text}, ${answer.text}: ${requests} requests, said ${none}`);
+      const chosen = member.value !== 'all' || answer.value !== 'all';
+      const bare = all('.moment').filter((one) => seen(one) && ![...one.querySelectorAll('.asked > li')].some(seen));
+      say(!chosen || !bare.length, `${member.text}, ${answer.text}: ${bare.length} moments without a request`);
+    }
+  }
+  byMember.value = byAnswer.value = 'all';
+}
+
 const style = getComputedStyle(document.documentElement);
 const light = (name) => {
   const digits = style.getPropertyValue(name).trim().replace(/^#(.)(.)(.)$/, '#$1$1$2$2$3$3');

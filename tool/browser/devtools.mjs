@@ -72,6 +72,9 @@ export async function open(browser, address, { width = 1400, height = 900, dark 
       await mouse('mousePressed');
       await mouse('mouseReleased');
     },
+    /** Gives the window another size. */
+    size: (wide, high) => call('Emulation.setDeviceMetricsOverride',
+      { width: wide, height: high, deviceScaleFactor: 1, mobile: false }),
     /** Types a text where the caret is. */
     type: (words) => call('Input.insertText', { text: words }),
     /** Writes a picture of the window. */

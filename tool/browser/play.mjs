@@ -25,7 +25,7 @@ async function request(name, from, to, answer) {
   await page.until(`state.to === '${to}' && document.querySelectorAll('#looks button').length === 4`);
   const before = await page.value('state.at');
   await event(name);
-  await page.until(`document.querySelectorAll('#strip li').length === ${before + 2}`);
+  await page.until(`document.querySelectorAll('#strip li').length === ${before + 2} && state.at === ${before + 1}`);
   await within('#why', `${name} ${from} → ${to}`);
   await within('#why', answer);
 }
@@ -74,9 +74,29 @@ try {
   await within('#table', '1 pair may load at moment 2');
   await page.picture(`${folder}/play-light.png`);
 
+  // In a low window every event is seen.
+  await page.size(1400, 757);
+  const seen = await page.value(`(() => {
+    const box = document.getElementById('looks').getBoundingClientRect();
+    return ${all('#looks li')}.filter((one) => one.getBoundingClientRect().bottom <= box.bottom + 1).length;
+  })()`);
+  assert.equal(seen, 4, 'events that are seen at a height of 757');
+  await page.picture(`${folder}/play-low.png`);
+  await page.size(1400, 900);
+
   // Back to the moment of the share, and on from there another way.
   await page.click('document.querySelectorAll("#strip button")[2]');
   await within('#moment', 'Moment 1');
+  assert.deepEqual(await texts('#strip .back'), ['✓ load player → preset 2']);
+  assert.ok(await page.value('document.getElementById("dropped").hidden'));
+  await request('withdraw', 'designer', 'player', 'granted');
+  // What was dropped is said, and can be brought back.
+  await within('#dropped', '1 later request was dropped.');
+  await page.picture(`${folder}/play-dropped.png`);
+  await page.click('document.getElementById("restore")');
+  await page.until('document.getElementById("dropped").hidden');
+  await page.until(`document.querySelectorAll('#strip li').length === ${line.length}`);
+  assert.deepEqual(await texts('#strip li'), line);
   assert.deepEqual(await texts('#strip .back'), ['✓ load player → preset 2']);
   await request('withdraw', 'designer', 'player', 'granted');
   assert.deepEqual(await texts('#strip .back'), []);

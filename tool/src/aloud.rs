@@ -32,7 +32,7 @@ use keeper::terms::{Effect, Terms, VARIABLES};
 use labels::{Labels, Manner};
 use render::Speaker;
 pub(crate) use words::listed;
-use words::{full, letters, Words};
+use words::{full, letters, name, Words};
 
 /// Lines of text are broken before this column.
 const WIDTH: usize = 110;
@@ -176,7 +176,7 @@ impl Aloud {
             let words = speaker.say(&resolve::of_entry(&forms, entry), Time::Now, None);
             let given: Vec<String> = (1..VARIABLES)
                 .filter(|x| forms.free[entry] >> x & 1 == 1)
-                .map(|x| format!("x{x}"))
+                .map(|x| name(Who::Given(x)))
                 .collect();
             let given = match &given[..] {
                 [] => String::new(),

@@ -15,19 +15,29 @@ pub struct Arguments {
 
 impl Arguments {
     /// Reads the arguments, given the flags and the options that the
-    /// sub-command has, each with its dashes: `--json`, `-o`.
+    /// sub-command has, each with its dashes: `--json`, `-o`. After `--` nothing is
+    /// an option.
     pub fn read(given: &[String], flags: &[&str], options: &[&str]) -> Result<Arguments, Stop> {
         let mut arguments = Arguments::default();
         let mut given = given.iter();
         while let Some(word) = given.next() {
+            if word == "--" {
+                arguments.rest.extend(given.cloned());
+                break;
+            }
             let (name, joined) = match word.split_once('=') {
                 Some((name, value)) if name.starts_with("--") => (name, Some(value.to_string())),
                 _ => (word.as_str(), None),
             };
-            if flags.contains(&name) && joined.is_none() {
+            if flags.contains(&name) {
+                if let Some(value) = joined {
+                    let plain = format!("{name} takes no value; write {name} without `={value}`");
+                    return Err(Stop::Usage(plain));
+                }
                 arguments.flags.push(name.to_string());
             } else if options.contains(&name) {
                 let value = joined.or_else(|| given.next().cloned());
+                let value = value.filter(|value| !value.is_empty());
                 let value = value.ok_or_else(|| Stop::Usage(format!("{name} needs a value")))?;
                 arguments.options.insert(name.to_string(), value);
             } else if name.len() > 1 && name.starts_with('-') {
@@ -82,10 +92,20 @@ mod tests {
     }
 
     #[test]
+    fn after_two_dashes_all_are_names() {
+        let arguments = read(&["--json", "--", "--save", "--", "-o"]).unwrap();
+        assert!(arguments.has("--json"));
+        assert_eq!(arguments.rest, ["--save", "--", "-o"]);
+    }
+
+    #[test]
     fn mistakes() {
         let said = |given: &[&str]| read(given).unwrap_err().to_string();
         assert_eq!(said(&["--jsn"]), "no option --jsn here; did you mean `--json`?");
+        assert_eq!(said(&["--json=1"]), "--json takes no value; write --json without `=1`");
+        assert_eq!(said(&["--json="]), "--json takes no value; write --json without `=`");
         assert_eq!(said(&["-o"]), "-o needs a value");
+        assert_eq!(said(&["--save="]), "--save needs a value");
         assert!(read(&[]).unwrap().one("FILE").is_err());
         assert!(read(&["a", "b"]).unwrap().one("FILE").is_err());
     }

@@ -1,5 +1,14 @@
 //! The files of a folder: terms.say or terms.tsv, requests.say or requests.tsv,
 //! names.tsv.
+//!
+//! * `request`: a line of requests.tsv
+//! * `writing`: files written so that none is lost
+
+mod request;
+mod writing;
+
+pub use request::Request;
+pub use writing::{make, write};
 
 use crate::bank::Bank;
 use crate::names::Names;
@@ -8,9 +17,8 @@ use crate::source::mistake::{Mistake, Mistaken};
 use crate::source::{compile, Compiled};
 use crate::stop::Stop;
 use crate::storing::fits;
-use keeper::terms::read;
-use std::fs::{self, File};
-use std::io::{self, ErrorKind, Write};
+use std::fs;
+use std::io::ErrorKind;
 use std::path::{Path, PathBuf};
 
 pub const TERMS: &str = "terms.tsv";
@@ -52,9 +60,7 @@ impl Folder {
     /// Loads a folder, or a source or a terms file with the files beside it. A
     /// file other than these two that isn't there counts as empty.
     pub fn load(path: &Path) -> Result<Folder, Stop> {
-        if !path.exists() {
-            return Err(Stop::Failed(format!("there is no file or folder {}", path.display())));
-        }
+        is_there(path)?;
         let folder = folder_of(path);
         let source = folder.join(SOURCE);
         if path.is_dir() && source.is_file() {
@@ -161,6 +167,14 @@ impl Folder {
     }
 }
 
+/// Stops where there is nothing under a path.
+pub fn is_there(path: &Path) -> Result<(), Stop> {
+    match path.exists() {
+        true => Ok(()),
+        false => Err(Stop::Failed(format!("there is no file or folder {}", path.display()))),
+    }
+}
+
 /// The folder that a path is or stands in.
 pub fn folder_of(path: &Path) -> PathBuf {
     if path.is_dir() {
@@ -234,80 +248,5 @@ fn bytes(path: &Path) -> Result<Vec<u8>, Stop> {
         Ok(bytes) => Ok(bytes),
         Err(error) if error.kind() == ErrorKind::NotFound => Ok(Vec::new()),
         Err(error) => Err(Stop::Failed(format!("cannot read {}: {error}", path.display()))),
-    }
-}
-
-/// Writes a file, or says why it can't be written.
-pub fn write(path: &Path, bytes: &[u8]) -> Result<(), Stop> {
-    replace(path, bytes)
-        .map_err(|error| Stop::Failed(format!("cannot write {}: {error}", path.display())))
-}
-
-/// Puts a new file in the place of an old one, so that a crash leaves one of the
-/// two whole. What is no plain file, such as a pipe, is written to.
-fn replace(path: &Path, bytes: &[u8]) -> io::Result<()> {
-    let path = fs::canonicalize(path).unwrap_or_else(|_| path.to_path_buf());
-    let old = fs::metadata(&path).ok();
-    if old.as_ref().is_some_and(|old| !old.is_file()) {
-        return fs::write(path, bytes);
-    }
-    let mut name = path.file_name().unwrap_or_default().to_os_string();
-    name.push(format!(".{}.new", std::process::id()));
-    let new = path.with_file_name(name);
-    let written = (|| {
-        let mut file = File::create(&new)?;
-        file.write_all(bytes)?;
-        if let Some(old) = old {
-            file.set_permissions(old.permissions())?;
-        }
-        file.sync_all()?;
-        fs::rename(&new, &path)?;
-        File::open(folder_of(&path))?.sync_all()
-    })();
-    if written.is_err() {
-        let _ = fs::remove_file(&new);
-    }
-    written
-}
-
-/// One line of requests.tsv.
-#[derive(Clone, Copy, Debug, PartialEq, Eq)]
-pub enum Request {
-    /// Event, initiator and target; the numbers may be out of range.
-    Ask { event: usize, from: usize, to: usize },
-    /// Not a request line: refused with 1.
-    Malformed,
-}
-
-impl Request {
-    /// Reads a line that ends with its line feed.
-    pub fn read(line: &[u8]) -> Request {
-        Request::fields(line).unwrap_or(Request::Malformed)
-    }
-
-    fn fields(line: &[u8]) -> Option<Request> {
-        match read::fields(line.strip_suffix(b"\n")?)[..] {
-            [b"R", event, from, to] => Some(Request::Ask {
-                event: read::number(event)?,
-                from: read::number(from)?,
-                to: read::number(to)?,
-            }),
-            _ => None,
-        }
-    }
-}
-
-#[cfg(test)]
-mod tests {
-    use super::*;
-
-    #[test]
-    fn request_lines() {
-        let ask = Request::Ask { event: 2, from: 1, to: 0 };
-        assert_eq!(Request::read(b"R\t2\t1\t0\n"), ask);
-        assert_eq!(Request::read(b"R\t02\t001\t00000\n"), ask);
-        for wrong in [&b"R\t2\t1\t0"[..], b"R 2 1 0\n", b"R\t000002\t1\t0\n", b"\n"] {
-            assert_eq!(Request::read(wrong), Request::Malformed);
-        }
     }
 }

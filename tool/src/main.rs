@@ -14,11 +14,14 @@ fn main() {
         Ok(status) => {
             out.flush().map_or_else(|error| report("", &error.into(), false, &mut out), |()| status)
         }
-        Err((name, stop)) => {
-            report(name, &stop, arguments.iter().any(|word| word == "--json"), &mut out)
-        }
+        Err((name, stop)) => report(name, &stop, given(&arguments, &["--json"]), &mut out),
     };
     std::process::exit(status);
+}
+
+/// Whether one of some flags is among the arguments. After `--` there are none.
+fn given(arguments: &[String], flags: &[&str]) -> bool {
+    arguments.iter().take_while(|word| *word != "--").any(|word| flags.contains(&word.as_str()))
 }
 
 /// Runs the sub-command that the first argument names.
@@ -39,7 +42,7 @@ fn dispatch<'a>(arguments: &'a [String], out: &mut dyn Write) -> Result<i32, (&'
         "--version" | "-V" => show(out, concat!("cuckooormolu ", env!("CARGO_PKG_VERSION"))),
         name => {
             let command = find(name).map_err(|stop| ("", stop))?;
-            if rest.iter().any(|word| word == "--help" || word == "-h") {
+            if given(rest, &["--help", "-h"]) {
                 return show(out, command.help);
             }
             (command.main)(rest, out).map_err(|stop| (name, stop))
@@ -54,6 +57,10 @@ fn show<'a>(out: &mut dyn Write, text: &str) -> Result<i32, (&'a str, Stop)> {
 
 fn find(name: &str) -> Result<&'static Command, Stop> {
     COMMANDS.iter().find(|command| command.name == name).ok_or_else(|| {
+        if name == "install" {
+            let script = "`./cuckooormolu install [--prefix DIR]`";
+            return Stop::Usage(format!("a checkout installs the tool, by its script: {script}"));
+        }
         let hint = did_you_mean(name, COMMANDS.iter().map(|command| command.name));
         Stop::Usage(format!("no command `{name}`{hint}"))
     })

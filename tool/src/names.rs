@@ -1,79 +1,16 @@
 //! The names of members, relations and events.
 
+mod kind;
 mod near;
 mod renumbered;
 mod spoken;
 
+pub use kind::{Kind, Labelled};
 pub use near::{did_you_mean, nearest};
 pub use spoken::{Called, Spoken};
 
 use keeper::terms::{Entry, Terms};
 use std::collections::BTreeMap;
-use std::fmt;
-
-/// What a name can be the name of.
-#[derive(Clone, Copy, Debug, PartialEq, Eq, PartialOrd, Ord)]
-pub enum Kind {
-    Member,
-    Relation,
-    Event,
-}
-
-impl Kind {
-    pub const ALL: [Kind; 3] = [Kind::Member, Kind::Relation, Kind::Event];
-
-    /// The kind's word in names.tsv and in messages.
-    pub fn word(self) -> &'static str {
-        match self {
-            Kind::Member => "member",
-            Kind::Relation => "relation",
-            Kind::Event => "event",
-        }
-    }
-}
-
-impl fmt::Display for Kind {
-    fn fmt(&self, out: &mut fmt::Formatter<'_>) -> fmt::Result {
-        out.pad(self.word())
-    }
-}
-
-/// What a label stands for: a relation, an event, or an event denied.
-#[derive(Clone, Copy, Debug, PartialEq, Eq)]
-pub enum Labelled {
-    Relation(usize),
-    Event(usize),
-    Denied(usize),
-}
-
-impl Labelled {
-    /// Relations come first, then the events, then the events denied.
-    pub fn of(terms: &Terms, label: usize) -> Labelled {
-        let Some(event) = label.checked_sub(terms.relations) else {
-            return Labelled::Relation(label);
-        };
-        match event.checked_sub(terms.events) {
-            None => Labelled::Event(event),
-            Some(event) => Labelled::Denied(event),
-        }
-    }
-
-    /// Whose name it has.
-    pub fn named(self) -> (Kind, usize) {
-        match self {
-            Labelled::Relation(relation) => (Kind::Relation, relation),
-            Labelled::Event(event) | Labelled::Denied(event) => (Kind::Event, event),
-        }
-    }
-
-    /// The word before the name.
-    pub fn before(self) -> &'static str {
-        match self {
-            Labelled::Denied(_) => "denied ",
-            _ => "",
-        }
-    }
-}
 
 /// The names of a folder. What has no name is called by its kind and number:
 /// `member 3`.
@@ -291,49 +228,4 @@ impl Names {
 }
 
 #[cfg(test)]
-mod tests {
-    use super::*;
-
-    const TEXT: &str = "member\t0\tdora\nmember\t1\tpete\nrelation\t0\towns\nevent\t0\tshare\n";
-
-    #[test]
-    fn read_and_written() {
-        let names = Names::read(TEXT).unwrap();
-        assert_eq!(names.write(), TEXT);
-        assert_eq!(names.member(1), "pete");
-        assert_eq!(names.member(2), "member 2");
-        assert_eq!(names.event(4), "event 4");
-        let said = "event\t0\tpeek\tpeek at\tpeeked at\n";
-        let names = Names::read(said).unwrap();
-        assert_eq!(names.spoken(0), Some(&Spoken::of("peek", "peeked at")));
-        assert_eq!(names.write(), said);
-        let kinds = "member\t0\tben\tplayers\nmember\t1\tpad\tpresets\nmember\t2\tnorth\n\
-                     member\t3\tcleo\tplayers\n";
-        let names = Names::read(kinds).unwrap();
-        assert_eq!(names.members("players", 4), Ok(vec![0, 3]));
-        assert_eq!(names.kinds()[1], ("presets".to_string(), vec![1]));
-        assert_eq!(names.write(), kinds);
-    }
-
-    #[test]
-    fn looked_up() {
-        let names = Names::read(TEXT).unwrap();
-        assert_eq!(names.lookup(Kind::Member, "dora", 3), Ok(0));
-        assert_eq!(names.lookup(Kind::Member, "2", 3), Ok(2));
-        let near = names.lookup(Kind::Event, "shrae", 1).unwrap_err();
-        assert_eq!(near, "no event `shrae`; did you mean `share`?");
-        let far = names.lookup(Kind::Member, "xyz", 3).unwrap_err();
-        assert_eq!(far, "no member `xyz`; there are: dora, pete, member 2");
-    }
-
-    #[test]
-    fn mistakes() {
-        let said = |text: &str| Names::read(text).unwrap_err();
-        assert!(said("membr\t0\ta\n").contains("did you mean `member`?"));
-        assert!(said("member 0 a\n").contains("line 1"));
-        assert!(said("member\tx\ta\n").contains("no number"));
-        assert!(said("member\t0\ta\t\n").contains("the kind of a has an empty name"));
-        assert!(said("relation\t0\ta\tb\n").contains("line 1"));
-        assert!(said("member\t0\ta\nmember\t1\ta\n").contains("already"));
-    }
-}
+mod tests;

@@ -11,6 +11,12 @@ Exit status: 0 done; 1 something was denied or failed, where that was asked for
 that cannot be read, written or compiled.
 ";
 
+/// What the script of a checkout does besides.
+const INSTALL: &str = "\
+In a checkout, `./cuckooormolu install [--prefix DIR]` puts the tool, its manual page and
+completions for shells on a path of your choice.
+";
+
 /// What `--help` prints.
 pub fn overview() -> String {
     let mut text = String::from("usage: cuckooormolu COMMAND ...\n\n");
@@ -18,6 +24,7 @@ pub fn overview() -> String {
         text.push_str(&format!("  {:9} {}\n", command.name, command.summary));
     }
     text.push_str("\n`cuckooormolu COMMAND --help` says more.\n");
+    text.push_str(INSTALL);
     text.push_str(STATUSES);
     text
 }
@@ -34,6 +41,7 @@ pub fn manual() -> String {
         let name = roff(command.name);
         page.push_str(&format!(".SS {name}\n.nf\n{}\n.fi\n", roff(command.help.trim_end())));
     }
+    page.push_str(&format!(".SH INSTALLATION\n{}\n", roff(INSTALL)));
     page.push_str(&format!(".SH EXIT STATUS\n{}", roff(STATUSES)));
     page
 }

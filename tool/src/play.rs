@@ -2,12 +2,13 @@
 //! text and the requests; every answer is made afresh from them.
 //!
 //! * `asked`: what the page asks for; `told`: what it is told
-//! * `files`: what the folder has, and what is saved
+//! * `files`: what the folder has; `saving`: what is saved
 //! * `page`: the page itself, one text that loads nothing
 
 pub mod asked;
 pub mod files;
 pub mod page;
+mod saving;
 pub mod told;
 
 use crate::http::{self, Request, Response};

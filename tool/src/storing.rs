@@ -41,8 +41,7 @@ pub fn store(file: &Path, text: &[u8], from: &Folder) -> Result<(), Stop> {
         let shown = beside.display();
         return Err(Stop::Failed(format!("{shown} has other names; store in another folder")));
     }
-    fs::create_dir_all(&place)
-        .map_err(|error| Stop::Failed(format!("cannot make {}: {error}", place.display())))?;
+    folder::make(&place)?;
     if own && there.is_none_or(|there| there != names) {
         folder::write(&beside, names.as_bytes())?;
     }

@@ -1,6 +1,6 @@
 //! Doing something again whenever a file of a folder changes.
 
-use crate::folder::folder_of;
+use crate::folder::{folder_of, is_there};
 use crate::stop::Stop;
 use std::fs;
 use std::path::{Path, PathBuf};
@@ -11,8 +11,9 @@ use std::time::{Duration, SystemTime};
 const PAUSE: Duration = Duration::from_millis(200);
 
 /// Does something now, and again after every change of a file of the tool's beside
-/// some paths, until it fails.
+/// some paths, until it fails. What is not there is not waited for.
 pub fn watch(paths: &[&Path], mut again: impl FnMut() -> Result<(), Stop>) -> Result<i32, Stop> {
+    paths.iter().try_for_each(|path| is_there(path))?;
     let stamps = || paths.iter().flat_map(|path| stamps(path)).collect::<Vec<_>>();
     loop {
         let before = stamps();

@@ -1,12 +1,13 @@
 //! Why a request is granted or denied.
 //!
-//! * `reason`: one step of a justification, read off the keeper's record; `begin`: from
-//!   where on it counts
+//! * `reason`: one step of a justification, read off the keeper's record; `claim`: what it
+//!   is a reason for; `begin`: from where on it counts
 //! * `story`: what the steps come down to, as facts
 //! * `fact`: facts about the record, and sentences for them
 //! * `unseen`: the events of the other bank that would count
 
 pub mod begin;
+mod claim;
 pub mod fact;
 pub mod reason;
 pub mod story;

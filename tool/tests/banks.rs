@@ -126,7 +126,7 @@ fn a_block_counts_in_both() {
     let said = run(&["why", folder(SOURCE, requests).path(), "3"]).out;
     assert_eq!(
         said,
-        "3  left  load pete → saw  denied\n     dora owns saw, but dora blocks pete\n"
+        "3  left  load pete → saw  denied at moment 2\n     dora owns saw, but dora blocks pete\n"
     );
 }
 
@@ -137,11 +137,11 @@ fn denied_tries_count_in_their_bank() {
                   event complain when once me denied load target\nkeep denied load\n";
     let requests = "left load dora pete\nleft complain dora pete\nright complain dora pete\n";
     let said = run(&["why", folder(source, requests).path()]).out;
-    let wanted = "1  left   load dora → pete      denied
+    let wanted = "1  left   load dora → pete      denied; moment 1
      dora is not pete
-2  left   complain dora → pete  granted
+2  left   complain dora → pete  granted; moment 2
      dora tried in vain to load pete at moment 1
-3  right  complain dora → pete  denied
+3  right  complain dora → pete  denied at moment 2
      dora has never tried in vain to load pete
      moment 1 was made in the left bank, where dora tried in vain to load pete: the right bank sees the moment, not \
                   the event

@@ -56,7 +56,7 @@ fn why_says_the_name_and_under_it_why() {
     let said = run(&["why", folder.path(), "4"]).out;
     assert_eq!(
         said,
-        "4  load ben → warm-pad  denied
+        "4  load ben → warm-pad  denied; moment 4
      ben is suspended
        ben tried in vain to load warm-pad at moment 2, and ben was warned at moment 1, and no \
        member has forgiven ben since
@@ -68,6 +68,40 @@ fn why_says_the_name_and_under_it_why() {
     let granted = run(&["why", folder.path(), "6"]).out;
     assert!(granted.contains("     ben is not suspended\n"), "{granted}");
     assert!(granted.contains("but north forgave ben at moment 5"), "{granted}");
+}
+
+/// A definition of three has its name, too, also where it is about the past.
+#[test]
+fn three_people() {
+    let folder = Folder::new();
+    let terms = "members ann, ben, cem, dot\nrelations friend\n\
+        event share by anyone\n\
+        define between(a, b, c): a friend b and b friend c\n\
+        define vouched(a, b, c): once (b share a and b friend c)\n\
+        event meet when me friend some f: between(me, f, target)\n\
+        event greet when me friend some f: not vouched(me, f, target)\n\
+        first ann friend ben, ben friend cem\n";
+    folder.write("terms.say", terms);
+    folder.write("requests.say", "meet ann cem\nmeet ann dot\nshare ben ann\ngreet ann cem\n");
+    let said = run(&["aloud", folder.path()]).out;
+    for part in [
+        "You may meet the target if some A that is a friend of yours is such that between holds of you, A and the\n\
+         target.\n",
+        "is such that vouched does not hold of you, A and\nthe target.\n",
+        "\nbetween holds of A, M and the target if M is a friend of A and the target is a friend of M.\n",
+        "\nvouched holds of A, M and the target if at some moment so far M had just shared with A and the target was a\n\
+         friend of M.\n",
+    ] {
+        assert!(said.contains(part), "{part}\n\n{said}");
+    }
+    let said = run(&["why", folder.path()]).out;
+    for part in [
+        "between holds of ann, ben and cem\n       ben is a friend of ann\n",
+        "but between does not hold of ann, ben and dot\n       dot is not a friend of ben\n",
+        "but vouched holds of ann, ben and cem\n       ben shared with ann at moment 2",
+    ] {
+        assert!(said.contains(part), "{part}\n\n{said}");
+    }
 }
 
 #[test]

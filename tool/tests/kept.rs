@@ -65,13 +65,13 @@ fn run_and_why() {
     let folder = folder("R\t2\t1\t2\nR\t1\t1\t2\nR\t2\t1\t2\nR\t2\t1\t0\n");
     assert_eq!(
         run(&["why", folder.path()]).out,
-        "1  complain pete → saw   denied
+        "1  complain pete → saw   denied at moment 0
      pete has never tried in vain to load saw
-2  load pete → saw       denied
+2  load pete → saw       denied; moment 1
      dora owns saw, but dora has never shared with pete
-3  complain pete → saw   granted
+3  complain pete → saw   granted; moment 2
      pete tried in vain to load saw at moment 1
-4  complain pete → dora  denied
+4  complain pete → dora  denied at moment 2
      pete has never tried in vain to load dora
 "
     );

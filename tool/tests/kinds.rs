@@ -36,6 +36,27 @@ fn a_kind_is_an_attribute() {
     assert!(run(&["compile", folder.path(), "--print"]).out.starts_with("M\t2\nL\t0\t1\n"));
 }
 
+/// Terms written back say attributes as people do, and compile to the same.
+#[test]
+fn attributes_are_written_back() {
+    let folder = folder();
+    assert_eq!(
+        run(&["compile", folder.path(), "-o", folder.file("other").to_str().unwrap()]).status,
+        0
+    );
+    let source = run(&["source", folder.file("other").to_str().unwrap()]).out;
+    for part in [
+        "me is player and target is player",
+        "\nfirst ben is player\n",
+        "\nfirst ben owns warm-pad\n",
+    ] {
+        assert!(source.contains(part), "{part}\n\n{source}");
+    }
+    let terms = folder.read("other/terms.tsv");
+    folder.write("terms.say", &source);
+    assert_eq!(run(&["compile", folder.path(), "--print"]).out, terms);
+}
+
 #[test]
 fn who_stands_by_kinds() {
     let folder = folder();

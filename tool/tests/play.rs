@@ -338,12 +338,42 @@ fn saved_together_or_not_at_all() {
     assert_eq!(folder.read("terms.say"), other);
 }
 
+/// Requests go on from where the terms were stored. They are saved, and no source is.
+#[test]
+fn stored_terms_go_on() {
+    let folder = Folder::new();
+    for name in ["terms.tsv", "names.tsv"] {
+        fs::copy(example("saved/later").join(name), folder.file(name)).unwrap();
+    }
+    let terms = folder.read("terms.tsv");
+    let page = Page::of(&folder);
+    let (host, token) = (&page.host, &page.token);
+    let said = page.sent(format!("GET /{token}/ HTTP/1.1\r\nHost: {host}\r\n\r\n").as_bytes());
+    assert!(said.contains("\"stored\":true"), "{said}");
+    // What the page sends for a source is not looked at.
+    let requests = r#"[["load","pete","pad"]]"#;
+    let said = page.told("nonsense", requests, 1, NOTHING);
+    assert!(said.contains("\"answer\":\"grant\",\"made\":true,\"moment\":1"), "{said}");
+    assert!(said.contains("as far as the stored file remembers"), "{said}");
+    let said = page.told("", "[]", 0, NOTHING);
+    assert!(
+        said.contains("\"begun\":\"as stored\"")
+            && said.contains("\"title\":\"Moment 0: as stored")
+    );
+    let source = run(&["source", folder.path()]).out;
+    let source = source.split_once("\n\n").unwrap().1.replace('\n', "\\n");
+    let body = format!(
+        r#"{{"now":{{"source":"{source}","requests":{requests}}},"before":{{"source":"{source}","requests":[]}},"anyway":false}}"#
+    );
+    let said = page.post("save", &body);
+    assert!(said.contains("\"said\":\"requests.say is saved with 1 request.\""), "{said}");
+    assert_eq!(folder.read("requests.say"), "load pete pad\n");
+    assert_eq!(folder.read("terms.tsv"), terms);
+    assert!(!folder.file("terms.say").exists());
+}
+
 #[test]
 fn what_cannot_be_played() {
-    let stored = example("saved/later");
-    let said = run(&["play", stored.to_str().unwrap()]);
-    assert_eq!(said.status, 3);
-    assert!(said.err.contains("stored with a past"), "{}", said.err);
     assert_eq!(run(&["play", "/no/such/folder"]).status, 3);
     assert_eq!(run(&["play"]).status, 2);
     assert_eq!(run(&["play", folder().path(), "--port", "x"]).status, 2);

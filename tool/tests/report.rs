@@ -63,6 +63,39 @@ fn everything_is_on_the_page() {
     }
 }
 
+/// Where a choice leaves no request, that is said.
+#[test]
+fn a_filter_that_leaves_nothing() {
+    let folder = preset();
+    folder.write("requests.tsv", "R\t2\t1\t2\nR\t0\t0\t1\n");
+    let page = page(&folder);
+    assert!(page.contains("<p class=\"none\" role=\"status\">No request is like that."));
+    let said = |member: &str, answer: &str| {
+        let chosen = |select: &str, value: &str| match value {
+            "" => String::new(),
+            value => format!(":has(#{select} option[value=\"{value}\"]:checked)"),
+        };
+        page.contains(&format!(
+            "main{}{} .none",
+            chosen("by-member", member),
+            chosen("by-answer", answer)
+        ))
+    };
+    // The request of 1 to 2 was denied, that of 0 to 1 granted.
+    for (member, answer, wanted) in [
+        ("", "refused", true),
+        ("", "granted", false),
+        ("", "denied", false),
+        ("0", "denied", true),
+        ("0", "granted", false),
+        ("1", "denied", false),
+        ("2", "granted", true),
+        ("2", "", false),
+    ] {
+        assert_eq!(said(member, answer), wanted, "{member} {answer}");
+    }
+}
+
 #[test]
 fn nothing_is_loaded_and_no_script_is_run() {
     let folder = preset();
@@ -166,6 +199,13 @@ fn mistakes() {
     let folder = preset();
     assert_eq!(run(&["report", folder.path()]).status, 2);
     assert_eq!(run(&["report", "-o", "x.html"]).status, 2);
-    let nowhere = folder.file("no/such/folder.html");
-    assert_eq!(run(&["report", folder.path(), "-o", nowhere.to_str().unwrap()]).status, 3);
+    let said = run(&["report", folder.path(), "-o", "/proc/none/page.html"]);
+    assert_eq!(said.status, 3);
+    assert!(said.err.contains("cannot make /proc/none: "), "{}", said.err);
+    // A folder is made, as for terms that are stored.
+    for (command, name) in [("report", "there/page.html"), ("source", "new/terms.say")] {
+        let file = folder.file(name);
+        assert_eq!(run(&[command, folder.path(), "-o", file.to_str().unwrap()]).status, 0);
+        assert!(file.is_file());
+    }
 }

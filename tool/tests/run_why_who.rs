@@ -58,6 +58,22 @@ fn granted_requests_are_well() {
     assert_eq!(run(&["run", folder.path(), "--strict"]).status, 0);
 }
 
+/// What starts with a dash is a name after `--`; a flag has no value.
+#[test]
+fn options_are_told_apart() {
+    let folder = preset();
+    let said = run(&["run", folder.path(), "--json=1"]);
+    assert_eq!((said.status, said.out.as_str()), (2, ""));
+    assert!(said.err.contains("--json takes no value; write --json without `=1`"), "{}", said.err);
+    assert_eq!(run(&["run", "--strict", "--", folder.path()]).status, 1);
+    let said = run(&["run", "--", "--help"]);
+    assert_eq!(said.status, 3);
+    assert!(said.err.contains("there is no file or folder --help"), "{}", said.err);
+    let said = run(&["run", "--", folder.path(), "--json"]);
+    assert_eq!(said.status, 2);
+    assert!(said.err.contains("`--json` is one too many"), "{}", said.err);
+}
+
 #[test]
 fn why_names_the_moments_that_decide() {
     let folder = preset();
@@ -65,15 +81,15 @@ fn why_names_the_moments_that_decide() {
     assert_eq!(said.status, 0);
     assert_eq!(
         said.out,
-        "1  load pete → saw       denied
+        "1  load pete → saw       denied at moment 0
      dora owns saw, but dora has never shared with pete
-2  share dora → pete     granted
+2  share dora → pete     granted; moment 1
      it is always allowed
-3  load pete → saw       granted
+3  load pete → saw       granted; moment 2
      dora owns saw, and dora shared with pete at moment 1
-4  withdraw dora → pete  granted
+4  withdraw dora → pete  granted; moment 3
      it is always allowed
-5  load pete → saw       denied
+5  load pete → saw       denied at moment 3
      dora owns saw, and dora shared with pete at moment 1, but dora withdrew from pete at moment 3
 6  event 9: dora → dora  refused: there is no event 9: events are 0 to 2
 "

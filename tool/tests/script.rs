@@ -164,4 +164,10 @@ fn installed_where_one_likes() {
         assert!(error.contains("--prefix needs the name of a folder"), "{error}");
     }
     assert!(said(&folder, &["install", "--help"]).1.contains("by\ndefault ~/.local"));
+    assert!(said(&folder, &["--help"]).1.contains("./cuckooormolu install [--prefix DIR]"));
+    // The program itself points at the script.
+    let program = Command::new(prefix.join("bin/cuckooormolu")).arg("install").output().unwrap();
+    let (status, _, error) = told(program);
+    assert_eq!(status, 2);
+    assert!(error.contains("by its script: `./cuckooormolu install"), "{error}");
 }

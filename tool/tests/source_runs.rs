@@ -29,7 +29,7 @@ fn every_command_answers_by_the_source() {
         let said = run(&["run", given]).out;
         assert_eq!(said, "1  share dora → pete  denied\n2  share pete → dora  granted\n");
         assert!(run(&["aloud", given]).out.contains("you do not own the target"));
-        assert!(run(&["why", given]).out.starts_with("1  share dora → pete  denied\n"));
+        assert!(run(&["why", given]).out.starts_with("1  share dora → pete  denied at moment 0\n"));
         assert!(run(&["who", given, "share"]).out.contains("3 of 4 pairs"));
         assert!(run(&["check", given]).out.starts_with("accepted: "));
         assert!(run(&["report", given, "-o", "-"]).out.contains("you do not own the target"));

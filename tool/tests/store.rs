@@ -49,6 +49,32 @@ fn a_new_file_takes_the_old_one_s_place() {
     assert_eq!(std::fs::read_dir(other.path()).unwrap().count(), 2);
 }
 
+#[test]
+fn a_link_stays_a_link() {
+    let (folder, other) = (preset(), Folder::new());
+    let store = |name: &str| {
+        let file = other.file(name).display().to_string();
+        run(&["run", folder.path(), "--store", &file])
+    };
+    let link = |to: &str, name: &str| std::os::unix::fs::symlink(to, other.file(name)).unwrap();
+    // One that leads to nothing yet, through another.
+    link("kept.tsv", "second.tsv");
+    link("second.tsv", "first.tsv");
+    let said = store("first.tsv");
+    assert_eq!((said.status, said.err.as_str()), (0, ""));
+    assert!(other.file("first.tsv").is_symlink() && other.file("second.tsv").is_symlink());
+    assert!(other.read("kept.tsv").starts_with("S\t2\n"));
+    link("nowhere/kept.tsv", "far.tsv");
+    let said = store("far.tsv");
+    assert_eq!((said.status, said.out.as_str()), (3, ""));
+    assert!(said.err.contains("far.tsv, which leads to nowhere/kept.tsv: No such"), "{}", said.err);
+    link("round.tsv", "round.tsv");
+    let said = store("round.tsv");
+    assert_eq!(said.status, 3);
+    assert!(said.err.contains("lead round in a circle"), "{}", said.err);
+    assert!(other.file("far.tsv").is_symlink() && other.file("round.tsv").is_symlink());
+}
+
 /// 64 members, each of whom has shared with many.
 fn crowd(requests: usize) -> Folder {
     let folder = Folder::new();

@@ -24,12 +24,12 @@ fn it_goes_on_and_says_why() {
     let folder = shared();
     assert_eq!(
         run(&["why", folder.path()]).out,
-        "1  load pete → saw       granted
+        "1  load pete → saw       granted; moment 1
      dora owns saw, and as far as the stored file remembers, dora had at some time shared with pete and had not \
          withdrawn from pete since
-2  withdraw dora → pete  granted
+2  withdraw dora → pete  granted; moment 2
      it is always allowed
-3  load pete → saw       denied
+3  load pete → saw       denied at moment 2
      dora owns saw, and as far as the stored file remembers, dora had at some time shared with pete and had not \
          withdrawn from pete since, but dora withdrew from pete at moment 2
 "

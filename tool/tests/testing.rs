@@ -2,7 +2,7 @@
 
 mod run_support;
 
-use run_support::{example, run, Folder};
+use run_support::{example, preset, run, Folder};
 use std::fs;
 use std::io::{BufRead, BufReader};
 use std::process::{Command, Stdio};
@@ -76,7 +76,7 @@ fn what_fails_is_shown_as_a_diff() {
     assert!(lines[0].contains("\"test\":\"one\",\"line\":1,\"passed\":false"), "{}", lines[0]);
     assert!(lines[2].contains("\"expected\":\"pete peek saw\""), "{}", lines[2]);
     assert!(lines[2].ends_with("\"skipped\":2}"), "{}", lines[2]);
-    assert_eq!(lines[4], "{\"tests\":4,\"passed\":1,\"failed\":3,\"answers\":6}");
+    assert_eq!(lines[4], "{\"tests\":4,\"passed\":1,\"failed\":3,\"answers\":6,\"unusable\":0}");
 }
 
 #[test]
@@ -189,6 +189,43 @@ fn watched() {
     next("FAILED");
     child.kill().unwrap();
     child.wait().unwrap();
+}
+
+/// A folder that can't be tested does not keep the others from it.
+#[test]
+fn several_folders() {
+    let (good, bare, wrong) = (preset(), preset(), preset());
+    good.write("tests.say", "test one\n  dora may share pete\n");
+    wrong.write("tests.say", "test two\n  dora may shar pete\n");
+    let folders = ["test", bare.path(), wrong.path(), good.path(), "nosuch"];
+    let said = run(&folders);
+    assert_eq!((said.status, said.err.as_str()), (3, ""), "{}", said.out);
+    for part in [
+        &format!("UNUSABLE  {0}\n  {0} has no tests.say yet; `cuckooormolu test", bare.path()),
+        &format!("UNUSABLE  {0}\n  {0}/tests.say:2:12: ", wrong.path()),
+        "UNUSABLE  nosuch\n  there is no file or folder nosuch\n",
+        "\n1 test with 1 answer: 1 passed, 0 failed; 3 folders not tested\n",
+    ] {
+        assert!(said.out.contains(part), "{part}\n\n{}", said.out);
+    }
+    let json = run(&[&folders[..], &["--json"]].concat());
+    assert_eq!((json.status, json.out.lines().count()), (3, 5), "{}", json.out);
+    assert_eq!(json.out.lines().filter(|line| line.starts_with("{\"error\":")).count(), 3);
+    assert!(json.out.ends_with("\"failed\":0,\"answers\":1,\"unusable\":3}\n"), "{}", json.out);
+    // A folder alone stops as everywhere.
+    let alone = run(&["test", bare.path()]);
+    assert_eq!((alone.status, alone.out.as_str()), (3, ""));
+    assert!(alone.err.contains("has no tests.say yet"), "{}", alone.err);
+}
+
+/// What is not there is not waited for.
+#[test]
+fn nothing_to_watch() {
+    for command in ["check", "test"] {
+        let said = run(&[command, "nosuch", "--watch"]);
+        assert_eq!((said.status, said.out.as_str()), (3, ""));
+        assert!(said.err.contains("there is no file or folder nosuch"), "{}", said.err);
+    }
 }
 
 /// Stored terms keep their past; edges can't be given to them.

@@ -160,22 +160,27 @@ fn a_step_along_the_past() {
 fn neighbours_that_are_counted() {
     // At least two friends; at least two who have a friend.
     let two = ["many 0 0 2"];
-    assert_eq!(why(&two, &["1 1 0"]), ["only 1 of at least 2 counts: cem is a friend of ben"]);
-    assert_eq!(why(&two, &["1 0 1"]), ["none of at least 2 counts"]);
-    let enough = ["2 of at least 2 count: ann is a friend of ben and cem is a friend of ben"];
+    assert_eq!(
+        why(&two, &["1 1 0"]),
+        ["at least 2 are needed, and there is only 1: cem is a friend of ben"]
+    );
+    assert_eq!(why(&two, &["1 0 1"]), ["at least 2 are needed, and there is none"]);
+    let enough = [
+        "at least 2 are needed, and there are 2: ann is a friend of ben and cem is a friend of ben",
+    ];
     assert_eq!(why(&two, &["0 1 0", "1 1 0"]), enough);
     let with_friends = ["out 0 0", "many 0 2 2"];
     assert_eq!(
         why(&with_friends, &["0 1 0", "0 2 3", "1 1 0"]),
         [
-            "only 1 of at least 2 counts: cem is a friend of ben",
+            "at least 2 are needed, and there is only 1: cem is a friend of ben",
             "ann is a friend of ben, but no member is a friend of ann"
         ]
     );
     assert_eq!(
         why(&with_friends, &["0 1 0", "0 2 3", "0 0 1", "1 1 0"]),
-        ["2 of at least 2 count: ann is a friend of ben and cem is a friend of ben, and ann is a \
-          friend of ben, and ben is a friend of ann, and cem is a friend of ben, and x is a friend of cem"]
+        ["at least 2 are needed, and there are 2: ann is a friend of ben and cem is a friend of ben, \
+          and ben is a friend of ann, and x is a friend of cem"]
     );
     // Once two friends: a part that is told in a clause.
     let once = ["many 0 0 2", "since 0 2"];

@@ -3,27 +3,38 @@
 use super::clause::Who;
 use super::grammar::{be, do_, with, Time};
 use super::verbs::verb;
-use super::words::{name, Shape, Words};
+use super::words::{listed, name, Shape, Words};
 use crate::names::Called;
 
 /// A definition said of people; of each it is known whether it is the initiator.
 pub fn said(called: &Called, people: &[(String, bool)], time: Time, holds: bool) -> String {
     let [(subject, you), rest @ ..] = people else { return String::new() };
-    if let ([(other, _)], None) = (rest, verb(&called.name)) {
-        return of_two(called, subject, other, time, holds);
+    if is_of_several(called) {
+        let people: Vec<String> = people.iter().map(|(name, _)| name.clone()).collect();
+        return of_several(called, &people, time, holds);
     }
     format!("{subject} {}", predicate(called, *you, rest.first(), time, holds))
 }
 
-/// A definition of two whose name is no verb: `near holds of A and B`.
-fn of_two(called: &Called, one: &str, other: &str, time: Time, holds: bool) -> String {
+/// Whether a definition is said of several people side by side: of two, if its name is
+/// no verb, or of more.
+fn is_of_several(called: &Called) -> bool {
+    match called.people.len() {
+        0 | 1 => false,
+        2 => verb(&called.name).is_none(),
+        _ => true,
+    }
+}
+
+/// `near holds of A and B`, `between holds of A, B and C`.
+fn of_several(called: &Called, people: &[String], time: Time, holds: bool) -> String {
     let hold = match (time, holds) {
         (Time::Now, true) => "holds",
         (Time::Then, true) => "held",
         (Time::Now, false) => "does not hold",
         (Time::Then, false) => "did not hold",
     };
-    format!("{} {hold} of {one} and {other}", called.name)
+    format!("{} {hold} of {}", called.name, listed(people))
 }
 
 /// The same without its subject.
@@ -60,8 +71,9 @@ pub fn clause(called: &Called, of: Who, given: &[(usize, Who)], holds: bool, tim
         true => ("itself".to_string(), false),
         false => (name(*who), *who == Who::You),
     });
-    if let ([one, other], None) = (&people[..], verb(&called.name)) {
-        let text = of_two(called, &name(*one), &name(*other), time, holds);
+    if is_of_several(called) {
+        let people: Vec<String> = people.iter().map(|who| name(*who)).collect();
+        let text = of_several(called, &people, time, holds);
         return Words::whole(text, Shape::Open);
     }
     let you = people[0] == Who::You;
@@ -77,8 +89,9 @@ pub fn head(called: &Called) -> String {
     };
     let people: Vec<(String, bool)> = called.people.iter().enumerate().map(person).collect();
     let said = said(called, &people, Time::Now, true);
-    match said.starts_with("the target") || people.len() == 2 && verb(&called.name).is_none() {
-        true => said.replacen("the target", "The target", 1),
-        false => format!("A member {said}"),
+    match said.strip_prefix("the target") {
+        Some(rest) => format!("The target{rest}"),
+        None if is_of_several(called) => said,
+        None => format!("A member {said}"),
     }
 }

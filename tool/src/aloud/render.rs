@@ -9,7 +9,7 @@ use super::clause::{Clause, Who};
 use super::define;
 use super::grammar::{be, Linking, Time};
 use super::labels::{Labels, Manner, Voice};
-use super::words::{join, name, object, Shape, Words};
+use super::words::{join, listed, name, object, Shape, Words};
 use crate::names::Names;
 
 /// Puts the clauses of some terms into words.
@@ -126,13 +126,14 @@ impl Speaker<'_> {
             (false, Time::Now) => "does not hold",
             (false, Time::Then) => "did not hold",
         };
+        // Others are given in the order in which the clause names them.
         let given = given.iter().map(|(x, who)| match x {
             0 => format!("{} as the target", name(*who)),
-            x => format!("{} as x{x}", name(*who)),
+            _ => name(*who),
         });
         let given: Vec<String> = given.collect();
-        let with = if given.is_empty() { "" } else { ", with " };
-        let text = format!("{clause} {hold} of {}{with}{}", name(of), given.join(", "));
+        let with = if given.is_empty() { "" } else { ", given " };
+        let text = format!("{clause} {hold} of {}{with}{}", name(of), listed(&given));
         // More may follow only where no list of members ends the line.
         Words::whole(text, if with.is_empty() { Shape::Simple } else { Shape::Open })
     }

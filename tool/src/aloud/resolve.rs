@@ -1,9 +1,12 @@
 //! Clauses made of entries: of whom each part is said is worked out.
 
+mod joined;
+
 use super::clause::{Clause, Counted, Link, Reached, Who};
 use super::form::{Form, Forms, Node, Quantity};
 use super::told::At;
 use crate::names::Called;
+use joined::{all, any};
 use keeper::record::meaning::Assigned;
 use keeper::terms::{Entry, VARIABLES};
 
@@ -116,9 +119,11 @@ impl Resolver<'_> {
             Form::Before { holds, then } => {
                 Clause::Before { holds, then: self.boxed(then, here, named) }
             }
-            Form::Once { holds, then } => {
-                Clause::Once { holds, then: self.boxed(then, here, named) }
-            }
+            // What was once so at some moment was once so.
+            Form::Once { holds, then } => match self.node(then, here, named) {
+                Clause::Once { holds: true, then } => Clause::Once { holds, then },
+                then => Clause::Once { holds, then: Box::new(then) },
+            },
             Form::Throughout(then) => Clause::Throughout(self.boxed(then, here, named)),
             Form::Since { holds, start, hold } => {
                 let start = self.boxed(start, here, named);
@@ -229,51 +234,5 @@ impl Resolver<'_> {
                 _ => return None,
             }
         }
-    }
-}
-
-/// All parts hold; runs of `and` are one, and what always holds or is said
-/// twice is left out.
-fn all(parts: Vec<Clause>) -> Clause {
-    joined(parts, true, Clause::All, |part| match part {
-        Clause::All(parts) => Ok(parts),
-        other => Err(other),
-    })
-}
-
-/// At least one part holds; runs of `or` are one, and what never holds or is
-/// said twice is left out.
-fn any(parts: Vec<Clause>) -> Clause {
-    joined(parts, false, Clause::Any, |part| match part {
-        Clause::Any(parts) => Ok(parts),
-        other => Err(other),
-    })
-}
-
-fn joined(
-    parts: Vec<Clause>,
-    neutral: bool,
-    join: fn(Vec<Clause>) -> Clause,
-    same: fn(Clause) -> Result<Vec<Clause>, Clause>,
-) -> Clause {
-    let mut flat = Vec::new();
-    for part in parts {
-        match same(part) {
-            Ok(inner) => flat.extend(inner),
-            Err(Clause::Constant(value)) if value == neutral => {}
-            Err(Clause::Constant(value)) => return Clause::Constant(value),
-            Err(other) => flat.push(other),
-        }
-    }
-    let mut apart: Vec<Clause> = Vec::new();
-    for part in flat {
-        if !apart.contains(&part) {
-            apart.push(part);
-        }
-    }
-    match apart.len() {
-        0 => Clause::Constant(neutral),
-        1 => apart.remove(0),
-        _ => join(apart),
     }
 }

@@ -91,14 +91,14 @@ pub fn full(subject: Option<Who>, text: &str) -> String {
     subject.map_or_else(|| text.to_string(), |who| format!("{} {text}", name(who)))
 }
 
-/// How a member is called. A guest, or a member with a name of its own, is a token
+/// How a member is called. A guest, somebody given, or a member with a name of its own, is a token
 /// between two control characters.
 pub fn name(who: Who) -> String {
     match who {
         Who::You => "you".to_string(),
         Who::Target => "the target".to_string(),
         Who::Here => "M".to_string(),
-        Who::Given(variable) => format!("x{variable}"),
+        Who::Given(variable) => format!("\u{1}given {variable}\u{2}"),
         Who::Guest(guest) => format!("\u{1}{guest}\u{2}"),
         Who::Member(member) => format!("\u{3}{member}\u{4}"),
     }

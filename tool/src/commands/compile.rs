@@ -7,7 +7,6 @@ use crate::json::Json;
 use crate::source::Compiled;
 use crate::stop::{Stop, WELL};
 use keeper::terms::{MOST_ENTRIES, MOST_PAST};
-use std::fs;
 use std::io::Write;
 use std::path::{Path, PathBuf};
 
@@ -44,8 +43,7 @@ pub fn main(arguments: &[String], out: &mut dyn Write) -> Result<i32, Stop> {
         return Ok(WELL);
     }
     let folder = arguments.option("-o").map_or_else(|| read.path.clone(), PathBuf::from);
-    fs::create_dir_all(&folder)
-        .map_err(|error| Stop::Failed(format!("cannot make {}: {error}", folder.display())))?;
+    folder::make(&folder)?;
     folder::write(&folder.join(TERMS), &terms)?;
     folder::write(&folder.join(NAMES), compiled.names.write().as_bytes())?;
     let (entries, past) = (compiled.terms.entries.len(), compiled.terms.past().len());

@@ -3,7 +3,6 @@
 use crate::arguments::Arguments;
 use crate::folder::{self, NAMES, REQUESTS, SOURCE, TERMS};
 use crate::stop::{Stop, WELL};
-use std::fs;
 use std::io::Write;
 use std::path::Path;
 
@@ -27,8 +26,7 @@ pub fn main(arguments: &[String], out: &mut dyn Write) -> Result<i32, Stop> {
         let shown = file.display();
         return Err(Stop::Failed(format!("{shown} is there already; name another folder")));
     }
-    fs::create_dir_all(directory)
-        .map_err(|error| Stop::Failed(format!("cannot make {}: {error}", directory.display())))?;
+    folder::make(directory)?;
     folder::write(&directory.join(SOURCE), START.as_bytes())?;
     let shown = directory.display();
     writeln!(out, "{} written. Edit it; then:", directory.join(SOURCE).display())?;

@@ -18,7 +18,9 @@ graph, what has happened and why, and who may do what. You can go back to any
 moment. Save writes terms.say, and the requests by name to requests.say.
 
 The page is served on 127.0.0.1 only, to whoever has its address, and needs no
-network. Ctrl-C ends it. It has one bank only: `try` has two.
+network. Ctrl-C ends it. It has one bank only: `try` has two. Terms that were stored
+with a past are shown, and requests go on from there; to edit them, use `source` and
+`revise`.
 
   --port PORT   the port, by default any free one
 

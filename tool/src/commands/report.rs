@@ -1,7 +1,7 @@
 //! `cuckooormolu report`: a folder's story as one page.
 
 use crate::arguments::Arguments;
-use crate::folder::{self, Folder};
+use crate::folder::{self, folder_of, Folder};
 use crate::replay::Replay;
 use crate::report;
 use crate::stop::{Stop, WELL};
@@ -33,6 +33,7 @@ pub fn main(arguments: &[String], out: &mut dyn Write) -> Result<i32, Stop> {
     if file == "-" {
         out.write_all(page.as_bytes())?;
     } else {
+        folder::make(&folder_of(Path::new(file)))?;
         folder::write(Path::new(file), page.as_bytes())?;
     }
     Ok(WELL)

@@ -2,7 +2,7 @@
 
 use crate::arguments::Arguments;
 use crate::both::Both;
-use crate::folder::{self, Folder};
+use crate::folder::{self, folder_of, Folder};
 use crate::source::decompile::{agrees, decompile};
 use crate::source::print::print;
 use crate::stop::{Stop, WELL};
@@ -16,7 +16,7 @@ Writes terms.tsv, with the names of names.tsv if there is one, as a source
 (docs/LANGUAGE.md). Compiling the source gives terms with the same formulas,
 effects and first edges. A source cannot say what a stored file remembers.
 
-  -o FILE   write it to FILE instead of printing it
+  -o FILE   write it to FILE instead of printing it, creating its folder if need be
 
 Exit status: 0; 3 if the terms are refused, or a file cannot be read or written.
 ";
@@ -35,7 +35,10 @@ pub fn main(arguments: &[String], out: &mut dyn Write) -> Result<i32, Stop> {
         text = format!("# stored with a past, which a source does not say\n\n{text}");
     }
     match arguments.option("-o") {
-        Some(file) => folder::write(Path::new(file), text.as_bytes())?,
+        Some(file) => {
+            folder::make(&folder_of(Path::new(file)))?;
+            folder::write(Path::new(file), text.as_bytes())?;
+        }
         None => out.write_all(text.as_bytes())?,
     }
     Ok(WELL)

@@ -6,7 +6,7 @@ use crate::folder::{folder_of, Folder};
 use crate::json::Json;
 use crate::source::ast::Span;
 use crate::source::mistake::{Mistake, Mistaken};
-use crate::stop::{Stop, FAILING, WELL};
+use crate::stop::{Stop, FAILING, UNUSABLE, WELL};
 use crate::testing::read::read;
 use crate::testing::run::{run, Failure, Outcome};
 use crate::testing::Test;
@@ -35,7 +35,8 @@ come words that `why --all` must say. `nobody`, `anyone` and `only pete and quin
 may stand for a member. `dora denied share pete` is a request that must be denied.
 A test is about one bank.
 
-Prints a diff for each unexpected answer, and a summary.
+Prints a diff for each unexpected answer, and a summary. Of several folders, one
+without tests is told, and the others are tested all the same.
 
   --all    list passing tests too
   --json   one JSON object per line: each test, then the summary
@@ -69,12 +70,24 @@ pub fn main(arguments: &[String], out: &mut dyn Write) -> Result<i32, Stop> {
     })
 }
 
-/// Makes all tests once.
+/// Makes all tests once. Of several folders, one that has none or can't be used is
+/// told, and the others are tested all the same.
 fn tested(arguments: &Arguments, out: &mut dyn Write) -> Result<i32, Stop> {
     let (json, all) = (arguments.has("--json"), arguments.has("--all"));
     let mut count = Count::default();
     for given in &arguments.rest {
-        let tested = Tested::of(Path::new(given))?;
+        let tested = match Tested::of(Path::new(given)) {
+            Ok(tested) => tested,
+            Err(stop @ (Stop::Failed(_) | Stop::Mistaken(_))) if arguments.rest.len() > 1 => {
+                count.unusable += 1;
+                match json {
+                    true => stop.json().iter().try_for_each(|line| writeln!(out, "{line}"))?,
+                    false => writeln!(out, "UNUSABLE  {given}\n{}", indented(&stop.to_string()))?,
+                }
+                continue;
+            }
+            Err(stop) => return Err(stop),
+        };
         for (test, outcome) in &tested.outcomes {
             count.add(outcome);
             match json {
@@ -87,7 +100,16 @@ fn tested(arguments: &Arguments, out: &mut dyn Write) -> Result<i32, Stop> {
         true => writeln!(out, "{}", count.json())?,
         false => writeln!(out, "{}", count.told())?,
     }
-    Ok(if count.failed == 0 { WELL } else { FAILING })
+    Ok(match (count.unusable, count.failed) {
+        (0, 0) => WELL,
+        (0, _) => FAILING,
+        _ => UNUSABLE,
+    })
+}
+
+/// A message under a line.
+fn indented(text: &str) -> String {
+    text.trim_end().lines().map(|line| format!("  {line}")).collect::<Vec<_>>().join("\n")
 }
 
 /// A folder's tests and what came of them.
@@ -181,6 +203,8 @@ struct Count {
     passed: usize,
     failed: usize,
     answers: usize,
+    /// The folders without a test that could be made.
+    unusable: usize,
 }
 
 impl Count {
@@ -191,13 +215,18 @@ impl Count {
     }
 
     fn told(&self) -> String {
-        let Count { passed, failed, answers } = self;
+        let Count { passed, failed, answers, unusable } = self;
         let plural = |count: usize, word: &str| match count {
             1 => format!("1 {word}"),
             count => format!("{count} {word}s"),
         };
         let tests = plural(passed + failed, "test");
-        format!("{tests} with {}: {passed} passed, {failed} failed", plural(*answers, "answer"))
+        let answers = plural(*answers, "answer");
+        let unusable = match unusable {
+            0 => String::new(),
+            count => format!("; {} not tested", plural(*count, "folder")),
+        };
+        format!("{tests} with {answers}: {passed} passed, {failed} failed{unusable}")
     }
 
     fn json(&self) -> Json {
@@ -206,6 +235,7 @@ impl Count {
             ("passed", self.passed.into()),
             ("failed", self.failed.into()),
             ("answers", self.answers.into()),
+            ("unusable", self.unusable.into()),
         ])
     }
 }

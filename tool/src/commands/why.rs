@@ -3,6 +3,7 @@
 use super::run;
 use crate::arguments::Arguments;
 use crate::bank::Bank;
+use crate::both::Verdict;
 use crate::folder::Folder;
 use crate::json::Json;
 use crate::replay::Step;
@@ -19,8 +20,10 @@ usage: cuckooormolu why DIR [LINE] [--requests FILE] [--all] [--json]
 
 Says why each request of a folder, or the one on LINE of its file, is granted or
 denied, with the moments that decide it. Moment 0 is the first edges, or what was
-stored; each grant makes a moment, and so does each denial of a kept event. For a
-denial, lists each alternative that failed, nearest miss first.
+stored; each grant makes a moment, and so does each denial of a kept event: such a
+line ends with the moment it makes, `granted; moment 2`, another one with the moment
+at which it was asked, `denied at moment 2`. For a denial, lists each alternative that
+failed, nearest miss first.
 
 If the requests name their banks, left or right, each answer is explained by what its
 own bank has seen. Where an event of the other bank would have counted, it says so.
@@ -70,12 +73,21 @@ pub fn main(arguments: &[String], out: &mut dyn Write) -> Result<i32, Stop> {
             writeln!(out, "{}", Json::Object(fields(step, &words, because)))?;
             continue;
         }
-        writeln!(out, "{}", widths.line(step, &words))?;
+        writeln!(out, "{}{}", widths.line(step, &words), when(step))?;
         for line in because.iter().flat_map(|because| because.told("--all")) {
             writeln!(out, "{}{line}", widths.indent())?;
         }
     }
     Ok(WELL)
+}
+
+/// The moment that a step made, or else the one at which it was asked.
+fn when(step: &Step) -> String {
+    match (step.made, step.verdict) {
+        (_, Verdict::Refused(_)) => String::new(),
+        (true, _) => format!("; moment {}", step.moment + 1),
+        (false, _) => format!(" at moment {}", step.moment),
+    }
 }
 
 /// A step's fields as `--json` prints them, with the reason.

@@ -22,7 +22,7 @@ impl Spoken {
     }
 }
 
-/// A definition said of one or two people.
+/// A definition said of one or more people.
 #[derive(Clone, Debug, PartialEq, Eq)]
 pub struct Called {
     pub name: String,

@@ -1,14 +1,13 @@
-//! What a folder has for the page, and what is saved.
+//! What a folder has for the page.
 
-use super::asked::{Kept, Named, Save};
-use super::page;
+use super::asked::{Kept, Named};
+use super::saving::by_name;
 use crate::both::Both;
 use crate::folder::{self, Folder, Request, REQUESTS, SOURCE, SPOKEN};
-use crate::json::Json;
 use crate::names::{Kind, Names};
-use crate::report::html::counted;
 use crate::requests;
 use crate::source::decompile::decompile;
+use crate::source::mistake::Mistake;
 use crate::source::print::print;
 use crate::stop::Stop;
 use crate::trial::typed::split;
@@ -28,10 +27,13 @@ pub struct Found {
     /// Whether the file of requests has more than requests that the page can show, so
     /// that it must not be written over.
     pub more: bool,
+    /// Whether the terms were stored with a past. They are shown, and requests go on from
+    /// there; they can't be edited, since a source can't say what they remember.
+    pub stored: bool,
 }
 
 impl Files {
-    /// A folder whose terms can be edited.
+    /// A folder with terms, or with a source that has mistakes.
     pub fn new(path: &Path) -> Result<Files, Stop> {
         let files = Files { path: folder::folder_of(path) };
         files.found()?;
@@ -52,16 +54,10 @@ impl Files {
                 let (requests, more) = named(&folder, both.terms(), &self.requests());
                 let source = match &folder.source {
                     Some(source) => source.text.clone(),
-                    None if both.is_stored() => {
-                        return Err(Stop::Failed(format!(
-                            "{} was stored with a past, which a source cannot say; \
-                             `cuckooormolu try` goes on from it",
-                            folder.file.display()
-                        )))
-                    }
                     None => print(&decompile(both.terms(), &folder.names)),
                 };
-                Ok(Found { kept: Kept { source, requests }, more })
+                let stored = folder.source.is_none() && both.is_stored();
+                Ok(Found { kept: Kept { source, requests }, more, stored })
             }
             // A source is shown as it is, with its mistakes, and requests that it may have no
             // names for.
@@ -74,14 +70,30 @@ impl Files {
                 let requests = text.as_deref().and_then(spoken);
                 let there = fs::metadata(self.requests()).is_ok_and(|data| data.len() > 0);
                 let more = there && requests.is_none();
-                Ok(Found { kept: Kept { source, requests: requests.unwrap_or_default() }, more })
+                let kept = Kept { source, requests: requests.unwrap_or_default() };
+                Ok(Found { kept, more, stored: false })
             }
             Err(stop) => Err(stop),
         }
     }
 
+    /// The folder with a source of the page's, or, if its terms were stored with a past,
+    /// with those.
+    pub fn with(&self, source: &str) -> Result<Folder, Vec<Mistake>> {
+        if let Some(stored) = self.stored() {
+            return Ok(stored);
+        }
+        Folder { path: self.path.clone(), ..Folder::default() }.with_source(source)
+    }
+
+    /// The folder, if its terms were stored with a past.
+    pub fn stored(&self) -> Option<Folder> {
+        let folder = Folder::load(&self.path).ok().filter(|folder| folder.source.is_none())?;
+        Both::accepted(&folder.terms).is_ok_and(|both| both.is_stored()).then_some(folder)
+    }
+
     /// Where the requests are read from.
-    fn requests(&self) -> PathBuf {
+    pub(super) fn requests(&self) -> PathBuf {
         let spoken = self.path.join(SPOKEN);
         if spoken.is_file() {
             spoken
@@ -89,124 +101,6 @@ impl Files {
             self.path.join(REQUESTS)
         }
     }
-
-    /// Writes the source, and the requests by name where nothing of them would be lost;
-    /// both or neither. Says what was done, and what the folder has then.
-    pub fn save(&self, save: &Save) -> Json {
-        match self.saved(save) {
-            Ok(said) => {
-                let found = self.found().map(|found| page::kept(&found.kept));
-                Json::Object(vec![
-                    ("done", true.into()),
-                    ("changed", false.into()),
-                    ("said", said.into()),
-                    ("kept", found.unwrap_or(Json::Null)),
-                ])
-            }
-            Err((changed, why)) => Json::Object(vec![
-                ("done", false.into()),
-                ("changed", changed.into()),
-                ("said", why.into()),
-            ]),
-        }
-    }
-
-    /// What was written, or why nothing was; that others have written is told apart.
-    fn saved(&self, save: &Save) -> Result<String, (bool, String)> {
-        let failed = |stop: Stop| (false, stop.to_string());
-        let found = self.found().map_err(failed)?;
-        if found.kept != save.before && !save.anyway {
-            let why = "The folder was changed elsewhere after this page read it.";
-            return Err((true, why.to_string()));
-        }
-        let path = self.requests();
-        let file = folder::name(&path);
-        // A file that is left as it was has to be read under the new terms, too.
-        let (requests, advice) = match found.more {
-            true => (&found.kept.requests, format!("Take them out of {file}")),
-            false => (&save.now.requests, "Take them back with Undo".to_string()),
-        };
-        if let Some(why) = self.unknown(&save.now.source, requests, &advice) {
-            return Err((false, why));
-        }
-        if found.more && path.ends_with(REQUESTS) && self.renumbered(&save.now.source, requests) {
-            let why = format!(
-                "Not saved: the numbers in {file} would mean others under these terms, and it has more than \
-                 requests that this page can show. Write its requests by name to {SPOKEN} first."
-            );
-            return Err((false, why));
-        }
-        let source = self.path.join(SOURCE);
-        let write = || folder::write(&source, save.now.source.as_bytes()).map_err(failed);
-        if found.more {
-            write()?;
-            let why = "it has more than requests that this page can show";
-            return Ok(format!("{SOURCE} is saved. {file} is left as it was: {why}."));
-        }
-        let lines = by_name(requests).ok_or((false, "Not saved: a name has a quote.".into()))?;
-        if lines.is_empty() && !path.exists() {
-            write()?;
-            return Ok(format!("{SOURCE} is saved."));
-        }
-        let spoken = self.path.join(SPOKEN);
-        let before = fs::read(&spoken).ok();
-        let written = folder::write(&spoken, lines.concat().as_bytes())
-            .map_err(failed)
-            .and_then(|()| write());
-        if let Err(why) = written {
-            let _ = match before {
-                Some(before) => fs::write(&spoken, before),
-                None => fs::remove_file(&spoken),
-            };
-            return Err(why);
-        }
-        let instead = match path != spoken && path.exists() {
-            true => format!(", which is read instead of {file} from now on"),
-            false => String::new(),
-        };
-        let count = counted(lines.len(), "request");
-        Ok(format!("{SOURCE} is saved, and {SPOKEN} with {count}{instead}."))
-    }
-
-    /// Why requests can't be saved with a source: they speak of what it no longer has.
-    /// Of a source with mistakes nobody knows.
-    fn unknown(&self, source: &str, requests: &[Named], advice: &str) -> Option<String> {
-        let folder = Folder { path: self.path.clone(), ..Folder::default() };
-        let names = folder.with_source(source).ok()?.names;
-        let unknown = |(kind, name): &(Kind, &str)| names.find(*kind, name).is_none();
-        let (kind, name) = requests.iter().flat_map(said).find(unknown)?;
-        let speak = |named: &&Named| said(named).contains(&(kind, name));
-        let count = requests.iter().filter(speak).count();
-        let speak = if count == 1 { "speaks" } else { "speak" };
-        let what = match kind {
-            Kind::Member => "who is no longer a member",
-            _ => "which is no longer an event",
-        };
-        let advice = if count == 1 { advice.replace("them", "it") } else { advice.to_string() };
-        Some(format!(
-            "Not saved: {} {speak} of `{name}`, {what}. {advice}, or put `{name}` back.",
-            counted(count, "request")
-        ))
-    }
-
-    /// Whether requests with numbers would mean others under a source.
-    fn renumbered(&self, source: &str, requests: &[Named]) -> bool {
-        let new = Folder::default().with_source(source);
-        let (Ok(old), Ok(new)) = (Folder::load(&self.path), new) else { return false };
-        requests.iter().any(|named| numbers(named, &old.names) != numbers(named, &new.names))
-    }
-}
-
-/// The names in a request.
-fn said(named: &Named) -> [(Kind, &str); 3] {
-    [(Kind::Event, &named.event), (Kind::Member, &named.from), (Kind::Member, &named.to)]
-        .map(|(kind, name)| (kind, name.as_str()))
-}
-
-/// Requests as lines of requests.say, if all names can stand there.
-fn by_name(requests: &[Named]) -> Option<Vec<String>> {
-    let line = |named: &Named| requests::line(said(named).map(|(_, name)| name));
-    requests.iter().map(line).collect()
 }
 
 /// The requests in a text of lines by name; none if it has anything else.

@@ -31,7 +31,12 @@ pub fn response(files: &Files, nonce: &str) -> Response {
         Ok(found) => found,
         Err(stop) => return Response::plain(http::FAULT, &stop.to_string()),
     };
-    let begin = Json::Object(vec![("kept", kept(&found.kept)), ("more", found.more.into())]);
+    let begin = Json::Object(vec![
+        ("kept", kept(&found.kept)),
+        ("more", found.more.into()),
+        ("stored", found.stored.into()),
+        ("folder", files.path.display().to_string().into()),
+    ]);
     let begin = in_script(&begin.to_string());
     let title = escaped(&files.name());
     let style = [COLOURS, PICTURES, TABLES, STYLE, &palette::style(MOST_RELATIONS)].concat();

@@ -18,8 +18,7 @@ use crate::why::reason::Reasons;
 use crate::words::Words;
 
 pub fn told(files: &Files, asked: &Asked) -> Result<Json, Stop> {
-    let folder = Folder { path: files.path.clone(), ..Folder::default() };
-    let folder = match folder.with_source(&asked.source) {
+    let folder = match files.with(&asked.source) {
         Ok(folder) => folder,
         Err(mistakes) => {
             let mistakes = mistakes.iter().map(|one| mistaken(one, &asked.source));
@@ -134,10 +133,19 @@ fn step(replay: &mut Replay, named: &Named, names: &Names) -> Result<Made, Stop>
 /// The present moment, its picture, and the colours in it.
 fn scene(replay: &Replay, words: &Words) -> Vec<(&'static str, Json)> {
     let moment = replay.moment();
-    let drawing = Drawing::new(words, replay.both.record().graphs());
+    let graphs = replay.both.record().graphs();
+    let drawing = Drawing::new(words, graphs);
+    let stored = replay.both.is_stored();
+    let begun = if stored { "as stored" } else { "the first edges" };
+    let title = match (moment, graphs[0].event) {
+        (0, None) => format!("Moment 0: {begun}"),
+        (0, Some(event)) if stored => format!("Moment 0: {begun}, after {}", words.happened(event)),
+        _ => drawing.title(moment),
+    };
     vec![
         ("moment", moment.into()),
-        ("title", drawing.title(moment).into()),
+        ("title", title.into()),
+        ("begun", begun.into()),
         ("picture", drawing.alone(moment).into()),
         ("legend", drawing.legend().into()),
     ]

@@ -102,7 +102,7 @@ impl<'a> Circle<'a> {
         let mut text = String::new();
         for member in [from, to] {
             let (x, y) = self.layout.places[member];
-            let radius = self.layout.dot + 3.0;
+            let radius = self.layout.ring();
             text.push_str(&format!(
                 "<circle class=\"taking-part\" cx=\"{x:.1}\" cy=\"{y:.1}\" r=\"{radius:.1}\"/>"
             ));

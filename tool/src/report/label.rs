@@ -14,9 +14,12 @@ const LEAST: f64 = 2.5;
 /// The distance between the places that are tried where none beside the line is free.
 const STEP: f64 = 6.0;
 
-/// What a name keeps off: points of lines, dots, and other names.
+/// What a name keeps off: points of lines, members' circles, and other names.
 struct Crowd {
     points: Vec<Point>,
+    /// The middles of the circles, and how far they reach.
+    circles: Vec<Point>,
+    radius: f64,
     names: Vec<Area>,
     bounds: Area,
     /// Half the width and height of the name.
@@ -30,10 +33,12 @@ impl Crowd {
         let area = (x - wide, y - high, x + wide, y + high);
         let (left, top, right, bottom) = self.bounds;
         let inside = area.0 > left && area.1 > top && area.2 < right && area.3 < bottom;
-        if !inside || self.names.iter().any(|name| overlap(area, *name)) {
+        let off = |&circle: &Point| distance(circle, area) - self.radius;
+        let circles = self.circles.iter().map(off).fold(ENOUGH, f64::min);
+        if !inside || circles < 0.0 || self.names.iter().any(|name| overlap(area, *name)) {
             return f64::NEG_INFINITY;
         }
-        self.points.iter().map(|&point| distance(point, area)).fold(ENOUGH, f64::min)
+        self.points.iter().map(|&point| distance(point, area)).fold(circles, f64::min)
     }
 }
 
@@ -44,10 +49,11 @@ pub fn place(layout: &Layout, line: &Curve, others: &[Curve], name: &str) -> Poi
         |curve: &Curve| (0..=POINTS).map(|part| curve.at(part as f64 / POINTS as f64)).collect();
     let own: Vec<Point> = sampled(line);
     let mut points: Vec<Point> = others.iter().flat_map(sampled).collect();
-    points.extend(own.iter().chain(&layout.places));
+    points.extend(&own);
+    let (circles, radius) = (layout.places.clone(), layout.ring());
     let names = (0..layout.places.len()).map(|member| layout.name_area(member)).collect();
     let half = (layout.width(name) / 2.0, layout.font / 2.0);
-    let crowd = Crowd { points, names, bounds: layout.bounds(), half };
+    let crowd = Crowd { points, circles, radius, names, bounds: layout.bounds(), half };
     let mut best = (line.at(0.5), f64::NEG_INFINITY);
     for part in PARTS {
         for side in [1.0, -1.0] {
@@ -89,6 +95,9 @@ fn overlap(one: Area, other: Area) -> bool {
 #[cfg(test)]
 mod tests {
     use super::*;
+    use crate::names::Names;
+    use crate::words::Words;
+    use keeper::terms::Terms;
 
     #[test]
     fn areas() {
@@ -96,5 +105,32 @@ mod tests {
         assert_eq!(distance((2.0, 1.0), area), 0.0);
         assert_eq!(distance((7.0, 6.0), area), 5.0);
         assert!(overlap(area, (3.0, 1.0, 5.0, 3.0)) && !overlap(area, (4.0, 0.0, 5.0, 1.0)));
+    }
+
+    /// Whatever the number of members, and whoever does it to whom.
+    #[test]
+    fn no_name_lies_on_a_circle() {
+        for count in 2..=20 {
+            let terms = Terms { members: count, ..Terms::default() };
+            let names = Names::default();
+            let layout = Layout::new(&Words::new(&terms, &names), vec![false; count]);
+            for (from, to) in (0..count).flat_map(|from| (0..count).map(move |to| (from, to))) {
+                if from == to {
+                    continue;
+                }
+                // Also where an edge of a relation goes along.
+                let (line, other) = (
+                    layout.curve(from, to, 0.0, [0.0, 13.0]),
+                    layout.curve(from, to, 0.08, [0.0, 8.0]),
+                );
+                for name in ["ask", "withdraw", "recommend-to"] {
+                    let (x, y) = place(&layout, &line, &[other], name);
+                    let (wide, high) = (layout.width(name) / 2.0, layout.font / 2.0);
+                    let area = (x - wide, y - high, x + wide, y + high);
+                    let free = |&dot: &Point| distance(dot, area) >= layout.ring();
+                    assert!(layout.places.iter().all(free), "{name}: {from} to {to} of {count}");
+                }
+            }
+        }
     }
 }

@@ -86,6 +86,11 @@ impl Layout {
         direction(member, self.places.len())
     }
 
+    /// The radius of the ring around a dot that takes part in an event.
+    pub fn ring(&self) -> f64 {
+        self.dot + 3.0
+    }
+
     /// How far a line of a length is drawn to the middle, so that long ones
     /// part and stay inside the circle.
     fn pull(&self, length: f64) -> f64 {

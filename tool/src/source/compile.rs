@@ -85,13 +85,12 @@ pub fn compile(text: &str) -> Result<Compiled, Vec<Mistake>> {
     Ok(compiled)
 }
 
-/// Calls the entries by the definitions that they are. One of nobody, or of more
-/// than two, is no sentence.
+/// Calls the entries by the definitions that they are. One of nobody is no sentence.
 fn name_definitions(source: &Source, origins: &[Origin], names: &mut Names) {
     for (entry, origin) in origins.iter().enumerate() {
         if let Some((place, people)) = &origin.called {
             let name = source.definitions[*place].name.text.clone();
-            if (1..=2).contains(&people.len()) {
+            if !people.is_empty() {
                 names.define(entry, Called { name, people: people.clone() });
             }
         }

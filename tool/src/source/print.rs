@@ -61,6 +61,12 @@ pub fn print(source: &Source) -> String {
     }
     let alike = |one: &Fact, other: &Fact| one.from == other.from && one.relation == other.relation;
     for facts in source.first.chunk_by(alike) {
+        if let [fact] = facts {
+            if fact.from.text == fact.to.text {
+                text.push_str(&format!("first {} is {}\n", fact.from.text, fact.relation.text));
+                continue;
+            }
+        }
         let ends: Vec<&str> = facts.iter().map(|fact| &fact.to.text[..]).collect();
         let (from, relation) = (&facts[0].from.text, &facts[0].relation.text);
         text.push_str(&format!("first {from} {relation} {}\n", ends.join(" and ")));

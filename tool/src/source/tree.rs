@@ -1,41 +1,15 @@
 //! Turns what is said into a formula of the terms: decides at which member
 //! each part is said, and binds whom it names.
 
+mod spelled;
+
+pub use spelled::{Node, Spelled, Tree};
+
 use super::ast::Span;
 use super::said::{Form, Id, Said, Who, ME};
-use std::collections::{HashMap, HashSet};
+use spelled::{bound_if_free, free, tree};
+use std::collections::HashMap;
 use std::rc::Rc;
-
-/// A formula of the terms, its variables still people.
-#[derive(Debug)]
-pub struct Spelled {
-    pub node: Node,
-    /// The people free in it, rising.
-    pub free: Vec<Id>,
-    /// Where it is written, if it is.
-    pub span: Option<Span>,
-    /// The place of the definition that it is, and the people it is said of; none
-    /// for the member at which it stands.
-    pub called: Option<(usize, Vec<Option<Id>>)>,
-}
-
-pub type Tree = Rc<Spelled>;
-
-#[derive(Debug)]
-pub enum Node {
-    Top,
-    Var(Id),
-    Not(Tree),
-    Or(Tree, Tree),
-    Out(usize, Tree),
-    In(usize, Tree),
-    Prev(Tree),
-    Since(Tree, Tree),
-    Bind(Id, Tree),
-    At(Id, Tree),
-    Reach(Id, Tree, Tree),
-    Many(usize, Tree, usize),
-}
 
 /// A part about the past, or one that leads to somebody, that speaks of more
 /// people than it may.
@@ -290,35 +264,6 @@ fn walked(from: &Who, names: &[Name], walk: Node) -> Tree {
     }
 }
 
-/// The people free in some formulas.
-fn free(parts: &[Tree]) -> HashSet<Id> {
-    parts.iter().flat_map(|part| part.free.iter().copied()).collect()
-}
-
 fn bound_inside(names: &[Name], body: Tree) -> Tree {
     names.iter().fold(body, |body, name| bound_if_free(name.id, body))
-}
-
-fn bound_if_free(name: Id, body: Tree) -> Tree {
-    if body.free.contains(&name) {
-        tree(Node::Bind(name, body))
-    } else {
-        body
-    }
-}
-
-fn tree(node: Node) -> Tree {
-    let mut free = match &node {
-        Node::Top => Vec::new(),
-        Node::Var(id) => vec![*id],
-        Node::Not(f) | Node::Prev(f) => f.free.clone(),
-        Node::Out(_, f) | Node::In(_, f) | Node::Many(_, f, _) => f.free.clone(),
-        Node::Or(f, g) | Node::Since(f, g) => [&f.free[..], &g.free[..]].concat(),
-        Node::Bind(id, f) => f.free.iter().copied().filter(|other| other != id).collect(),
-        Node::At(id, f) => [&f.free[..], &[*id]].concat(),
-        Node::Reach(_, _, g) => g.free.clone(),
-    };
-    free.sort_unstable();
-    free.dedup();
-    Rc::new(Spelled { node, free, span: None, called: None })
 }

@@ -100,12 +100,14 @@ impl Fact {
                 let fitting = names(words, others);
                 let one = |other: &String| telling.edge(label, &here, other, then(moment), true);
                 let told: Vec<String> = fitting.iter().map(one).collect();
+                let due = if least == 1 { "1 is".into() } else { format!("{least} are") };
+                let needed = format!("at least {due} needed");
                 let count = match (fitting.len(), fitting.len() >= least) {
-                    (0, _) => return format!("none of at least {least} counts{}", at(moment)),
-                    (1, true) => format!("1 of at least {least} counts"),
-                    (1, false) => format!("only 1 of at least {least} counts"),
-                    (found, true) => format!("{found} of at least {least} count"),
-                    (found, false) => format!("only {found} of at least {least} count"),
+                    (0, _) => return format!("{needed}, and there is none{}", at(moment)),
+                    (1, true) => format!("{needed}, and there is 1"),
+                    (found, true) => format!("{needed}, and there are {found}"),
+                    (1, false) => format!("{needed}, and there is only 1"),
+                    (found, false) => format!("{needed}, and there are only {found}"),
                 };
                 format!("{count}{}: {}", at(moment), listed(&told))
             }

@@ -7,8 +7,14 @@ use crate::aloud::grammar::{have, Time};
 use crate::aloud::labels::{Manner, Voice};
 use crate::aloud::words::{full, name, Shape, Words};
 
+/// The words between `has` and what has happened.
+const AT_SOME_TIME: &str = "at some time ";
+
 impl Speaker<'_> {
     pub(super) fn before(&mut self, holds: bool, then: &Clause, time: Time) -> Words {
+        if let (true, Some(words)) = (holds, self.happened_before(then, time)) {
+            return words;
+        }
         let before = match (holds, time) {
             (true, Time::Now) => "at the moment before this one",
             (true, Time::Then) => "at the moment before that one",
@@ -16,6 +22,20 @@ impl Speaker<'_> {
             (false, Time::Then) => "there was no moment just before that one at which",
         };
         self.say(then, Time::Then, None).after(before)
+    }
+
+    /// That something had happened at the moment before, at the latest: "had shared with
+    /// you before that".
+    fn happened_before(&self, then: &Clause, time: Time) -> Option<Words> {
+        let Clause::Once { holds: true, then } = then else { return None };
+        let words = self.happening(then, time, Manner::AtSomeTime, None)?;
+        let Words::Line { subject, text, shape } = words else { return None };
+        let (have, done) = text.split_once(AT_SOME_TIME)?;
+        let before = match time {
+            Time::Now => "before this moment",
+            Time::Then => "before that",
+        };
+        Some(Words::Line { subject, text: format!("{have}{done} {before}"), shape })
     }
 
     pub(super) fn once(

@@ -5,6 +5,7 @@ const state = {
   kept: begin.kept, // what the folder has
   requests: begin.kept.requests,
   at: begin.kept.requests.length,
+  dropped: null, // the requests, and where they stood, before a request took the place of later ones
   from: null,
   to: null,
   who: null, // the event of the table
@@ -94,6 +95,19 @@ async function save(anyway) {
 
 $('source').value = begin.kept.source;
 $('source').setSelectionRange(0, 0);
+if (begin.stored) {
+  const code = (text) => make('code', '', text);
+  $('source').readOnly = true;
+  $('stored').hidden = false;
+  $('stored').append(
+    'Stored with a past, which a source cannot say: requests go on from there, and Save writes them. To edit the'
+      + ' terms, ',
+    code(`cuckooormolu source ${begin.folder} -o new/terms.say`),
+    ', then ',
+    code(`cuckooormolu revise ${begin.folder} new --store later/terms.tsv`),
+    '.',
+  );
+}
 $('source').addEventListener('input', () => {
   $('said').textContent = '';
   show($('source').value, []);
@@ -119,6 +133,7 @@ $('table').onclick = chooseCell;
 $('undo').onclick = () => goTo(state.at - 1);
 $('redo').onclick = () => goTo(state.at + 1);
 $('start').onclick = () => goTo(0);
+$('restore').onclick = restore;
 $('save').onclick = () => save(false);
 $('anyway').onclick = () => save(true);
 document.addEventListener('keydown', (press) => {

@@ -42,11 +42,18 @@ function drawChoice() {
   $('swap').disabled = state.from === null || state.to === null;
   const both = state.from !== null && state.to !== null;
   $('hint').textContent = both
-    ? `What ${state.from} may do to ${state.to}. Click an event to make the request.`
+    ? `What ${state.from} may do to ${state.to}. Click an event to make the request${instead()}.`
     : state.from === null
       ? 'Click a member in the graph: who asks. Then another, or the same: who is asked.'
       : `${state.from} asks. Click who is asked.`;
   $('looks').replaceChildren(...(told.looks ?? []).map(look));
+}
+
+/** Which requests another one would take the place of. */
+function instead() {
+  const later = state.requests.length - state.at;
+  if (!later) return '';
+  return later === 1 ? ', in place of the later one' : `, in place of the ${later} later ones`;
 }
 
 /** An event with its answer: a button that makes the request. */
@@ -56,8 +63,12 @@ function look({ event, answer, because }) {
   button.type = 'button';
   button.onclick = () => ask(event);
   const words = make('div', 'reason');
-  words.append(make('span', `answer ${kind(answer)}`, `${SIGNS[kind(answer)]} would be ${ANSWERS[kind(answer)]}`));
+  const shown = make('span', `answer ${kind(answer)}`, `${SIGNS[kind(answer)]} `);
+  shown.append(make('span', 'would', 'would be '), ANSWERS[kind(answer)]);
+  words.append(shown);
   words.append(...(because ?? []).map(reason));
+  // In a low window only the beginning is seen.
+  words.title = (because ?? []).map((line) => line.trim()).join('\n');
   item.append(button, words);
   return item;
 }
@@ -71,9 +82,10 @@ function reason(line) {
   return shown;
 }
 
-/** Makes a request. What was taken back is gone. */
+/** Makes a request. It takes the place of those that were taken back; they can be brought back. */
 function ask(event) {
   const { requests, at, from, to } = state;
+  state.dropped = at < requests.length ? { requests, at } : null;
   state.requests = [...requests.slice(0, at), [event, from, to]];
   state.at = state.requests.length;
   refresh();

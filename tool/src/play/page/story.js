@@ -3,7 +3,7 @@
 /** The requests in order. Those that were taken back stay, until another is made. */
 function drawStory() {
   const { told, at } = state;
-  const begin = make('button', 'start', 'the first edges');
+  const begin = make('button', 'start', told.begun);
   begin.onclick = () => goTo(0);
   const chips = told.steps.map((step, index) => {
     const name = kind(step.answer);
@@ -27,6 +27,17 @@ function drawStory() {
   $('strip').scrollTop = offsetTop + offsetHeight - $('strip').clientHeight;
   $('undo').disabled = $('start').disabled = at === 0;
   $('redo').disabled = at === state.requests.length;
+  const gone = state.dropped ? state.dropped.requests.length - state.dropped.at : 0;
+  $('dropped').hidden = gone === 0;
+  $('gone').textContent = gone === 1 ? '1 later request was dropped.' : `${gone} later requests were dropped.`;
+}
+
+/** Brings back the requests that another one took the place of, without that one. */
+function restore() {
+  if (!state.dropped) return;
+  const { requests, at } = state.dropped;
+  Object.assign(state, { requests, at, dropped: null });
+  refresh();
 }
 
 /** Goes to the moment after so many requests. */

@@ -207,6 +207,11 @@ impl<'a> Teller<'a> {
         };
         if let (Some(end), Quantifier::Some) = (end, quantifier) {
             let (from, to) = if outwards { (Some(person), end) } else { (end, Some(person)) };
+            // An edge to oneself under a relation is an attribute.
+            let attribute = label < self.terms.relations && place.style != Style::Exact;
+            if let (Some(one), true) = (&from, attribute && from == to) {
+                return Kind::Is(one.clone(), Person::new(Who::Named(word.text)));
+            }
             return Kind::Edge(from, word, to);
         }
         let (name, body) = self.named(f, place);
