@@ -6,12 +6,13 @@
  * RAM       terms 2,504 bytes, state 24,584 bytes, scratch 512 bytes; two
  *           banks 44,504 bytes in all; a plan is lent 74,264 bytes. The library
  *           allocates nothing and has no state of its own.
- * Stack     measured, not proved: reading takes 191 KiB, writing a terms text
- *           or asking for its size 193 KiB, an opening, revision, look, request
- *           or set list 172 KiB, of two banks too, and each 1.16 KiB more for
- *           every level by which entries nest, at most 488 KiB; renumbering
- *           takes 19 KiB, storing and the other calls 4 KiB. Provide
- *           CUCKOOORMOLU_STACK_BYTES.
+ * Stack     measured, not proved: reading takes 168 KiB, into two banks 191
+ *           KiB, writing a terms text or asking for its size 193 KiB, an
+ *           opening, revision, look, request or set list 172 KiB, of two banks
+ *           too, and each 1.21 KiB more for every level by which entries nest,
+ *           at most 500 KiB; renumbering takes 19 KiB, storing and the other
+ *           calls 4 KiB. Provide CUCKOOORMOLU_STACK_BYTES; with small terms
+ *           requests take far less (bindings/README.md, Stack).
  * Time      measured, not proved. Entries that share others take no more than
  *           a memo's time; what can still take long is nested binds over
  *           entries that read their variables: about N to the depth of such
