@@ -62,6 +62,9 @@ extern "C" {
     fn dlsym(handle: *mut c_void, name: *const c_char) -> *mut c_void;
 }
 
+/// The words of scratch that every archive is lent: those before 0.13 need so many.
+pub const SCRATCH: usize = 2_048;
+
 /// Resolve every symbol at once.
 const RTLD_NOW: c_int = 2;
 

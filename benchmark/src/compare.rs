@@ -1,11 +1,11 @@
 //! Archives beside each other: every call of each is timed in turn with
 //! those of the others.
 
-use crate::archives::{self, Archive};
+use crate::archives::{self, Archive, SCRATCH};
 use crate::measure::{in_turn, timed, Batch};
 use crate::stack;
 use crate::workload::{chains, Request, Workload};
-use cuckooormolu::{SCRATCH_WORDS, STATE_WORDS, TERMS_WORDS};
+use cuckooormolu::{STATE_WORDS, TERMS_WORDS};
 use std::hint::black_box;
 use std::path::PathBuf;
 use std::time::Duration;
@@ -39,7 +39,7 @@ impl Start {
     /// the terms, since it doesn't know an operator.
     fn of(workload: &Workload, archive: &Archive) -> Option<Start> {
         let mut start = Start::read(archive, &workload.text)?;
-        let mut scratch = vec![0; SCRATCH_WORDS];
+        let mut scratch = vec![0; SCRATCH];
         let mut moments = 0;
         for request in (1_000..).flat_map(|seed| workload.requests(seed, 400)) {
             if moments == MOMENTS {
@@ -60,7 +60,7 @@ impl Start {
 
     fn requests<'a>(&'a self, archive: &'a Archive) -> Batch<'a> {
         let mut state = self.state.clone();
-        let mut scratch = vec![0; SCRATCH_WORDS];
+        let mut scratch = vec![0; SCRATCH];
         let batch = move || {
             state.copy_from_slice(&self.state);
             timed(|| {
@@ -73,7 +73,7 @@ impl Start {
     }
 
     fn looks<'a>(&'a self, archive: &'a Archive) -> Batch<'a> {
-        let scratch = vec![0; SCRATCH_WORDS];
+        let scratch = vec![0; SCRATCH];
         let batch = move || {
             timed(|| {
                 for &call in &self.calls {
@@ -168,7 +168,7 @@ fn are_quick(archive: &Archive) -> [bool; 3] {
     [0, 1, 2].map(|kind| {
         (8..=LEVELS).step_by(4).all(|levels| {
             let start = Start::read(archive, &chains(levels)[kind].1).expect(ACCEPTED);
-            let (mut state, mut scratch) = (start.state.clone(), vec![0; SCRATCH_WORDS]);
+            let (mut state, mut scratch) = (start.state.clone(), vec![0; SCRATCH]);
             let mut request = |call| archive.request(&start.terms, &mut state, &mut scratch, call);
             let mut calls = || start.calls.iter().for_each(|&call| _ = request(call));
             (0..3).any(|_| timed(&mut calls) < SLOW)

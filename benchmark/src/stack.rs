@@ -1,10 +1,10 @@
 //! The stack that one call takes: a thread runs it on a painted stack, and
 //! the paint that is left is counted.
 
-use crate::archives::{is_done, is_granted, Archive};
+use crate::archives::{is_done, is_granted, Archive, SCRATCH};
 use crate::workload::{binding, deep, plain};
 use cuckooormolu::raw::Record;
-use cuckooormolu::{SCRATCH_WORDS, STATE_WORDS, TERMS_WORDS};
+use cuckooormolu::{STATE_WORDS, TERMS_WORDS};
 use std::ffi::{c_int, c_void};
 use std::ptr::{null, null_mut};
 
@@ -77,7 +77,7 @@ const CALLS: [&str; 6] = ["request", "set list", "revise", "read", "write", "sto
 fn calls(archive: &Archive, text: &[u8]) -> Option<[usize; 6]> {
     let bare = touched(Box::new(|| ()));
     let (mut terms, mut state) = (vec![0; TERMS_WORDS], vec![0; STATE_WORDS]);
-    let mut scratch = vec![0; SCRATCH_WORDS];
+    let mut scratch = vec![0; SCRATCH];
     // The tables of a few entries over 64 members are the most that is stored.
     let mut output = vec![0; text.len() + (1 << 20)];
     let mut code = 0;
