@@ -114,7 +114,8 @@ mod tests {
             let terms = Terms { members: count, ..Terms::default() };
             let names = Names::default();
             let layout = Layout::new(&Words::new(&terms, &names), vec![false; count]);
-            for (from, to) in (0..count).flat_map(|from| (0..count).map(move |to| (from, to))) {
+            let some = (0..count).step_by(3);
+            for (from, to) in some.flat_map(|from| (0..count).map(move |to| (from, to))) {
                 if from == to {
                     continue;
                 }

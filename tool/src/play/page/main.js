@@ -104,7 +104,7 @@ if (begin.stored) {
       + ' terms, ',
     code(`cuckooormolu source ${begin.folder} -o new/terms.say`),
     ', then ',
-    code(`cuckooormolu revise ${begin.folder} new --store later/terms.tsv`),
+    code(`cuckooormolu revise ${begin.folder} new --store revised/terms.tsv`),
     '.',
   );
 }

@@ -1,0 +1,88 @@
+//! `play`: the page's server, asked as the page asks it and as others might.
+
+mod clients;
+mod page;
+#[path = "../run_support/mod.rs"]
+mod run_support;
+mod saving;
+
+use page::{folder, Page, NOTHING, SOURCE};
+use run_support::run;
+
+#[test]
+fn the_page_is_whole_and_loads_nothing() {
+    let folder = folder();
+    let page = Page::of(&folder);
+    let (host, token) = (&page.host, &page.token);
+    let said = page.sent(format!("GET /{token}/ HTTP/1.1\r\nHost: {host}\r\n\r\n").as_bytes());
+    let (head, body) = said.split_once("\r\n\r\n").unwrap();
+    assert!(head.contains("Content-Security-Policy: default-src 'none'; script-src 'nonce-"));
+    assert!(head.contains("Cache-Control: no-store"));
+    for unwanted in
+        ["http:", "https:", "src=", "@import", "url(h", "onload", "<link", "{{", "</script><b>"]
+    {
+        assert!(!body.contains(unwanted), "{unwanted}");
+    }
+    assert!(body.contains("\\u003c/script>\\u003cb>&"));
+    assert!(body.ends_with("</html>\n"));
+}
+
+#[test]
+fn a_change_and_three_requests() {
+    let folder = folder();
+    let page = Page::of(&folder);
+    let requests = r#"[["load","pete","saw"],["share","dora","pete"],["load","pete","saw"],["load","quin","saw"]]"#;
+    let answers = |told: &str| -> Vec<String> {
+        let parts = told.split("\"answer\":\"").skip(1);
+        parts.map(|part| part.split('"').next().unwrap().to_string()).collect()
+    };
+    let told = page.told(SOURCE, requests, 4, NOTHING);
+    assert_eq!(answers(&told), ["deny", "grant", "grant", "refuse"]);
+    assert!(told.contains("there is no member `quin`"), "{told}");
+    assert!(told.contains("\"moment\":2,\"title\":\"Moment 2: load pete → saw\""), "{told}");
+    let source = SOURCE.replace("members dora, pete, saw", "members quin, dora, pete, saw");
+    let rest = r#""pair":["quin","saw"],"who":"load""#;
+    let told = page.told(&source, requests, 2, rest);
+    let steps = told.split_once("\"steps\":").unwrap().1;
+    assert_eq!(answers(steps), ["deny", "grant", "grant", "deny"], "those taken back, too");
+    assert!(told.contains("\"moment\":1,\"title\":\"Moment 1: share dora → pete\""), "{told}");
+    let looks = told.split_once("\"looks\":").unwrap().1.split_once("\"table\":").unwrap().0;
+    assert_eq!(answers(looks), ["grant", "grant", "deny"]);
+    assert!(told.contains("1 pair may <b>load</b> at moment 1"), "{told}");
+    assert!(told.contains("You may always share with the target."), "{told}");
+}
+
+#[test]
+fn mistakes_are_told_where_a_browser_finds_them() {
+    let folder = folder();
+    let page = Page::of(&folder);
+    let told = page.told("# 😀\nmembers a\nevnt go by anyone\n", "[]", 0, NOTHING);
+    assert!(
+        told.starts_with("{\"mistakes\":[{\"start\":15,\"end\":19,\"line\":3,\"column\":1,"),
+        "{told}"
+    );
+    assert!(told.contains("event"), "{told}");
+    assert!(!told.contains("\"picture\""), "{told}");
+}
+
+/// What `check` warns of is told with its place.
+#[test]
+fn warnings_are_told() {
+    let folder = folder();
+    let page = Page::of(&folder);
+    let source = format!("{SOURCE}event knock when once me denied load target\n");
+    let told = page.told(&source, "[]", 0, NOTHING);
+    let warnings = told.split_once("\"warnings\":[").unwrap().1.split("]").next().unwrap();
+    let why = "denied requests of `load` are not kept, so this is never true";
+    assert!(warnings.contains(why) && warnings.contains("\"line\":8,"), "{warnings}");
+    assert!(told.contains("\"mistakes\":[],"), "{told}");
+    folder.write("terms.say", &source);
+    assert!(run(&["check", folder.path()]).out.contains(why));
+}
+
+#[test]
+fn what_cannot_be_played() {
+    assert_eq!(run(&["play", "/no/such/folder"]).status, 3);
+    assert_eq!(run(&["play"]).status, 2);
+    assert_eq!(run(&["play", folder().path(), "--port", "x"]).status, 2);
+}
