@@ -9,10 +9,10 @@
  * Stack     measured, not proved: reading takes 168 KiB, into two banks 191
  *           KiB, writing a terms text or asking for its size 193 KiB, an
  *           opening, revision, look, request or set list 172 KiB, of two banks
- *           too, and each 1.21 KiB more for every level by which entries nest,
- *           at most 500 KiB; renumbering takes 19 KiB, storing and the other
- *           calls 4 KiB. Provide CUCKOOORMOLU_STACK_BYTES; with small terms
- *           requests take far less (bindings/README.md, Stack).
+ *           too, a plan 172 KiB, and each 1.21 KiB more for every level by which
+ *           entries nest, at most 500 KiB; renumbering takes 19 KiB, storing and
+ *           the other calls 4 KiB. Provide CUCKOOORMOLU_STACK_BYTES; with small
+ *           terms requests take far less (bindings/README.md, Stack).
  * Time      measured, not proved. Entries that share others take no more than
  *           a memo's time; what can still take long is nested binds over
  *           entries that read their variables: about N to the depth of such

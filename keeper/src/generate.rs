@@ -91,7 +91,8 @@ impl<S: fmt::Display> fmt::Display for Case<S> {
 }
 
 /// An accepted text with calls, and new terms and other numbers for the members
-/// among them, now and then of the stored form or with padded numbers. No number of a call is above `largest`.
+/// among them, now and then of the stored form or with padded numbers. No number of
+/// a call is above `largest`.
 pub fn case(seed: u64, largest: usize) -> Case {
     let mut rng = Rng::new(seed);
     let size = Size::random(&mut rng);

@@ -80,6 +80,7 @@ fn a_goal_is_an_event_or_a_sentence() {
     let said = with("once me load target", &[]).out;
     assert!(said.contains("after request 2 at the latest"), "{said}");
     assert!(said.contains("no such sentence about the past: it begins now"), "{said}");
+    assert!(!with("once me load target", &["--first"]).out.contains("begins now"));
     let said = with("once (me wish target and previously true)", &["--pair", "ann", "pad"]).out;
     assert!(said.starts_with("Rejected") && said.contains("begins now"), "{said}");
 }

@@ -12,8 +12,8 @@ use crate::terms;
 use crate::terms::memory::{SCRATCH_WORDS, STATE_WORDS, TERMS_WORDS};
 
 /// Reads a case's text and makes its calls as set lists, looks as requests; none
-/// reaches over new terms or other numbers for the members. After each list its answers, its count and every word
-/// lent are compared.
+/// reaches over new terms or other numbers for the members. After each list its
+/// answers, its count and every word lent are compared.
 pub fn lists(other: &mut impl Other, case: &Case) -> Result<(), Difference> {
     let mut rng = Rng::new(!case.seed);
     let mut lent = Lent::noise(&mut rng, TERMS_WORDS + BEYOND, STATE_WORDS + BEYOND);

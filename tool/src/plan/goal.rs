@@ -42,13 +42,14 @@ impl Goal {
     }
 
     /// Goes on with terms that have the goal. What it says about the past, and the
-    /// terms did not, begins now; gives whether there is such a thing.
+    /// terms did not, begins now; gives whether there is such a thing, and a past.
     pub fn enter(&self, both: &mut Both) -> Result<bool, Stop> {
         let Some(terms) = &self.terms else { return Ok(false) };
         let before = both.terms().past().len();
+        let is_fresh = both.record().graphs().len() == 1 && !both.is_stored();
         let next = Both::accepted(&keeper::terms::write(terms, &terms.edges))?;
         match both.revise(&next)? {
-            Ok(()) => Ok(both.terms().past().len() > before),
+            Ok(()) => Ok(both.terms().past().len() > before && !is_fresh),
             Err(refusal) => {
                 Err(Stop::Failed(format!("the goal is refused with {}", refusal.number)))
             }
