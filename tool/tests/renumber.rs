@@ -167,7 +167,7 @@ fn orders_that_number_nobody() {
     let old = folder(SOURCE, "");
     for (order, wanted) in [
         ("dora, saw", "the order lacks pete; it has to have each of the 3 members once"),
-        ("", "the order lacks dora, pete and saw"),
+        (",", "the order lacks dora, pete and saw"),
         ("dora, pete, saw, dora", "dora stands in the order twice, and a member has one number"),
         ("dora, peet, saw", "no member `peet`; did you mean `pete`?"),
         ("dora, pete, 3", "no member `3`"),
