@@ -3,7 +3,8 @@
 //!
 //! Each accepts every input: memory of any length with anything in it, and
 //! any numbers. So all of them are safe to call. A refusal leaves every
-//! memory as lent, and words beyond the named ones are never touched.
+//! memory as lent, but that the records of a set list have no answers then, and
+//! words beyond the named ones are never touched.
 //!
 //! Nothing here allocates: without the feature `alloc` this module is what the
 //! crate has.
@@ -91,6 +92,10 @@ pub struct Record {
 }
 
 impl Record {
+    /// The number of no answer. It stands in each record of a list that was
+    /// refused, whatever stood there before.
+    pub const UNANSWERED: u32 = u32::MAX;
+
     /// The answer; none where the number is no answer's.
     #[must_use = "a request that is decided may be denied"]
     pub fn answered(&self) -> Option<Result<Answer, Refusal>> {
@@ -101,6 +106,11 @@ impl Record {
             _ => None,
         }
     }
+}
+
+/// Takes old answers away: those of a list that is refused would be read as its.
+fn unanswer(records: &mut [Record]) {
+    records.iter_mut().for_each(|record| record.answer = Record::UNANSWERED);
 }
 
 const DONE: usize = 100;
@@ -272,14 +282,15 @@ pub fn request(
 ///
 /// # Errors
 ///
-/// 6, 7 or 8, an empty list too. Then no record is written, and an answer that
-/// stands in one is an old one.
+/// 6, 7 or 8, an empty list too. Then no record has an answer, whatever it had
+/// before.
 pub fn set_list(
     terms: &[u16],
     state: &mut [u64],
     scratch: &mut [u64],
     records: &mut [Record],
 ) -> Result<usize, Refusal> {
+    unanswer(records);
     let mut count = 0;
     let code = unsafe {
         library::cuckooormolu_raw_set_list(

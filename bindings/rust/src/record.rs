@@ -2,9 +2,6 @@
 
 use crate::{raw, Answer, Event, Member, Refusal, Request};
 
-/// No answer's number.
-const UNANSWERED: u32 = u32::MAX;
-
 /// A record of a set list: a request, and its answer once
 /// [`crate::Monitor::set_list`] or [`crate::Bank::set_list`] has filled it in.
 #[derive(Clone, Copy, Debug, PartialEq, Eq, Hash)]
@@ -16,7 +13,7 @@ impl Record {
     pub fn new(request: Request) -> Record {
         let Request { event, from, to } = request;
         let (event, from, to) = (event.0.into(), from.0.into(), to.0.into());
-        Record(raw::Record { event, from, to, answer: UNANSWERED })
+        Record(raw::Record { event, from, to, answer: raw::Record::UNANSWERED })
     }
 
     /// What is asked for.

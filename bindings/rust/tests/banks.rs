@@ -271,9 +271,13 @@ impl Lent {
         let refusal = self.look(unknown).unwrap_err();
         assert_eq!(self.request(unknown), Err(refusal));
         let [relations, own, other, scratch, spare] = &mut self.words;
-        let listed =
-            raw::banks_set_list(&self.terms, relations, own, other, scratch, spare, &mut []);
-        assert_eq!(listed.unwrap_err(), refusal);
+        let mut granted = [raw::Record { event: 0, from: 0, to: 1, answer: 1 }];
+        for records in [&mut granted[..], &mut []] {
+            let listed =
+                raw::banks_set_list(&self.terms, relations, own, other, scratch, spare, records);
+            assert_eq!(listed.unwrap_err(), refusal);
+        }
+        assert_eq!(granted[0].answered(), None);
         assert!(*self == before);
         refusal
     }

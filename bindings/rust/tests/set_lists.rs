@@ -101,16 +101,18 @@ fn without_a_grant_state_and_scratch_are_as_lent() {
 }
 
 /// What a list of two and an empty one give over lent memory. Where it is a
-/// refusal, nothing was written.
+/// refusal, nothing was written, and no record has an answer that stood there.
 fn listed(terms: &[u16], state: &[u64], scratch: usize) -> Result<usize, Refusal> {
     let (mut words, mut lent) = (state.to_vec(), vec![5; scratch]);
-    let mut records = [record(9, 9, 9), record(0, 0, 1)];
+    let mut records = [record(9, 9, 9), raw::Record { answer: 1, ..record(0, 0, 1) }];
     let empty = raw::set_list(terms, &mut words, &mut lent, &mut []);
     let got = raw::set_list(terms, &mut words, &mut lent, &mut records);
     assert_eq!(empty, got.map(|_| 0));
     if got.is_err() {
         assert!(words == state && lent == vec![5; scratch]);
-        assert_eq!(records, [record(9, 9, 9), record(0, 0, 1)]);
+        let unanswered = |asked| raw::Record { answer: raw::Record::UNANSWERED, ..asked };
+        assert_eq!(records, [record(9, 9, 9), record(0, 0, 1)].map(unanswered));
+        assert!(records.iter().all(|record| record.answered().is_none()));
     }
     got
 }

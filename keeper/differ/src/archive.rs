@@ -1,4 +1,5 @@
-//! The archive's functions of two banks, over slices.
+//! The archive's functions of two banks, over slices, and its set list of a state:
+//! the binding's takes old answers away, which the archive leaves where it refuses.
 
 use cuckooormolu::raw::Record;
 use keeper::banks::lent::Lent;
@@ -12,6 +13,18 @@ const DENIED: usize = 200;
 const GRANTED: usize = 300;
 
 extern "C" {
+    fn cuckooormolu_raw_set_list(
+        terms: *const u16,
+        terms_length: usize,
+        state: *mut u64,
+        state_length: usize,
+        scratch: *mut u64,
+        scratch_length: usize,
+        records: *mut Record,
+        records_length: usize,
+        count: *mut usize,
+    ) -> usize;
+
     fn cuckooormolu_raw_banks_read(
         text: *const u8,
         text_length: usize,
@@ -125,6 +138,29 @@ fn answered(code: usize) -> Answer {
         GRANTED => Answer::Grant,
         code => Answer::Refused(done(code).expect_err("a call is decided or refused")),
     }
+}
+
+pub fn state_set_list(
+    terms: &[u16],
+    state: &mut [u64],
+    scratch: &mut [u64],
+    records: &mut [Record],
+) -> Result<usize, Refusal> {
+    let mut count = usize::MAX;
+    let code = unsafe {
+        cuckooormolu_raw_set_list(
+            terms.as_ptr(),
+            terms.len(),
+            state.as_mut_ptr(),
+            state.len(),
+            scratch.as_mut_ptr(),
+            scratch.len(),
+            records.as_mut_ptr(),
+            records.len(),
+            &mut count,
+        )
+    };
+    done(code).map(|()| count)
 }
 
 /// Own words, or scratch, of the bank that is called, and of the other.

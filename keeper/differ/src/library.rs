@@ -6,6 +6,7 @@
 
 mod plans;
 
+use crate::archive;
 use crate::renumber;
 use crate::revise;
 use crate::shown;
@@ -204,7 +205,7 @@ impl Other for Library<'_> {
         let single = singly(terms, &mut single_state, &mut single_scratch, items);
         let mut records: Vec<raw::Record> = items.iter().map(plain_record).collect();
         let mut bound: Vec<Record> = items.iter().map(record).collect();
-        let got = raw::set_list(terms, state, scratch, &mut records).map_err(plain);
+        let got = archive::state_set_list(terms, state, scratch, &mut records);
         let numbers: Vec<u32> = records.iter().map(|record| record.answer).collect();
         self.same("single requests", single, got.map(|count| (numbers, count)));
         let right = single_state == state && single_scratch == scratch;

@@ -2,7 +2,7 @@
 //! called is named by the order alone: its own words and scratch come first, then
 //! the other's, `other` and `spare`. [`crate::Banks`] cannot confuse them.
 
-use super::{decided, done, Record, Request};
+use super::{decided, done, unanswer, Record, Request};
 use crate::{library, Answer, Refusal};
 
 // Safety: as in the functions of one state.
@@ -183,8 +183,8 @@ pub fn banks_request(
 ///
 /// # Errors
 ///
-/// 6, 7 or 8, an empty list too. Then no record is written, and an answer that
-/// stands in one is an old one.
+/// 6, 7 or 8, an empty list too. Then no record has an answer, whatever it had
+/// before.
 pub fn banks_set_list(
     terms: &[u16],
     relations: &mut [u64],
@@ -194,6 +194,7 @@ pub fn banks_set_list(
     spare: &mut [u64],
     records: &mut [Record],
 ) -> Result<usize, Refusal> {
+    unanswer(records);
     let mut count = 0;
     let code = unsafe {
         library::cuckooormolu_raw_banks_set_list(
