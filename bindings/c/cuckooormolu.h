@@ -28,7 +28,8 @@
  *           that of both.
  *
  * Link target/staticlib/libcuckooormolu.a, which `rt staticlib cuckooormolu`
- * writes, or compile cuckooormolu.c. They need nothing but memcpy and memset.
+ * writes, or compile cuckooormolu.c. They need nothing but memcpy and memset,
+ * and as compilers compile the C file memmove.
  *
  *     static struct cuckooormolu m;
  *     size_t line;

@@ -14,7 +14,7 @@ echo 'ok   a sum of signed numbers is refused'
 
 wanted=$(reference "$inputs")
 build cc cc -O3
-others=$(nm -u "$work/cc/cuckooormolu.o" | awk '$2 != "memcpy" && $2 != "memset" { print $2 }')
+others=$(nm -u "$work/cc/cuckooormolu.o" | awk '$2 !~ /^(memcpy|memmove|memset)$/ { print $2 }')
 [ -z "$others" ] || { echo "FAIL cc: it needs $others" && exit 1; }
 hold cc "$inputs" "$wanted"
 quietly sh "$top/bindings/c/test.sh" "$work/cc/libcuckooormolu.a"
