@@ -1,22 +1,21 @@
 -- Sets of members spread to their new numbers: bit by bit from the least on, and byte by byte.
-use Prim.Native.Nat.{ℕ, zero, suc, _+_, _-_, _/_, _^_, _≤_, _<_}
+use Prim.Native.Nat.{ℕ, zero, suc, _+_, _-_, _*_, _/_, _^_, _≤_, _<_}
 use native.Mathlib.Omega.{arith}
 use native.Mathlib.Nat.{div-div-eq-div-mul, mul-comm, div-one}
 use native.Mathlib.Nat.{pow-suc}
 use mathlib.Core.Path.{_≡_, refl, sym, ap, ap₂, _∙_}
 use mathlib.Core.Logic.{_⊎_, inl, inr, ⊎-elim}
-use mathlib.Core.Bool.{Bool, true, false, not, _&&_, _||_}
+use mathlib.Core.Bool.{Bool, true, false, _&&_, _||_}
 use mathlib.Core.List.{List}
 use lib.Dec.{eqb, ltb}
-use lib.Bits.{bitAnd}
-use lib.ListN.{length, getD, set}
+use lib.Bits.{bitAnd, bitOr, or-shifted-r}
+use lib.ListN.{length, getD, set, length-set}
 use lib.Seq.{getD-set-same, getD-set-other}
-use borrow.Author.Tests.{eqb-true, ltb-true, ltb-false, lt-ltb}
-use Rattle.sets.specs.Sets.{anyBelow, bit, least}
+use borrow.Author.Tests.{eqb-true, eq-eqb, ltb-true, ltb-false, lt-ltb}
+use Rattle.sets.specs.Sets.{anyBelow, bit}
 use Rattle.sets.proofs.Finite.{bool-iff, true-or-false, and-left, and-right, and-both, and-true, or-left, or-right, or-cases, any-intro, any-elim, any-cong, last-or-below, not-both}
-use Rattle.sets.proofs.Bits.{bit-and, bit-zero, bit-half, bit-mask, bit-below}
-use Rattle.sets.proofs.Least.{Least, Rest, least-law, rest-law}
-use Rattle.renumber.specs.Spread.{spread, ByteOf}
+use Rattle.sets.proofs.Bits.{bit-and, bit-or, bit-set, bit-zero, bit-half, bit-mask}
+use Rattle.renumber.specs.Spread.{spread, Doubled, ByteOf}
 
 any-false : (n : ℕ) (p : ℕ → Bool) → ((k : ℕ) → k < n → p k ≡ false) → anyBelow n p ≡ false
 any-false n p h = ⊎-elim
@@ -46,6 +45,12 @@ bit-shift (suc a) w k =
     ap (bit w) next ∙ bit-half w (a + k) ∙ bit-shift a (w / 2) k
     ∙ ap (λ (x : ℕ). bit x k) (div-div-eq-div-mul w 2 (2 ^ a) ∙ ap (λ (x : ℕ). w / x) (mul-comm 2 (2 ^ a) ∙ sym (pow-suc 2 a)))
 
+-- a bit above all others
+bit-top : (k u j : ℕ) → u < 2 ^ k → bit (2 ^ k + u) j ≡ (bit u j || eqb j k)
+bit-top k u j l =
+    let once : 1 * 2 ^ k ≡ 2 ^ k = omega arith in
+    ap (λ (x : ℕ). bit x j) (ap (λ (x : ℕ). x + u) (sym once) ∙ sym (or-shifted-r 1 k u l) ∙ ap (bitOr u) once) ∙ bit-set u k j
+
 pub byte-low : (w k : ℕ) → bit (bitAnd w 255) k ≡ (bit w k && ltb k 8)
 byte-low w k = bit-and w 255 k ∙ ap (λ (x : Bool). bit w k && x) (bit-mask 8 k)
 
@@ -61,27 +66,24 @@ module _ (p : ℕ → ℕ) (m : ℕ) where
   unfolding spread anyBelow
   spread-none w = refl
 
-  -- a set is its least member and the rest
-  pub spread-least : (n v a r : ℕ) → 0 < v → v < 2 ^ 64 → a < n → a ≡ least v → r ≡ bitAnd v (v - 1) →
-      spread n p v m ≡ (spread n p r m || (ltb m 64 && eqb m (p a)))
+  -- a member above all others of a set
+  pub spread-top : (n k u : ℕ) → k < n → u < 2 ^ k → spread n p (2 ^ k + u) m ≡ (spread n p u m || (ltb m 64 && eqb m (p k)))
   unfolding spread
-  spread-least n v a r pos fits al e z =
-      let l : Least v a = least-law v a pos fits e in
-      let s : Rest v r = rest-law v r pos fits z in
-      bool-iff _ _
-      (λ h. let w = any-elim n (λ k. bit v k && X k) h in by l s (w .0) (w .1) (and-left (bit v (w .0)) (X (w .0)) (w .2)) (and-right (bit v (w .0)) (X (w .0)) (w .2)) (eqb (w .0) a) refl)
+  spread-top n k u kl ul =
+      any-cong n {p = λ j. bit (2 ^ k + u) j && X j} {q = λ j. (bit u j || eqb j k) && X j} (λ j _. ap (λ (b : Bool). b && X j) (bit-top k u j ul))
+      ∙ bool-iff _ _
+      (λ h. let w = any-elim n (λ j. (bit u j || eqb j k) && X j) h in
+      let x : X (w .0) ≡ true = and-right (bit u (w .0) || eqb (w .0) k) (X (w .0)) (w .2) in
+      ⊎-elim
+      (λ b. or-left (anyBelow n (λ j. bit u j && X j)) (X k) (any-intro n (λ j. bit u j && X j) (w .0) (w .1) (and-both (bit u (w .0)) (X (w .0)) b x)))
+      (λ e. or-right (anyBelow n (λ j. bit u j && X j)) (X k) (ap X (sym (eqb-true (w .0) k e)) ∙ x))
+      (or-cases (bit u (w .0)) (eqb (w .0) k) (and-left (bit u (w .0) || eqb (w .0) k) (X (w .0)) (w .2))))
       (λ h. ⊎-elim
-      (λ q. let w = any-elim n (λ k. bit r k && X k) q in
-      any-intro n (λ k. bit v k && X k) (w .0) (w .1)
-      (and-both (bit v (w .0)) (X (w .0)) (and-left (bit v (w .0)) _ (sym (s .bits (w .0)) ∙ and-left (bit r (w .0)) (X (w .0)) (w .2))) (and-right (bit r (w .0)) (X (w .0)) (w .2))))
-      (λ q. any-intro n (λ k. bit v k && X k) a al (and-both (bit v a) (X a) (l .here) q))
-      (or-cases (anyBelow n (λ k. bit r k && X k)) (X a) h))
-    where
-      by : Least v a → Rest v r → (k : ℕ) → k < n → bit v k ≡ true → X k ≡ true → (c : Bool) → eqb k a ≡ c → (anyBelow n (λ k. bit r k && X k) || X a) ≡ true
-      by l s k kl b x true q = or-right (anyBelow n (λ k. bit r k && X k)) (X a) (ap X (sym (eqb-true k a q)) ∙ x)
-      by l s k kl b x false q =
-          let there : bit r k ≡ true = s .bits k ∙ and-both _ _ b (ap not (ap (eqb k) (sym (l .is)) ∙ q)) in
-          or-left (anyBelow n (λ k. bit r k && X k)) (X a) (any-intro n (λ k. bit r k && X k) k kl (and-both (bit r k) (X k) there x))
+      (λ q. let w = any-elim n (λ j. bit u j && X j) q in
+      any-intro n (λ j. (bit u j || eqb j k) && X j) (w .0) (w .1)
+      (and-both _ (X (w .0)) (or-left (bit u (w .0)) (eqb (w .0) k) (and-left (bit u (w .0)) (X (w .0)) (w .2))) (and-right (bit u (w .0)) (X (w .0)) (w .2))))
+      (λ x. any-intro n (λ j. (bit u j || eqb j k) && X j) k kl (and-both _ (X k) (or-right (bit u k) (eqb k k) (eq-eqb k k refl)) x))
+      (or-cases (anyBelow n (λ j. bit u j && X j)) (X k) h))
 
 -- the first byte, and the rest
 pub spread-byte : (p : ℕ → ℕ) (m b w : ℕ) →
@@ -117,27 +119,42 @@ module _ (p : ℕ → ℕ) (b : ℕ) where
       let z : v ≡ 0 = omega arith in
       rw z (ap (λ (x : ℕ). bit x m) (getD-set-same part 0 0 0 l) ∙ bit-zero m ∙ sym (spread-zero (λ k. p (b + k)) m 8))
 
-  pub byte-more : (part : List ℕ) (v w : ℕ) → v < length part → ByteOf p b part v →
-      ((m : ℕ) → bit w m ≡ spread 8 (λ k. p (b + k)) v m) → ByteOf p b (set part v w) (v + 1)
-  byte-more part v w l h e u m ul = by (last-or-below u v (omega arith))
+  -- one more member
+  pub byte-more : (part after : List ℕ) (n k x more : ℕ) → n ≡ 2 ^ k → k < 8 → x ≡ p (b + k) → ((m : ℕ) → bit more m ≡ (ltb m 64 && eqb m x)) →
+      Doubled part n more after n → ByteOf p b part n → ByteOf p b after (2 * n)
+  byte-more part after n k x more e kl is says d h v m vl = by (ltb v n) refl
     where
-      by : (u < v) ⊎ (u ≡ v) → bit (getD (set part v w) u 0) m ≡ spread 8 (λ k. p (b + k)) u m
-      by (inl q) = ap (λ (x : ℕ). bit x m) (getD-set-other part v u w 0 (λ z. omega arith)) ∙ h u m q
-      by (inr q) = rw q (ap (λ (x : ℕ). bit x m) (getD-set-same part v w 0 l) ∙ e m)
+      by : (c : Bool) → ltb v n ≡ c → bit (getD after v 0) m ≡ spread 8 (λ k. p (b + k)) v m
+      by true q = ap (λ (w : ℕ). bit w m) (d .first v (ltb-true v n q)) ∙ h v m (ltb-true v n q)
+      by false q =
+          let out : n ≤ v = ltb-false v n q in
+          let ul : v - n < n = omega arith in
+          let back : n + (v - n) ≡ v = omega arith in
+          let top : 2 ^ k + (v - n) ≡ v = ap (λ (y : ℕ). y + (v - n)) (sym e) ∙ back in
+          let small : v - n < 2 ^ k = omega (arith, e) in
+          ap (λ (y : ℕ). bit (getD after y 0) m) (sym back)
+          ∙ ap (λ (w : ℕ). bit w m) (d .again (v - n) ul)
+          ∙ bit-or (getD part (v - n) 0) more m
+          ∙ ap₂ _||_ (h (v - n) m ul) (says m ∙ ap (λ (y : ℕ). ltb m 64 && eqb m y) is)
+          ∙ sym (spread-top (λ k. p (b + k)) m 8 k (v - n) kl small)
+          ∙ ap (λ (y : ℕ). spread 8 (λ k. p (b + k)) y m) top
 
-  module _ (v : ℕ) (pos : 0 < v) (small : v < 256) where
-    v-fits : v < 2 ^ 64
-    v-fits = omega arith
+-- ---- one word after another
 
-    pub rest-before : (r : ℕ) → r ≡ bitAnd v (v - 1) → r < v
-    rest-before r z = rest-law v r pos v-fits z .less
+pub doubled-none : (part : List ℕ) (n more : ℕ) → Doubled part n more part 0
+doubled-none part n more = record { long = refl; first = λ v l. refl; again = λ v l. absurd (omega arith) }
 
-    pub least-byte : (a : ℕ) → a ≡ least v → a < 8
-    least-byte a e = bit-below v 8 a small (least-law v a pos v-fits e .here)
+pub doubled-more : (before after : List ℕ) (n more v : ℕ) → v < n → n + v < length after → Doubled before n more after v →
+    Doubled before n more (set after (n + v) (bitOr (getD after v 0) more)) (v + 1)
+doubled-more before after n more v vl fits d = record {
+  long = length-set after (n + v) w ∙ d .long;
+  first = λ u ul. getD-set-other after (n + v) u w 0 (λ z. omega arith) ∙ d .first u ul;
+  again = λ u ul. by u (last-or-below u v (omega arith));
+}
+  where
+    w : ℕ
+    w = bitOr (getD after v 0) more
 
-    pub byte-next : (part : List ℕ) (a r x w : ℕ) → length part ≡ 256 → ByteOf p b part v → a ≡ least v → r ≡ bitAnd v (v - 1) → x ≡ p (b + a) →
-        ((m : ℕ) → bit w m ≡ (bit (getD part r 0) m || (ltb m 64 && eqb m x))) → ByteOf p b (set part v w) (v + 1)
-    byte-next part a r x w long h e z q t =
-        byte-more part v w (omega arith) h
-        (λ m. t m ∙ ap₂ (λ (c : Bool) (y : ℕ). c || (ltb m 64 && eqb m y)) (h r m (rest-before r z)) q
-        ∙ sym (spread-least (λ k. p (b + k)) m 8 v a r pos v-fits (least-byte a e) e z))
+    by : (u : ℕ) → (u < v) ⊎ (u ≡ v) → getD (set after (n + v) w) (n + u) 0 ≡ bitOr (getD before u 0) more
+    by u (inl l) = getD-set-other after (n + v) (n + u) w 0 (λ z. omega arith) ∙ d .again u l
+    by u (inr e) = rw e (getD-set-same after (n + v) w 0 fits ∙ ap (λ (x : ℕ). bitOr x more) (d .first v vl))

@@ -3,6 +3,7 @@ use Prim.Native.Nat.{ℕ, _+_, _-_, _*_, _%_, _<_}
 use mathlib.Core.Path.{_≡_}
 use mathlib.Core.Bool.{Bool, true, _&&_}
 use mathlib.Core.List.{List}
+use lib.Bits.{bitOr}
 use lib.Dec.{eqb, ltb}
 use lib.ListN.{length, getD, drop}
 use Rattle.sets.specs.Sets.{anyBelow, bit}
@@ -15,6 +16,12 @@ use Rattle.renumber.specs.PairRows.{goesTo, isTwo}
 -- m is the new number, by p, of one of the first n members of the set w.
 unfoldable pub spread : (n : ℕ) → (p : ℕ → ℕ) → (w m : ℕ) → Bool
 spread n p w m = anyBelow n (λ k. bit w k && (ltb m 64 && eqb m (p k)))
+
+-- The first n words are as before, and the first k of them are there once more, n words on, with more in each.
+pub record Doubled (before : List ℕ) (n more : ℕ) (after : List ℕ) (k : ℕ) : Type 0 where
+  pub long : length after ≡ length before
+  pub first : (v : ℕ) → v < n → getD after v 0 ≡ getD before v 0
+  pub again : (v : ℕ) → v < k → getD after (n + v) 0 ≡ bitOr (getD before v 0) more
 
 -- The new numbers of the eight members from b on, by those of them that are in a byte.
 abbrev pub ByteOf : (p : ℕ → ℕ) → (b : ℕ) → List ℕ → ℕ → Type 0

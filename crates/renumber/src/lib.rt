@@ -10,7 +10,7 @@ ghost use Rattle.theory.specs.NewNumbers.{newNumber, renumbers};
 ghost use Rattle.calls.specs.Renumbering.{renumbering, renumberedState};
 ghost use Rattle.memory.specs.Checks.{goodMemory};
 ghost use Rattle.memory.specs.Plan.{Planned};
-ghost use Rattle.renumber.specs.Spread.{spread, ByteOf, Bytes, Apart, Placed, newEvent, Rewritten};
+ghost use Rattle.renumber.specs.Spread.{spread, Doubled, ByteOf, Bytes, Apart, Placed, newEvent, Rewritten};
 ghost use Rattle.renumber.specs.PairRows.{Few};
 use memory::Outcome;
 use memory::layout;
@@ -58,18 +58,31 @@ fn are_new_numbers(numbers: &[u8], n: usize) -> bool
     all ^ (all & seen) == 0
 }
 
-// The new numbers of the eight members from b on, by those of them that are in a byte. Without its least member a set comes earlier.
+// Puts the first n words once more behind them, with more in each.
+fn double(part: &mut [u64], n: usize, more: u64)
+    requires { ⌜ (length (now part) ≡ 256) × (n < 129) ⌝ }
+    ensures { λ _. ⌜ Doubled (now (part .entry)) n more (now (part .exit)) n ⌝ }
+{
+    let mut v: usize = 0;
+    while v < n {
+        part[n + v] = part[v] | more;
+        v += 1;
+    }
+}
+
+// The new numbers of the eight members from b on, by those of them that are in a byte: each member doubles the words.
 fn fill_byte(numbers: &[u8], b: usize, part: &mut [u64])
     requires { ⌜ (length (now part) ≡ 256) × (b < 64) ⌝ }
     ensures { λ _. ⌜ (length (now (part .exit)) ≡ 256) × ByteOf (newNumber (now (numbers .entry))) b (now (part .exit)) 256 ⌝ }
 {
     part[0] = 0;
-    let mut v = 1;
-    while v < 256 {
-        let set = v as u64;
-        let rest = sets::rest_of(set) as usize;
-        part[v] = sets::with(part[rest], new_number(numbers, b + sets::least_of(set)));
-        v += 1;
+    let mut n: usize = 1;
+    let mut k: usize = 0;
+    while k < 8 {
+        let more = sets::single(new_number(numbers, b + k));
+        double(part, n, more);
+        n = 2 * n;
+        k += 1;
     }
 }
 

@@ -1,8 +1,12 @@
+-- The loop's invariant: n is 2 ^ k, and the words of the sets of the first k members are there.
 use borrow.Author.Needs.{needs}
 use native.Mathlib.Omega.{arith}
-use Prim.Native.Nat.{_-_, _<_, _≤_}
-use mathlib.Core.Path.{_≡_, subst}
+use native.Mathlib.Nat.{pow-suc}
+use native.Mathlib.Numerals.{add-one}
+use Prim.Native.Nat.{ℕ, _+_, _-_, _*_, _^_, _≤_}
+use mathlib.Core.Path.{_≡_, ap, subst, _∙_}
 use lib.ListN.{length, length-set}
+use lib.Pow.{pow-mono}
 use Rattle.theory.specs.NewNumbers.{newNumber}
 use Rattle.renumber.specs.Spread.{ByteOf}
 use Rattle.renumber.proofs.Spreading as spreading
@@ -10,43 +14,57 @@ use Rattle.renumber.proofs.fill_byte.Statement.{statement}
 use Rattle.renumber.proofs.fill_byte.Tie as tie
 
 abbrev Inv-loop : tie.InvT-loop
-Inv-loop numbers b part₀ v₀ part v = (0 < v) × (v ≤ 256) × (length part ≡ 256) × ByteOf (newNumber numbers) b part v
+Inv-loop numbers b part₀ n₀ k₀ part n k = (k ≤ 8) × (n ≡ 2 ^ k) × (length part ≡ 256) × ByteOf (newNumber numbers) b part n
 
 abbrev μ-loop : tie.MeasureT-loop
-μ-loop numbers b part₀ v₀ part v = 256 - v
+μ-loop numbers b part₀ n₀ k₀ part n k = 8 - k
 
 loop-holds : tie.Need-loop-holds Inv-loop μ-loop
-loop-holds c = (omega arith, omega arith, simp length-set (c .before .before .pre .0), spreading.byte-begun (newNumber (c .before .before .args .numbers .now)) (c .before .before .args .b) (c .before .before .args .part .now) (omega (arith, c .before .before .pre .0)))
-
-mul-with : tie.Need-mul-with Inv-loop μ-loop
-mul-with c = let l = c .before .before .loop in
-    omega (arith, l .inv .0, l .inv .1, spreading.rest-before (λ k. k) 0 (l .v) (l .inv .0) (omega arith) (c .rest-of .result) (c .rest-of .ensures))
-
-slice-read-with : tie.Need-slice-read-with Inv-loop μ-loop
-slice-read-with c = let l = c .before .before .before .loop in
-    omega (arith, l .inv .0, l .inv .1, l .inv .2, spreading.rest-before (λ k. k) 0 (l .v) (l .inv .0) (omega arith) (c .before .rest-of .result) (c .before .rest-of .ensures))
+loop-holds c =
+    let x = c .before .before in
+    (omega arith, omega arith, simp length-set (x .pre .0), spreading.byte-begun (newNumber (x .args .numbers .now)) (x .args .b) (x .args .part .now) (omega (arith, x .pre .0)))
 
 add-new-number : tie.Need-add-new-number Inv-loop μ-loop
-add-new-number c = let l = c .before .before .before .before .loop in
-    omega (arith, c .before .before .before .before .before .before .before .pre .1, spreading.least-byte (λ k. k) 0 (l .v) (l .inv .0) (omega arith) (c .least-of .result) (c .least-of .ensures))
+add-new-number c = omega (arith, c .before .before .before .before .pre .1)
+
+double-requires : tie.Need-double-requires Inv-loop μ-loop
+double-requires c κs =
+    let l = c .before .before .before .before .loop in
+    let most : 2 ^ l .k ≤ 2 ^ 7 = (let few : l .k ≤ 7 = omega arith in pow-mono few) in
+    (l .inv .2, omega (arith, l .inv .1))
+
+mul-n : tie.Need-mul-n Inv-loop μ-loop
+mul-n c =
+    let l = c .before .before .before .before .before .before .before .loop in
+    let most : 2 ^ l .k ≤ 2 ^ 7 = (let few : l .k ≤ 7 = omega arith in pow-mono few) in
+    omega (arith, l .inv .1)
+
+power : (k : ℕ) → 2 ^ (k + 1) ≡ 2 ^ k * 2
+power k = ap (λ j. 2 ^ j) (add-one k) ∙ pow-suc 2 k
 
 loop-again : tie.Need-loop-again Inv-loop μ-loop
 loop-again c =
-    let l = c .before .before .before .before .before .before .loop in
-    let a = c .before .before .before .before .before .before .before .before .before .args in (
+    let d = c .before .before in
+    let s = d .before .before in
+    let r = s .before in
+    let l = r .before .before .loop in
+    let a = r .before .before .before .before .before .args in (
       omega arith,
-      omega arith,
-      simp length-set (l .inv .2),
-      spreading.byte-next (newNumber (a .numbers .now)) (a .b) (l .v) (l .inv .0) (omega arith) (l .part) (c .before .before .least-of .result)
-          (c .before .before .before .before .rest-of .result) (c .before .new-number .result) (c .with .result) (l .inv .2) (l .inv .3)
-          (c .before .before .least-of .ensures) (c .before .before .before .before .rest-of .ensures) (c .before .new-number .ensures .0) (c .with .ensures),
+      let next : 2 * l .n ≡ 2 ^ (l .k + 1) = omega (arith, l .inv .1, power (l .k)) in next,
+      d .double .ensures .long ∙ l .inv .2,
+      spreading.byte-more (newNumber (a .numbers .now)) (a .b) (l .part) _ (l .n) (l .k) (r .new-number .result) (s .single .result) (l .inv .1) (omega arith)
+          (r .new-number .ensures .0) (s .single .ensures) (d .double .ensures) (l .inv .3),
     )
+
+same-length : tie.Need-same-length Inv-loop μ-loop
+same-length c = omega (arith, c .before .loop .inv .2, c .before .before .before .before .pre .0)
 
 returns : tie.Need-returns Inv-loop μ-loop
 returns c =
     let l = c .before .loop in
     let a = c .before .before .before .before .args in
-    let end : l .v ≡ 256 = omega arith in
+    let last : l .k ≡ 8 = omega arith in
+    let end : l .n ≡ 256 = l .inv .1 ∙ ap (λ k. 2 ^ k) last in
     (l .inv .2, subst (ByteOf (newNumber (a .numbers .now)) (a .b) (l .part)) end (l .inv .3))
 
 pub fill-byte-spec : {M : Type 1} → statement M
@@ -57,17 +75,13 @@ fill-byte-spec =
     μ-loop
     (λ c. search needs)
     loop-holds
-    (λ c κs. search needs)
-    mul-with
-    slice-read-with
-    (λ c κs. search needs)
     add-new-number
     (λ c κs. search needs)
     (λ c κs. search needs)
-    (λ c. search needs)
-    (λ c. search needs)
+    double-requires
+    mul-n
     (λ c. search needs)
     (λ c. search needs)
     loop-again
-    (λ c. search needs)
+    same-length
     returns)
