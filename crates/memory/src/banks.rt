@@ -1,6 +1,6 @@
 // The checks of two banks, which share relations: as those of one state, with the own words of both.
 ghost use mathlib.Core.Path.{_≡_};
-ghost use mathlib.Core.Bool.{true, _||_};
+ghost use mathlib.Core.Bool.{true, false, _||_};
 ghost use Prim.Native.Nat.{_≤_};
 ghost use lib.Dec.{ltb};
 ghost use lib.ListN.{length};
@@ -42,7 +42,7 @@ fn check_banks(
             & check_state::check_own(terms, masks, plan, other))
 }
 
-// Checks terms and both banks, and leaves the terms' plan where they pass.
+// Checks terms and both banks, and leaves the terms' plan where they pass; else the lent plan is as it was.
 pub fn inspect(
     terms: &[u16],
     relations: &[u64],
@@ -52,21 +52,24 @@ pub fn inspect(
 ) -> Outcome
     ensures { λ r. ⌜ outcomeOf r ≡ banksCheck (now (terms .entry)) (now (relations .entry)) (now (own .entry)) (now (other .entry)) ⌝ }
     ensures { λ r. ⌜ (hasPassed (outcomeOf r) ≡ true → Planned (termsOf (now (terms .entry))) (now (plan .exit))) ⌝ }
+    ensures { λ r. ⌜ (hasPassed (outcomeOf r) ≡ false → now (plan .exit) ≡ now (plan .entry)) ⌝ }
 {
     if is_short(terms, relations, own, other) {
         return Outcome::Refused(6, 0);
     }
     let mut masks = [0u64; ENTRIES];
-    if !check_terms::check_terms(terms, &mut masks, plan) {
+    let mut made = [0u16; ENTRIES];
+    if !check_terms::check_terms(terms, &mut masks, &mut made) {
         return Outcome::Refused(7, 0);
     }
-    if !check_banks(terms, &masks, plan, relations, own, other) {
+    if !check_banks(terms, &masks, &made, relations, own, other) {
         return Outcome::Refused(8, 0);
     }
+    *plan = made;
     Outcome::Done
 }
 
-// Checks terms and the relations of banks that are to be opened, and leaves the terms' plan where they pass.
+// Checks terms and the relations of banks that are to be opened, and leaves the terms' plan where they pass; else the lent plan is as it was.
 pub fn inspect_opening(
     terms: &[u16],
     relations: &[u64],
@@ -76,21 +79,24 @@ pub fn inspect_opening(
 ) -> Outcome
     ensures { λ r. ⌜ outcomeOf r ≡ banksOpen (now (terms .entry)) (now (relations .entry)) (now (own .entry)) (now (other .entry)) ⌝ }
     ensures { λ r. ⌜ (hasPassed (outcomeOf r) ≡ true → Planned (termsOf (now (terms .entry))) (now (plan .exit))) ⌝ }
+    ensures { λ r. ⌜ (hasPassed (outcomeOf r) ≡ false → now (plan .exit) ≡ now (plan .entry)) ⌝ }
 {
     if is_short(terms, relations, own, other) {
         return Outcome::Refused(6, 0);
     }
     let mut masks = [0u64; ENTRIES];
-    if !check_terms::check_terms(terms, &mut masks, plan) {
+    let mut made = [0u16; ENTRIES];
+    if !check_terms::check_terms(terms, &mut masks, &mut made) {
         return Outcome::Refused(7, 0);
     }
     if !check_state::check_relations(terms, relations) {
         return Outcome::Refused(8, 0);
     }
+    *plan = made;
     Outcome::Done
 }
 
-// Checks old terms, both banks under them and new terms that come in their place, and leaves the plans of both where they pass. Of the second memory only the lengths are looked at.
+// Checks old terms, both banks under them and new terms that come in their place, and leaves the plans of both where they pass; else the lent plans are as they were. Of the second memory only the lengths are looked at.
 pub fn inspect_revision(
     old: &[u16],
     relations: &[u64],
@@ -106,6 +112,7 @@ pub fn inspect_revision(
     ensures { λ r. ⌜ outcomeOf r ≡ banksRevise (now (old .entry)) (now (relations .entry)) (now (own .entry)) (now (other .entry)) (now (new .entry)) (now (edges .entry)) (now (third .entry)) (now (fourth .entry)) ⌝ }
     ensures { λ r. ⌜ (hasPassed (outcomeOf r) ≡ true → Planned (termsOf (now (old .entry))) (now (before .exit))) ⌝ }
     ensures { λ r. ⌜ (hasPassed (outcomeOf r) ≡ true → Planned (termsOf (now (new .entry))) (now (after .exit))) ⌝ }
+    ensures { λ r. ⌜ (hasPassed (outcomeOf r) ≡ false → (now (before .exit) ≡ now (before .entry)) × (now (after .exit) ≡ now (after .entry))) ⌝ }
 {
     if is_short(old, relations, own, other) {
         return Outcome::Refused(6, 0);
@@ -114,17 +121,21 @@ pub fn inspect_revision(
         return Outcome::Refused(6, 0);
     }
     let mut masks = [0u64; ENTRIES];
-    if !check_terms::check_terms(new, &mut masks, after) {
+    let mut old_plan = [0u16; ENTRIES];
+    let mut new_plan = [0u16; ENTRIES];
+    if !check_terms::check_terms(new, &mut masks, &mut new_plan) {
         return Outcome::Refused(7, 0);
     }
-    if !check_terms::check_terms(old, &mut masks, before) {
+    if !check_terms::check_terms(old, &mut masks, &mut old_plan) {
         return Outcome::Refused(7, 0);
     }
-    if !check_banks(old, &masks, before, relations, own, other) {
+    if !check_banks(old, &masks, &old_plan, relations, own, other) {
         return Outcome::Refused(8, 0);
     }
     if !is_same_size(old, new) {
         return Outcome::Refused(13, 0);
     }
+    *before = old_plan;
+    *after = new_plan;
     Outcome::Done
 }

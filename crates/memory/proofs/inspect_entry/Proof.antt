@@ -1,7 +1,7 @@
 use borrow.Author.Needs.{needs}
 use borrow.Author.Tests.{not-true}
-use mathlib.Core.Path.{_≡_, sym, _∙_}
-use mathlib.Core.Bool.{true, false≢true}
+use mathlib.Core.Path.{_≡_, refl, sym, _∙_}
+use mathlib.Core.Bool.{true, true≢false, false≢true}
 use Rattle.memory.specs.Checks.{memoryTests, goodMemory}
 use Rattle.theory.proofs.Good.{every-at}
 use Rattle.memory.proofs.Outcomes as outcomes
@@ -14,7 +14,7 @@ start c = c .before .before .before .before
 
 -- the terms are looked at, and pass
 abbrev checked : tie.Else3 → tie.After-check-terms
-checked c = c .before .before
+checked c = c .before .before .before
 
 abbrev lengths : tie.After-check-terms → tie.Else2
 lengths c = c .before .before .before
@@ -24,7 +24,7 @@ terms-good c = sym (checked c .check-terms .ensures .0) ∙ outcomes.not-false _
 
 -- the state is looked at
 abbrev passed : tie.After-check-state → tie.Else3
-passed c = c .before .before .before .before
+passed c = c .before .before .before
 
 -- terms and state pass
 all-passed : (c : tie.Else4) → outcomes.Checked (start (lengths (checked (passed (c .before)))) .args .terms .now) (start (lengths (checked (passed (c .before)))) .args .state .now)
@@ -39,31 +39,25 @@ all-passed c =
     }
 
 returns : tie.Need-returns
-returns c = (outcomes.entry-unchecked _ _ _ _ _ (outcomes.check-short-terms _ _ (c .if1 .taken)), λ e. absurd (false≢true e))
+returns c = (outcomes.entry-unchecked _ _ _ _ _ (outcomes.check-short-terms _ _ (c .if1 .taken)), ((λ e. absurd (false≢true e)), (λ _. refl)))
 
 returns-2 : tie.Need-returns-2
-returns-2 c = (outcomes.entry-unchecked _ _ _ _ _ (outcomes.check-short-state _ _ (c .if2 .taken)), λ e. absurd (false≢true e))
-
-slice-aggregate-check-terms : tie.Need-slice-aggregate-check-terms
-slice-aggregate-check-terms c = search needs
+returns-2 c = (outcomes.entry-unchecked _ _ _ _ _ (outcomes.check-short-state _ _ (c .if2 .taken)), ((λ e. absurd (false≢true e)), (λ _. refl)))
 
 check-terms-requires : tie.Need-check-terms-requires
-check-terms-requires c κs = search needs
+check-terms-requires c κs = (search needs, search needs, refl)
 
 returns-3 : tie.Need-returns-3
 returns-3 c =
-    let k = c .before .before in
+    let k = c .before .before .before in
     let l = lengths k in (
       outcomes.entry-unchecked _ _ _ _ _ (outcomes.check-bad-terms _ _ (l .before .if1 .left) (l .if2 .left) (sym (k .check-terms .ensures .0) ∙ not-true _ (c .if3 .taken))),
-      λ e. absurd (false≢true e),
+      ((λ e. absurd (false≢true e)), (λ _. refl)),
     )
-
-slice-aggregate-check-state : tie.Need-slice-aggregate-check-state
-slice-aggregate-check-state c = search needs
 
 check-state-requires : tie.Need-check-state-requires
 check-state-requires c κs =
-    let k = c .before .before .before in
+    let k = c .before .before in
     ((terms-good k, lengths (checked k) .if2 .left), checked k .check-terms .ensures .1 .1 (outcomes.not-false _ (k .if3 .left)))
 
 returns-4 : tie.Need-returns-4
@@ -71,7 +65,7 @@ returns-4 c =
     let k = passed (c .before) in
     let l = lengths (checked k) in (
       outcomes.entry-unchecked _ _ _ _ _ (outcomes.check-bad-state _ _ (l .before .if1 .left) (l .if2 .left) (terms-good k) (sym (c .before .check-state .ensures) ∙ not-true _ (c .if4 .taken))),
-      λ e. absurd (false≢true e),
+      ((λ e. absurd (false≢true e)), (λ _. refl)),
     )
 
 slice-aggregate-is-askable : tie.Need-slice-aggregate-is-askable
@@ -86,14 +80,14 @@ is-askable-requires c κs =
 returns-5 : tie.Need-returns-5
 returns-5 c =
     let e = c .before .before .before in
-    (outcomes.entry-unasked _ _ _ (all-passed e) (sym (c .before .is-askable .ensures) ∙ not-true _ (c .if5 .taken)), λ e. absurd (false≢true e))
+    (outcomes.entry-unasked _ _ _ (all-passed e) (sym (c .before .is-askable .ensures) ∙ not-true _ (c .if5 .taken)), ((λ e. absurd (false≢true e)), (λ _. refl)))
 
 returns-6 : tie.Need-returns-6
 returns-6 c =
     let e = c .before .before .before in
     let k = passed (e .before) in (
       outcomes.entry-passed _ _ _ (all-passed e) (sym (c .before .is-askable .ensures) ∙ outcomes.not-false _ (c .if5 .left)),
-      λ _. checked k .check-terms .ensures .1 .1 (outcomes.not-false _ (k .if3 .left)) .0,
+      ((λ _. checked k .check-terms .ensures .1 .1 (outcomes.not-false _ (k .if3 .left)) .0), (λ e. absurd (true≢false e))),
     )
 
 pub inspect-entry-spec : {M : Type 1} → statement M
@@ -102,10 +96,12 @@ inspect-entry-spec =
     (tie.spec
     returns
     returns-2
-    slice-aggregate-check-terms
+    (λ c. search needs)
+    (λ c. search needs)
     check-terms-requires
     returns-3
-    slice-aggregate-check-state
+    (λ c. search needs)
+    (λ c. search needs)
     check-state-requires
     returns-4
     slice-aggregate-is-askable

@@ -49,7 +49,7 @@ planned : (k : tie.After-enum-told) → hasPassed (outcomeOf (inspected k .inspe
 planned k = ap hasPassed (ap outcomeOf (k .enum-told .given .1))
 
 slice-aggregate-is-so : tie.Need-slice-aggregate-is-so
-slice-aggregate-is-so c = let k = c .before .before .before in sym (inspected k .inspect-entry .ensures .1 (planned k) .long)
+slice-aggregate-is-so c = let k = c .before .before .before in sym (inspected k .inspect-entry .ensures .1 .0 (planned k) .long)
 
 is-so-requires : tie.Need-is-so-requires
 is-so-requires c κs =
@@ -58,7 +58,7 @@ is-so-requires c κs =
     let x = start k .args in
     let T = termsOf (x .terms .now) in
     let p = passes k .0 in (
-      (p .long-terms, p .good-terms, inspected k .inspect-entry .ensures .1 (planned k)),
+      (p .long-terms, p .good-terms, inspected k .inspect-entry .ensures .1 .0 (planned k)),
       (
         (p .long-state, p .good-state),
         (

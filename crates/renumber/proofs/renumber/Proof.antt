@@ -51,7 +51,7 @@ right : (c : tie.Else2) → renumbers (termsOf (start (c .before .before .before
 right c = sym (told (c .before)) ∙ not-false _ (c .if2 .left)
 
 plan-is : (c : tie.After-enum-told) → Planned (termsOf (start c .args .terms .now)) (c .before .before .inspect .last .1 .1 .0)
-plan-is c = c .before .before .inspect .ensures .1 (ap hasPassed (ap outcomeOf (c .enum-told .given .1)))
+plan-is c = c .before .before .inspect .ensures .1 .0 (ap hasPassed (ap outcomeOf (c .enum-told .given .1)))
 
 slice-aggregate-rewrite : tie.Need-slice-aggregate-rewrite
 slice-aggregate-rewrite c = sym (plan-is (c .before .before .before .before) .long)

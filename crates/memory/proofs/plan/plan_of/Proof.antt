@@ -1,21 +1,23 @@
 use borrow.Author.Needs.{needs}
-use borrow.Author.Tests.{not-true}
+use borrow.Author.Tests.{not-true, not-false}
 use Prim.Native.Nat.{ℕ, _+_, _*_, _%_}
-use mathlib.Core.Path.{sym, ap₂, _∙_}
-use mathlib.Core.Bool.{cond, false≢true}
+use mathlib.Core.Path.{ap₂, _∙_}
+use mathlib.Core.Bool.{cond}
 use lib.Dec.{eqb}
 use Rattle.sets.specs.Sets.{least}
 use Rattle.memory.proofs.plan.plan_of.Statement.{statement}
 use Rattle.memory.proofs.plan.plan_of.Tie as tie
 
 returns : tie.Need-returns
-returns c p = absurd (false≢true (sym (not-true _ (c .if1 .taken)) ∙ c .before .is-past .ensures ∙ p))
+returns c = rw (← c .before .is-past .ensures, not-true (c .before .is-past .result) (c .if1 .taken))
 
 returns-2 : tie.Need-returns-2
-returns-2 c _ =
-    ap₂ (λ (l y : ℕ). 256 * c .before .before .before .before .before .args .t + 16 * (l % 16) + y) (c .before .before .least-of .ensures)
+returns-2 c =
+    let k = c .before .before .before in
+    rw (← k .before .is-past .ensures, not-false (k .before .is-past .result) (k .if1 .left))
+    (ap₂ (λ (l y : ℕ). 256 * k .before .before .args .t + 16 * (l % 16) + y) (c .before .before .least-of .ensures)
     (c .last-column .ensures .0
-    ∙ ap₂ (λ (r l : ℕ). cond (eqb r 0) (l % 16) (least r % 16)) (c .before .rest-of .ensures) (c .before .before .least-of .ensures))
+    ∙ ap₂ (λ (r l : ℕ). cond (eqb r 0) (l % 16) (least r % 16)) (c .before .rest-of .ensures) (c .before .before .least-of .ensures)))
 
 pub plan-of-spec : {M : Type 1} → statement M
 plan-of-spec =

@@ -40,7 +40,7 @@ is-granted-requires : tie.Need-is-granted-requires
 is-granted-requires c κs =
     let k = c .before .before .before .before in
     let p = checked k in (
-      (p .long-terms, p .good-terms, inspected k .inspect .ensures .1 (ap hasPassed (ap outcomeOf (k .enum-told .given .1)))),
+      (p .long-terms, p .good-terms, inspected k .inspect .ensures .1 .0 (ap hasPassed (ap outcomeOf (k .enum-told .given .1)))),
       (
         (p .long-banks .relations-long, p .long-banks .own-long, p .good-own),
         (sym (c .before .before .before .is-named .ensures) ∙ not-false _ (c .before .before .if3 .left)),
@@ -53,7 +53,7 @@ returns-4 c =
     let k = e .before .before in
     let l = lengths (inspected k) in (
       answers.judged _ _ _ _ _ _ _ _ _ (l .before .if1 .left) (l .if2 .left) (checked k) (sym (e .before .is-named .ensures) ∙ not-false _ (e .if3 .left)) (c .if4 .taken) (c .before .is-granted .ensures),
-      λ _. inspected k .inspect .ensures .1 (ap hasPassed (ap outcomeOf (k .enum-told .given .1))),
+      λ _. inspected k .inspect .ensures .1 .0 (ap hasPassed (ap outcomeOf (k .enum-told .given .1))),
     )
 
 returns-5 : tie.Need-returns-5
@@ -70,7 +70,7 @@ returns-6 c =
     let k = e .before .before in
     let l = lengths (inspected k) in (
       answers.judged _ _ _ _ _ _ _ _ _ (l .before .if1 .left) (l .if2 .left) (checked k) (sym (e .before .is-named .ensures) ∙ not-false _ (e .if3 .left)) (c .if4 .left) (c .before .is-granted .ensures),
-      λ _. inspected k .inspect .ensures .1 (ap hasPassed (ap outcomeOf (k .enum-told .given .1))),
+      λ _. inspected k .inspect .ensures .1 .0 (ap hasPassed (ap outcomeOf (k .enum-told .given .1))),
     )
 
 pub judge-spec : {M : Type 1} → statement M

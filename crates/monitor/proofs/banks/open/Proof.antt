@@ -28,13 +28,13 @@ says c = banks-opened _ _ _ _ (is-passed c)
 slice-aggregate-first-moment : tie.Need-slice-aggregate-first-moment
 slice-aggregate-first-moment c =
     let k = c .before in
-    sym (inspected k .inspect-opening .ensures .1 (ap hasPassed (ap outcomeOf (k .enum-told .given .1))) .long)
+    sym (inspected k .inspect-opening .ensures .1 .0 (ap hasPassed (ap outcomeOf (k .enum-told .given .1))) .long)
 
 first-moment-requires : tie.Need-first-moment-requires
 first-moment-requires c κs =
     let k = c .before .before in
     let o = says k in (
-      (o .terms-long, o .terms-good, inspected k .inspect-opening .ensures .1 (ap hasPassed (ap outcomeOf (k .enum-told .given .1)))),
+      (o .terms-long, o .terms-good, inspected k .inspect-opening .ensures .1 .0 (ap hasPassed (ap outcomeOf (k .enum-told .given .1)))),
       (o .banks-long .relations-long, o .banks-long .own-long, o .relations-good),
     )
 

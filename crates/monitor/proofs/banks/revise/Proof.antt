@@ -59,7 +59,7 @@ slice-aggregate-begin-own : tie.Need-slice-aggregate-begin-own
 slice-aggregate-begin-own c = let k = c .before .before .before .before .before .before .before in sym (inspected k .inspect-revision .ensures .1 .0 (passes k) .long)
 
 slice-aggregate-begin-own-2 : tie.Need-slice-aggregate-begin-own-2
-slice-aggregate-begin-own-2 c = let k = c .before .before .before .before .before .before .before .before in sym (inspected k .inspect-revision .ensures .1 .1 (passes k) .long)
+slice-aggregate-begin-own-2 c = let k = c .before .before .before .before .before .before .before .before in sym (inspected k .inspect-revision .ensures .1 .1 .0 (passes k) .long)
 
 begin-own-requires : tie.Need-begin-own-requires
 begin-own-requires c κs =
@@ -67,14 +67,14 @@ begin-own-requires c κs =
     let k = classes-found f in
     let s = says k in
     let e = inspected k .inspect-revision .ensures .1 in
-    let r = begun.revising _ _ _ _ _ _ _ _ (is-passed k) (e .0 (passes k)) (e .1 (passes k)) (start (inspected k) .args .first .now) (s .first-long) (s .first-good) in
+    let r = begun.revising _ _ _ _ _ _ _ _ (is-passed k) (e .0 (passes k)) (e .1 .0 (passes k)) (start (inspected k) .args .first .now) (s .first-long) (s .first-good) in
     ((r, classed _ _ _ _ (r .good-old) (r .good-new) (length-replicate {A = ℕ} maxEntries 0) (f .find-classes .ensures .0)), (s .relations-long, s .first-long, s .third-long))
 
 slice-aggregate-begin-own-4 : tie.Need-slice-aggregate-begin-own-4
 slice-aggregate-begin-own-4 c = let k = c .before .before .before .before .before .before .before .before .before .before .before .before .before .before in sym (inspected k .inspect-revision .ensures .1 .0 (passes k) .long)
 
 slice-aggregate-begin-own-5 : tie.Need-slice-aggregate-begin-own-5
-slice-aggregate-begin-own-5 c = let k = c .before .before .before .before .before .before .before .before .before .before .before .before .before .before .before in sym (inspected k .inspect-revision .ensures .1 .1 (passes k) .long)
+slice-aggregate-begin-own-5 c = let k = c .before .before .before .before .before .before .before .before .before .before .before .before .before .before .before in sym (inspected k .inspect-revision .ensures .1 .1 .0 (passes k) .long)
 
 begin-own-requires-2 : tie.Need-begin-own-requires-2
 begin-own-requires-2 c κs =
@@ -82,7 +82,7 @@ begin-own-requires-2 c κs =
     let k = classes-found f in
     let s = says k in
     let e = inspected k .inspect-revision .ensures .1 in
-    let r = begun.revising _ _ _ _ _ _ _ _ (is-passed k) (e .0 (passes k)) (e .1 (passes k)) (start (inspected k) .args .second .now) (s .second-long) (s .second-good) in
+    let r = begun.revising _ _ _ _ _ _ _ _ (is-passed k) (e .0 (passes k)) (e .1 .0 (passes k)) (start (inspected k) .args .second .now) (s .second-long) (s .second-good) in
     ((r, classed _ _ _ _ (r .good-old) (r .good-new) (length-replicate {A = ℕ} maxEntries 0) (f .find-classes .ensures .0)), (s .relations-long, s .second-long, s .fourth-long))
 
 returns : tie.Need-returns

@@ -86,7 +86,7 @@ part-begin-end-2 : tie.Need-part-begin-end-2
 part-begin-end-2 c = omega (arith, says (c .before .before .before .before .before .before .before .before) .checked .long-state)
 
 slice-aggregate-begin-2 : tie.Need-slice-aggregate-begin-2
-slice-aggregate-begin-2 c = let k = c .before .before .before .before .before .before .before .before .before .before in sym (inspected k .inspect-revision .ensures .1 .1 (passes k) .long)
+slice-aggregate-begin-2 c = let k = c .before .before .before .before .before .before .before .before .before .before in sym (inspected k .inspect-revision .ensures .1 .1 .0 (passes k) .long)
 
 part-begin-end-3 : tie.Need-part-begin-end-3
 part-begin-end-3 c = second-long (c .before .before .before .before .before .before .before)
@@ -97,7 +97,7 @@ begin-requires c κs =
     let s = says k in
     let x = start (inspected k) .args in
     let e = inspected k .inspect-revision .ensures .1 in
-    let r = revising s (e .0 (passes k)) (e .1 (passes k)) in (
+    let r = revising s (e .0 (passes k)) (e .1 .0 (passes k)) in (
       (r, classed _ _ _ _ (r .good-old) (r .good-new) (length-replicate {A = ℕ} maxEntries 0) (c .before .before .before .before .before .before .before .before .before .before .find-classes .ensures .0)),
       (
         parts.relations-long (x .state .now) (s .checked .long-state),

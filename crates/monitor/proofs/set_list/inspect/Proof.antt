@@ -15,7 +15,7 @@ same-length : tie.Need-same-length
 same-length c = search needs
 
 returns-2 : tie.Need-returns-2
-returns-2 c = (record { outcome = c .inspect .ensures .0 ∙ list-checked _ _ _ (c .before .before .before .if1 .left); planned = c .inspect .ensures .1 }, refl, refl)
+returns-2 c = (record { outcome = c .inspect .ensures .0 ∙ list-checked _ _ _ (c .before .before .before .if1 .left); planned = c .inspect .ensures .1 .0 }, refl, refl)
 
 pub inspect-spec : {M : Type 1} → statement M
 inspect-spec = tie.close (tie.spec returns inspect-requires same-length returns-2)

@@ -18,7 +18,7 @@ enum-told c = search needs
 slice-aggregate-pair-tables : tie.Need-slice-aggregate-pair-tables
 slice-aggregate-pair-tables c =
     let k = c .before .before in
-    sym (k .before .before .inspect .ensures .1 (ap hasPassed (ap outcomeOf (k .enum-told .given .1))) .long)
+    sym (k .before .before .inspect .ensures .1 .0 (ap hasPassed (ap outcomeOf (k .enum-told .given .1))) .long)
 
 pair-tables-requires : tie.Need-pair-tables-requires
 pair-tables-requires c κs =
@@ -26,7 +26,7 @@ pair-tables-requires c κs =
     let i = k .before .before in
     let e : passed ≡ checks _ _ = sym (ap outcomeOf (k .enum-told .given .1)) ∙ i .inspect .ensures .0 in
     let p = passed-checked _ _ e in
-    (p .long-terms, p .good-terms, i .inspect .ensures .1 (ap hasPassed (ap outcomeOf (k .enum-told .given .1))))
+    (p .long-terms, p .good-terms, i .inspect .ensures .1 .0 (ap hasPassed (ap outcomeOf (k .enum-told .given .1))))
 
 store-checked-requires : tie.Need-store-checked-requires
 store-checked-requires c κs =
