@@ -8,9 +8,9 @@ use monitor::look;
 use monitor::request;
 use monitor::revise::revise;
 use text::read::read;
-use text::write::write;
 use writer::Written;
 use writer::store::store;
+use writer::write::write;
 
 // Bytes of a text, enough for those of the cases.
 pub(crate) const ROOM: usize = 8192;

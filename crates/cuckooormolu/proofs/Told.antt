@@ -32,9 +32,8 @@ use Rattle.file.specs.Reading as file
 use Rattle.file.specs.File.{File, after, nothing}
 use Rattle.file.specs.Reading.{Test, Reading, tests, tried, complete, readOn, partlyAt, levelled, reading}
 use Rattle.reader.specs.Read.{short, outcome, readGives}
-use Rattle.writer.specs.Write.{Writing, fitted, sizeGives, writeGives, writtenText, storeSizeGives, storeGives, storedText}
+use Rattle.writer.specs.Write.{Writing, fitted, writtenText, storedText, isFresh, ifFresh, sizeGives, writeGives, oldSizeGives, oldWriteGives, storeSizeGives, storeGives}
 use Rattle.writer.specs.Write.Writing.{bytes, unwritten}
-use Rattle.text.specs.Text.{isFresh, ifFresh, oldSizeGives, oldWriteGives}
 use Rattle.file.specs.declared.line.Line.{Line}
 use Rattle.file.specs.declared.line.Line.the-variants.{Members, Labels, Entry, Policy, Effect, Edge, Form, TableBit, PairBit, EventEdge, Mark, Malformed}
 use Rattle.cuckooormolu.specs.Codes.{doneCode, Low, ToldAnswer, ToldOutcome, ToldWriting, ToldListing}

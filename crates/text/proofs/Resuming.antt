@@ -18,10 +18,8 @@ use Rattle.calls.proofs.Demand.{run}
 use Rattle.file.specs.File.{File}
 use Rattle.file.specs.Reading.{reading}
 use Rattle.file.specs.Reading.Reading.{accepted}
-use Rattle.writer.specs.Write.{Writing, writtenText, sizeGives, writeGives, storedText, storeGives, fitted, filledOut}
-use Rattle.writer.specs.Write.Writing.{bytes, unwritten}
-use Rattle.writer.proofs.Sized.{size-enough, size-short, size-refused}
-use Rattle.text.specs.Text.{isFresh, ifFresh, oldSizeGives, oldWriteGives, oldWriteLeaves}
+use Rattle.writer.specs.Write.{writtenText, isFresh, ifFresh, writeGives, oldWriteGives, oldWriteLeaves, storedText, storeGives, fitted, filledOut}
+use Rattle.writer.specs.Write.Writing.{bytes}
 use Rattle.text.specs.Recorded.{loaded, after, Recorded}
 use Rattle.text.specs.Recorded.Recorded.{old, written}
 use Rattle.text.proofs.Yields.{reread-fresh}
@@ -68,27 +66,6 @@ module _ (L : Lent) (out : List ℕ) (n : ℕ) (g : oldWriteGives (L .terms) (L 
       subst (λ t. serveSteps (loaded t terms' state') ss .0 ≡ serveSteps L ss .0) (sym (same ∙ text-written))
       (ap₂ (λ m s. serveSteps (record { terms = m; state = s; before = state' }) ss .0) (r .0 ∙ sym (q .0)) (r .1 ∙ sym (q .1))
       ∙ never-stopped L stored (length stored) stored-fits stored (sym (text-stored (L .terms) (L .state) stored (length stored) stored-fits)) terms' state' tl sl ss)
-
--- The size that is told of the old form is enough; a shorter output is refused with 6; and what refuses the size, 12 among them, refuses the writing.
-module _ (terms state out : List ℕ) where
-  abbrev Told : Writing → Writing → Type 0
-  Told s w =
-      ((n : ℕ) → s ≡ bytes n → n ≤ length out → w ≡ bytes n)
-      × ((n : ℕ) → s ≡ bytes n → length out < n → w ≡ unwritten 6 0)
-      × ((k l : ℕ) → s ≡ unwritten k l → w ≡ unwritten k l)
-
-  pub old-size-told : Told (oldSizeGives terms state) (oldWriteGives terms state out)
-  unfolding oldSizeGives oldWriteGives
-  old-size-told = by (checks terms state) (isFresh terms state) (sizeGives terms state) (writeGives terms state out)
-      (size-enough terms state out, size-short terms state out, size-refused terms state out)
-    where
-      by : (o : Outcome) (b : Bool) (s w : Writing) → Told s w → Told (ifFresh b o s) (ifFresh b o w)
-      by (failed k l) b s w t = t
-      by passed true s w t = t
-      by passed false s w t = ((λ n e h. absurd-bytes n e), (λ n e h. absurd-bytes n e), (λ k l e. e))
-        where
-          absurd-bytes : {A : Type 0} (n : ℕ) → unwritten 12 0 ≡ bytes n → A
-          absurd-bytes n e = let z : _≡_ {A = ℕ} 0 1 = cc in absurd (omega arith)
 
 -- ---- files with a record
 

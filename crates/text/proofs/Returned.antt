@@ -26,11 +26,11 @@ use Rattle.file.proofs.Rewritten.{rewritten, normal-plain, normal-accepted}
 use Rattle.reader.specs.Memory.{memoryOf}
 use Rattle.reader.proofs.StateMemory.{filled-alike, checked}
 use Rattle.reader.specs.Read.{readGives, readTerms}
-use Rattle.writer.specs.Write.{Writing, writtenText, writeGives, writeLeaves, storedText, storeGives, storeLeaves}
+use Rattle.writer.specs.Write.{Writing, writtenText, isFresh, writeGives, oldWriteGives, oldWriteLeaves, storedText, storeGives, storeLeaves}
 use Rattle.writer.specs.Write.Writing.{bytes}
-use Rattle.text.specs.Text.{beginning, readState, isFresh, oldWriteGives, oldWriteLeaves}
+use Rattle.writer.proofs.OldForm.{write-fresh}
+use Rattle.text.specs.Text.{beginning, readState}
 use Rattle.text.proofs.Begun.{read-opened, begun-like, same-opened, edges-back, begun-checked}
-use Rattle.text.proofs.OldForm.{write-fresh, leaves-fresh}
 use Rattle.text.proofs.Reloaded.{placed-state}
 use Rattle.text.proofs.Yields.{read-terms, read-state}
 
@@ -82,20 +82,19 @@ module _ (text : List ℕ) (f : File) (e : reading text ≡ accepted f) (terms s
         ∙ sym (ap (λ b. cond b (stored T (stateSaid f)) (written T (f .edges))) form) ∙ rewritten text f e
 
     module _ (out : List ℕ) (room : length (normalText text) ≤ length out) where
-      write-gives : writeGives m opened out ≡ bytes (length (normalText text))
+      write-gives : oldWriteGives m opened out ≡ bytes (length (normalText text))
       unfolding writeGives
       write-gives =
-          rw (sym (begun-checked text f e form terms state tl sl), text-back, le-ltb (length out) (length (normalText text)) room)
+          let c = begun-checked text f e form terms state tl sl in
+          write-fresh m opened out c fresh ∙ rw (sym c, text-back, le-ltb (length out) (length (normalText text)) room)
 
-      write-leaves : writeLeaves m opened out ≡ normalText text ++ drop (length (normalText text)) out
-      unfolding writeLeaves
+      write-leaves : oldWriteLeaves m opened out ≡ normalText text ++ drop (length (normalText text)) out
+      unfolding oldWriteLeaves
       write-leaves = rw (write-gives, text-back)
 
       pub returned-old : Back oldWriteGives oldWriteLeaves text terms state out (normalText text)
       returned-old =
-          let c = begun-checked text f e form terms state tl sl in
-          rw (read-terms text f e terms state tl sl, read-opened text f e form terms state tl sl)
-          (read-done, write-fresh m opened out c fresh ∙ write-gives, leaves-fresh m opened out c fresh ∙ write-leaves)
+          rw (read-terms text f e terms state tl sl, read-opened text f e form terms state tl sl) (read-done, write-gives, write-leaves)
 
   -- ---- the stored form
 

@@ -1,7 +1,7 @@
 -- The size that is told is the room that is needed: an output of so many bytes is written, a shorter one refused; what refuses the size refuses the writing.
 use Prim.Native.Nat.{ℕ, _≤_, _<_}
 use mathlib.Core.Path.{_≡_, refl}
-use mathlib.Core.Bool.{Bool, false}
+use mathlib.Core.Bool.{Bool, true, false}
 use mathlib.Core.List.{List}
 use native.Mathlib.Omega.{arith}
 use lib.ListN.{length}
@@ -9,7 +9,8 @@ use lib.Dec.{ltb}
 use borrow.Author.Tests.{lt-ltb, le-ltb}
 use Rattle.memory.specs.Outcome.{Outcome, checks}
 use Rattle.memory.specs.Outcome.Outcome.{passed, failed}
-use Rattle.writer.specs.Write.{fitted, writtenText, storedText, sizeGives, writeGives, storeSizeGives, storeGives}
+use Rattle.writer.specs.Write.{Writing, fitted, writtenText, storedText, isFresh, ifFresh, sizeGives, writeGives}
+use Rattle.writer.specs.Write.{oldSizeGives, oldWriteGives, storeSizeGives, storeGives}
 use Rattle.writer.specs.Write.Writing.{bytes, unwritten}
 use Rattle.writer.proofs.Fitting.{gives}
 
@@ -35,17 +36,34 @@ module _ (o : Outcome) (text out : List ℕ) where
   refused k l e = same-refusal o (ltb (length out) (length text)) (length text) k l e
 
 module _ (terms state out : List ℕ) where
-  pub size-enough : (n : ℕ) → sizeGives terms state ≡ bytes n → n ≤ length out → writeGives terms state out ≡ bytes n
-  unfolding sizeGives writeGives
-  size-enough = enough (checks terms state) (writtenText terms state) out
+  -- What a size says of the writing.
+  abbrev Told : Writing → Writing → Type 0
+  Told s w =
+      ((n : ℕ) → s ≡ bytes n → n ≤ length out → w ≡ bytes n)
+      × ((n : ℕ) → s ≡ bytes n → length out < n → w ≡ unwritten 6 0)
+      × ((k l : ℕ) → s ≡ unwritten k l → w ≡ unwritten k l)
 
-  pub size-short : (n : ℕ) → sizeGives terms state ≡ bytes n → length out < n → writeGives terms state out ≡ unwritten 6 0
+  -- of a fresh start
+  size-told : Told (sizeGives terms state) (writeGives terms state out)
   unfolding sizeGives writeGives
-  size-short = short (checks terms state) (writtenText terms state) out
+  size-told =
+      let o = checks terms state in
+      let t = writtenText terms state in
+      (enough o t out, short o t out, refused o t out)
 
-  pub size-refused : (k l : ℕ) → sizeGives terms state ≡ unwritten k l → writeGives terms state out ≡ unwritten k l
-  unfolding sizeGives writeGives
-  size-refused = refused (checks terms state) (writtenText terms state) out
+  -- of any state in the old form, with 12 among the refusals
+  pub old-size-told : Told (oldSizeGives terms state) (oldWriteGives terms state out)
+  unfolding oldSizeGives oldWriteGives
+  old-size-told =
+      by (checks terms state) (isFresh terms state) (sizeGives terms state) (writeGives terms state out) size-told
+    where
+      by : (o : Outcome) (b : Bool) (s w : Writing) → Told s w → Told (ifFresh b o s) (ifFresh b o w)
+      by (failed k l) b s w t = t
+      by passed true s w t = t
+      by passed false s w t = ((λ n e h. absurd-bytes n e), (λ n e h. absurd-bytes n e), (λ k l e. e))
+        where
+          absurd-bytes : {A : Type 0} (n : ℕ) → unwritten 12 0 ≡ bytes n → A
+          absurd-bytes n e = let z : _≡_ {A = ℕ} 0 1 = cc in absurd (omega arith)
 
   pub store-size-enough : (n : ℕ) → storeSizeGives terms state ≡ bytes n → n ≤ length out → storeGives terms state out ≡ bytes n
   unfolding storeSizeGives storeGives

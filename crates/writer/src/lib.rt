@@ -1,5 +1,6 @@
 // The writer of a terms file and of its stored form, over lent memory.
 mod bits;
+mod fresh;
 mod kind;
 mod pairs;
 mod print;

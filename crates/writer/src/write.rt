@@ -1,7 +1,9 @@
-// The writer: the text of the lent terms and present relations (docs/SCOPE.md, The terms file), kind by kind.
+// The writer of the old form: the text of the lent terms and present relations (docs/SCOPE.md, The terms file), kind by
+// kind. It carries relations only: a state with a past is refused with 12.
 // Whatever the words are, the text has at most 2 ^ 24 bytes, so that no count wraps.
 use crate::Written;
 use crate::bits::put_edges;
+use crate::fresh::is_fresh;
 use crate::kind;
 use crate::print::put_effect;
 use crate::print::put_entry;
@@ -33,7 +35,7 @@ ghost use Rattle.memory.specs.Layout.{relationWords, termsOf};
 ghost use Rattle.memory.specs.Outcome.{checks};
 ghost use Rattle.memory.specs.Outcome.Outcome.{passed};
 ghost use Rattle.fields.specs.Put.{Put};
-ghost use Rattle.writer.specs.Write.{writtenText, writingOf, sizeGives, writeGives, writeLeaves};
+ghost use Rattle.writer.specs.Write.{writtenText, writingOf, oldSizeGives, oldWriteGives, oldWriteLeaves};
 ghost use Rattle.file.specs.Writing.{markLine, printedAll};
 ghost use Rattle.writer.specs.Kinds.{frontLines, entryOf, entryLines, policyOf, policyLines, markLines, effectsOf, eventLines, tripleOf};
 
@@ -207,12 +209,27 @@ fn count(terms: &[u16], state: &[u64]) -> usize
     put_text(terms, state, &mut one, 0)
 }
 
-// Writes the text of checked terms and state, if the output has room for all of it.
+// The size of checked terms and state, where the state is a fresh start.
+fn size_checked(terms: &[u16], state: &[u64]) -> Written
+    requires { ⌜ passed ≡ checks (now terms) (now state) ⌝ }
+    ensures { λ r. ⌜ writingOf r ≡ oldSizeGives (now (terms .entry)) (now (state .entry)) ⌝ }
+{
+    if is_fresh(terms, state) {
+        Written::Bytes(count(terms, state))
+    } else {
+        Written::Refused(12, 0)
+    }
+}
+
+// Writes the text of checked terms and state, where the state is a fresh start and the output has room for all of it.
 fn write_checked(terms: &[u16], state: &[u64], out: &mut [u8]) -> Written
     requires { ⌜ passed ≡ checks (now terms) (now state) ⌝ }
-    ensures { λ r. ⌜ writingOf r ≡ writeGives (now (terms .entry)) (now (state .entry)) (now (out .entry)) ⌝ }
-    ensures { λ r. ⌜ now (out .exit) ≡ writeLeaves (now (terms .entry)) (now (state .entry)) (now (out .entry)) ⌝ }
+    ensures { λ r. ⌜ writingOf r ≡ oldWriteGives (now (terms .entry)) (now (state .entry)) (now (out .entry)) ⌝ }
+    ensures { λ r. ⌜ now (out .exit) ≡ oldWriteLeaves (now (terms .entry)) (now (state .entry)) (now (out .entry)) ⌝ }
 {
+    if !is_fresh(terms, state) {
+        return Written::Refused(12, 0);
+    }
     let n = count(terms, state);
     if out.len() < n {
         return Written::Refused(6, 0);
@@ -221,21 +238,22 @@ fn write_checked(terms: &[u16], state: &[u64], out: &mut [u8]) -> Written
     Written::Bytes(n)
 }
 
-// How many bytes `write` would write, or its refusal of terms and state: 6, 7 or 8.
+// How many bytes `write` would write, or its refusal of terms and state: 6, 7, 8 or 12.
 pub fn size(terms: &[u16], state: &[u64]) -> Written
-    ensures { λ r. ⌜ writingOf r ≡ sizeGives (now (terms .entry)) (now (state .entry)) ⌝ }
+    ensures { λ r. ⌜ writingOf r ≡ oldSizeGives (now (terms .entry)) (now (state .entry)) ⌝ }
 {
     match check(terms, state) {
-        Outcome::Done => Written::Bytes(count(terms, state)),
+        Outcome::Done => size_checked(terms, state),
         Outcome::Refused(n, l) => Written::Refused(n, l),
     }
 }
 
-// Writes the terms with the present relations. The count of bytes, or a refusal, which leaves the output untouched:
-// 6, 7 and 8 for terms and state, and last 6 for an output too short for the whole text.
+// Writes the terms with the present relations, from a state that is a fresh start of its own relations. The count of
+// bytes, or a refusal, which leaves the output untouched: 6, 7 and 8 for terms and state, 12 for a state that is
+// another, and last 6 for an output too short for the whole text.
 pub fn write(terms: &[u16], state: &[u64], out: &mut [u8]) -> Written
-    ensures { λ r. ⌜ writingOf r ≡ writeGives (now (terms .entry)) (now (state .entry)) (now (out .entry)) ⌝ }
-    ensures { λ r. ⌜ now (out .exit) ≡ writeLeaves (now (terms .entry)) (now (state .entry)) (now (out .entry)) ⌝ }
+    ensures { λ r. ⌜ writingOf r ≡ oldWriteGives (now (terms .entry)) (now (state .entry)) (now (out .entry)) ⌝ }
+    ensures { λ r. ⌜ now (out .exit) ≡ oldWriteLeaves (now (terms .entry)) (now (state .entry)) (now (out .entry)) ⌝ }
 {
     match check(terms, state) {
         Outcome::Done => write_checked(terms, state, out),

@@ -2,41 +2,27 @@
 use mathlib.Core.Path.{sym, ap, _∙_}
 use borrow.Author.Needs.{needs}
 use Rattle.memory.specs.Outcome.{outcomeOf}
-use Rattle.writer.specs.Write.{writtenText, writeGives, writeLeaves}
-use Rattle.writer.proofs.Fitting.{ends-unchecked}
+use Rattle.writer.proofs.OldForm.{ends-failed}
 use Rattle.writer.proofs.write.write.Statement.{statement}
 use Rattle.writer.proofs.write.write.Tie as tie
 
-check-requires : tie.Need-check-requires
-check-requires c κs = search needs
-
-enum-told : tie.Need-enum-told
-enum-told c = search needs
-
 write-checked-requires : tie.Need-write-checked-requires
-write-checked-requires c κs = sym (ap outcomeOf (c .before .enum-told .given .1)) ∙ c .before .before .before .check .ensures
-
-enum-known-n : tie.Need-enum-known-n
-enum-known-n c = search needs
-
-same-length : tie.Need-same-length
-same-length c = search needs
-
-returns : tie.Need-returns
-returns c = search needs
+write-checked-requires c κs =
+    sym (ap outcomeOf (c .before .enum-told .given .1)) ∙ c .before .before .before .check .ensures
 
 returns-2 : tie.Need-returns-2
-unfolding writeGives writeLeaves
-returns-2 c = ends-unchecked _ (writtenText _ _) _ _ _ (sym (ap outcomeOf (c .before .n .given .1)) ∙ c .before .before .before .check .ensures)
+returns-2 c =
+    let k = c .before .before .before in
+    ends-failed _ _ _ _ _ (sym (ap outcomeOf (c .before .n .given .1)) ∙ k .check .ensures)
 
 pub write-spec : {M : Type 1} → statement M
 write-spec =
     tie.close
     (tie.spec
-    check-requires
-    enum-told
+    (λ c κs. search needs)
+    (λ c. search needs)
     write-checked-requires
-    enum-known-n
-    same-length
-    returns
+    (λ c. search needs)
+    (λ c. search needs)
+    (λ c. search needs)
     returns-2)

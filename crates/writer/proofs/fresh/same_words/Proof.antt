@@ -1,4 +1,4 @@
--- `text::fresh::same_words` meets its contract. The invariant: ok says whether the words below i are the same.
+-- `writer::fresh::same_words` meets its contract. The invariant: ok says whether the words below i are the same.
 use Prim.Native.Nat.{ℕ, _-_, _≤_}
 use mathlib.Core.Path.{_≡_, refl, sym, ap, _∙_}
 use mathlib.Core.Bool.{Bool, _&&_}
@@ -9,8 +9,8 @@ use lib.ListN.{getD}
 use Rattle.sets.specs.Sets.{allBelow}
 use Rattle.sets.proofs.Finite.{all-none, all-more}
 use Rattle.memory.specs.Layout.{stateWords}
-use Rattle.text.proofs.fresh.same_words.Statement.{statement}
-use Rattle.text.proofs.fresh.same_words.Tie as tie
+use Rattle.writer.proofs.fresh.same_words.Statement.{statement}
+use Rattle.writer.proofs.fresh.same_words.Tie as tie
 
 abbrev Inv-loop : tie.InvT-loop
 Inv-loop state other ok₀ i₀ ok i = (i ≤ stateWords) × (ok ≡ allBelow i (λ k. eqb (getD state k 0) (getD other k 0)))

@@ -1,12 +1,12 @@
--- `text::fresh::is_fresh` meets its contract: the copy opens, and is compared word by word.
+-- `writer::fresh::is_fresh` meets its contract: the copy opens, and is compared word by word.
 use mathlib.Core.Path.{_≡_, refl, sym, ap, _∙_}
 use Rattle.memory.proofs.Outcomes.{passed-checked}
 use native.Mathlib.Omega.{arith}
 use borrow.Author.Needs.{needs}
 use Rattle.calls.specs.Monitor.{openedState}
-use Rattle.text.proofs.Started.{copy-long, opened-long, fresh-is}
-use Rattle.text.proofs.fresh.is_fresh.Statement.{statement}
-use Rattle.text.proofs.fresh.is_fresh.Tie as tie
+use Rattle.writer.proofs.Started.{copy-long, opened-long, fresh-is}
+use Rattle.writer.proofs.fresh.is_fresh.Statement.{statement}
+use Rattle.writer.proofs.fresh.is_fresh.Tie as tie
 
 slice-aggregate-copy-state : tie.Need-slice-aggregate-copy-state
 slice-aggregate-copy-state c = refl

@@ -23,7 +23,7 @@ use Rattle.memory.proofs.Words.{length-words}
 use Rattle.memory.proofs.Front.{state-cong, relations-cong}
 use Rattle.memory.proofs.Outcomes.{Checked, passed-checked}
 use Rattle.calls.specs.Monitor.{openedState}
-use Rattle.text.specs.Text.{isFresh}
+use Rattle.writer.specs.Write.{isFresh}
 
 -- The first i words of s in front of what was there.
 abbrev pub copiedTo : (d s : List ℕ) → ℕ → List ℕ

@@ -1,4 +1,4 @@
--- `text::fresh::copy_state` meets its contract. The invariant: the words below i have been copied.
+-- `writer::fresh::copy_state` meets its contract. The invariant: the words below i have been copied.
 use Prim.Native.Nat.{ℕ, _-_, _≤_}
 use mathlib.Core.Path.{_≡_, sym, ap, _∙_}
 use mathlib.Core.List.{List, _++_, append-nil}
@@ -6,9 +6,9 @@ use native.Mathlib.Omega.{arith}
 use borrow.Author.Needs.{needs}
 use lib.ListN.{length, getD, set, take, length-set, drop-of-length-le}
 use Rattle.memory.specs.Layout.{stateWords}
-use Rattle.text.proofs.Started.{copiedTo, copied-more}
-use Rattle.text.proofs.fresh.copy_state.Statement.{statement}
-use Rattle.text.proofs.fresh.copy_state.Tie as tie
+use Rattle.writer.proofs.Started.{copiedTo, copied-more}
+use Rattle.writer.proofs.fresh.copy_state.Statement.{statement}
+use Rattle.writer.proofs.fresh.copy_state.Tie as tie
 
 abbrev Inv-loop : tie.InvT-loop
 Inv-loop copy₀ state i₀ copy i = (i ≤ stateWords) × (length copy ≡ stateWords) × (copy ≡ copiedTo copy₀ state i)

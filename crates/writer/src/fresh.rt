@@ -9,7 +9,7 @@ ghost use Rattle.sets.specs.Sets.{allBelow};
 ghost use Rattle.memory.specs.Layout.{stateWords};
 ghost use Rattle.memory.specs.Outcome.{checks};
 ghost use Rattle.memory.specs.Outcome.Outcome.{passed};
-ghost use Rattle.text.specs.Text.{isFresh};
+ghost use Rattle.writer.specs.Write.{isFresh};
 
 // Copies the named words of a state.
 fn copy_state(copy: &mut [u64], state: &[u64])
