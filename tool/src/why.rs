@@ -19,7 +19,7 @@ use crate::folder::Request;
 use crate::replay::Step;
 use crate::stop::Stop;
 use crate::words::Words;
-use fact::Fact;
+use fact::{Fact, Seen};
 use reason::{Claim, Place, Reasons};
 use story::Story;
 
@@ -134,57 +134,68 @@ impl Lines<'_, '_> {
     /// The lines of a claim, and how many stories are left out.
     fn of(&mut self, claim: Claim, depth: usize) -> (Vec<String>, usize) {
         let stories = story::stories(self.reasons, self.words.names, claim, self.granted);
+        self.lines(&stories, claim.holds, depth)
+    }
+
+    /// The lines of stories, why something holds or doesn't, and how many are left out.
+    fn lines(&mut self, stories: &[Story], holds: bool, depth: usize) -> (Vec<String>, usize) {
         let telling = stories.iter().filter(|story| !story.is_slight()).count();
         let count = if self.all || telling == 0 { stories.len() } else { telling };
         // To say that one is left out takes as much room as to tell it.
         let shown = if self.all || count == MOST_LINES + 1 { count } else { count.min(MOST_LINES) };
-        let always = if claim.holds { "it is always allowed" } else { "it is never allowed" };
+        let always = if holds { "it is always allowed" } else { "it is never allowed" };
         let mut lines = Vec::new();
         for story in &stories[..shown] {
             lines.push(match story.facts[..] {
                 [Fact::Always] => always.to_string(),
-                _ => line(story, &self.telling, self.words, self.reasons, self.now, self.all),
+                _ => self.line(story),
             });
-            for fact in &story.facts {
-                let Fact::Defined(inner) = fact else { continue };
-                if depth < DEEPEST {
-                    let under = self.of(*inner, depth + 1).0;
-                    lines.extend(under.into_iter().map(|line| format!("  {line}")));
-                }
+            if depth < DEEPEST {
+                let under = story.facts.iter().flat_map(|fact| self.under(fact, depth + 1));
+                lines.extend(under.map(|line| format!("  {line}")));
             }
         }
         (lines, count - shown)
     }
-}
 
-/// A story in one line. Of a long one the beginning and the end are told.
-fn line(
-    story: &Story,
-    telling: &Telling,
-    words: &Words,
-    reasons: &Reasons,
-    now: usize,
-    all: bool,
-) -> String {
-    let count = story.facts.len();
-    let left_out = match all || count <= MOST_FACTS {
-        true => 0..0,
-        false => MOST_FACTS - 2..count - 2,
-    };
-    let mut text = String::new();
-    for (index, fact) in story.facts.iter().enumerate() {
-        if left_out.contains(&index) {
-            if index == left_out.start {
-                text.push_str(&format!(", and {} facts more", left_out.len()));
+    /// Why a definition holds, or doesn't, or never did.
+    fn under(&mut self, fact: &Fact, depth: usize) -> Vec<String> {
+        match fact {
+            Fact::Defined(inner) => self.of(*inner, depth).0,
+            Fact::Never { .. } | Fact::NeverSince { .. } if !self.granted => {
+                let stories = story::under(self.reasons, self.words.names, fact);
+                self.lines(&stories, false, depth).0
             }
-            continue;
+            _ => Vec::new(),
         }
-        text.push_str(match index {
-            0 => "",
-            _ if story.turn == Some(index) => ", but ",
-            _ => ", and ",
-        });
-        text.push_str(&fact.told(telling, words, reasons.graphs(), now));
     }
-    text
+
+    /// A story in one line. Of a long one the beginning and the end are told.
+    fn line(&self, story: &Story) -> String {
+        let count = story.facts.len();
+        let left_out = match self.all || count <= MOST_FACTS {
+            true => 0..0,
+            false => MOST_FACTS - 2..count - 2,
+        };
+        let (mut text, mut last) = (String::new(), None);
+        for (index, fact) in story.facts.iter().enumerate() {
+            if left_out.contains(&index) {
+                if index == left_out.start {
+                    text.push_str(&format!(", and {} facts more", left_out.len()));
+                }
+                last = None;
+                continue;
+            }
+            text.push_str(match index {
+                0 => "",
+                _ if story.turn == Some(index) => ", but ",
+                _ => ", and ",
+            });
+            let seen = Seen { now: self.now, last, all: self.all };
+            text.push_str(&fact.told(&self.telling, self.words, self.reasons.graphs(), seen));
+            // Of the present no moment is named.
+            last = fact.moment().filter(|moment| *moment != self.now);
+        }
+        text
+    }
 }

@@ -36,25 +36,61 @@ fn a_kind_is_an_attribute() {
     assert!(run(&["compile", folder.path(), "--print"]).out.starts_with("M\t2\nL\t0\t1\n"));
 }
 
-/// Terms written back say attributes as people do, and compile to the same.
+/// Terms written back have their kinds, and compile to the same.
 #[test]
-fn attributes_are_written_back() {
+fn kinds_are_written_back() {
     let folder = folder();
-    assert_eq!(
-        run(&["compile", folder.path(), "-o", folder.file("other").to_str().unwrap()]).status,
-        0
-    );
-    let source = run(&["source", folder.file("other").to_str().unwrap()]).out;
-    for part in [
-        "me is player and target is player",
-        "\nfirst ben is player\n",
-        "\nfirst ben owns warm-pad\n",
-    ] {
-        assert!(source.contains(part), "{part}\n\n{source}");
-    }
-    let terms = folder.read("other/terms.tsv");
+    let other = folder.file("other");
+    let other = other.to_str().unwrap();
+    assert_eq!(run(&["compile", folder.path(), "-o", other]).status, 0);
+    let source = run(&["source", other]).out;
+    let declared =
+        "members players: ben, cleo\nmembers presets: warm-pad, glass-bell\nmember north\n\
+                    relation owns\n";
+    assert!(source.starts_with(declared), "{source}");
+    assert!(source.contains("me is player and target is player"), "{source}");
+    assert!(source.ends_with("\nfirst ben owns warm-pad\n"), "{source}");
+    let (terms, names) = (folder.read("other/terms.tsv"), folder.read("other/names.tsv"));
     folder.write("terms.say", &source);
-    assert_eq!(run(&["compile", folder.path(), "--print"]).out, terms);
+    assert_eq!(run(&["compile", folder.path()]).status, 0);
+    assert_eq!((folder.read("terms.tsv"), folder.read("names.tsv")), (terms, names));
+}
+
+/// A relation of a kind's name that has other edges stays, and so does a kind in two places.
+#[test]
+fn kinds_beside_relations_are_written_back() {
+    let folder = folder();
+    let source = "members players: ben, cleo; presets: warm-pad\nmembers players: dana\n\
+                  relations player, owns\nevent share when me is player\nfirst ben is player\n";
+    folder.write("terms.say", source);
+    let other = folder.file("other");
+    let other = other.to_str().unwrap();
+    assert_eq!(run(&["compile", folder.path(), "-o", other]).status, 0);
+    let back = run(&["source", other]).out;
+    for part in [
+        "members players: ben, cleo\nmembers presets: warm-pad\nmembers players: dana\n",
+        "relations player, owns\n",
+        "first ben is player\n",
+    ] {
+        assert!(back.contains(part), "{part}\n\n{back}");
+    }
+    folder.write("terms.say", &back);
+    assert_eq!(run(&["compile", folder.path(), "--print"]).out, folder.read("other/terms.tsv"));
+}
+
+/// How events are said comes back too.
+#[test]
+fn wordings_are_written_back() {
+    let folder = folder();
+    let source = "members ben, saw\nevent peek said \"peeked at\" by anyone\n\
+                  event profile said \"see the profile of / seen the profile of\" by anyone\n";
+    folder.write("terms.say", source);
+    let other = folder.file("other");
+    assert_eq!(run(&["compile", folder.path(), "-o", other.to_str().unwrap()]).status, 0);
+    let back = run(&["source", other.to_str().unwrap()]).out;
+    let events = "event peek said \"peeked at\", \
+                  profile said \"see the profile of / seen the profile of\" by anyone\n";
+    assert!(back.contains(events), "{back}");
 }
 
 #[test]

@@ -206,10 +206,10 @@ fn conclusion(reasons: &Reasons, place: Place, reason: &Reason, values: &[bool])
 }
 
 /// Whether a fact is so.
-fn is_so(terms: &Terms, graphs: &[Graph], meaning: &mut Meaning, fact: Fact) -> bool {
+fn is_so(terms: &Terms, graphs: &[Graph], meaning: &mut Meaning, fact: &Fact) -> bool {
     let mut holds =
         |place: Place, moment| meaning.holds(place.entry, moment, place.member, place.assigned);
-    match fact {
+    match *fact {
         Fact::Edge { label, from, to, moment } => has_edge(terms, &graphs[moment], label, from, to),
         Fact::NoEdge { label, from, to, moment } => {
             let ends = |end: Option<usize>| match end {
@@ -243,6 +243,9 @@ fn is_so(terms: &Terms, graphs: &[Graph], meaning: &mut Meaning, fact: Fact) -> 
             (usize::from(after)..=place.moment).all(|moment| !holds(place, moment))
         }
         Fact::Stored(Claim { place, holds: value }) => holds(place, 0) == value,
+        Fact::Also { claim, ref moments } => moments.iter().all(|&moment| {
+            moment < claim.place.moment && holds(claim.place, moment) == claim.holds
+        }),
         Fact::Since { place, first } => (first..=place.moment).all(|moment| holds(place, moment)),
         Fact::Claim(Claim { place, holds: value })
         | Fact::Defined(Claim { place, holds: value }) => holds(place, place.moment) == value,
@@ -278,7 +281,7 @@ impl Seen {
             let told = stories(&mut rebuilt.reasons, &Names::default(), claim, claim.holds);
             assert!(!told.is_empty(), "seed {seed}");
             for fact in told.iter().flat_map(|story| &story.facts) {
-                let so = is_so(terms, record.graphs(), &mut rebuilt.meaning, *fact);
+                let so = is_so(terms, record.graphs(), &mut rebuilt.meaning, fact);
                 assert!(so, "seed {seed}: {fact:?}");
                 self.revised += usize::from(matches!(
                     fact,

@@ -139,7 +139,7 @@ fn a_moment_that_came_near() {
     assert_eq!(
         near,
         [
-            "cem asked ann at moment 1, but ben was not a friend of cem at moment 1",
+            "cem asked ann at moment 1, but ben was not a friend of cem then",
             "there was no moment so far at which some member that had just asked ann had ben as a friend",
         ]
     );

@@ -59,6 +59,12 @@ pub fn of_place(forms: &Forms, (entry, member, assigned): At, holds: bool) -> Cl
     Resolver { forms, guests: 0 }.inside(forms.node(entry, holds), here, named)
 }
 
+/// The same; a definition by its name.
+pub fn by_name(forms: &Forms, (entry, member, assigned): At, holds: bool) -> Clause {
+    let (here, named) = (Who::Member(member), standing(assigned));
+    Resolver { forms, guests: 0 }.node(forms.node(entry, holds), here, named)
+}
+
 /// That the step of a reach leads from a member to nobody.
 pub fn no_step(forms: &Forms, (entry, member, assigned): At) -> Clause {
     let Entry::Reach(variable, step, _) = forms.terms.entries[entry] else {

@@ -63,7 +63,7 @@ impl<'a> Telling<'a> {
 
     /// That an entry has held at no moment so far, or up to then.
     pub fn never(&self, at: At, then: bool) -> String {
-        let clause = resolve::of_place(&self.forms, at, true);
+        let clause = self.by_name(at);
         let never = Clause::Once { holds: false, then: Box::new(clause) };
         self.say(&never, if then { Time::Then } else { Time::Now })
     }
@@ -71,12 +71,20 @@ impl<'a> Telling<'a> {
     /// That an entry has held at every moment since one that was told before.
     pub fn since(&self, at: At, then: bool) -> String {
         let time = if then { Time::Then } else { Time::Now };
-        let clause = resolve::of_place(&self.forms, at, true);
+        let clause = self.by_name(at);
         let speaker =
             Speaker { labels: &self.labels, names: self.names, apart: Vec::new(), numbered: false };
         match speaker.ended(&clause, time, None) {
             Some(words) => format!("{} since", self.finish(words)),
             None => format!("at every moment since {}", self.say(&clause, Time::Then)),
+        }
+    }
+
+    /// What an entry says of members; a definition by its name.
+    fn by_name(&self, at: At) -> Clause {
+        match self.names.defined(at.0) {
+            Some(_) => resolve::by_name(&self.forms, at, true),
+            None => resolve::of_place(&self.forms, at, true),
         }
     }
 

@@ -12,9 +12,10 @@ use std::path::Path;
 pub const HELP: &str = "\
 usage: cuckooormolu source DIR|FILE [-o FILE]
 
-Writes terms.tsv, with the names of names.tsv if there is one, as a source
-(docs/LANGUAGE.md). Compiling the source gives terms with the same formulas,
-effects and first edges. A source cannot say what a stored file remembers.
+Writes terms.tsv as a source (docs/LANGUAGE.md), with the names of names.tsv if there is
+one, the kinds of members and how events are said. Compiling the source gives terms with
+the same formulas, effects and first edges. A source cannot say what a stored file
+remembers.
 
   -o FILE   write it to FILE instead of printing it, creating its folder if need be
 

@@ -23,7 +23,8 @@ denied, with the moments that decide it. Moment 0 is the first edges, or what wa
 stored; each grant makes a moment, and so does each denial of a kept event: such a
 line ends with the moment it makes, `granted; moment 2`, another one with the moment
 at which it was asked, `denied at moment 2`. For a denial, lists each alternative that
-failed, nearest miss first.
+failed, nearest miss first. Where a condition held at no moment, it tells at which ones
+a part of it did, and what was lacking then.
 
 If the requests name their banks, left or right, each answer is explained by what its
 own bank has seen. Where an event of the other bank would have counted, it says so.

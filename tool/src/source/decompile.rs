@@ -1,5 +1,6 @@
 //! Writes terms back as a source that compiles to the same formulas.
 
+mod declared;
 mod tell;
 mod words;
 
@@ -34,7 +35,7 @@ pub fn decompile(terms: &Terms, names: &Names) -> Source {
             styles[event] = styles[event].stricter();
         }
         if !changed {
-            return source;
+            return declared::with_names(source, terms, names);
         }
     }
 }

@@ -1,6 +1,7 @@
 //! Reads a source text: the statements. Formulas are read in `parse/formula.rs`.
 
 mod cursor;
+mod english;
 mod formula;
 mod read;
 mod sentence;

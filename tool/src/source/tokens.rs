@@ -129,8 +129,20 @@ const ELSEWHERE: [(&str, &str); 13] = [
 /// Marks that names are put into elsewhere.
 const QUOTES: [char; 8] = ['"', '\'', '`', '“', '”', '„', '‘', '’'];
 
+/// Whether this is the end of `isn't`.
+fn is_contracted(rest: &str) -> bool {
+    let after = rest.strip_prefix(['\'', '’']).and_then(|rest| rest.strip_prefix('t'));
+    after.is_some_and(|after| after.starts_with([' ', '\n']))
+}
+
 fn unknown(rest: &str, letter: char, place: usize) -> Mistake {
     let end = place + letter.len_utf8();
+    if is_contracted(rest) {
+        let message = format!("`{letter}` has no meaning here");
+        return Mistake::new(Span { start: place, end }, message).advise(
+            "words are written out: `target is not preset`, or `not` before a sentence, `not me owns target`",
+        );
+    }
     if QUOTES.contains(&letter) {
         let message = format!("`{letter}` has no meaning here");
         return Mistake::new(Span { start: place, end }, message).advise(

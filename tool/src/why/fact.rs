@@ -6,11 +6,14 @@ use crate::aloud::told::{At, Telling};
 use crate::words::Words;
 use keeper::record::Graph;
 
+/// So many moments at which something was so too are named.
+const MOST_MOMENTS: usize = 2;
+
 /// An end of an edge that nobody is.
 const NOBODY: &str = "no member";
 
 /// Something that is so of the record.
-#[derive(Clone, Copy, Debug, PartialEq, Eq)]
+#[derive(Clone, Debug, PartialEq, Eq)]
 pub enum Fact {
     /// An edge under a label is there at a moment.
     Edge { label: usize, from: usize, to: usize, moment: usize },
@@ -43,6 +46,9 @@ pub enum Fact {
     Counting(usize),
     /// The place's entry held there from a moment on, up to the place's.
     Since { place: Place, first: usize },
+    /// What was told of the claim's moment, that it was so, was so at these moments too, the
+    /// last first.
+    Also { claim: Claim, moments: Vec<usize> },
     /// The step of the place's reach leads to nobody.
     NoStep(Place),
     /// A definition, or its negation; why stands under it.
@@ -53,23 +59,38 @@ pub enum Fact {
     Claim(Claim),
 }
 
+/// From where a fact is told.
+#[derive(Clone, Copy)]
+pub struct Seen {
+    /// The moment of the request.
+    pub now: usize,
+    /// The moment that the sentence before is about.
+    pub last: Option<usize>,
+    /// Whether all moments are named.
+    pub all: bool,
+}
+
 impl Fact {
-    /// A sentence for it, as seen from a later moment.
-    pub fn told(self, telling: &Telling, words: &Words, graphs: &[Graph], now: usize) -> String {
+    /// A sentence for it.
+    pub fn told(&self, telling: &Telling, words: &Words, graphs: &[Graph], seen: Seen) -> String {
+        let Seen { now, last, all } = seen;
         let (relations, name) = (words.terms.relations, |member| words.member(member));
         let then = |moment: usize| moment != now;
+        let moment_of = |moment: usize| match last == Some(moment) {
+            true => " then".to_string(),
+            false => format!(" at moment {moment}"),
+        };
         let at = |moment: usize| match moment == now {
             true => String::new(),
-            false => format!(" at moment {moment}"),
+            false => moment_of(moment),
         };
         let up_to = |moment: usize| match moment == now {
             true => String::new(),
             false => format!(" up to moment {moment}"),
         };
-        match self {
+        match *self {
             Fact::Edge { label, from, to, moment } if label >= relations => {
-                let event = telling.event(label, &name(from), &name(to), true);
-                format!("{event} at moment {moment}")
+                telling.event(label, &name(from), &name(to), true) + &moment_of(moment)
             }
             Fact::Edge { label, from, to, moment } => {
                 telling.edge(label, &name(from), &name(to), then(moment), true) + &at(moment)
@@ -139,6 +160,7 @@ impl Fact {
             Fact::Counting(moment) => {
                 format!("the past counts here from moment {moment} on, when the terms were revised")
             }
+            Fact::Also { ref moments, .. } => format!("so it was at {}", several(moments, all)),
             Fact::Since { place, .. } => telling.since(whose(place), then(place.moment)),
             Fact::NoStep(place) => {
                 telling.no_step(whose(place), then(place.moment)) + &at(place.moment)
@@ -161,14 +183,24 @@ impl Fact {
         }
     }
 
+    /// The moment that it is about.
+    pub fn moment(&self) -> Option<usize> {
+        match self {
+            Fact::Edge { moment, .. } | Fact::NoEdge { moment, .. } => Some(*moment),
+            Fact::Only { moment, .. } | Fact::Count { moment, .. } => Some(*moment),
+            Fact::NoStep(place) | Fact::Defined(Claim { place, .. }) => Some(place.moment),
+            _ => None,
+        }
+    }
+
     /// Whether it says only who is whom, or nothing.
-    pub fn is_plain(self) -> bool {
+    pub fn is_plain(&self) -> bool {
         matches!(self, Fact::Always | Fact::Same { .. } | Fact::Differ { .. })
     }
 
     /// How much of a possibility it shows to be there: the more, the nearer
     /// the possibility came.
-    pub fn weight(self) -> usize {
+    pub fn weight(&self) -> usize {
         matches!(self, Fact::Edge { .. } | Fact::Count { .. }).into()
     }
 }
@@ -176,6 +208,20 @@ impl Fact {
 /// Whose entry is said.
 fn whose(place: Place) -> At {
     (place.entry, place.member, place.assigned)
+}
+
+/// `moment 9`, `moments 9 and 2`, `moments 9 and 2 and 3 other moments`.
+fn several(moments: &[usize], all: bool) -> String {
+    let most = if all { moments.len() } else { moments.len().min(MOST_MOMENTS) };
+    let (named, others) = moments.split_at(most);
+    let named: Vec<String> = named.iter().map(usize::to_string).collect();
+    let others = match others.len() {
+        0 => String::new(),
+        1 => " and 1 other moment".to_string(),
+        more => format!(" and {more} other moments"),
+    };
+    let noun = if named.len() == 1 { "moment" } else { "moments" };
+    format!("{noun} {}{others}", listed(&named))
 }
 
 /// The members of a set.

@@ -80,14 +80,22 @@ impl<'a> Reasons<'a> {
             Entry::Since(_, _) if place.moment < self.first(place) => Reason::NoMomentBefore,
             Entry::Prev(f) => Reason::Before(self.claim(place.entry(f).moment(place.moment - 1))),
             Entry::Since(f, g) => self.since(place, f, g),
-            Entry::Bind(x, f) => {
-                let assigned = place.assigned.with(x, place.member);
-                Reason::Follow(self.claim(Place { entry: f, assigned, ..place }))
-            }
-            Entry::At(x, f) => {
-                Reason::Follow(self.claim(place.entry(f).member(place.assigned.member(x))))
+            Entry::Bind(..) | Entry::At(..) => {
+                Reason::Follow(self.claim(self.followed(place).unwrap_or(place)))
             }
             Entry::Reach(x, f, g) => self.reach(place, x, f, g),
+        }
+    }
+
+    /// Where `bind` or `at` leads.
+    pub fn followed(&self, place: Place) -> Option<Place> {
+        match self.terms.entries[place.entry] {
+            Entry::Bind(x, f) => {
+                let assigned = place.assigned.with(x, place.member);
+                Some(Place { entry: f, assigned, ..place })
+            }
+            Entry::At(x, f) => Some(place.entry(f).member(place.assigned.member(x))),
+            _ => None,
         }
     }
 

@@ -1,9 +1,12 @@
 //! Stories: what a reason comes down to.
 //!
 //! * `facts`: facts in the order of telling
+//! * `near`: what never held, and the moments at which a part of it did; `missed`: which part
 //! * `neighbours`: stories about neighbours
 
 mod facts;
+mod missed;
+mod near;
 mod neighbours;
 
 pub use facts::Story;
@@ -24,8 +27,18 @@ const LONGEST: usize = 4_000;
 /// nearest to a grant stand first, those that only say who is whom last. Of a grant, what
 /// happened stands before what never did.
 pub fn stories(reasons: &mut Reasons, names: &Names, claim: Claim, granted: bool) -> Vec<Story> {
-    let mut teller = Teller { reasons, names, granted, left: LONGEST };
-    let mut stories = distinct(teller.inside(claim));
+    let mut teller = Teller { reasons, names, granted, left: LONGEST, is_near: false };
+    let stories = distinct(teller.inside(claim));
+    in_order(stories, granted)
+}
+
+/// What is told under the fact that a definition never held; for a request that is denied.
+pub fn under(reasons: &mut Reasons, names: &Names, never: &Fact) -> Vec<Story> {
+    let mut teller = Teller { reasons, names, granted: false, left: LONGEST, is_near: false };
+    in_order(distinct(teller.under(never)), false)
+}
+
+fn in_order(mut stories: Vec<Story>, granted: bool) -> Vec<Story> {
     match granted {
         true => stories.sort_by_key(Story::is_never),
         false => stories.sort_by_key(|story| std::cmp::Reverse(story.weight())),
@@ -45,16 +58,22 @@ struct Teller<'t, 'r> {
     /// Whether the request is granted: then a neighbour's part does not turn the story.
     granted: bool,
     left: usize,
+    /// Whether a near miss is being told: then none is told inside it.
+    is_near: bool,
 }
 
 impl Teller<'_, '_> {
     fn tell(&mut self, claim: Claim) -> Vec<Story> {
-        let entry = claim.place.entry;
-        let passed = self.names.passes_on(entry, self.reasons.terms());
-        match self.names.defined(entry).filter(|_| !passed) {
-            Some(_) => vec![Story::of(Fact::Defined(claim))],
-            None => self.inside(claim),
+        match self.is_named(claim.place) {
+            true => vec![Story::of(Fact::Defined(claim))],
+            false => self.inside(claim),
         }
+    }
+
+    /// Whether an entry is told by the name of a definition.
+    fn is_named(&self, Place { entry, .. }: Place) -> bool {
+        let passed = self.names.passes_on(entry, self.reasons.terms());
+        self.names.defined(entry).is_some() && !passed
     }
 
     fn inside(&mut self, claim: Claim) -> Vec<Story> {
@@ -141,47 +160,5 @@ impl Teller<'_, '_> {
             }
             _ => story,
         }
-    }
-
-    /// That it never was so; for a denial also the moments whose event came near.
-    fn never(&mut self, since: Place, failing: Vec<Claim>) -> Vec<Story> {
-        let [first, .., last] = failing[..] else {
-            return failing.iter().map(|only| self.never_at(since, only.place, None)).collect();
-        };
-        let stored = (first.place.entry == since.entry).then_some(first);
-        let mut stories = self.near(&failing[usize::from(stored.is_some())..]);
-        stories.push(self.never_at(since, last.place, stored));
-        stories
-    }
-
-    /// That the second operand of a since held at no moment up to a place's, from
-    /// where the since begins; or that the since was not so as stored, and that the
-    /// operand has not held from then on.
-    fn never_at(&self, since: Place, place: Place, stored: Option<Claim>) -> Story {
-        let (never, first) = match self.reasons.begin(since.entry) {
-            Begin::Revised(first) => (Fact::NeverSince { place, first }, Some(first)),
-            _ => (Fact::Never { place, after: stored.is_some() }, None),
-        };
-        let never = self.counting(Story::of(never), place.entry, first);
-        match stored {
-            None => never,
-            Some(claim) => Story::of(Fact::Stored(claim)).then(vec![never]),
-        }
-    }
-
-    /// For a denial, the failing claims whose event came near, the last first.
-    fn near(&mut self, failing: &[Claim]) -> Vec<Story> {
-        let mut stories = Vec::new();
-        if !self.granted {
-            for claim in failing.iter().rev() {
-                if self.left < LONGEST / 2 {
-                    break;
-                }
-                let relations = self.reasons.terms().relations;
-                let near = self.tell(*claim).into_iter();
-                stories.extend(near.filter(|story| story.has_event(relations)));
-            }
-        }
-        stories
     }
 }

@@ -75,6 +75,13 @@ fn named_precisely() {
         ("at least 2 x such that me owns x: true", "`at least` counts along a relation or an event"),
         ("every x owns target", "expected `:` and what holds of every one"),
         ("some x owns target: 3", "expected a formula, found `3`"),
+        ("target not is owned", "write `target is not owned`"),
+        ("me not owns target", "4:20: `not` goes before a sentence, or after `is`"),
+        ("some x owns target: x not share me", "write `not x share me`"),
+        ("target isnt me", "write `target is not me`"),
+        ("target isn't me", "`target is not preset`"),
+        ("me didnt share target", "put `not` before the sentence"),
+        ("target is no preset", "write `target is not preset`"),
         ("3rd owns target", "`3rd` is neither a number nor a name"),
     ];
     let told = |(formula, part): &(&str, &str)| {

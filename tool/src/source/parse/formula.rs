@@ -135,7 +135,7 @@ impl Parser {
         if let Some(mistake) = self.other_quantifier().or_else(|| self.article()) {
             return Err(mistake);
         }
-        if self.word_ahead(1) == Some("is") || self.label_ahead(1) {
+        if matches!(self.word_ahead(1), Some("is" | "not")) || self.label_ahead(1) {
             return self.told();
         }
         let name = self.name("a definition")?;

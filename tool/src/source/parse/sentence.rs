@@ -100,10 +100,14 @@ impl Parser {
         let nobody = self.is_word("nobody");
         let subject = self.anybody("somebody")?;
         if let Some(subject) = subject.clone().filter(|_| self.is_word("is")) {
+            let word = self.last_word().unwrap_or("target").to_string();
             self.next += 1;
-            return self.being(subject);
+            return match self.no_such(&word) {
+                Some(mistake) => Err(mistake),
+                None => self.being(subject),
+            };
         }
-        if let Some(mistake) = self.auxiliary() {
+        if let Some(mistake) = self.english_verb() {
             return Err(mistake);
         }
         let label = self.label("`is`, a relation, an event or a definition")?;

@@ -11,17 +11,6 @@ pub fn third(span: Span) -> Mistake {
     Mistake::new(span, message).advise(advice)
 }
 
-/// Words that one may try for `some` and `every`, and what is written here.
-pub(super) const QUANTIFIERS: [(&str, &str); 5] =
-    [("any", "some"), ("exists", "some"), ("all", "every"), ("each", "every"), ("forall", "every")];
-
-/// Words that are put before an event in English, and not here.
-pub(super) const AUXILIARIES: [&str; 8] =
-    ["has", "have", "had", "was", "were", "did", "does", "do"];
-
-/// Words that are put before a noun in English, and not here.
-const ARTICLES: [&str; 3] = ["the", "a", "an"];
-
 impl Parser {
     /// Whether a statement begins here, or the source ends.
     pub(super) fn at_statement(&self) -> bool {
@@ -116,7 +105,7 @@ impl Parser {
     }
 
     /// The word some places before the next token.
-    fn word_before(&self, places: usize) -> Option<&str> {
+    pub(super) fn word_before(&self, places: usize) -> Option<&str> {
         match &self.tokens[self.next.checked_sub(places)?].0 {
             Token::Word(word) => Some(word),
             _ => None,
@@ -136,37 +125,6 @@ impl Parser {
             return Some(format!("some {from} {label} {to}"));
         }
         (somebody(from) && named(to)).then(|| format!("{from} {label} some {to}"))
-    }
-
-    /// `me owns the preset` or `me is a friend of target`, after the article.
-    fn article_before(&self) -> Option<Mistake> {
-        let word = self.word_before(1).filter(|word| ARTICLES.contains(word))?;
-        let noun = self.word_ahead(0).filter(|_| self.name_ahead(0))?;
-        let being = match (self.word_before(4), self.word_before(3), self.word_before(2)) {
-            (_, Some(who), Some("is")) => Some(format!("{who} is")),
-            (Some(who), Some("is"), Some("not")) => Some(format!("{who} is not")),
-            _ => None,
-        };
-        let whose = self.word_ahead(2).filter(|_| self.word_ahead(1) == Some("of"));
-        let advice = match (being, whose.filter(|whose| !ARTICLES.contains(whose))) {
-            (Some(being), Some(whose)) => format!("`{being} {noun} of {whose}`"),
-            (Some(being), None) => format!("`{being} {noun}`"),
-            (None, _) => "the one who asks is `me`, the other is `target`".to_string(),
-        };
-        let message = format!("`{word}` has no meaning here");
-        Some(Mistake::new(self.last(), message).advise(format!("leave out `{word}`: {advice}")))
-    }
-
-    /// `the player owns target`, where nobody can be called `the player`.
-    pub(super) fn article(&self) -> Option<Mistake> {
-        let noun = self.word_ahead(1).filter(|_| self.is_word("the") && self.name_ahead(1))?;
-        let verb = self.word_ahead(2)?;
-        let declared = |word: &str| self.declared.contains(word);
-        let told = ["is", "of", "denied"].contains(&verb) || declared(verb) && !declared(noun);
-        told.then(|| {
-            let advice = "leave out `the`: the one who asks is `me`, the other is `target`";
-            Mistake::new(self.span(), "`the` has no meaning here").advise(advice)
-        })
     }
 
     /// What is said of an effect on one alone: `add target is suspended`.
@@ -261,31 +219,6 @@ impl Parser {
         mistake.advise(match self.token() {
             Token::Number(0) => "at least 0 would always hold: leave it out".to_string(),
             _ => "like this: `at least 2 friend of me`".to_string(),
-        })
-    }
-
-    /// `any owner owns target`, where `some` or `every` is meant.
-    pub(super) fn other_quantifier(&self) -> Option<Mistake> {
-        let word = self.word_ahead(0).filter(|word| !self.declared.contains(*word))?;
-        let meant = QUANTIFIERS.iter().find(|(tried, _)| *tried == word)?.1;
-        let three = self.name_ahead(1) && (self.name_ahead(2) || self.word_ahead(2) == Some("of"));
-        three.then(|| {
-            let message = format!("`{word}` has no meaning here");
-            let advice = format!("write `{meant}`; `some` asks for one, `every` for all of them");
-            Mistake::new(self.span(), message).advise(advice)
-        })
-    }
-
-    /// `owner has shared with me`, where the event's own name is meant.
-    pub(super) fn auxiliary(&self) -> Option<Mistake> {
-        let word = self.word_ahead(0).filter(|word| !self.declared.contains(*word))?;
-        let named = self.name_ahead(1) || self.word_ahead(1) == Some("not");
-        (AUXILIARIES.contains(&word) && named).then(|| {
-            let message = format!("`{word}` has no meaning here");
-            let advice =
-                "name the event as it is declared, `owner share me`; put `once` before it for \
-                          \"at some time\", `not` for the contrary";
-            Mistake::new(self.span(), message).advise(advice)
         })
     }
 }

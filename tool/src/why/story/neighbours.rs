@@ -30,7 +30,7 @@ impl Teller<'_, '_> {
             }
         }
         if stories.is_empty() {
-            stories = self.near(&failing);
+            stories = self.near_each(&failing);
             stories.push(self.counting(Story::of(Fact::NoStep(place)), f, None));
         }
         stories
