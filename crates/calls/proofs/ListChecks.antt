@@ -8,11 +8,14 @@ use lib.ListN.{length}
 use borrow.Author.Tests.{lt-ltb, le-ltb, ltb-true, ltb-false}
 use Rattle.theory.specs.Keeper.Answer.{refused}
 use Rattle.theory.specs.Limits.{scratchWords}
+use Rattle.memory.specs.Layout.{termsOf}
 use Rattle.memory.specs.Outcome.{Outcome, outcomeOf, hasPassed, checks}
 use Rattle.memory.specs.Outcome.Outcome.{passed, failed}
+use Rattle.memory.specs.Plan.{Planned}
 use Rattle.memory.proofs.Outcomes.{Checked, passed-checked}
 use Rattle.calls.specs.Monitor.{answer}
 use Rattle.calls.specs.SetList.{listChecks}
+use Rattle.calls.specs.Listing.{Passed}
 use Rattle.calls.proofs.Answers.{short-scratch, unchecked}
 
 module _ (terms state scratch : List ℕ) where
@@ -33,6 +36,20 @@ module _ (terms state scratch : List ℕ) where
           (scratchWords ≤ length scratch) × Checked terms state
       go true s e = absurd (false≢true (sym (ap hasPassed e)))
       go false s e = (ltb-false (length scratch) scratchWords s, passed-checked terms state e)
+
+  -- and with the terms' plan, all that a request asks of the memory
+  pub list-ready : (plan : List ℕ) → passed ≡ listChecks terms state scratch → Planned (termsOf terms) plan → Passed terms plan state scratch
+  list-ready plan e planned =
+      let p = list-passed e in
+      let k : Checked terms state = p .1 in
+      record {
+        long-terms = k .long-terms;
+        good-terms = k .good-terms;
+        planned = planned;
+        long-state = k .long-state;
+        good-state = k .good-state;
+        long-scratch = p .0;
+      }
 
   -- What fails a list's check fails each single request by the same number and line.
   pub refused-alike : (n l : ℕ) → listChecks terms state scratch ≡ failed n l → (j u v : ℕ) → answer terms state scratch j u v ≡ refused n l

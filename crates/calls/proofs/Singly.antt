@@ -1,11 +1,11 @@
 -- Single requests one after another: one more at the end, what is left of memory that has passed the checks, and what the numbers tell.
-use Prim.Native.Nat.{ℕ, _+_, _≤_}
+use Prim.Native.Nat.{ℕ, _+_, _<_, _≤_, _^_}
 use native.Mathlib.Nat.{zero-add, add-zero, add-assoc}
 use native.Mathlib.Omega.{arith}
 use mathlib.Core.Path.{_≡_, refl, sym, ap, _∙_}
 use mathlib.Core.Bool.{Bool, true, false, cond, not, _||_}
 use mathlib.Core.List.{List, [], _∷_, _++_}
-use lib.Dec.{eqb, ltb}
+use lib.Dec.{eqb, ltb, lit<}
 use lib.ListN.{length, drop, replicate, length-append, length-drop, length-replicate}
 use borrow.Author.Tests.{ltb-true}
 use Rattle.sets.proofs.Finite.{and-left, and-right}
@@ -28,7 +28,7 @@ use Rattle.calls.specs.Agreement.{answerIn}
 use Rattle.calls.specs.Listing.{Passed, gainOf}
 use Rattle.calls.specs.declared.Record.{Record}
 use Rattle.calls.proofs.Level.{advance-good}
-use Rattle.calls.proofs.Answers.{unnamed, judged, moves-decided, decided-says, state-kept, scratch-kept, state-moved, scratch-cleared}
+use Rattle.calls.proofs.Answers.{moves-decided, decided-says}
 
 -- a record past the end of a list
 abbrev pub blank : Record
@@ -89,6 +89,9 @@ module _ (t : List ℕ) where
     unfolding gainOf
     one-granted = each-answer (λ a. _≡_ {A = ℕ} (cond (eqb (numberOf a) 1) 1 0) (cond (granted a) 1 0)) refl refl refl refl refl refl
 
+    pub number-small : numberOf (answer t st sc j u v) < 2 ^ 32
+    number-small = each-answer (λ a. numberOf a < 2 ^ 32) (lit< tt) (lit< tt) (lit< tt) (lit< tt) (lit< tt) (lit< tt)
+
     -- a number tells its answer
     pub answer-back : answerIn (numberOf (answer t st sc j u v)) ≡ answer t st sc j u v
     answer-back = each-answer (λ a. answerIn (numberOf a) ≡ a) refl refl refl refl refl refl
@@ -143,39 +146,6 @@ module _ (t : List ℕ) where
     module _ (plan : List ℕ) (p : Passed t plan st sc) where
       checked : Checked t st
       checked = record { long-terms = p .long-terms; long-state = p .long-state; good-terms = p .good-terms; good-state = p .good-state }
-
-      pub step-unnamed : named (termsOf t) j u v ≡ false → AsRequest 9 st sc
-      step-unnamed n =
-          let e = unnamed t st sc j u v (p .long-scratch) checked n in
-          let g = sym (ap (moves (termsOf t .kept j)) e) in
-          (ap numberOf e, state-kept t st sc j u v g, scratch-kept t st sc j u v g)
-
-      pub step-denied : named (termsOf t) j u v ≡ true → {r : Bool} → r ≡ false → r ≡ decideNow (termsOf t) (stateOf st) j u v → {k : Bool} → k ≡ false →
-          k ≡ termsOf t .kept j → AsRequest 0 st sc
-      step-denied n q d z y =
-          let e = judged t st sc j u v (p .long-scratch) checked n q d in
-          let g = sym (ap (moves (termsOf t .kept j)) e) ∙ sym y ∙ z in
-          (ap numberOf e, state-kept t st sc j u v g, scratch-kept t st sc j u v g)
-
-      -- the words after the moment of a grant, or of a kept denial
-      abbrev Moved : Bool → List ℕ → List ℕ → Type 0
-      Moved g st′ sc′ =
-          (st′ ≡ wordsOf (termsOf t) (advance (termsOf t) (stateOf st) (made (termsOf t) (stateOf st .now) g j u v)) ++ drop stateWords st)
-          × (sc′ ≡ replicate scratchWords 0 ++ drop scratchWords sc)
-
-      pub step-kept : named (termsOf t) j u v ≡ true → {r : Bool} → r ≡ false → r ≡ decideNow (termsOf t) (stateOf st) j u v → {k : Bool} → k ≡ true →
-          k ≡ termsOf t .kept j → {st′ sc′ : List ℕ} → Moved false st′ sc′ → AsRequest 0 st′ sc′
-      step-kept n q d z y w =
-          let e = judged t st sc j u v (p .long-scratch) checked n q d in
-          let g = sym (ap (moves (termsOf t .kept j)) e) ∙ sym y ∙ z in
-          (ap numberOf e, state-moved t st sc j u v g e refl (w .0), scratch-cleared t st sc j u v g (w .1))
-
-      pub step-granted : named (termsOf t) j u v ≡ true → {r : Bool} → r ≡ true → r ≡ decideNow (termsOf t) (stateOf st) j u v → {st′ sc′ : List ℕ} →
-          Moved true st′ sc′ → AsRequest 1 st′ sc′
-      step-granted n q d w =
-          let e = judged t st sc j u v (p .long-scratch) checked n q d in
-          let g = sym (ap (moves (termsOf t .kept j)) e) in
-          (ap numberOf e, state-moved t st sc j u v g e refl (w .0), scratch-cleared t st sc j u v g (w .1))
 
     -- so a request leaves memory that has passed the checks as memory that passes them
     pub after-checked : Checked t st → Checked t (stateAfter t st sc j u v)

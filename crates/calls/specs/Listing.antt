@@ -1,4 +1,4 @@
--- What the private functions of a set list ask and leave.
+-- What the private functions of requests and set lists ask and leave.
 use Prim.Native.Nat.{ℕ, _≤_}
 use mathlib.Core.Path.{_≡_}
 use mathlib.Core.Bool.{true, cond}
@@ -12,7 +12,7 @@ use Rattle.memory.specs.Outcome.{Outcome, outcomeOf, hasPassed}
 use Rattle.memory.specs.Plan.{Planned}
 use Rattle.calls.specs.SetList.{listChecks}
 
--- Memory that has passed the checks of a list, with the terms' plan.
+-- Memory that has passed the checks that come before a request or a list, with the terms' plan.
 pub record Passed (terms plan state scratch : List ℕ) : Type 0 where
   pub long-terms : termsWords ≤ length terms
   pub good-terms : goodMemory terms ≡ true

@@ -7,7 +7,6 @@ use lib.ListN.{length, getD, set}
 use Rattle.theory.specs.Keeper.{Answer}
 use Rattle.memory.specs.Outcome.{Outcome, outcomeOf, hasPassed}
 use Rattle.memory.specs.Outcome.Outcome.{passed, failed}
-use Rattle.memory.proofs.Outcomes.{Checked}
 use Rattle.calls.specs.Monitor.{answer, granted, stateAfter, scratchAfter}
 use Rattle.calls.specs.SetList.{listingOf, filled, Run, singly, listing, listed, left}
 use Rattle.calls.specs.Listing.{Passed, turnsOf, gainOf}
@@ -18,7 +17,7 @@ use Rattle.monitor.specs.declared.set_list.Inspected.{Inspected}
 use Rattle.monitor.proofs.Records.{put-answer}
 use Rattle.monitor.proofs.Listing as loop
 use Rattle.monitor.proofs.Listing.{Ran, each, turns-passed}
-use Rattle.calls.proofs.ListChecks.{list-passed}
+use Rattle.calls.proofs.ListChecks.{list-ready}
 use Rattle.calls.proofs.Singly.{blank, one-granted, AsRequest, after-passed}
 
 -- state and scratch
@@ -49,16 +48,7 @@ module _ (terms state scratch : List ℕ) where
 
   passed-all : (c : Inspected) → Seen terms state scratch c → hasPassed (outcomeOf (c .outcome)) ≡ true → Passed terms (c .plan) state scratch
   passed-all c seen e =
-      let p = list-passed terms state scratch (is-passed (outcomeOf (c .outcome)) e ∙ seen .outcome) in
-      let k : Checked terms state = p .1 in
-      record {
-        long-terms = k .long-terms;
-        good-terms = k .good-terms;
-        planned = seen .planned e;
-        long-state = k .long-state;
-        good-state = k .good-state;
-        long-scratch = p .0;
-      }
+      list-ready terms state scratch (c .plan) (is-passed (outcomeOf (c .outcome)) e ∙ seen .outcome) (seen .planned e)
 
 module _ (t : List ℕ) (ys₀ : List Record) (st₀ sc₀ : List ℕ) (c : Inspected) (seen : Seen t st₀ sc₀ c) where
   abbrev outcome : Outcome

@@ -9,9 +9,9 @@ ghost use Rattle.memory.specs.Checks.{goodMemory};
 ghost use Rattle.memory.specs.Plan.{Planned};
 ghost use Rattle.deciding.specs.Memo.{MemoOf, Fresh};
 ghost use Rattle.deciding.specs.Moving.{Movable, Becomes, prevAt, prevMoved, sinceAt, sinceMoved};
-use crate::asking;
 use crate::memo;
 use crate::moment::put_table;
+use crate::tables;
 use memory::layout;
 use theory::operators::PREV;
 use theory::operators::SINCE;
@@ -46,7 +46,7 @@ fn prev_turn(
     ensures { λ _. ⌜ MemoOf (termsOf (now (terms .entry))) (now (relations .entry) ++ now (own .exit)) n (now (memo .exit)) ⌝ }
 {
     if layout::op_of(terms, n) == PREV {
-        asking::prev_table(terms, plan, relations, own, memo, n, rows);
+        tables::prev_table(terms, plan, relations, own, memo, n, rows);
         put_table(plan, own, rows, n);
     }
 }
@@ -69,7 +69,7 @@ pub(crate) fn since_turn(
     ensures { λ _. ⌜ MemoOf (termsOf (now (terms .entry))) (now (relations .entry) ++ now (own .exit)) (termsOf (now (terms .entry)) .entries) (now (memo .exit)) × Fresh (termsOf (now (terms .entry)) .entries) n (now (memo .exit)) ⌝ }
 {
     if layout::op_of(terms, n) == SINCE {
-        asking::since_table(terms, plan, relations, own, memo, n, f, rows);
+        tables::since_table(terms, plan, relations, own, memo, n, f, rows);
         put_table(plan, own, rows, n);
     }
 }

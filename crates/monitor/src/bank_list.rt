@@ -1,18 +1,16 @@
 // A set list of a bank: its records are requests of that bank, answered in order. The memory of both banks is checked before any record.
 ghost use mathlib.Core.Path.{_≡_};
-ghost use Prim.Native.Nat.{_<_, _^_};
 ghost use Rattle.memory.specs.Outcome.{outcomeOf};
-ghost use Rattle.calls.specs.Monitor.{answerOf};
-ghost use Rattle.calls.specs.SetList.{listingOf, numberOf, listing};
-ghost use Rattle.calls.specs.Listing.{turnsOf};
+ghost use Rattle.calls.specs.SetList.{listingOf, numberOf};
 ghost use Rattle.banking.specs.Banking.{bankAnswer, relationsAfter, ownAfter, otherAfter, clearedAfter};
 ghost use Rattle.banking.specs.BankList.{bankListChecks, bankListed, bankLeft};
 use crate::banks::request;
-use crate::set_list::tally;
-use calls::Answer;
+use crate::lists::finish;
+use crate::lists::number_of;
+use crate::lists::tally;
+use crate::lists::turns;
 use calls::Listed;
 use calls::Record;
-use calls::Verdict;
 use memory::Outcome;
 use memory::layout;
 use memory::limits::ENTRIES;
@@ -33,30 +31,6 @@ fn inspect(
     }
     let mut plan = [0u16; ENTRIES];
     memory::banks::inspect(terms, relations, own, other, &mut plan)
-}
-
-// How many of n records are answered.
-fn turns(checked: Outcome, n: usize) -> usize
-    ensures { λ r. ⌜ r ≡ turnsOf (outcomeOf checked) n ⌝ }
-{
-    match checked {
-        Outcome::Done => n,
-        Outcome::Refused(_, _) => 0,
-    }
-}
-
-// The number that is filled in for an answer.
-fn number_of(a: Answer) -> u32
-    requires { ⌜ numberOf (answerOf a) < 2 ^ 32 ⌝ }
-    ensures { λ r. ⌜ r ≡ numberOf (answerOf a) ⌝ }
-{
-    match a {
-        Answer::Decided(v) => match v {
-            Verdict::Grant => 1,
-            Verdict::Deny => 0,
-        },
-        Answer::Refused(n, _) => n as u32,
-    }
 }
 
 // Answers a record's request of the bank by its number.
@@ -91,16 +65,6 @@ fn step(
         to,
     );
     number_of(a)
-}
-
-// What the list gives: the count, or what refused it.
-fn finish(checked: Outcome, count: usize) -> Listed
-    ensures { λ r. ⌜ listingOf r ≡ listing (outcomeOf checked) count ⌝ }
-{
-    match checked {
-        Outcome::Done => Listed::Granted(count),
-        Outcome::Refused(n, l) => Listed::Refused(n, l),
-    }
 }
 
 // Answers the records in order, each as a single request of the bank would be. Where a check of the memory fails, nothing is written.

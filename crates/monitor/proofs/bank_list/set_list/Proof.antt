@@ -75,22 +75,22 @@ use Rattle.monitor.proofs.bank_list.inspect as inspect
 use Rattle.monitor.proofs.bank_list.inspect.Symbol as inspect-def
 use Rattle.monitor.proofs.bank_list.inspect.Symbol.{name as #inspect}
 use Rattle.monitor.proofs.bank_list.inspect.Met as inspect-thm
-use Rattle.monitor.proofs.bank_list.turns as limit
-use Rattle.monitor.proofs.bank_list.turns.Symbol as limit-def
-use Rattle.monitor.proofs.bank_list.turns.Symbol.{name as #limit}
-use Rattle.monitor.proofs.bank_list.turns.Met as limit-thm
+use Rattle.monitor.proofs.lists.turns as limit
+use Rattle.monitor.proofs.lists.turns.Symbol as limit-def
+use Rattle.monitor.proofs.lists.turns.Symbol.{name as #limit}
+use Rattle.monitor.proofs.lists.turns.Met as limit-thm
 use Rattle.monitor.proofs.bank_list.step as step
 use Rattle.monitor.proofs.bank_list.step.Symbol as step-def
 use Rattle.monitor.proofs.bank_list.step.Symbol.{name as #step}
 use Rattle.monitor.proofs.bank_list.step.Met as step-thm
-use Rattle.monitor.proofs.set_list.tally as tally
-use Rattle.monitor.proofs.set_list.tally.Symbol as tally-def
-use Rattle.monitor.proofs.set_list.tally.Symbol.{name as #tally}
-use Rattle.monitor.proofs.set_list.tally.Met as tally-thm
-use Rattle.monitor.proofs.bank_list.finish as finish
-use Rattle.monitor.proofs.bank_list.finish.Symbol as finish-def
-use Rattle.monitor.proofs.bank_list.finish.Symbol.{name as #finish}
-use Rattle.monitor.proofs.bank_list.finish.Met as finish-thm
+use Rattle.monitor.proofs.lists.tally as tally
+use Rattle.monitor.proofs.lists.tally.Symbol as tally-def
+use Rattle.monitor.proofs.lists.tally.Symbol.{name as #tally}
+use Rattle.monitor.proofs.lists.tally.Met as tally-thm
+use Rattle.monitor.proofs.lists.finish as finish
+use Rattle.monitor.proofs.lists.finish.Symbol as finish-def
+use Rattle.monitor.proofs.lists.finish.Symbol.{name as #finish}
+use Rattle.monitor.proofs.lists.finish.Met as finish-thm
 use Rattle.monitor.proofs.bank_list.set_list.Key.{name as #set-list}
 use Rattle.monitor.proofs.bank_list.set_list as f
 use Rattle.monitor.proofs.bank_list.set_list.Statement as stated
@@ -630,7 +630,7 @@ set-list-spec 𝓤 H 𝓜 𝓖 𝓡 =
     (tables 𝓤 H 𝓜 𝓡 code.env .C) (tables 𝓤 H 𝓜 𝓡 code.env .Λ) #set-list code.function (code.unfolded 𝓤 H 𝓜 𝓡)
     (set-list-meets 𝓤 H (𝓖 .A) (givenOf 𝓤 H 𝓜 𝓖) (𝓜 .mem) (𝓡 .run) (tablesOf 𝓤 H 𝓜 (tables 𝓤 H 𝓜 𝓡 code.env))
     (cited 𝓤 H (Inspect 𝓤 H (𝓖 .A) (𝓜 .mem) (𝓡 .run)) 𝓜 𝓡 code.env #inspect inspect-def.routine code.calls-monitor·bank-list·inspect (inspect-thm.met 𝓤 H 𝓜 𝓖 𝓡))
-    (cited 𝓤 H (Limit 𝓤 H (𝓖 .A) (𝓜 .mem) (𝓡 .run)) 𝓜 𝓡 code.env #limit limit-def.routine code.calls-monitor·bank-list·turns (limit-thm.met 𝓤 H 𝓜 𝓖 𝓡))
+    (cited 𝓤 H (Limit 𝓤 H (𝓖 .A) (𝓜 .mem) (𝓡 .run)) 𝓜 𝓡 code.env #limit limit-def.routine code.calls-monitor·lists·turns (limit-thm.met 𝓤 H 𝓜 𝓖 𝓡))
     (cited 𝓤 H (Step 𝓤 H (𝓖 .A) (𝓜 .mem) (𝓡 .run)) 𝓜 𝓡 code.env #step step-def.routine code.calls-monitor·bank-list·step (step-thm.met 𝓤 H 𝓜 𝓖 𝓡))
-    (cited 𝓤 H (Tally 𝓤 H (𝓖 .A) (𝓜 .mem) (𝓡 .run)) 𝓜 𝓡 code.env #tally tally-def.routine code.calls-monitor·set-list·tally (tally-thm.met 𝓤 H 𝓜 𝓖 𝓡))
-    (cited 𝓤 H (Finish 𝓤 H (𝓖 .A) (𝓜 .mem) (𝓡 .run)) 𝓜 𝓡 code.env #finish finish-def.routine code.calls-monitor·bank-list·finish (finish-thm.met 𝓤 H 𝓜 𝓖 𝓡)))
+    (cited 𝓤 H (Tally 𝓤 H (𝓖 .A) (𝓜 .mem) (𝓡 .run)) 𝓜 𝓡 code.env #tally tally-def.routine code.calls-monitor·lists·tally (tally-thm.met 𝓤 H 𝓜 𝓖 𝓡))
+    (cited 𝓤 H (Finish 𝓤 H (𝓖 .A) (𝓜 .mem) (𝓡 .run)) 𝓜 𝓡 code.env #finish finish-def.routine code.calls-monitor·lists·finish (finish-thm.met 𝓤 H 𝓜 𝓖 𝓡)))

@@ -80,10 +80,10 @@ use Rattle.monitor.proofs.set_list.step as step
 use Rattle.monitor.proofs.set_list.step.Symbol as step-def
 use Rattle.monitor.proofs.set_list.step.Symbol.{name as #step}
 use Rattle.monitor.proofs.set_list.step.Met as step-thm
-use Rattle.monitor.proofs.set_list.tally as tally
-use Rattle.monitor.proofs.set_list.tally.Symbol as tally-def
-use Rattle.monitor.proofs.set_list.tally.Symbol.{name as #tally}
-use Rattle.monitor.proofs.set_list.tally.Met as tally-thm
+use Rattle.monitor.proofs.lists.tally as tally
+use Rattle.monitor.proofs.lists.tally.Symbol as tally-def
+use Rattle.monitor.proofs.lists.tally.Symbol.{name as #tally}
+use Rattle.monitor.proofs.lists.tally.Met as tally-thm
 use Rattle.monitor.proofs.set_list.finish as finish
 use Rattle.monitor.proofs.set_list.finish.Symbol as finish-def
 use Rattle.monitor.proofs.set_list.finish.Symbol.{name as #finish}
@@ -531,5 +531,5 @@ set-list-spec 𝓤 H 𝓜 𝓖 𝓡 =
     (cited 𝓤 H (Inspect 𝓤 H (𝓖 .A) (𝓜 .mem) (𝓡 .run)) 𝓜 𝓡 code.env #inspect inspect-def.routine code.calls-monitor·set-list·inspect (inspect-thm.met 𝓤 H 𝓜 𝓖 𝓡))
     (cited 𝓤 H (Limit 𝓤 H (𝓖 .A) (𝓜 .mem) (𝓡 .run)) 𝓜 𝓡 code.env #limit limit-def.routine code.calls-monitor·set-list·turns (limit-thm.met 𝓤 H 𝓜 𝓖 𝓡))
     (cited 𝓤 H (Step 𝓤 H (𝓖 .A) (𝓜 .mem) (𝓡 .run)) 𝓜 𝓡 code.env #step step-def.routine code.calls-monitor·set-list·step (step-thm.met 𝓤 H 𝓜 𝓖 𝓡))
-    (cited 𝓤 H (Tally 𝓤 H (𝓖 .A) (𝓜 .mem) (𝓡 .run)) 𝓜 𝓡 code.env #tally tally-def.routine code.calls-monitor·set-list·tally (tally-thm.met 𝓤 H 𝓜 𝓖 𝓡))
+    (cited 𝓤 H (Tally 𝓤 H (𝓖 .A) (𝓜 .mem) (𝓡 .run)) 𝓜 𝓡 code.env #tally tally-def.routine code.calls-monitor·lists·tally (tally-thm.met 𝓤 H 𝓜 𝓖 𝓡))
     (cited 𝓤 H (Finish 𝓤 H (𝓖 .A) (𝓜 .mem) (𝓡 .run)) 𝓜 𝓡 code.env #finish finish-def.routine code.calls-monitor·set-list·finish (finish-thm.met 𝓤 H 𝓜 𝓖 𝓡)))

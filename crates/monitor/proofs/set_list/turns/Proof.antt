@@ -1,21 +1,6 @@
 use borrow.Author.Needs.{needs}
-use Rattle.calls.specs.Listing.{turnsOf}
 use Rattle.monitor.proofs.set_list.turns.Statement.{statement}
 use Rattle.monitor.proofs.set_list.turns.Tie as tie
 
-enum-told : tie.Need-enum-told
-enum-told c = search needs
-
-enum-told-2 : tie.Need-enum-told-2
-enum-told-2 c = search needs
-
-returns : tie.Need-returns
-unfolding turnsOf
-returns c = search needs
-
-returns-2 : tie.Need-returns-2
-unfolding turnsOf
-returns-2 c = search needs
-
 pub turns-spec : {M : Type 1} → statement M
-turns-spec = tie.close (tie.spec enum-told enum-told-2 returns returns-2)
+turns-spec = tie.close (tie.spec (λ c κs. search needs) (λ c. c .turns .ensures))

@@ -4,8 +4,8 @@ use mathlib.Core.Path.{sym, ap, _∙_}
 use mathlib.Core.Bool.{not}
 use lib.Dec.{eqb}
 use Rattle.memory.specs.Plan.{planFirst, planLast}
-use Rattle.monitor.proofs.asking.since_table.Statement.{statement}
-use Rattle.monitor.proofs.asking.since_table.Tie as tie
+use Rattle.monitor.proofs.tables.since_table.Statement.{statement}
+use Rattle.monitor.proofs.tables.since_table.Tie as tie
 
 word-requires : tie.Need-word-requires
 word-requires c κs = tt

@@ -4,8 +4,8 @@ use mathlib.Core.Path.{subst}
 use Rattle.calls.specs.Monitor.{answerOf}
 use Rattle.calls.specs.SetList.{numberOf}
 use Rattle.calls.specs.declared.Answer.{Answer}
-use Rattle.monitor.proofs.bank_list.number_of.Statement.{statement}
-use Rattle.monitor.proofs.bank_list.number_of.Tie as tie
+use Rattle.monitor.proofs.lists.number_of.Statement.{statement}
+use Rattle.monitor.proofs.lists.number_of.Tie as tie
 
 cast-result : tie.Need-cast-result
 cast-result c =

@@ -3,8 +3,8 @@ use borrow.Author.Tests.{eq-eqb, ne-eqb}
 use native.Mathlib.Nat.{add-zero}
 use mathlib.Core.Path.{sym}
 use Rattle.calls.specs.Listing.{gainOf}
-use Rattle.monitor.proofs.set_list.tally.Statement.{statement}
-use Rattle.monitor.proofs.set_list.tally.Tie as tie
+use Rattle.monitor.proofs.lists.tally.Statement.{statement}
+use Rattle.monitor.proofs.lists.tally.Tie as tie
 
 add-result : tie.Need-add-result
 add-result c = search needs

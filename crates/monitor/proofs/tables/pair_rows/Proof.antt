@@ -14,8 +14,8 @@ use Rattle.deciding.proofs.Remembering as rem
 use Rattle.deciding.proofs.Sites as sites
 use Rattle.deciding.proofs.Assignments as assignments
 use Rattle.memory.proofs.Accepted.{good}
-use Rattle.monitor.proofs.asking.pair_rows.Statement.{statement}
-use Rattle.monitor.proofs.asking.pair_rows.Tie as tie
+use Rattle.monitor.proofs.tables.pair_rows.Statement.{statement}
+use Rattle.monitor.proofs.tables.pair_rows.Tie as tie
 
 abbrev Inv-loop : tie.InvT-loop
 Inv-loop terms plan relations past memo₀ x y operand out₀ n all f₀ b₀ memo out f b =

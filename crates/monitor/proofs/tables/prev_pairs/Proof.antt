@@ -10,8 +10,8 @@ use Rattle.memory.proofs.Accepted.{good}
 use Rattle.theory.proofs.Good.{first-lower, second-lower}
 use Rattle.deciding.proofs.Remembering as rem
 use Rattle.deciding.proofs.Requests as requests
-use Rattle.monitor.proofs.asking.prev_pairs.Statement.{statement}
-use Rattle.monitor.proofs.asking.prev_pairs.Tie as tie
+use Rattle.monitor.proofs.tables.prev_pairs.Statement.{statement}
+use Rattle.monitor.proofs.tables.prev_pairs.Tie as tie
 
 word-requires : tie.Need-word-requires
 word-requires c κs = tt

@@ -1,7 +1,7 @@
 use borrow.Author.Needs.{needs}
 use Rattle.calls.specs.Listing.{turnsOf}
-use Rattle.monitor.proofs.bank_list.turns.Statement.{statement}
-use Rattle.monitor.proofs.bank_list.turns.Tie as tie
+use Rattle.monitor.proofs.lists.turns.Statement.{statement}
+use Rattle.monitor.proofs.lists.turns.Tie as tie
 
 pub turns-spec : {M : Type 1} → statement M
 unfolding turnsOf

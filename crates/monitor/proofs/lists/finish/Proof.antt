@@ -3,8 +3,8 @@ use mathlib.Core.Path.{sym, ap}
 use Rattle.memory.specs.Outcome.{outcomeOf}
 use Rattle.memory.specs.declared.Outcome.{Outcome}
 use Rattle.calls.specs.SetList.{listing}
-use Rattle.monitor.proofs.bank_list.finish.Statement.{statement}
-use Rattle.monitor.proofs.bank_list.finish.Tie as tie
+use Rattle.monitor.proofs.lists.finish.Statement.{statement}
+use Rattle.monitor.proofs.lists.finish.Tie as tie
 
 returns : tie.Need-returns
 returns c = sym (ap (λ (o : Outcome). listing (outcomeOf o) (c .before .before .args .count)) (c .enum-told .given .1))
