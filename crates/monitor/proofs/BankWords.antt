@@ -11,7 +11,7 @@ use Rattle.memory.proofs.Words.{length-words}
 use Rattle.calls.specs.Monitor.{granted}
 use Rattle.banking.specs.Banking.{bankAnswer, bankMoves, relationsAfter, ownAfter, otherAfter}
 use Rattle.banking.proofs.Answers as answers
-use Rattle.monitor.specs.Moments.{Moved}
+use Rattle.moments.specs.Moments.{Moved}
 
 module _ (r o w : List ℕ) (e : joined r o ≡ w) (l : length w ≡ stateWords) where
   front-long : length (take relationWords r) ≡ relationWords

@@ -10,7 +10,6 @@ ghost use Rattle.memory.specs.Plan.{Planned};
 ghost use Rattle.calls.specs.Monitor.{answerOf, isDecided};
 ghost use Rattle.banking.specs.Banking.{bankAnswer, relationsAfter, ownAfter, otherAfter, clearedAfter, ownOpened, begunWords, relationsRevised, ownRevised};
 ghost use Rattle.deciding.specs.Starting.{Revising, Taken};
-use crate::beside;
 use crate::passed::is_grant;
 use crate::passed::is_moving;
 use crate::passed::is_named;
@@ -21,6 +20,7 @@ use calls::Verdict;
 use memory::Outcome;
 use memory::layout;
 use memory::limits::ENTRIES;
+use moments::beside;
 
 const TABLES: usize = layout::TABLES_AT;
 

@@ -13,12 +13,12 @@ ghost use Rattle.memory.specs.Plan.{Planned};
 ghost use Rattle.calls.specs.Monitor.{answerOf, answer, granted, moves, stateAfter, scratchAfter};
 ghost use Rattle.calls.specs.SetList.{listChecks};
 ghost use Rattle.calls.specs.Listing.{Passed};
-use crate::moment;
 use calls::Answer;
 use calls::Verdict;
 use memory::Outcome;
 use memory::layout;
 use memory::limits::ENTRIES;
+use moments::moment;
 
 // Checks terms, state and scratch, and leaves the terms' plan where they pass.
 pub(crate) fn inspect(

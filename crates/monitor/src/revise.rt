@@ -11,15 +11,15 @@ ghost use Rattle.calls.specs.Revising.{revisedState};
 ghost use Rattle.deciding.specs.Memo.{MemoOf, Fresh};
 ghost use Rattle.deciding.specs.Moving.{put};
 ghost use Rattle.deciding.specs.Starting.{Revising, Begun, Taken};
-use crate::apart;
-use crate::memo;
-use crate::moment::put_table;
+use decide::memo;
 use memory::Outcome;
 use memory::clear;
 use memory::layout;
 use memory::limits::ENTRIES;
 use memory::plan::is_past;
 use memory::plan::table_of;
+use moments::apart;
+use moments::moment::put_table;
 
 const TABLES: usize = layout::TABLES_AT;
 

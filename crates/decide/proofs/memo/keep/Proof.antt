@@ -1,0 +1,65 @@
+use borrow.Author.Needs.{needs}
+use native.Mathlib.Omega.{arith}
+use mathlib.Core.Path.{_≡_, refl, sym, ap, _∙_, subst}
+use mathlib.Core.Bool.{Bool, true, false, cond, _&&_}
+use Rattle.sets.proofs.Finite.{not-both}
+use Rattle.deciding.specs.Rows.{assigned}
+use Rattle.deciding.specs.Memo.{Missing, Stored}
+use Rattle.deciding.proofs.Copying as copy
+use Rattle.decide.proofs.memo.keep.Statement.{statement}
+use Rattle.decide.proofs.memo.keep.Tie as tie
+
+mul-at : tie.Need-mul-at
+mul-at c = omega (arith, c .before .before .before .pre .0, c .before .before .before .pre .1 (c .if1 .taken))
+
+add-keep-in : tie.Need-add-keep-in
+add-keep-in c = omega (arith, c .before .before .before .pre .0, c .before .before .before .pre .1 (c .if1 .taken))
+
+mul-keep-in : tie.Need-mul-keep-in
+mul-keep-in c = omega (arith, c .before .before .before .pre .0, c .before .before .before .pre .1 (c .if1 .taken))
+
+sub-keep-in : tie.Need-sub-keep-in
+sub-keep-in c = omega (arith, c .before .before .before .pre .0, c .before .before .before .pre .1 (c .if1 .taken))
+
+part-keep-in-start : tie.Need-part-keep-in-start
+part-keep-in-start c = omega (arith, c .before .before .before .pre .0, c .before .before .before .pre .1 (c .if1 .taken))
+
+part-keep-in-end : tie.Need-part-keep-in-end
+part-keep-in-end c = omega (arith, c .before .before .before .pre .0, c .before .before .before .pre .1 (c .if1 .taken))
+
+keep-in-requires : tie.Need-keep-in-requires
+keep-in-requires c κs = (copy.part-long (c .before .before .before .before .before .args .entry) (c .before .before .before .before .before .args .memo .now) (c .before .before .before .before .before .pre .1 (c .before .before .if1 .taken)), c .before .before .before .before .before .pre .2)
+
+same-length : tie.Need-same-length
+same-length c = search needs
+
+same-length-2 : tie.Need-same-length-2
+same-length-2 c = search needs
+
+returns : tie.Need-returns
+returns c =
+    let i = c .before .before .before .before .before .before .before .before .before .before in
+    let k = c .before .before .before .before .keep-in in
+    let fits = (c .before .before .before .before .before .before .before .before .before .before .pre .1 (c .before .before .before .before .before .before .before .if1 .taken)) in (
+      (λ e. copy.lent-as (i .args .entry) (i .args .memo .now) fits (λ s s'. Stored (i .args .need) (i .args .want) s (i .args .out .now) s' (k .last .1 .1 .1 .0)) (k .last .0) (k .kept .0) (k .ensures)),
+      ((λ e. absurd (not-both _ (c .before .before .before .before .before .before .before .if1 .taken) e)), copy.lent-back (i .args .entry) (i .args .memo .now) fits (k .last .0) (k .kept .0) .1),
+    )
+
+returns-2 : tie.Need-returns-2
+returns-2 c = ((λ e. absurd (not-both _ e (c .if1 .left))), ((λ e. (refl, refl)), copy.apart-same _ _))
+
+pub keep-spec : {M : Type 1} → statement M
+keep-spec =
+    tie.close
+    (tie.spec
+    mul-at
+    add-keep-in
+    mul-keep-in
+    sub-keep-in
+    part-keep-in-start
+    part-keep-in-end
+    keep-in-requires
+    same-length
+    same-length-2
+    returns
+    returns-2)

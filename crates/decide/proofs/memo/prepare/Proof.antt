@@ -1,0 +1,139 @@
+use native.Mathlib.Omega.{arith}
+use Prim.Native.Nat.{ℕ, _-_, _<_}
+use mathlib.Core.Path.{_≡_, refl, sym, ap, _∙_, subst}
+use mathlib.Core.Bool.{Bool, true, false, cond, _&&_}
+use lib.ListN.{length, getD}
+use Rattle.memory.specs.Layout.{termsOf}
+use Rattle.memory.specs.Plan.{planColumns}
+use Rattle.memory.proofs.Accepted.{good}
+use Rattle.theory.proofs.Good.{first-variable, first-lower, second-lower, third-lower}
+use Rattle.deciding.proofs.ReadSets as sets
+use Rattle.decide.proofs.memo.prepare.Statement.{statement}
+use Rattle.decide.proofs.memo.prepare.Tie as tie
+
+abbrev Inv-loop : tie.InvT-loop
+Inv-loop terms plan memo₀ n reads₀ i₀ memo reads i = sets.Preparing (termsOf terms) i reads memo × (length memo ≡ length memo₀)
+
+abbrev μ-loop : tie.MeasureT-loop
+μ-loop terms plan memo₀ n reads₀ i₀ memo reads i = n - i
+
+entries-requires : tie.Need-entries-requires Inv-loop μ-loop
+entries-requires c κs = tt
+
+loop-holds : tie.Need-loop-holds Inv-loop μ-loop
+loop-holds c = (sets.preparing _ _ _ refl, refl)
+
+first-of-requires : tie.Need-first-of-requires Inv-loop μ-loop
+first-of-requires c κs = tt
+
+op-of-requires : tie.Need-op-of-requires Inv-loop μ-loop
+op-of-requires c κs = tt
+
+word-requires : tie.Need-word-requires Inv-loop μ-loop
+word-requires c κs = tt
+
+slice-aggregate-set-at : tie.Need-slice-aggregate-set-at Inv-loop μ-loop
+slice-aggregate-set-at c = sym (c .before .before .before .before .before .loop .inv .0 .long)
+
+set-at-requires : tie.Need-set-at-requires Inv-loop μ-loop
+set-at-requires c κs = tt
+
+slice-aggregate-set-at-2 : tie.Need-slice-aggregate-set-at-2 Inv-loop μ-loop
+slice-aggregate-set-at-2 c = sym (c .before .before .before .before .before .before .before .loop .inv .0 .long)
+
+second-of-requires : tie.Need-second-of-requires Inv-loop μ-loop
+second-of-requires c κs = tt
+
+set-at-requires-2 : tie.Need-set-at-requires-2 Inv-loop μ-loop
+set-at-requires-2 c κs = tt
+
+slice-aggregate-set-at-3 : tie.Need-slice-aggregate-set-at-3 Inv-loop μ-loop
+slice-aggregate-set-at-3 c = sym (c .before .before .before .before .before .before .before .before .before .before .loop .inv .0 .long)
+
+third-of-requires : tie.Need-third-of-requires Inv-loop μ-loop
+third-of-requires c κs = tt
+
+set-at-requires-3 : tie.Need-set-at-requires-3 Inv-loop μ-loop
+set-at-requires-3 c κs = tt
+
+reads-of-requires : tie.Need-reads-of-requires Inv-loop μ-loop
+reads-of-requires c κs = tt
+
+mul-reads : tie.Need-mul-reads Inv-loop μ-loop
+mul-reads c = omega (arith, c .before .before .before .before .before .before .before .before .before .before .before .before .loop-test .taken, c .before .before .before .before .before .before .before .before .before .before .before .before .before .before .entries .ensures .0, good (c .before .before .before .before .before .before .before .before .before .before .before .before .before .before .before .before .before .before .args .terms .now) (c .before .before .before .before .before .before .before .before .before .before .before .before .before .before .before .before .before .before .pre .0) .few-entries)
+
+array-write-reads : tie.Need-array-write-reads Inv-loop μ-loop
+array-write-reads c = omega (arith, c .before .before .before .before .before .before .before .before .before .before .before .before .loop-test .taken, c .before .before .before .before .before .before .before .before .before .before .before .before .before .before .entries .ensures .0, good (c .before .before .before .before .before .before .before .before .before .before .before .before .before .before .before .before .before .before .args .terms .now) (c .before .before .before .before .before .before .before .before .before .before .before .before .before .before .before .before .before .before .pre .0) .few-entries)
+
+give-requires : tie.Need-give-requires Inv-loop μ-loop
+give-requires c κs = omega (arith, c .before .before .before .before .before .before .before .before .before .before .before .before .before .loop-test .taken, c .before .before .before .before .before .before .before .before .before .before .before .before .before .before .before .entries .ensures .0, good (c .before .before .before .before .before .before .before .before .before .before .before .before .before .before .before .before .before .before .before .args .terms .now) (c .before .before .before .before .before .before .before .before .before .before .before .before .before .before .before .before .before .before .before .pre .0) .few-entries)
+
+add-i : tie.Need-add-i Inv-loop μ-loop
+add-i c = omega (arith, c .before .before .before .before .before .before .before .before .before .before .before .before .before .before .before .before .loop-test .taken, c .before .before .before .before .before .before .before .before .before .before .before .before .before .before .before .before .before .before .entries .ensures .0, good (c .before .before .before .before .before .before .before .before .before .before .before .before .before .before .before .before .before .before .before .before .before .before .args .terms .now) (c .before .before .before .before .before .before .before .before .before .before .before .before .before .before .before .before .before .before .before .before .before .before .pre .0) .few-entries)
+
+loop-less : tie.Need-loop-less Inv-loop μ-loop
+loop-less c = omega (arith, c .before .before .before .before .before .before .before .before .before .before .before .before .before .before .before .before .loop-test .taken)
+
+loop-again : tie.Need-loop-again Inv-loop μ-loop
+loop-again c =
+    let i = c .before .before .before .before .before .before .before .before .before .before .before .before .before .before .before .before .before .before .before .before .before .before in
+    let T = termsOf (i .args .terms .now) in
+    let fine = good (i .args .terms .now) (i .pre .0) in
+    let l = c .before .before .before .before .before .before .before .before .before .before .before .before .before .before .before .before .before .loop in
+    let here : l .i < T .entries = omega (arith, c .before .before .before .before .before .before .before .before .before .before .before .before .before .before .before .before .loop-test .taken, c .before .before .before .before .before .before .before .before .before .before .before .before .before .before .before .before .before .before .entries .ensures .0) in
+    let e = fine .entry (l .i) here in
+    let word = c .before .before .before .before .before .before .before .before .before .before .before .before .before .word in (
+      sets.preparing-more T (l .i) (c .before .before .before .before .reads-of .result) (fine .few-entries) here (l .inv .0)
+          (sets.covers-entry T (l .i) (word .result) (c .before .before .before .before .before .before .before .before .before .before .before .set-at .result) (c .before .before .before .before .before .before .before .before .set-at2 .result) (c .before .before .before .before .before .set-at3 .result) (c .before .before .before .before .reads-of .result) (l .inv .0)
+          (λ q. let z = first-variable e q in omega arith)
+          (λ q. ap planColumns (word .ensures .0) ∙ i .pre .1 .table (l .i) here q .1)
+          (first-lower e) (second-lower e) (third-lower e)
+          (c .before .before .before .before .before .before .before .before .before .before .before .set-at .ensures ∙ ap (λ (k : ℕ). getD (l .reads) k 0) (c .before .before .before .before .before .before .before .before .before .before .before .before .before .before .before .first-of .ensures .0))
+          (c .before .before .before .before .before .before .before .before .set-at2 .ensures ∙ ap (λ (k : ℕ). getD (l .reads) k 0) (c .before .before .before .before .before .before .before .before .before .second-of .ensures .0))
+          (c .before .before .before .before .before .set-at3 .ensures ∙ ap (λ (k : ℕ). getD (l .reads) k 0) (c .before .before .before .before .before .before .third-of .ensures .0))
+          (rw (c .before .before .before .before .before .before .before .before .before .before .before .before .before .before .op-of .ensures .0, c .before .before .before .before .before .before .before .before .before .before .before .before .before .before .before .first-of .ensures .0) at (c .before .before .before .before .reads-of .ensures)))
+          (c .before .before .give .ensures .0) (c .before .before .give .ensures .1),
+      c .before .before .give .ensures .0 .long ∙ l .inv .1,
+    )
+
+same-length : tie.Need-same-length Inv-loop μ-loop
+same-length c = c .before .loop .inv .1
+
+returns : tie.Need-returns Inv-loop μ-loop
+returns c =
+    let i = c .before .before .before .before .before .before in
+    let T = termsOf (i .args .terms .now) in
+    let fine = good (i .args .terms .now) (i .pre .0) in
+    let l = c .before .loop in
+    let all : l .i ≡ T .entries = omega (arith, l .inv .0 .upto, c .loop-test .left, c .before .before .entries .ensures .0) in
+    let f = subst (λ (k : ℕ). sets.Preparing T k (l .reads) (l .memo)) all (l .inv .0) in
+    (sets.prepared-fresh T f, λ rel past. sets.prepared-memo T rel past f)
+
+pub prepare-spec : {M : Type 1} → statement M
+prepare-spec =
+    tie.close
+    (tie.spec
+    Inv-loop
+    μ-loop
+    entries-requires
+    loop-holds
+    first-of-requires
+    op-of-requires
+    word-requires
+    slice-aggregate-set-at
+    set-at-requires
+    slice-aggregate-set-at-2
+    second-of-requires
+    set-at-requires-2
+    slice-aggregate-set-at-3
+    third-of-requires
+    set-at-requires-3
+    reads-of-requires
+    mul-reads
+    array-write-reads
+    give-requires
+    add-i
+    loop-less
+    loop-again
+    same-length
+    returns)

@@ -1,0 +1,93 @@
+-- The loop's invariant: the rows of the members below a are in.
+use Prim.Native.Nat.{_+_, _-_, _*_, _/_, _%_}
+use mathlib.Core.Path.{ap, _∙_}
+use mathlib.Core.Bool.{Bool, _&&_, _||_}
+use lib.Bits.{and-le-r}
+use lib.Dec.{eqb}
+use lib.ListN.{getD}
+use Rattle.sets.specs.Sets.{bit}
+use native.Mathlib.Omega.{arith}
+use Rattle.deciding.proofs.Pairs as pairs
+use Rattle.decide.proofs.pairs.add_rows.Statement.{statement}
+use Rattle.decide.proofs.pairs.add_rows.Tie as tie
+
+abbrev Inv-loop : tie.InvT-loop
+Inv-loop table₀ rows n b a₀ table a = pairs.Putting n b rows table₀ table a
+
+abbrev μ-loop : tie.MeasureT-loop
+μ-loop table₀ rows n b a₀ table a = n - a
+
+loop-holds : tie.Need-loop-holds Inv-loop μ-loop
+loop-holds c = pairs.putting _ _ _ _ (c .before .before .pre .0)
+
+mul-i : tie.Need-mul-i Inv-loop μ-loop
+mul-i c = omega arith
+
+add-i : tie.Need-add-i Inv-loop μ-loop
+add-i c = omega arith
+
+mul-with-quarter : tie.Need-mul-with-quarter Inv-loop μ-loop
+mul-with-quarter c = omega arith
+
+slice-read-with-quarter : tie.Need-slice-read-with-quarter Inv-loop μ-loop
+slice-read-with-quarter c = omega arith
+
+mul-with-quarter-2 : tie.Need-mul-with-quarter-2 Inv-loop μ-loop
+mul-with-quarter-2 c = omega arith
+
+shared-slice-read-with-quarter : tie.Need-shared-slice-read-with-quarter Inv-loop μ-loop
+shared-slice-read-with-quarter c = omega arith
+
+with-quarter-requires : tie.Need-with-quarter-requires Inv-loop μ-loop
+with-quarter-requires c κs =
+    let x = c .before .before .before .before .before .before .args in
+    (omega arith, omega (arith, and-le-r (getD (x .rows .now) (c .before .before .before .loop .a) 0) 65535))
+
+mul-table : tie.Need-mul-table Inv-loop μ-loop
+mul-table c = omega arith
+
+slice-write-table : tie.Need-slice-write-table Inv-loop μ-loop
+slice-write-table c = omega arith
+
+add-a : tie.Need-add-a Inv-loop μ-loop
+add-a c = omega arith
+
+loop-less : tie.Need-loop-less Inv-loop μ-loop
+loop-less c = omega arith
+
+loop-again : tie.Need-loop-again Inv-loop μ-loop
+loop-again c =
+    let i = c .before .before .before .before .before .before .before in
+    let l = c .before .before .before .before .loop in
+    let x = i .args in
+    pairs.putting-more (c .with-quarter .result) (i .pre .2) (i .pre .3) (c .before .before .before .loop-test .taken) (l .inv)
+    (λ k. c .with-quarter .ensures k
+    ∙ ap (λ (y : Bool). bit (getD (l .table) (4 * l .a + x .b / 4) 0) k || (eqb (k / 16) (x .b % 4) && y)) (pairs.cut-row (getD (x .rows .now) (l .a) 0) k))
+
+same-length : tie.Need-same-length Inv-loop μ-loop
+same-length c = omega (arith, c .before .loop .inv .long, c .before .before .before .before .pre .0)
+
+returns : tie.Need-returns Inv-loop μ-loop
+returns c = pairs.putting-all (c .before .before .before .before .pre .0) (λ l. omega arith) (c .before .loop .inv)
+
+pub add-rows-spec : {M : Type 1} → statement M
+add-rows-spec =
+    tie.close
+    (tie.spec
+    Inv-loop
+    μ-loop
+    loop-holds
+    mul-i
+    add-i
+    mul-with-quarter
+    slice-read-with-quarter
+    mul-with-quarter-2
+    shared-slice-read-with-quarter
+    with-quarter-requires
+    mul-table
+    slice-write-table
+    add-a
+    loop-less
+    loop-again
+    same-length
+    returns)

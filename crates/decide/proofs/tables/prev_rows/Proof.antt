@@ -1,0 +1,76 @@
+use borrow.Author.Needs.{needs}
+use native.Mathlib.Omega.{arith}
+use mathlib.Core.Path.{_≡_, refl, sym, ap, _∙_, subst}
+use Prim.Native.Nat.{ℕ}
+use mathlib.Core.Bool.{not}
+use lib.Dec.{eqb}
+use Rattle.memory.specs.Plan.{planFirst, planLast}
+use Rattle.memory.specs.Layout.{termsOf}
+use Rattle.deciding.proofs.Remembering as rem
+use Rattle.deciding.proofs.Sites as sites
+use Rattle.deciding.proofs.Requests as requests
+use Rattle.deciding.proofs.Counting as counting
+use Rattle.memory.proofs.Accepted.{good}
+use Rattle.theory.proofs.Good.{first-lower, second-lower}
+use Rattle.decide.proofs.tables.prev_rows.Statement.{statement}
+use Rattle.decide.proofs.tables.prev_rows.Tie as tie
+
+word-requires : tie.Need-word-requires
+word-requires c κs = tt
+
+last-of-requires : tie.Need-last-of-requires
+last-of-requires c κs = tt
+
+members-requires : tie.Need-members-requires
+members-requires c κs = tt
+
+mask-requires : tie.Need-mask-requires
+mask-requires c κs = tt
+
+first-of-requires : tie.Need-first-of-requires
+first-of-requires c κs = tt
+
+decide-requires : tie.Need-decide-requires
+decide-requires c κs =
+    let i = c .before .before .before .before .before .before .before .before .before .before .before .before .before in
+    let members = c .before .before .before .before .members in
+    let mask = c .before .before .before .mask in
+    (i .pre .0, (requests.table-first (i .pre .0) (i .pre .1 .0 .0) (i .pre .1 .0 .1) refl _ _ (c .before .before .first-of .ensures .0) refl (sites.mask-is (i .pre .0) (mask .result) (members .result) (mask .ensures) (members .ensures .0)), (i .pre .1 .0 .2, rem.memo-lower (let l = first-lower (good (i .args .terms .now) (i .pre .0 .good) .entry (i .args .entry) (i .pre .1 .0 .0)) (rw (i .pre .1 .0 .1)) in omega (arith, l, c .before .before .first-of .ensures .0)) (i .pre .1 .1 .1))))
+
+clear-from-requires : tie.Need-clear-from-requires
+clear-from-requires c κs = (c .before .before .before .before .before .decide .ensures .0 .long, sites.members-few (c .before .before .before .before .before .before .before .before .before .before .before .before .before .before .before .before .before .before .before .pre .0) _ (c .before .before .before .before .before .before .before .before .before .before .members .ensures .0))
+
+same-length : tie.Need-same-length
+same-length c = search needs
+
+same-length-2 : tie.Need-same-length-2
+same-length-2 c = search needs
+
+returns : tie.Need-returns
+returns c =
+    let i = c .before .before .before .before .before .before .before .before .before .before .before .before .before .before .before .before .before .before .before .before .before .before in
+    let members = c .before .before .before .before .before .before .before .before .before .before .before .before .before .members in
+    let mask = c .before .before .before .before .before .before .before .before .before .before .before .before .mask in
+    let word = c .before .before .before .before .before .before .before .before .before .before .before .before .before .before .before .word in
+    let last-of = c .before .before .before .before .before .before .before .before .before .before .before .before .before .before .last-of in
+    let one = ap (λ (p : ℕ). not (eqb (planFirst p) (planLast p))) (word .ensures .0) ∙ i .pre .1 .1 .0 in
+    let clear-from = c .before .before .clear-from in (
+      requests.prev-table (i .pre .0) (i .pre .1 .0 .0) (i .pre .1 .0 .1) refl (word .result) _ (mask .result) (members .result) (word .ensures .0) one (c .before .before .before .before .before .before .before .before .before .before .before .first-of .ensures .0) (sites.mask-is (i .pre .0) (mask .result) (members .result) (mask .ensures) (members .ensures .0))
+          (rw (last-of .ensures) at (c .before .before .before .before .before .before .before .before .decide .ensures .0)) (clear-from .kept .0) (members .ensures .0) (clear-from .ensures),
+      rem.grown-up (let l = first-lower (good (i .args .terms .now) (i .pre .0 .good) .entry (i .args .entry) (i .pre .1 .0 .0)) (rw (i .pre .1 .0 .1)) in omega (arith, l, c .before .before .before .before .before .before .before .before .before .before .before .first-of .ensures .0)) (i .pre .1 .1 .1) (c .before .before .before .before .before .before .before .before .decide .ensures .1),
+    )
+
+pub prev-rows-spec : {M : Type 1} → statement M
+prev-rows-spec =
+    tie.close
+    (tie.spec
+    word-requires
+    last-of-requires
+    members-requires
+    mask-requires
+    first-of-requires
+    decide-requires
+    clear-from-requires
+    same-length
+    same-length-2
+    returns)

@@ -1,0 +1,107 @@
+use borrow.Author.Needs.{needs}
+use native.Mathlib.Omega.{arith}
+use mathlib.Core.Path.{_≡_, refl, sym, ap, _∙_, subst}
+use Prim.Native.Nat.{ℕ}
+use mathlib.Core.Bool.{not}
+use lib.Dec.{eqb}
+use Rattle.memory.specs.Plan.{planFirst, planLast}
+use Rattle.memory.specs.Layout.{termsOf}
+use Rattle.deciding.proofs.Remembering as rem
+use Rattle.deciding.proofs.Sites as sites
+use Rattle.deciding.proofs.Requests as requests
+use Rattle.deciding.proofs.Counting as counting
+use Rattle.memory.proofs.Accepted.{good}
+use Rattle.theory.proofs.Good.{first-lower, second-lower}
+use Rattle.decide.proofs.tables.since_rows.Statement.{statement}
+use Rattle.decide.proofs.tables.since_rows.Tie as tie
+
+word-requires : tie.Need-word-requires
+word-requires c κs = tt
+
+last-of-requires : tie.Need-last-of-requires
+last-of-requires c κs = tt
+
+table-of-requires : tie.Need-table-of-requires
+table-of-requires c κs = tt
+
+members-requires : tie.Need-members-requires
+members-requires c κs = tt
+
+mask-requires : tie.Need-mask-requires
+mask-requires c κs = tt
+
+first-of-requires : tie.Need-first-of-requires
+first-of-requires c κs = tt
+
+second-of-requires : tie.Need-second-of-requires
+second-of-requires c κs = tt
+
+decide-requires : tie.Need-decide-requires
+decide-requires c κs =
+    let i = c .before .before .before .before .before .before .before .before .before .before .before .before .before .before .before in
+    let members = c .before .before .before .before .before .members in
+    let mask = c .before .before .before .before .mask in
+    (i .pre .0, (requests.table-second (i .pre .0) (i .pre .1 .0 .0) (i .pre .1 .0 .1) refl _ _ (c .before .before .second-of .ensures .0) refl (sites.mask-is (i .pre .0) (mask .result) (members .result) (mask .ensures) (members .ensures .0)), (i .pre .1 .0 .2, rem.memo-lower (let l = second-lower (good (i .args .terms .now) (i .pre .0 .good) .entry (i .args .entry) (i .pre .1 .0 .0)) (rw (i .pre .1 .0 .1)) in omega (arith, l, c .before .before .second-of .ensures .0)) (i .pre .1 .1 .1))))
+
+decide-requires-2 : tie.Need-decide-requires-2
+decide-requires-2 c κs =
+    let i = c .before .before .before .before .before .before .before .before .before .before .before .before .before .before .before .before .before .before .before .before .before .before in
+    let members = c .before .before .before .before .before .before .before .before .before .before .before .before .members in
+    let mask = c .before .before .before .before .before .before .before .before .before .before .before .mask in
+    let g = rem.grown-up (let l = second-lower (good (i .args .terms .now) (i .pre .0 .good) .entry (i .args .entry) (i .pre .1 .0 .0)) (rw (i .pre .1 .0 .1)) in omega (arith, l, c .before .before .before .before .before .before .before .before .before .second-of .ensures .0)) (i .pre .1 .1 .1) (c .before .before .before .before .before .before .decide .ensures .1) in
+    (i .pre .0, (requests.table-first (i .pre .0) (i .pre .1 .0 .0) (i .pre .1 .0 .1) refl _ _ (c .before .before .before .before .before .before .before .before .before .before .first-of .ensures .0) refl (sites.mask-is (i .pre .0) (mask .result) (members .result) (mask .ensures) (members .ensures .0)), (i .pre .1 .0 .3, rem.memo-lower (let l = first-lower (good (i .args .terms .now) (i .pre .0 .good) .entry (i .args .entry) (i .pre .1 .0 .0)) (rw (i .pre .1 .0 .1)) in omega (arith, l, c .before .before .before .before .before .before .before .before .before .before .first-of .ensures .0)) (g .memo))))
+
+join-kept-requires : tie.Need-join-kept-requires
+join-kept-requires c κs =
+    let i = c .before .before .before .before .before .before .before .before .before .before .before .before .before .before .before .before .before .before .before .before .before .before .before .before .before .before .before .before .before .before in
+    (c .before .before .before .before .before .before .before .before .before .before .before .before .before .before .decide .ensures .0 .long, c .before .before .before .before .before .before .before .decide2 .ensures .0 .long, omega (arith, c .table-of .ensures, requests.table-small (i .pre .0) (i .pre .1 .0 .0) (i .pre .1 .0 .1) refl _ (c .before .before .before .before .before .before .before .before .before .before .before .before .before .before .before .before .before .before .before .before .before .before .word .ensures .0)), omega (arith, i .pre .0 .long-past))
+
+clear-from-requires : tie.Need-clear-from-requires
+clear-from-requires c κs = (c .before .before .before .join-kept .kept .0 ∙ c .before .before .before .before .before .before .before .before .before .before .before .before .before .before .before .before .before .before .decide .ensures .0 .long, sites.members-few (c .before .before .before .before .before .before .before .before .before .before .before .before .before .before .before .before .before .before .before .before .before .before .before .before .before .before .before .before .before .before .before .before .before .before .pre .0) _ (c .before .before .before .before .before .before .before .before .before .before .before .before .before .before .before .before .before .before .before .before .before .before .before .before .members .ensures .0))
+
+same-length : tie.Need-same-length
+same-length c = search needs
+
+same-length-2 : tie.Need-same-length-2
+same-length-2 c = search needs
+
+same-length-3 : tie.Need-same-length-3
+same-length-3 c = search needs
+
+returns : tie.Need-returns
+returns c =
+    let i = c .before .before .before .before .before .before .before .before .before .before .before .before .before .before .before .before .before .before .before .before .before .before .before .before .before .before .before .before .before .before .before .before .before .before .before .before .before in
+    let members = c .before .before .before .before .before .before .before .before .before .before .before .before .before .before .before .before .before .before .before .before .before .before .before .before .before .before .before .members in
+    let mask = c .before .before .before .before .before .before .before .before .before .before .before .before .before .before .before .before .before .before .before .before .before .before .before .before .before .before .mask in
+    let word = c .before .before .before .before .before .before .before .before .before .before .before .before .before .before .before .before .before .before .before .before .before .before .before .before .before .before .before .before .before .word in
+    let last-of = c .before .before .before .before .before .before .before .before .before .before .before .before .before .before .before .before .before .before .before .before .before .before .before .before .before .before .before .before .last-of in
+    let table-of = c .before .before .before .before .before .before .before .table-of in
+    let one = ap (λ (p : ℕ). not (eqb (planFirst p) (planLast p))) (word .ensures .0) ∙ i .pre .1 .1 .0 in
+    let join-kept = c .before .before .before .before .before .before .join-kept in
+    let clear-from = c .before .before .clear-from in
+    let g = rem.grown-up (let l = second-lower (good (i .args .terms .now) (i .pre .0 .good) .entry (i .args .entry) (i .pre .1 .0 .0)) (rw (i .pre .1 .0 .1)) in omega (arith, l, c .before .before .before .before .before .before .before .before .before .before .before .before .before .before .before .before .before .before .before .before .before .before .before .before .second-of .ensures .0)) (i .pre .1 .1 .1) (c .before .before .before .before .before .before .before .before .before .before .before .before .before .before .before .before .before .before .before .before .before .decide .ensures .1) in (
+      requests.since-table (i .pre .0) (i .pre .1 .0 .0) (i .pre .1 .0 .1) refl (word .result) _ _ (mask .result) (members .result) (join-kept .last .0) (word .ensures .0) one
+          (c .before .before .before .before .before .before .before .before .before .before .before .before .before .before .before .before .before .before .before .before .before .before .before .before .second-of .ensures .0) (c .before .before .before .before .before .before .before .before .before .before .before .before .before .before .before .before .before .before .before .before .before .before .before .before .before .first-of .ensures .0) (sites.mask-is (i .pre .0) (mask .result) (members .result) (mask .ensures) (members .ensures .0))
+          (rw (last-of .ensures) at (c .before .before .before .before .before .before .before .before .before .before .before .before .before .before .before .before .before .before .before .before .before .decide .ensures .0)) (rw (last-of .ensures) at (c .before .before .before .before .before .before .before .before .before .before .before .before .before .before .decide2 .ensures .0)) (join-kept .kept .0) (rw (table-of .ensures) at (join-kept .ensures)) (clear-from .kept .0) (members .ensures .0) (clear-from .ensures),
+      rem.grown-then g (rem.grown-up (let l = first-lower (good (i .args .terms .now) (i .pre .0 .good) .entry (i .args .entry) (i .pre .1 .0 .0)) (rw (i .pre .1 .0 .1)) in omega (arith, l, c .before .before .before .before .before .before .before .before .before .before .before .before .before .before .before .before .before .before .before .before .before .before .before .before .before .first-of .ensures .0)) (g .memo) (c .before .before .before .before .before .before .before .before .before .before .before .before .before .before .decide2 .ensures .1)),
+    )
+
+pub since-rows-spec : {M : Type 1} → statement M
+since-rows-spec =
+    tie.close
+    (tie.spec
+    word-requires
+    last-of-requires
+    members-requires
+    mask-requires
+    first-of-requires
+    second-of-requires
+    decide-requires
+    decide-requires-2
+    table-of-requires
+    join-kept-requires
+    clear-from-requires
+    same-length
+    same-length-2
+    same-length-3
+    returns)

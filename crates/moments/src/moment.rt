@@ -1,0 +1,323 @@
+// From one moment to the next, in place: the prev tables, the moment itself, the since tables.
+ghost use mathlib.Core.Path.{_≡_};
+ghost use mathlib.Core.Bool.{true, cond};
+ghost use mathlib.Core.List.{_++_};
+ghost use Prim.Native.Nat.{_+_, _*_, _<_, _≤_};
+ghost use lib.Dec.{ltb};
+ghost use lib.ListN.{length, getD, drop, replicate};
+ghost use Rattle.theory.specs.Limits.{scratchWords};
+ghost use Rattle.memory.specs.Layout.{termsWords, stateWords, blockWords, termsOf, stateOf, wordsOf};
+ghost use Rattle.memory.specs.Checks.{goodMemory, goodState, goodRelations};
+ghost use Rattle.theory.specs.Tables.{named, opening, decideNow, made, advance};
+ghost use Rattle.memory.specs.Plan.{planTable, Planned};
+ghost use Rattle.calls.specs.Telling.{holdsAt};
+ghost use Rattle.deciding.specs.Memo.{MemoOf, Above, Fresh};
+ghost use Rattle.deciding.specs.Moving.{Movable, Becomes, put, prevAt, prevMoved, entered, sinceAt, sinceMoved};
+use crate::entering::enter;
+use decide::asking;
+use decide::brief;
+use decide::memo;
+use decide::tables;
+use memory::clear;
+use memory::layout;
+use memory::limits::EVENTS;
+use memory::plan;
+use theory::operators::PREV;
+use theory::operators::SINCE;
+
+// Where the tables begin, and the rows of a table.
+const TABLES: usize = layout::TABLES_AT;
+
+const ROWS: usize = layout::BLOCK;
+
+// Whether an entry holds now, at u with variable 0 standing for v.
+pub fn is_so(terms: &[u16], plan: &[u16], state: &[u64], entry: usize, u: usize, v: usize) -> bool
+    requires { ⌜ (termsWords ≤ length (now terms)) × (goodMemory (now terms) ≡ true) × Planned (termsOf (now terms)) (now plan) ⌝ }
+    requires { ⌜ (stateWords ≤ length (now state)) × (goodState (termsOf (now terms)) (now state) ≡ true) ⌝ }
+    requires { ⌜ (entry < termsOf (now terms) .entries) × (u < termsOf (now terms) .members) × (v < termsOf (now terms) .members) ⌝ }
+    ensures { λ r. ⌜ r ≡ holdsAt (termsOf (now (terms .entry))) (stateOf (now (state .entry))) entry u v ⌝ }
+{
+    let memoless = brief::is_brief(terms, entry);
+    asking::settle(
+        terms,
+        plan,
+        &state[0..TABLES],
+        &state[TABLES..layout::STATE],
+        entry,
+        u,
+        v,
+        memoless,
+    )
+}
+
+// Whether the policy of the event holds now, at the initiator with variable 0 standing for the target.
+pub fn is_granted(
+    terms: &[u16],
+    plan: &[u16],
+    state: &[u64],
+    event: usize,
+    from: usize,
+    to: usize,
+) -> bool
+    requires { ⌜ (termsWords ≤ length (now terms)) × (goodMemory (now terms) ≡ true) × Planned (termsOf (now terms)) (now plan) ⌝ }
+    requires { ⌜ (stateWords ≤ length (now state)) × (goodState (termsOf (now terms)) (now state) ≡ true) × (named (termsOf (now terms)) event from to ≡ true) ⌝ }
+    ensures { λ r. ⌜ r ≡ decideNow (termsOf (now (terms .entry))) (stateOf (now (state .entry))) event from to ⌝ }
+{
+    is_so(
+        terms,
+        plan,
+        state,
+        layout::policy_of(terms, event),
+        from,
+        to,
+    )
+}
+
+// Stores one finished table.
+pub(crate) fn store_table(part: &mut [u64], rows: &[u64])
+    requires { ⌜ (length (now part) ≡ blockWords) × (length (now rows) ≡ blockWords) ⌝ }
+    ensures { λ _. ⌜ now (part .exit) ≡ now (rows .entry) ⌝ }
+{
+    let mut a: usize = 0;
+    while a < ROWS {
+        part[a] = rows[a];
+        a += 1;
+    }
+}
+
+// Stores rows as the table of entry n, in a bank's own words. Only that part of them is lent on.
+pub fn put_table(plan: &[u16], own: &mut [u64], rows: &[u64], n: usize)
+    requires { ⌜ (blockWords * planTable (getD (now plan) n 0) + blockWords ≤ length (now own)) × (length (now rows) ≡ blockWords) ⌝ }
+    ensures { λ _. ⌜ now (own .exit) ≡ put (blockWords * planTable (getD (now (plan .entry)) n 0)) (now (rows .entry)) (now (own .entry)) ⌝ }
+{
+    let k = ROWS * plan::table_of(layout::word(plan, n));
+    store_table(&mut own[k..k + ROWS], rows);
+}
+
+// Moves the table of entry n on, if that is a prev.
+fn prev_turn(
+    terms: &[u16],
+    plan: &[u16],
+    state: &mut [u64],
+    memo: &mut [u64],
+    rows: &mut [u64],
+    n: usize,
+)
+    requires { ⌜ Movable (now terms) (now plan) (now state) ⌝ }
+    requires { ⌜ (n < termsOf (now terms) .entries) × (length (now rows) ≡ blockWords) ⌝ }
+    requires { ⌜ MemoOf (termsOf (now terms)) (now state) n (now memo) ⌝ }
+    ensures { λ _. ⌜ Becomes (now (terms .entry)) (prevAt n) (now (state .entry)) (now (state .exit)) ⌝ }
+    ensures { λ _. ⌜ MemoOf (termsOf (now (terms .entry))) (now (state .exit)) n (now (memo .exit)) ⌝ }
+{
+    if layout::op_of(terms, n) == PREV {
+        tables::prev_table(
+            terms,
+            plan,
+            &state[0..TABLES],
+            &state[TABLES..layout::STATE],
+            memo,
+            n,
+            rows,
+        );
+        put_table(plan, &mut state[TABLES..layout::STATE], rows, n);
+    }
+}
+
+// Moves the table of entry n on, if that is a since.
+fn since_turn(
+    terms: &[u16],
+    plan: &[u16],
+    state: &mut [u64],
+    memo: &mut [u64],
+    f: &mut [u64],
+    rows: &mut [u64],
+    n: usize,
+)
+    requires { ⌜ Movable (now terms) (now plan) (now state) ⌝ }
+    requires { ⌜ (n < termsOf (now terms) .entries) × (length (now rows) ≡ blockWords) × (length (now f) ≡ blockWords) ⌝ }
+    requires { ⌜ MemoOf (termsOf (now terms)) (now state) (termsOf (now terms) .entries) (now memo) × Fresh (termsOf (now terms) .entries) n (now memo) ⌝ }
+    ensures { λ _. ⌜ Becomes (now (terms .entry)) (sinceAt n) (now (state .entry)) (now (state .exit)) ⌝ }
+    ensures { λ _. ⌜ MemoOf (termsOf (now (terms .entry))) (now (state .exit)) (termsOf (now (terms .entry)) .entries) (now (memo .exit)) × Fresh (termsOf (now (terms .entry)) .entries) n (now (memo .exit)) ⌝ }
+{
+    if layout::op_of(terms, n) == SINCE {
+        tables::since_table(
+            terms,
+            plan,
+            &state[0..TABLES],
+            &state[TABLES..layout::STATE],
+            memo,
+            n,
+            f,
+            rows,
+        );
+        put_table(plan, &mut state[TABLES..layout::STATE], rows, n);
+    }
+}
+
+// Moves every prev table on, from the highest entry down: a table reads only those of lower entries, which are still old.
+fn move_prev(terms: &[u16], plan: &[u16], state: &mut [u64], memo: &mut [u64], rows: &mut [u64])
+    requires { ⌜ Movable (now terms) (now plan) (now state) × (length (now rows) ≡ blockWords) ⌝ }
+    requires { ⌜ MemoOf (termsOf (now terms)) (now state) (termsOf (now terms) .entries) (now memo) ⌝ }
+    ensures { λ _. ⌜ Becomes (now (terms .entry)) prevMoved (now (state .entry)) (now (state .exit)) ⌝ }
+{
+    let entries = layout::entries(terms);
+    let mut n: usize = 0;
+    while n < entries {
+        n += 1;
+        prev_turn(terms, plan, state, memo, rows, entries - n);
+    }
+}
+
+// Moves every since table on, from the lowest entry up: a table reads only those of lower entries, which are moved already.
+fn move_since(terms: &[u16], plan: &[u16], state: &mut [u64], memo: &mut [u64], rows: &mut [u64])
+    requires { ⌜ Movable (now terms) (now plan) (now state) × (length (now rows) ≡ blockWords) ⌝ }
+    requires { ⌜ MemoOf (termsOf (now terms)) (now state) (termsOf (now terms) .entries) (now memo) × Fresh (termsOf (now terms) .entries) 0 (now memo) ⌝ }
+    ensures { λ _. ⌜ Becomes (now (terms .entry)) sinceMoved (now (state .entry)) (now (state .exit)) ⌝ }
+{
+    let entries = layout::entries(terms);
+    let mut f = [0u64; ROWS];
+    let mut n: usize = 0;
+    while n < entries {
+        since_turn(terms, plan, state, memo, &mut f, rows, n);
+        n += 1;
+    }
+}
+
+// The state at the next moment, where that is brief. The tables are worked out in rows.
+fn move_plain(
+    terms: &[u16],
+    plan: &[u16],
+    state: &mut [u64],
+    rows: &mut [u64],
+    granted: bool,
+    event: usize,
+    from: usize,
+    to: usize,
+)
+    requires { ⌜ Movable (now terms) (now plan) (now state) × (length (now rows) ≡ blockWords) ⌝ }
+    requires { ⌜ named (termsOf (now terms)) event from to ≡ true ⌝ }
+    ensures { λ _. ⌜ Becomes (now (terms .entry)) (λ T S. advance T S (made T (S .now) granted event from to)) (now (state .entry)) (now (state .exit)) ⌝ }
+{
+    let mut memo = [0u64; 1];
+    move_prev(terms, plan, state, &mut memo, rows);
+    enter(terms, state, granted, event, from, to);
+    move_since(terms, plan, state, &mut memo, rows);
+}
+
+// The steps up to the event word, if there is such an event.
+fn begin(
+    terms: &[u16],
+    plan: &[u16],
+    state: &mut [u64],
+    memo: &mut [u64],
+    rows: &mut [u64],
+    granted: bool,
+    event: usize,
+    from: usize,
+    to: usize,
+)
+    requires { ⌜ Movable (now terms) (now plan) (now state) × (length (now rows) ≡ blockWords) ⌝ }
+    requires { ⌜ (event < termsOf (now terms) .events → named (termsOf (now terms)) event from to ≡ true) ⌝ }
+    ensures { λ _. ⌜ Becomes (now (terms .entry)) (λ T S. cond (ltb event (T .events)) (entered granted event from to T (prevMoved T S)) S) (now (state .entry)) (now (state .exit)) ⌝ }
+{
+    if event < layout::events(terms) {
+        memo::prepare(terms, plan, memo);
+        move_prev(terms, plan, state, memo, rows);
+        enter(terms, state, granted, event, from, to);
+    }
+}
+
+// The state at the next moment, or, where there is no such event, of moment 0 over tables of zeros; with a memo that has a slot for each entry.
+fn move_shared(
+    terms: &[u16],
+    plan: &[u16],
+    state: &mut [u64],
+    rows: &mut [u64],
+    granted: bool,
+    event: usize,
+    from: usize,
+    to: usize,
+)
+    requires { ⌜ Movable (now terms) (now plan) (now state) × (length (now rows) ≡ blockWords) ⌝ }
+    requires { ⌜ (event < termsOf (now terms) .events → named (termsOf (now terms)) event from to ≡ true) ⌝ }
+    ensures { λ _. ⌜ Becomes (now (terms .entry)) (λ T S. cond (ltb event (T .events)) (advance T S (made T (S .now) granted event from to)) (sinceMoved T S)) (now (state .entry)) (now (state .exit)) ⌝ }
+{
+    let mut memo = [0u64; memo::WORDS];
+    begin(
+        terms,
+        plan,
+        state,
+        &mut memo,
+        rows,
+        granted,
+        event,
+        from,
+        to,
+    );
+    memo::prepare(terms, plan, &mut memo);
+    move_since(terms, plan, state, &mut memo, rows);
+}
+
+// The state at the next moment. The tables are worked out in rows.
+fn move_on(
+    terms: &[u16],
+    plan: &[u16],
+    state: &mut [u64],
+    rows: &mut [u64],
+    granted: bool,
+    event: usize,
+    from: usize,
+    to: usize,
+)
+    requires { ⌜ Movable (now terms) (now plan) (now state) × (length (now rows) ≡ blockWords) ⌝ }
+    requires { ⌜ named (termsOf (now terms)) event from to ≡ true ⌝ }
+    ensures { λ _. ⌜ Becomes (now (terms .entry)) (λ T S. advance T S (made T (S .now) granted event from to)) (now (state .entry)) (now (state .exit)) ⌝ }
+{
+    if brief::are_brief(terms) {
+        move_plain(terms, plan, state, rows, granted, event, from, to);
+    } else {
+        move_shared(terms, plan, state, rows, granted, event, from, to);
+    }
+}
+
+// The state at the moment that a request makes, granted or denied, in place; the named words of scratch are left 0.
+pub fn next_moment(
+    terms: &[u16],
+    plan: &[u16],
+    state: &mut [u64],
+    scratch: &mut [u64],
+    granted: bool,
+    event: usize,
+    from: usize,
+    to: usize,
+)
+    requires { ⌜ (termsWords ≤ length (now terms)) × (goodMemory (now terms) ≡ true) × Planned (termsOf (now terms)) (now plan) ⌝ }
+    requires { ⌜ (stateWords ≤ length (now state)) × (goodState (termsOf (now terms)) (now state) ≡ true) × (named (termsOf (now terms)) event from to ≡ true) ⌝ }
+    requires { ⌜ scratchWords ≤ length (now scratch) ⌝ }
+    ensures { λ _. ⌜ now (state .exit) ≡ wordsOf (termsOf (now (terms .entry))) (advance (termsOf (now (terms .entry))) (stateOf (now (state .entry))) (made (termsOf (now (terms .entry))) (stateOf (now (state .entry)) .now) granted event from to)) ++ drop stateWords (now (state .entry)) ⌝ }
+    ensures { λ _. ⌜ now (scratch .exit) ≡ replicate scratchWords 0 ++ drop scratchWords (now (scratch .entry)) ⌝ }
+{
+    move_on(
+        terms,
+        plan,
+        state,
+        &mut scratch[0..ROWS],
+        granted,
+        event,
+        from,
+        to,
+    );
+    clear(&mut scratch[0..layout::SCRATCH]);
+}
+
+// The state of moment 0 of the relations that stand there: the since sweep over tables of zeros.
+pub fn first_moment(terms: &[u16], plan: &[u16], state: &mut [u64])
+    requires { ⌜ (termsWords ≤ length (now terms)) × (goodMemory (now terms) ≡ true) × Planned (termsOf (now terms)) (now plan) ⌝ }
+    requires { ⌜ (stateWords ≤ length (now state)) × (goodRelations (termsOf (now terms)) (now state) ≡ true) ⌝ }
+    ensures { λ _. ⌜ now (state .exit) ≡ wordsOf (termsOf (now (terms .entry))) (opening (termsOf (now (terms .entry))) (stateOf (now (state .entry)) .now .edge)) ++ drop stateWords (now (state .entry)) ⌝ }
+{
+    clear(&mut state[TABLES..layout::STATE]);
+    let mut rows = [0u64; ROWS];
+    // no event has this number
+    move_shared(terms, plan, state, &mut rows, false, EVENTS, 0, 0);
+}
