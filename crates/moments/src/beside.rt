@@ -14,10 +14,10 @@ ghost use Rattle.banking.specs.Banks.{quiet};
 ghost use Rattle.banking.specs.Beside.{hushed};
 ghost use Rattle.moments.specs.Moments.{Moved};
 use crate::apart;
-use crate::entering;
-use decide::asking;
-use decide::brief;
+use crate::effects;
 use decide::memo;
+use decide::memo_choice;
+use decide::queries;
 use memory::clear;
 use memory::layout;
 
@@ -45,8 +45,8 @@ pub fn is_granted(
     ensures { λ r. ⌜ r ≡ decideNow (termsOf (now (terms .entry))) (stateOf (joined (now (relations .entry)) (now (own .entry)))) event from to ⌝ }
 {
     let policy = layout::policy_of(terms, event);
-    let memoless = brief::is_brief(terms, policy);
-    asking::settle(
+    let memoless = memo_choice::is_brief(terms, policy);
+    queries::settle(
         terms,
         plan,
         &relations[0..TABLES],
@@ -75,9 +75,9 @@ fn enter(
     ensures { λ _. ⌜ Becomes (now (terms .entry)) (hushed granted event from to) (now (relations .entry) ++ now (other .entry)) (now (relations .exit) ++ now (other .exit)) ⌝ }
 {
     if granted {
-        entering::make_effects(terms, relations, event, from, to);
+        effects::make_effects(terms, relations, event, from, to);
     }
-    entering::put_event(terms, own, granted, event, from, to);
+    effects::put_event(terms, own, granted, event, from, to);
     other[EVENT] = 0;
 }
 
@@ -180,7 +180,7 @@ fn move_on(
         clear(scratch);
         return;
     }
-    if brief::are_brief(terms) {
+    if memo_choice::are_brief(terms) {
         let mut none = [0u64; 1];
         move_both(
             terms,

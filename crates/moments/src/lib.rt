@@ -2,5 +2,5 @@
 // checks have found, and no host can call them.
 pub mod apart;
 pub mod beside;
-mod entering;
+mod effects;
 pub mod moment;

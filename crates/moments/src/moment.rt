@@ -13,10 +13,10 @@ ghost use Rattle.memory.specs.Plan.{planTable, Planned};
 ghost use Rattle.calls.specs.Telling.{holdsAt};
 ghost use Rattle.deciding.specs.Memo.{MemoOf, Above, Fresh};
 ghost use Rattle.deciding.specs.Moving.{Movable, Becomes, put, prevAt, prevMoved, entered, sinceAt, sinceMoved};
-use crate::entering::enter;
-use decide::asking;
-use decide::brief;
+use crate::effects::enter;
 use decide::memo;
+use decide::memo_choice;
+use decide::queries;
 use decide::tables;
 use memory::clear;
 use memory::layout;
@@ -37,8 +37,8 @@ pub fn is_so(terms: &[u16], plan: &[u16], state: &[u64], entry: usize, u: usize,
     requires { ⌜ (entry < termsOf (now terms) .entries) × (u < termsOf (now terms) .members) × (v < termsOf (now terms) .members) ⌝ }
     ensures { λ r. ⌜ r ≡ holdsAt (termsOf (now (terms .entry))) (stateOf (now (state .entry))) entry u v ⌝ }
 {
-    let memoless = brief::is_brief(terms, entry);
-    asking::settle(
+    let memoless = memo_choice::is_brief(terms, entry);
+    queries::settle(
         terms,
         plan,
         &state[0..TABLES],
@@ -273,7 +273,7 @@ fn move_on(
     requires { ⌜ named (termsOf (now terms)) event from to ≡ true ⌝ }
     ensures { λ _. ⌜ Becomes (now (terms .entry)) (λ T S. advance T S (made T (S .now) granted event from to)) (now (state .entry)) (now (state .exit)) ⌝ }
 {
-    if brief::are_brief(terms) {
+    if memo_choice::are_brief(terms) {
         move_plain(terms, plan, state, rows, granted, event, from, to);
     } else {
         move_shared(terms, plan, state, rows, granted, event, from, to);

@@ -14,7 +14,7 @@ use Rattle.moments.proofs.beside.move_on.Kinds as move-on-kinds
 use Rattle.moments.proofs.beside.+move_on.Lts-move_on as move-on-lts
 use Rattle.moments.proofs.beside.move_both.Reads as move-both-reads
 use Rattle.moments.proofs.beside.move_shared.Reads as move-shared-reads
-use Rattle.decide.proofs.brief.are_brief.Reads as are-brief-reads
+use Rattle.decide.proofs.memo_choice.are_brief.Reads as are-brief-reads
 use Rattle.memory.proofs.clear.Reads as clear-reads
 use Rattle.moments.proofs.beside.+move_on.{statement}
 use Rattle.moments.proofs.beside.+move_on.Tie.{close}

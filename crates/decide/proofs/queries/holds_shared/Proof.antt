@@ -8,8 +8,8 @@ use Rattle.deciding.proofs.Remembering as rem
 use Rattle.deciding.proofs.Sites as sites
 use Rattle.deciding.proofs.Requests as requests
 use Rattle.deciding.proofs.Counting as counting
-use Rattle.decide.proofs.asking.holds_shared.Statement.{statement}
-use Rattle.decide.proofs.asking.holds_shared.Tie as tie
+use Rattle.decide.proofs.queries.holds_shared.Statement.{statement}
+use Rattle.decide.proofs.queries.holds_shared.Tie as tie
 
 slice-aggregate-prepare : tie.Need-slice-aggregate-prepare
 slice-aggregate-prepare c = search needs

@@ -8,8 +8,8 @@ use Rattle.deciding.proofs.Remembering as rem
 use Rattle.deciding.proofs.Sites as sites
 use Rattle.deciding.proofs.Requests as requests
 use Rattle.deciding.proofs.Counting as counting
-use Rattle.decide.proofs.asking.holds_at.Statement.{statement}
-use Rattle.decide.proofs.asking.holds_at.Tie as tie
+use Rattle.decide.proofs.queries.holds_at.Statement.{statement}
+use Rattle.decide.proofs.queries.holds_at.Tie as tie
 
 rebind-requires : tie.Need-rebind-requires
 rebind-requires c κs = (omega arith, omega (arith, sites.member-short (c .before .before .before .before .before .pre .0) _ (c .before .before .before .before .before .pre .1 .0 .2)))

@@ -1,4 +1,4 @@
--- `entering::enter` meets its contract. Assumes nothing.
+-- `effects::enter` meets its contract. Assumes nothing.
 use Prim.Native.Nat.{ℕ, _≤_}
 use native.Mathlib.Omega.{arith}
 use borrow.Author.Needs.{needs}
@@ -14,8 +14,8 @@ use Rattle.theory.specs.Tables.{State}
 use Rattle.deciding.specs.Moving.{Becomes, allAffected, evented, occurring}
 use Rattle.deciding.proofs.Moves.{entered-granted, entered-denied}
 use Rattle.deciding.proofs.Apart.{past-long, becomes-front, becomes-behind}
-use Rattle.moments.proofs.entering.enter.Statement.{statement}
-use Rattle.moments.proofs.entering.enter.Tie as tie
+use Rattle.moments.proofs.effects.enter.Statement.{statement}
+use Rattle.moments.proofs.effects.enter.Tie as tie
 
 -- the state after the effects
 same : (c : tie.Joined1) → length (c .if1 .state) ≡ length (c .before .before .before .args .state .now)

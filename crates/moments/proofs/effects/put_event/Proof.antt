@@ -1,4 +1,4 @@
--- `entering::put_event` meets its contract. Assumes nothing.
+-- `effects::put_event` meets its contract. Assumes nothing.
 use Prim.Native.Nat.{ℕ, _+_, _*_}
 use mathlib.Core.Path.{_≡_, refl, sym, ap, _∙_, subst}
 use mathlib.Core.Bool.{Bool, true, false, cond}
@@ -13,8 +13,8 @@ use Rattle.theory.specs.Terms.{Terms}
 use Rattle.memory.specs.Layout.{termsOf, eventWord}
 use borrow.Author.Needs.{needs}
 use native.Mathlib.Omega.{arith}
-use Rattle.moments.proofs.entering.put_event.Statement.{statement}
-use Rattle.moments.proofs.entering.put_event.Tie as tie
+use Rattle.moments.proofs.effects.put_event.Statement.{statement}
+use Rattle.moments.proofs.effects.put_event.Tie as tie
 
 call : (c : tie.Start) → Named (termsOf (c .args .terms .now)) (c .args .event) (c .args .from) (c .args .to)
 call c = let x = c .args in all-named (termsOf (x .terms .now)) (good (x .terms .now) (c .pre .0)) (x .event) (x .from) (x .to) (c .pre .1)

@@ -1,4 +1,4 @@
--- `entering::make_effects` meets its contract. Assumes nothing.
+-- `effects::make_effects` meets its contract. Assumes nothing.
 -- The loop's invariant: the effects before number i are made, whatever own words stand behind.
 use Prim.Native.Nat.{ℕ, _-_, _≤_}
 use Rattle.memory.proofs.Accepted.{good}
@@ -11,8 +11,8 @@ use lib.ListN.{length, getD}
 use mathlib.Core.List.{List, [], _++_}
 use mathlib.Core.Path.{_≡_, refl, sym, _∙_}
 use native.Mathlib.Omega.{arith}
-use Rattle.moments.proofs.entering.make_effects.Statement.{statement}
-use Rattle.moments.proofs.entering.make_effects.Tie as tie
+use Rattle.moments.proofs.effects.make_effects.Statement.{statement}
+use Rattle.moments.proofs.effects.make_effects.Tie as tie
 
 abbrev Inv-loop : tie.InvT-loop
 Inv-loop terms relations₀ event from to i₀ relations i =

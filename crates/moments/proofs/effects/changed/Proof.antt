@@ -1,4 +1,4 @@
--- `entering::changed` meets its contract. Assumes nothing.
+-- `effects::changed` meets its contract. Assumes nothing.
 use Prim.Native.Nat.{ℕ, _<_}
 use Rattle.sets.specs.Sets.{bit}
 use borrow.Author.Needs.{needs}
@@ -6,8 +6,8 @@ use borrow.Author.Tests.{eqb-true, lt-ltb}
 use lib.Dec.{eqb, ltb}
 use mathlib.Core.Bool.{Bool, true, false, cond, not, _&&_, _||_, and-true, and-false, or-true, or-false}
 use mathlib.Core.Path.{_≡_, refl, _∙_}
-use Rattle.moments.proofs.entering.changed.Statement.{statement}
-use Rattle.moments.proofs.entering.changed.Tie as tie
+use Rattle.moments.proofs.effects.changed.Statement.{statement}
+use Rattle.moments.proofs.effects.changed.Tie as tie
 
 added : (m b : ℕ) (x : Bool) → b < 64 → (x || (ltb m 64 && eqb m b)) ≡ cond (eqb m b) true x
 added m b x l = go (eqb m b) refl

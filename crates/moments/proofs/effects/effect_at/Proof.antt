@@ -1,7 +1,7 @@
 use borrow.Author.Needs.{needs}
 use mathlib.Core.Path.{refl}
-use Rattle.moments.proofs.entering.effect_at.Statement.{statement}
-use Rattle.moments.proofs.entering.effect_at.Tie as tie
+use Rattle.moments.proofs.effects.effect_at.Statement.{statement}
+use Rattle.moments.proofs.effects.effect_at.Tie as tie
 
 mul-result : tie.Need-mul-result
 mul-result c = search needs

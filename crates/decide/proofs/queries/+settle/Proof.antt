@@ -6,16 +6,16 @@ use Rattle.deciding.proofs.Remembering as rem
 use Prim.Native.Nat.{ℕ, _<_}
 use borrow.Fn.Kinds.{In, Out}
 use borrow.Fn.PlainCycle.{Measures, is, falls, and}
-use Rattle.decide.proofs.asking.settle.Reads as settle
-use Rattle.decide.proofs.asking.settle.Kinds as settle-kinds
-use Rattle.decide.proofs.asking.+settle.Lts-settle as settle-lts
-use Rattle.decide.proofs.asking.holds_at.Reads as holds-at-reads
-use Rattle.decide.proofs.asking.holds_shared.Reads as holds-shared-reads
+use Rattle.decide.proofs.queries.settle.Reads as settle
+use Rattle.decide.proofs.queries.settle.Kinds as settle-kinds
+use Rattle.decide.proofs.queries.+settle.Lts-settle as settle-lts
+use Rattle.decide.proofs.queries.holds_at.Reads as holds-at-reads
+use Rattle.decide.proofs.queries.holds_shared.Reads as holds-shared-reads
 use Rattle.memory.proofs.layout.first_of.Reads as first-of-reads
 use Rattle.memory.proofs.layout.op_of.Reads as op-of-reads
 use Rattle.memory.proofs.layout.second_of.Reads as second-of-reads
-use Rattle.decide.proofs.asking.+settle.{statement}
-use Rattle.decide.proofs.asking.+settle.Tie.{close}
+use Rattle.decide.proofs.queries.+settle.{statement}
+use Rattle.decide.proofs.queries.+settle.Tie.{close}
 
 abbrev μ-settle : Measures 4 settle-kinds.ps ℕ
 μ-settle κs a = a .1 .1 .1 .1 .0

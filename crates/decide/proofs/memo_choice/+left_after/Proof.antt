@@ -4,17 +4,17 @@ use native.Mathlib.Omega.{arith}
 use Prim.Native.Nat.{ℕ, _<_}
 use borrow.Fn.Kinds.{In, Out}
 use borrow.Fn.PlainCycle.{Measures, is, falls, and}
-use Rattle.decide.proofs.brief.left_after.Reads as left-after
-use Rattle.decide.proofs.brief.left_after.Kinds as left-after-kinds
-use Rattle.decide.proofs.brief.+left_after.Lts-left_after as left-after-lts
-use Rattle.decide.proofs.brief.cost.Reads as cost-reads
+use Rattle.decide.proofs.memo_choice.left_after.Reads as left-after
+use Rattle.decide.proofs.memo_choice.left_after.Kinds as left-after-kinds
+use Rattle.decide.proofs.memo_choice.+left_after.Lts-left_after as left-after-lts
+use Rattle.decide.proofs.memo_choice.cost.Reads as cost-reads
 use Rattle.memory.proofs.plan.is_past.Reads as is-past-reads
 use Rattle.memory.proofs.layout.first_of.Reads as first-of-reads
 use Rattle.memory.proofs.layout.op_of.Reads as op-of-reads
 use Rattle.memory.proofs.layout.second_of.Reads as second-of-reads
 use Rattle.memory.proofs.layout.third_of.Reads as third-of-reads
-use Rattle.decide.proofs.brief.+left_after.{statement}
-use Rattle.decide.proofs.brief.+left_after.Tie.{close}
+use Rattle.decide.proofs.memo_choice.+left_after.{statement}
+use Rattle.decide.proofs.memo_choice.+left_after.Tie.{close}
 
 abbrev μ-left-after : Measures 1 left-after-kinds.ps ℕ
 μ-left-after κs a = a .1 .1 .1 .1 .0

@@ -1,29 +1,26 @@
 use native.Mathlib.Omega.{arith}
 use Prim.Native.Nat.{_-_}
 use borrow.Author.Needs.{needs}
-use Rattle.decide.proofs.brief.are_brief.Statement.{statement}
-use Rattle.decide.proofs.brief.are_brief.Tie as tie
+use Rattle.decide.proofs.memo_choice.are_few.Statement.{statement}
+use Rattle.decide.proofs.memo_choice.are_few.Tie as tie
 
 abbrev Inv-loop : tie.InvT-loop
-Inv-loop terms n left₀ i₀ left i = Unit {0}
+Inv-loop terms once₀ twice₀ i₀ once twice i = Unit {0}
 
 abbrev μ-loop : tie.MeasureT-loop
-μ-loop terms n left₀ i₀ left i = n - i
-
-are-few-requires : tie.Need-are-few-requires Inv-loop μ-loop
-are-few-requires c κs = tt
-
-returns : tie.Need-returns Inv-loop μ-loop
-returns c = search needs
+μ-loop terms once₀ twice₀ i₀ once twice i = 10 - i
 
 entries-requires : tie.Need-entries-requires Inv-loop μ-loop
 entries-requires c κs = tt
 
+returns : tie.Need-returns Inv-loop μ-loop
+returns c = search needs
+
 loop-holds : tie.Need-loop-holds Inv-loop μ-loop
 loop-holds c = tt
 
-left-after-turn-requires : tie.Need-left-after-turn-requires Inv-loop μ-loop
-left-after-turn-requires c κs = tt
+op-of-requires : tie.Need-op-of-requires Inv-loop μ-loop
+op-of-requires c κs = tt
 
 add-i : tie.Need-add-i Inv-loop μ-loop
 add-i c = omega arith
@@ -37,17 +34,16 @@ loop-again c = tt
 returns-2 : tie.Need-returns-2 Inv-loop μ-loop
 returns-2 c = search needs
 
-pub are-brief-spec : {M : Type 1} → statement M
-are-brief-spec =
+pub are-few-spec : {M : Type 1} → statement M
+are-few-spec =
     tie.close
     (tie.spec
     Inv-loop
     μ-loop
-    are-few-requires
-    returns
     entries-requires
+    returns
     loop-holds
-    left-after-turn-requires
+    op-of-requires
     add-i
     loop-less
     loop-again

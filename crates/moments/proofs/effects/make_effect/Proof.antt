@@ -1,4 +1,4 @@
--- `entering::make_effect` meets its contract. Assumes nothing.
+-- `effects::make_effect` meets its contract. Assumes nothing.
 use Prim.Native.Nat.{_+_, _*_, _<_}
 use Rattle.memory.proofs.Accepted.{good}
 use Rattle.deciding.proofs.Moves.{end-member}
@@ -7,8 +7,8 @@ use Rattle.memory.specs.Layout.{termsOf}
 use borrow.Author.Needs.{needs}
 use lib.Dec.{eqb}
 use native.Mathlib.Omega.{arith}
-use Rattle.moments.proofs.entering.make_effect.Statement.{statement}
-use Rattle.moments.proofs.entering.make_effect.Tie as tie
+use Rattle.moments.proofs.effects.make_effect.Statement.{statement}
+use Rattle.moments.proofs.effects.make_effect.Tie as tie
 
 place : (c : tie.After-end) → 64 * c .before .word2 .result + c .end .result < 1024
 place c =
