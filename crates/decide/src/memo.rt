@@ -1,19 +1,23 @@
 // Rows that are remembered while entries are decided, in a lent memo: a slot for each entry, as far as the memo is long enough.
+use deciding::slot::BYTES;
+use deciding::slot::COLUMN;
 use deciding::slot::HAVE;
-use deciding::slot::OPEN;
+use deciding::slot::KNOWN;
 use deciding::slot::READS;
 use deciding::slot::SLOT;
 use deciding::slot::VALUES;
 use memory::layout;
 use memory::limits::ENTRIES;
+use memory::limits::MEMBERS;
 use memory::limits::VARIABLES;
 use memory::plan;
 use theory::operators::NOT;
 ghost use mathlib.Core.Path.{_≡_};
-ghost use mathlib.Core.Bool.{true, false};
+ghost use mathlib.Core.Bool.{true, false, cond, _&&_, _||_};
 ghost use mathlib.Core.List.{List};
 ghost use Prim.Native.Nat.{ℕ, _+_, _*_, _/_, _%_, _<_, _≤_};
-ghost use lib.Dec.{leb};
+ghost use lib.Bits.{bitAnd};
+ghost use lib.Dec.{eqb, ltb};
 ghost use lib.ListN.{length, getD};
 ghost use Rattle.sets.specs.Sets.{bit};
 ghost use Rattle.theory.specs.Limits.{maxMembers, variables};
@@ -21,55 +25,121 @@ ghost use Rattle.memory.specs.Layout.{blockWords, termsWords, termsOf};
 ghost use Rattle.memory.specs.Checks.{goodMemory};
 ghost use Rattle.theory.specs.Formula.{Formula, node, firstOperand, secondOperand, thirdOperand, isPast, columns};
 ghost use Rattle.theory.specs.Formula.Operand.{variable, entry};
-ghost use Rattle.deciding.specs.Rows.{assigned};
+ghost use Rattle.deciding.specs.Rows.{assigned, Has};
 ghost use Rattle.memory.specs.Plan.{planColumns, Planned};
-ghost use Rattle.deciding.specs.Memo.{reads, slotWords, slotOf, haveOf, readsOf, value, Under, Memo, Apart, Fresh, Missing, Stored, Copied};
+ghost use Rattle.deciding.specs.Memo.{reads, slotWords, slotOf, byteOf, valueOf, haveOf, readsOf, columnOf, knows, Under, Memo, Apart, Fresh, Missing, Put, Shown, Stored};
 
 // The words of a memo with a slot for each entry.
 pub const WORDS: usize = SLOT * ENTRIES;
 
 fn wide(x: u8) -> u64
-    ensures { λ r. ⌜ r ≡ x ⌝ }
+    ensures { λ r. ⌜ (r ≡ x) × (r < 256) ⌝ }
 {
     x as u64
 }
 
-// What stands for variable y: a member, or the number of none where y is open.
-fn value_of(vars: &[u8; VARIABLES], x: usize, y: usize) -> u64
-    requires { ⌜ y < variables ⌝ }
-    ensures { λ r. ⌜ r ≡ value (assigned (now (vars .entry))) x y ⌝ }
+// Byte i of a word.
+fn byte_of(w: u64, i: usize) -> u64
+    requires { ⌜ i < 8 ⌝ }
+    ensures { λ r. ⌜ r ≡ byteOf w i ⌝ }
 {
-    if y == x { OPEN } else { wide(vars[y]) }
+    (w >> (BYTES * i)) % 256
 }
 
-// Whether the rows of a slot are those under these variables.
-fn is_same(slot: &[u64], vars: &[u8; VARIABLES], x: usize) -> bool
-    requires { ⌜ length (now slot) ≡ slotWords ⌝ }
-    ensures { λ r. ⌜ (r ≡ true → Under (now (slot .entry)) (assigned (now (vars .entry))) x) ⌝ }
+// What variable y stood for.
+fn value_of(slot: &[u64], y: usize) -> u64
+    requires { ⌜ (length (now slot) ≡ slotWords) × (y < variables) ⌝ }
+    ensures { λ r. ⌜ r ≡ valueOf (now (slot .entry)) y ⌝ }
 {
-    let mut rest = slot[READS] & sets::mask(VARIABLES);
+    byte_of(slot[VALUES + y / BYTES], y % BYTES)
+}
+
+// What eight variables stand for, from k on, each as a byte.
+fn packed(vars: &[u8; VARIABLES], k: usize) -> u64
+    requires { ⌜ k < 9 ⌝ }
+    ensures { λ r. ⌜ ((i : ℕ) → i < 8 → byteOf r i ≡ assigned (now (vars .entry)) (k + i)) ⌝ }
+{
+    let mut w: u64 = 0;
+    let mut i: usize = BYTES;
+    while i != 0 {
+        i -= 1;
+        w = w * 256 + wide(vars[k + i]);
+    }
+    w
+}
+
+// The least variable, but the column, that the entry reads and that stood for something else; the number of none, if there is no such.
+fn differing(slot: &[u64], vars: &[u8; VARIABLES]) -> usize
+    requires { ⌜ length (now slot) ≡ slotWords ⌝ }
+    ensures { λ r. ⌜ (r ≡ variables → Under (now (slot .entry)) (assigned (now (vars .entry)))) ⌝ }
+{
+    let mut rest = sets::without(slot[READS] & sets::mask(VARIABLES), slot[COLUMN] as usize);
     while rest != 0 {
         let y = sets::least_of(rest);
-        if slot[VALUES + y] != value_of(vars, x, y) {
-            return false;
+        if value_of(slot, y) != wide(vars[y]) {
+            return y;
         }
         rest = sets::rest_of(rest);
     }
-    true
+    VARIABLES
 }
 
-// Leaves a slot with no rows, for these variables.
-fn claim(slot: &mut [u64], vars: &[u8; VARIABLES], x: usize)
+// Leaves a slot with no rows, for these variables, with column z.
+fn claim(slot: &mut [u64], vars: &[u8; VARIABLES], z: usize)
     requires { ⌜ length (now slot) ≡ slotWords ⌝ }
-    ensures { λ _. ⌜ (haveOf (now (slot .exit)) ≡ 0) × (readsOf (now (slot .exit)) ≡ readsOf (now (slot .entry))) ⌝ }
-    ensures { λ _. ⌜ ((y : ℕ) → y < variables → getD (now (slot .exit)) (blockWords + y) 0 ≡ value (assigned (now (vars .entry))) x y) ⌝ }
+    ensures { λ _. ⌜ (haveOf (now (slot .exit)) ≡ 0) × (readsOf (now (slot .exit)) ≡ readsOf (now (slot .entry))) × (columnOf (now (slot .exit)) ≡ z) ⌝ }
+    ensures { λ _. ⌜ ((y : ℕ) → y < variables → valueOf (now (slot .exit)) y ≡ assigned (now (vars .entry)) y) ⌝ }
 {
     slot[HAVE] = 0;
-    let mut y: usize = 0;
-    while y < VARIABLES {
-        slot[VALUES + y] = value_of(vars, x, y);
-        y += 1;
+    slot[COLUMN] = z as u64;
+    slot[VALUES] = packed(vars, 0);
+    slot[VALUES + 1] = packed(vars, BYTES);
+}
+
+// What variable z stands for; 0 where z is none.
+fn standing(vars: [u8; VARIABLES], z: usize) -> usize
+    ensures { λ r. ⌜ r ≡ assigned vars z ⌝ }
+{
+    if z < VARIABLES { vars[z] as usize } else { 0 }
+}
+
+// The bits of a row that are asked for: all, or that of c.
+fn asked(whole: bool, c: usize) -> u64
+    ensures { λ r. ⌜ Has r (λ b. cond whole (ltb b maxMembers) (ltb b maxMembers && eqb b c)) ⌝ }
+{
+    if whole {
+        sets::mask(MEMBERS)
+    } else {
+        sets::single(c)
     }
+}
+
+// The set of a, unless all of ask is known.
+fn unless_known(known: u64, ask: u64, a: usize) -> u64
+    ensures { λ r. ⌜ ((m : ℕ) → bit r m ≡ true → m ≡ a) × (a < maxMembers → bit r a ≡ false → (b : ℕ) → bit ask b ≡ true → bit known b ≡ true) ⌝ }
+{
+    if known & ask == ask {
+        0
+    } else {
+        sets::single(a)
+    }
+}
+
+// The members of want of whose rows not all of ask is known.
+fn lacking(slot: &[u64], ask: u64, want: u64) -> u64
+    requires { ⌜ length (now slot) ≡ slotWords ⌝ }
+    ensures { λ r. ⌜ ((a : ℕ) → bit r a ≡ true → bit want a ≡ true) ⌝ }
+    ensures { λ r. ⌜ ((a : ℕ) → bit want a ≡ true → bit r a ≡ false → (b : ℕ) → bit ask b ≡ true → knows (now (slot .entry)) a b ≡ true) ⌝ }
+{
+    let had = want & slot[HAVE];
+    let mut need = want ^ had;
+    let mut rest = had;
+    while rest != 0 {
+        let a = sets::least_of(rest);
+        need = need | unless_known(slot[KNOWN + a], ask, a);
+        rest = sets::rest_of(rest);
+    }
+    need
 }
 
 // The members of want whose row is not in the slot, which is then one for these variables.
@@ -77,10 +147,21 @@ fn missing_in(slot: &mut [u64], vars: &[u8; VARIABLES], x: usize, want: u64) -> 
     requires { ⌜ length (now slot) ≡ slotWords ⌝ }
     ensures { λ r. ⌜ Missing (assigned (now (vars .entry))) x want r (now (slot .entry)) (now (slot .exit)) ⌝ }
 {
-    if is_same(slot, vars, x) {
-        return want ^ (want & slot[HAVE]);
+    let whole = sets::has(slot[READS], x);
+    let z = slot[COLUMN] as usize;
+    if whole & (z != x) {
+        claim(slot, vars, x);
+        return want;
     }
-    claim(slot, vars, x);
+    let y = differing(slot, vars);
+    if y == VARIABLES {
+        return lacking(slot, asked(whole, standing(*vars, z)), want);
+    }
+    if whole {
+        claim(slot, vars, x);
+        return want;
+    }
+    claim(slot, vars, y);
     want
 }
 
@@ -113,46 +194,101 @@ pub(crate) fn missing(
     want
 }
 
-// Copies the words at the members of set.
-fn copy(to: &mut [u64], from: &[u64], set: u64)
-    requires { ⌜ (blockWords ≤ length (now to)) × (blockWords ≤ length (now from)) ⌝ }
-    ensures { λ _. ⌜ Copied set (now (from .entry)) (now (to .entry)) (now (to .exit)) ⌝ }
+// v, but at the members of ask as w.
+fn mixed(v: u64, w: u64, ask: u64) -> u64
+    ensures { λ r. ⌜ ((b : ℕ) → bit r b ≡ cond (bit ask b) (bit w b) (bit v b)) ⌝ }
+{
+    (v ^ (v & ask)) | (w & ask)
+}
+
+// What is known, if there was a row, and ask.
+fn known_too(known: u64, had: bool, ask: u64) -> u64
+    ensures { λ r. ⌜ ((b : ℕ) → bit r b ≡ ((had && bit known b) || bit ask b)) ⌝ }
+{
+    sets::only(had, known) | ask
+}
+
+// Adds the bits of ask in the rows of need to the slot.
+fn put(slot: &mut [u64], rows: &[u64], ask: u64, need: u64)
+    requires { ⌜ (length (now slot) ≡ slotWords) × (blockWords ≤ length (now rows)) ⌝ }
+    ensures { λ _. ⌜ Put ask need (now (rows .entry)) (now (slot .entry)) (now (slot .exit)) ⌝ }
+{
+    let have = slot[HAVE];
+    let mut rest = need;
+    while rest != 0 {
+        let a = sets::least_of(rest);
+        let row = mixed(slot[a], rows[a], ask);
+        let known = known_too(slot[KNOWN + a], sets::has(have, a), ask);
+        slot[a] = row;
+        slot[KNOWN + a] = known;
+        rest = sets::rest_of(rest);
+    }
+    slot[HAVE] = have | need;
+}
+
+// The row that a word of a slot stands for: its own bits, or all or none as it has c.
+fn row_of(w: u64, whole: bool, c: usize, all: u64) -> u64
+    ensures { λ r. ⌜ r ≡ cond whole (bitAnd all w) (cond (bit w c) all 0) ⌝ }
+{
+    if whole {
+        all & w
+    } else {
+        sets::only(sets::has(w, c), all)
+    }
+}
+
+// Leaves those rows at the members of set.
+fn show(out: &mut [u64], slot: &[u64], whole: bool, c: usize, all: u64, set: u64)
+    requires { ⌜ (blockWords ≤ length (now out)) × (blockWords ≤ length (now slot)) ⌝ }
+    ensures { λ _. ⌜ Shown set (λ a. cond whole (bitAnd all (getD (now (slot .entry)) a 0)) (cond (bit (getD (now (slot .entry)) a 0) c) all 0)) (now (out .entry)) (now (out .exit)) ⌝ }
 {
     let mut rest = set;
     while rest != 0 {
         let a = sets::least_of(rest);
-        to[a] = from[a];
+        out[a] = row_of(slot[a], whole, c, all);
         rest = sets::rest_of(rest);
     }
 }
 
 // Adds the rows of need to the slot, and leaves the other rows of want from there.
-fn keep_in(slot: &mut [u64], need: u64, want: u64, out: &mut [u64])
+fn keep_in(
+    slot: &mut [u64],
+    vars: &[u8; VARIABLES],
+    x: usize,
+    all: u64,
+    need: u64,
+    want: u64,
+    out: &mut [u64],
+)
     requires { ⌜ (length (now slot) ≡ slotWords) × (length (now out) ≡ blockWords) ⌝ }
-    ensures { λ _. ⌜ Stored need want (now (slot .entry)) (now (out .entry)) (now (slot .exit)) (now (out .exit)) ⌝ }
+    ensures { λ _. ⌜ Stored (assigned (now (vars .entry))) x all need want (now (slot .entry)) (now (out .entry)) (now (slot .exit)) (now (out .exit)) ⌝ }
 {
-    copy(slot, out, need);
-    slot[HAVE] = slot[HAVE] | need;
-    copy(out, slot, want ^ (want & need));
+    let whole = sets::has(slot[READS], x);
+    let c = standing(*vars, slot[COLUMN] as usize);
+    put(slot, out, asked(whole, c), need);
+    show(out, slot, whole, c, all, want ^ (want & need));
 }
 
-// Remembers the rows of need, and leaves the other rows of want as remembered, if the entry's rows are kept.
+// Remembers the rows of need, and leaves the other rows of want as remembered, if the entry's rows are kept. all has the members.
 pub(crate) fn keep(
     memo: &mut [u64],
     kept: bool,
     entry: usize,
+    vars: &[u8; VARIABLES],
+    x: usize,
+    all: u64,
     need: u64,
     want: u64,
     out: &mut [u64],
 )
     requires { ⌜ (entry < 65536) × (kept ≡ true → slotWords * entry + slotWords ≤ length (now memo)) × (length (now out) ≡ blockWords) ⌝ }
-    ensures { λ _. ⌜ (kept ≡ true → Stored need want (slotOf entry (now (memo .entry))) (now (out .entry)) (slotOf entry (now (memo .exit))) (now (out .exit))) ⌝ }
+    ensures { λ _. ⌜ (kept ≡ true → Stored (assigned (now (vars .entry))) x all need want (slotOf entry (now (memo .entry))) (now (out .entry)) (slotOf entry (now (memo .exit))) (now (out .exit))) ⌝ }
     ensures { λ _. ⌜ (kept ≡ false → (now (memo .exit) ≡ now (memo .entry)) × (now (out .exit) ≡ now (out .entry))) ⌝ }
     ensures { λ _. ⌜ Apart entry (now (memo .entry)) (now (memo .exit)) ⌝ }
 {
     if kept {
         let at = SLOT * entry;
-        keep_in(&mut memo[at..at + SLOT], need, want, out);
+        keep_in(&mut memo[at..at + SLOT], vars, x, all, need, want, out);
     }
 }
 
@@ -174,6 +310,7 @@ fn empty(slot: &mut [u64], reads: u64)
 {
     slot[HAVE] = 0;
     slot[READS] = reads;
+    slot[COLUMN] = sets::least_of(reads) as u64;
 }
 
 // The same for the entry's slot, if there is one.

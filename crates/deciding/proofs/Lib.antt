@@ -12,6 +12,7 @@ pub mod Requests
 pub mod Seen
 pub mod Stored
 pub mod Moves
+pub mod Bytes
 pub mod Copying
 pub mod Remembering
 pub mod ReadSets

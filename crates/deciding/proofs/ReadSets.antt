@@ -125,8 +125,8 @@ pub record Preparing (T : Terms) (i : ℕ) (sets m : List ℕ) : Type 0 where
   pub upto : i ≤ T .entries
   pub long : length sets ≡ 256
   pub covers : (k y : ℕ) → k < i → reads (formula T k) y ≡ true → bit (getD sets k 0) y ≡ true
-  pub none : (k : ℕ) → k < i → 82 * k + 82 ≤ length m → haveOf (slotOf k m) ≡ 0
-  pub slots : (k y : ℕ) → k < i → 82 * k + 82 ≤ length m → reads (formula T k) y ≡ true → bit (readsOf (slotOf k m)) y ≡ true
+  pub none : (k : ℕ) → k < i → 133 * k + 133 ≤ length m → haveOf (slotOf k m) ≡ 0
+  pub slots : (k y : ℕ) → k < i → 133 * k + 133 ≤ length m → reads (formula T k) y ≡ true → bit (readsOf (slotOf k m)) y ≡ true
 
 pub preparing : (T : Terms) (sets m : List ℕ) → length sets ≡ 256 → Preparing T 0 sets m
 preparing T sets m e = record {
@@ -139,9 +139,9 @@ preparing T sets m e = record {
 
 module _ (T : Terms) (i : ℕ) {sets m m' : List ℕ} (r : ℕ) (few : T .entries < 257) (here : i < T .entries) (f : Preparing T i sets m)
     (mine : (y : ℕ) → reads (formula T i) y ≡ true → bit r y ≡ true) (apart : Apart i m m')
-    (new : 82 * i + 82 ≤ length m → (haveOf (slotOf i m') ≡ 0) × (readsOf (slotOf i m') ≡ r)) where
-  fits : (k : ℕ) → 82 * k + 82 ≤ length m' → 82 * k + 82 ≤ length m
-  fits k l = subst (λ (z : ℕ). 82 * k + 82 ≤ z) (apart .long) l
+    (new : 133 * i + 133 ≤ length m → (haveOf (slotOf i m') ≡ 0) × (readsOf (slotOf i m') ≡ r)) where
+  fits : (k : ℕ) → 133 * k + 133 ≤ length m' → 133 * k + 133 ≤ length m
+  fits k l = subst (λ (z : ℕ). 133 * k + 133 ≤ z) (apart .long) l
 
   pub preparing-more : Preparing T (i + 1) (set sets i r) m'
   preparing-more = record {
@@ -150,10 +150,10 @@ module _ (T : Terms) (i : ℕ) {sets m m' : List ℕ} (r : ℕ) (few : T .entrie
     covers = λ k y l. below-more (λ k. reads (formula T k) y ≡ true → bit (getD (set sets i r) k 0) y ≡ true) i
         (λ k l q. ap (λ (w : ℕ). bit w y) (getD-set-other sets i k r 0 (λ e. let z : ⊥ = omega arith in z)) ∙ f .covers k y l q)
         (λ q. ap (λ (w : ℕ). bit w y) (getD-set-same sets i r 0 (let l : length sets ≡ 256 = f .long in omega arith)) ∙ mine y q) k l;
-    none = λ k l. below-more (λ k. 82 * k + 82 ≤ length m' → haveOf (slotOf k m') ≡ 0) i
+    none = λ k l. below-more (λ k. 133 * k + 133 ≤ length m' → haveOf (slotOf k m') ≡ 0) i
         (λ k l q. ap haveOf (apart .same k (λ e. let z : ⊥ = omega arith in z)) ∙ f .none k l (fits k q))
         (λ q. new (fits i q) .0) k l;
-    slots = λ k y l. below-more (λ k. 82 * k + 82 ≤ length m' → reads (formula T k) y ≡ true → bit (readsOf (slotOf k m')) y ≡ true) i
+    slots = λ k y l. below-more (λ k. 133 * k + 133 ≤ length m' → reads (formula T k) y ≡ true → bit (readsOf (slotOf k m')) y ≡ true) i
         (λ k l q z. ap (λ (w : List ℕ). bit (readsOf w) y) (apart .same k (λ e. let z : ⊥ = omega arith in z)) ∙ f .slots k y l (fits k q) z)
         (λ q z. ap (λ (w : ℕ). bit w y) (new (fits i q) .1) ∙ mine y z) k l;
   }

@@ -2,16 +2,16 @@
 use Prim.Native.Nat.{ℕ, suc, _+_, _*_, _<_, _≤_}
 use native.Mathlib.Omega.{arith}
 use mathlib.Core.Path.{_≡_, refl, sym, ap, ap₂, _∙_, subst}
-use mathlib.Core.Bool.{Bool, true, false, cond, not, _&&_, _||_, true≢false}
+use mathlib.Core.Bool.{Bool, true, false, cond, not, _&&_, _||_, true≢false, and-true, and-false}
 use mathlib.Core.List.{List, [], _∷_}
 use mathlib.Core.Logic.{⊎-elim, inl, inr}
-use lib.Bits.{bitOr}
+use lib.Bits.{bitAnd}
 use lib.Dec.{eqb, ltb, leb}
 use lib.ListN.{length, getD}
-use borrow.Author.Tests.{eq-eqb, eqb-true, eqb-false, ltb-true, ltb-false}
+use borrow.Author.Tests.{eq-eqb, eqb-true, eqb-false, lt-ltb, ltb-true, ltb-false}
 use Rattle.sets.specs.Sets.{bit}
-use Rattle.sets.proofs.Finite.{any-cong, count-cong, and-left, and-right, and-both, or-left, or-right, or-cases, true-or-false, not-both, is-false}
-use Rattle.sets.proofs.Bits.{bit-or, bit-zero}
+use Rattle.sets.proofs.Finite.{any-cong, count-cong, and-left, and-right, and-both, or-left, or-right, or-cases, not-both, is-false, and-under}
+use Rattle.sets.proofs.Bits.{bit-or, bit-zero, bit-and}
 use Rattle.theory.specs.Formula.{Formula, columns}
 use Rattle.theory.specs.Formula.Formula.{top, var, neg, or, out, into, prev, since, bind, at, reach, many}
 use Rattle.theory.specs.Meaning.{Graph, Assignment, assign, alone}
@@ -19,7 +19,7 @@ use Rattle.theory.specs.Terms.{Terms, formula}
 use Rattle.theory.specs.Tables.{Tables, recalled, holdsNow}
 use Rattle.theory.proofs.Places.{In, place-cong}
 use Rattle.deciding.specs.Rows.{opened, nowAt, cell, Rows, Vars}
-use Rattle.deciding.specs.Memo.{isOne, reads, slotOf, haveOf, readsOf, value, Under, Slot, Memo, Above, Grown, Apart, Fresh, Missing, Stored}
+use Rattle.deciding.specs.Memo.{isOne, reads, slotOf, haveOf, readsOf, Under, Slot, Memo, Grown, Apart, Fresh, Missing, Stored, columnOf, knows, asks, shows}
 
 -- ---- the variables that are read are all that counts
 pub one-in : (cs : List ℕ) (x : ℕ) → In x cs → isOne cs x ≡ true
@@ -54,93 +54,171 @@ module _ (N : ℕ) (G : Graph) (X : Tables) where
   now-reads (reach y f k) g g' m h = any-cong N (λ j jl. ap (λ (b : Bool). holdsNow N G X f (alone y j) m && b) (now-reads k g g' j h))
   now-reads (many l f n) g g' m h = ap (leb n) (count-cong N (λ k kl. ap (λ (b : Bool). G l m k && b) (now-reads f g g' k h)))
 
--- two assignments, with a variable open in each, that stand for the same
-module _ {N : ℕ} {g g' : Assignment} (x x' : ℕ) (few : N < 65) (v : Vars N g) (v' : Vars N g') where
-  pick : (b : ℕ) (c c' : Bool) (u u' : ℕ) → u < N → u' < N → cond c 64 u ≡ cond c' 64 u' → cond (c && true) b u ≡ cond (c' && true) b u'
-  pick b true true u u' l l' e = refl
-  pick b true false u u' l l' e = absurd (let z : ⊥ = omega arith in z)
-  pick b false true u u' l l' e = absurd (let z : ⊥ = omega arith in z)
-  pick b false false u u' l l' e = e
+-- what stands for a variable, with another open
+pick : (b : ℕ) (c d : Bool) {u u' : ℕ} → (d ≡ false → u ≡ u') → (d ≡ true → c ≡ false → u ≡ u') → cond (c && d) b u ≡ cond (c && d) b u'
+pick b true true h k = refl
+pick b true false h k = h refl
+pick b false true h k = k refl refl
+pick b false false h k = h refl
 
-  none : (c : Bool) (b u : ℕ) → cond (c && false) b u ≡ u
-  none true b u = refl
-  none false b u = refl
+other : (c d : Bool) (b u : ℕ) → c ≡ false → cond (c && d) b u ≡ u
+other true d b u e = absurd (true≢false e)
+other false d b u e = refl
 
-  opened-as : (b y : ℕ) → (y < 16 → value g x y ≡ value g' x' y) → opened g x b y ≡ opened g' x' b y
-  opened-as b y h = go (ltb y 16) refl
-    where
-      go : (c : Bool) → ltb y 16 ≡ c → cond (eqb y x && c) b (g y) ≡ cond (eqb y x' && c) b (g' y)
-      go true e = let l : y < 16 = ltb-true y 16 e in pick b (eqb y x) (eqb y x') (g y) (g' y) (v .low y l) (v' .low y l) (h l)
-      go false e =
-          let l : 16 ≤ y = ltb-false y 16 e in
-          none (eqb y x) b (g y) ∙ v .high y l ∙ sym (none (eqb y x') b (g' y) ∙ v' .high y l)
+itself : (c d : Bool) (u v : ℕ) → (c ≡ true → u ≡ v) → cond (c && d) u v ≡ v
+itself true true u v h = h refl
+itself true false u v h = refl
+itself false d u v h = refl
+
+twice : (c n : Bool) → (c && (c && n)) ≡ (c && n)
+twice true n = refl
+twice false n = refl
+
+-- every variable, and what is none, stands for a member
+pub stands : {N : ℕ} {g : Assignment} → Vars N g → (z : ℕ) → g z < N
+stands {N} {g} v z = go (ltb z 16) refl
+  where
+    go : (c : Bool) → ltb z 16 ≡ c → g z < N
+    go true e = v .low z (ltb-true z 16 e)
+    go false e = let some : g 0 < N = v .low 0 (omega arith) in rw (v .high z (ltb-false z 16 e)) (omega arith)
 
 module _ (T : Terms) (rel past : List ℕ) (few : T .members < 65) where
-  cell-as : {g g' : Assignment} (x x' k w : ℕ) → Vars (T .members) g → Vars (T .members) g'
-      → ((y : ℕ) → reads (formula T k) y ≡ true → bit w y ≡ true)
-      → ((y : ℕ) → y < 16 → bit w y ≡ true → value g x y ≡ value g' x' y) → (a b : ℕ) → cell T rel past g x k a b ≡ cell T rel past g' x' k a b
-  unfolding cell nowAt
-  cell-as {g} {g'} x x' k w v v' cover same a b =
-      ap (λ (z : Bool). ltb b (T .members) && z)
-      (now-reads (T .members) _ _ (formula T k) (opened g x b) (opened g' x' b) a (λ y q. opened-as x x' few v v' b y (λ l. same y l (cover y q))))
+  now-as : (g g' : Assignment) (k m : ℕ) → ((y : ℕ) → reads (formula T k) y ≡ true → g y ≡ g' y) → nowAt T rel past g k m ≡ nowAt T rel past g' k m
+  unfolding nowAt
+  now-as g g' k m h = now-reads (T .members) _ _ (formula T k) g g' m h
+
+  cell-inside : (g : Assignment) (x k a b : ℕ) → (ltb b (T .members) && cell T rel past g x k a b) ≡ cell T rel past g x k a b
+  unfolding cell
+  cell-inside g x k a b = twice (ltb b (T .members)) _
 
   -- ---- a slot
+  module _ {k : ℕ} {s : List ℕ} (h : Slot T rel past k s) where
+    -- with the column open, what it stands for does not count
+    column-as : {g g' : Assignment} → Vars (T .members) g → Vars (T .members) g' → Under s g → Under s g' → (a b : ℕ)
+        → cell T rel past g (columnOf s) k a b ≡ cell T rel past g' (columnOf s) k a b
+    unfolding cell
+    column-as {g} {g'} v v' u u' a b =
+        ap (λ (z : Bool). ltb b (T .members) && z)
+        (now-as (opened g (columnOf s) b) (opened g' (columnOf s) b) k a
+        (λ y q. pick b (eqb y (columnOf s)) (ltb y 16)
+        (λ e. v .high y (ltb-false y 16 e) ∙ sym (v' .high y (ltb-false y 16 e)))
+        (λ e n. sym (u y (ltb-true y 16 e) (h .covers y q) n) ∙ u' y (ltb-true y 16 e) (h .covers y q) n)))
+
+    -- what is open, but not read, does not count
+    closed-cell : (g : Assignment) (x : ℕ) → bit (readsOf s) x ≡ false → (a b : ℕ) → cell T rel past g x k a b ≡ (ltb b (T .members) && nowAt T rel past g k a)
+    unfolding cell
+    closed-cell g x n a b =
+        ap (λ (z : Bool). ltb b (T .members) && z)
+        (now-as (opened g x b) g k a (λ y q. other (eqb y x) (ltb y 16) b (g y) (is-false (eqb y x) (λ e.
+        not-both (bit (readsOf s) x) (subst (λ (z : ℕ). bit (readsOf s) z ≡ true) (eqb-true y x e) (h .covers y q)) n))))
+
+    -- the bit of what the column stands for
+    own-cell : (g : Assignment) → (a : ℕ) → cell T rel past g (columnOf s) k a (g (columnOf s)) ≡ (ltb (g (columnOf s)) (T .members) && nowAt T rel past g k a)
+    unfolding cell
+    own-cell g a =
+        ap (λ (z : Bool). ltb (g (columnOf s)) (T .members) && z)
+        (now-as (opened g (columnOf s) (g (columnOf s))) g k a
+        (λ y q. itself (eqb y (columnOf s)) (ltb y 16) (g (columnOf s)) (g y) (λ e. ap g (sym (eqb-true y (columnOf s) e)))))
+
+    asked-cell : (g : Assignment) (x : ℕ) → (bit (readsOf s) x ≡ true → columnOf s ≡ x) → (a b : ℕ) → asks s g x b ≡ true
+        → cell T rel past g x k a b ≡ cell T rel past g (columnOf s) k a b
+    asked-cell g x col a b = go (bit (readsOf s) x) refl
+      where
+        go : (c : Bool) → bit (readsOf s) x ≡ c → cond c (ltb b 64) (ltb b 64 && eqb b (g (columnOf s))) ≡ true
+            → cell T rel past g x k a b ≡ cell T rel past g (columnOf s) k a b
+        go true e q = ap (λ (z : ℕ). cell T rel past g z k a b) (sym (col e))
+        go false e q =
+            let is : b ≡ g (columnOf s) = eqb-true b (g (columnOf s)) (and-right (ltb b 64) (eqb b (g (columnOf s))) q) in
+            closed-cell g x e a b ∙ ap (λ (z : ℕ). ltb z (T .members) && nowAt T rel past g k a) is
+            ∙ sym (own-cell g a) ∙ ap (λ (z : ℕ). cell T rel past g (columnOf s) k a z) (sym is)
+
   pub missing-slot : {g : Assignment} {x want need k : ℕ} {s s' : List ℕ} → Slot T rel past k s → Missing g x want need s s' → Slot T rel past k s'
   missing-slot {g} {x} {want} {need} {k} {s} {s'} h q = record {
     covers = λ y r. ap (λ (w : ℕ). bit w y) (q .variables) ∙ h .covers y r;
     members = λ a e. h .members a (subst (λ (z : List ℕ). bit (haveOf z) a ≡ true) (q .same a e) e);
-    right = λ g' x' v u a b e.
-        let same : s' ≡ s = q .same a e in
-        subst (λ (z : List ℕ). bit (getD z a 0) b ≡ cell T rel past g' x' k a b) (sym same)
-        (h .right g' x' v (subst (λ (z : List ℕ). Under z g' x') same u) a b (subst (λ (z : List ℕ). bit (haveOf z) a ≡ true) same e));
+    right = λ g' v u a b e.
+        let same : s' ≡ s = q .same a (and-left (bit (haveOf s') a) _ e) in
+        subst (λ (z : List ℕ). bit (getD z a 0) b ≡ cell T rel past g' (columnOf z) k a b) (sym same)
+        (h .right g' v (subst (λ (z : List ℕ). Under z g') same u) a b (subst (λ (z : List ℕ). knows z a b ≡ true) same e));
   }
 
-  module _ {g : Assignment} (x : ℕ) {want need k : ℕ} {s r s' r' : List ℕ} (v : Vars (T .members) g) (wanted : (a : ℕ) → bit want a ≡ true → a < T .members)
-      (h : Slot T rel past k s) (under : Under s g x) (needed : (a : ℕ) → bit need a ≡ (bit want a && not (bit (haveOf s) a)))
-      (d : Rows need (cell T rel past g x k) r) (q : Stored need want s r s' r') where
-    is-needed : (a : ℕ) → bit need a ≡ true → bit want a ≡ true
-    is-needed a e = and-left (bit want a) _ (sym (needed a) ∙ e)
+  module _ {g : Assignment} (x : ℕ) {all want need k : ℕ} {s r s' r' : List ℕ} (v : Vars (T .members) g) (wanted : (a : ℕ) → bit want a ≡ true → a < T .members)
+      (all-is : (b : ℕ) → bit all b ≡ ltb b (T .members)) (h : Slot T rel past k s) (col : bit (readsOf s) x ≡ true → columnOf s ≡ x) (under : Under s g)
+      (within : (a : ℕ) → bit need a ≡ true → bit want a ≡ true)
+      (known : (a : ℕ) → bit want a ≡ true → bit need a ≡ false → (b : ℕ) → asks s g x b ≡ true → knows s a b ≡ true)
+      (d : Rows need (cell T rel past g x k) r) (q : Stored g x all need want s r s' r') where
+    low : (a : ℕ) → a < T .members → a < 64
+    low a l = omega arith
 
-    stored-row : (a : ℕ) → a < T .members → (c : Bool) → bit need a ≡ c → getD s' a 0 ≡ cond c (getD r a 0) (getD s a 0)
-    stored-row a l c e = q .rows a (omega arith) ∙ ap (λ (z : Bool). cond z (getD r a 0) (getD s a 0)) e
+    same-under : {g' : Assignment} → Under s' g' → Under s g'
+    same-under u y l t n =
+        sym (q .put .values y l) ∙ u y l (ap (λ (w : ℕ). bit w y) (q .put .variables) ∙ t) (ap (eqb y) (q .put .column) ∙ n)
+
+    row-is : (a b : ℕ) → a < T .members → (c : Bool) → (bit need a && bit (q .ask) b) ≡ c → bit (getD s' a 0) b ≡ cond c (bit (getD r a 0) b) (bit (getD s a 0) b)
+    row-is a b l c e = q .put .rows a b (low a l) ∙ ap (λ (z : Bool). cond z (bit (getD r a 0) b) (bit (getD s a 0) b)) e
 
     pub stored-slot : Slot T rel past k s'
     stored-slot = record {
-      covers = λ y e. ap (λ (w : ℕ). bit w y) (q .variables) ∙ h .covers y e;
+      covers = λ y e. ap (λ (w : ℕ). bit w y) (q .put .variables) ∙ h .covers y e;
       members = members;
-      right = λ g' x' v' u a b e. go g' x' v' (λ y l t. sym (q .values y l) ∙ u y l (ap (λ (w : ℕ). bit w y) (q .variables) ∙ t)) a b e (bit need a) refl;
+      right = λ g' v' u a b e.
+          go g' v' (same-under u) a b (members a (and-left (bit (haveOf s') a) _ e)) e (bit need a && bit (q .ask) b) refl
+          ∙ ap (λ (z : ℕ). cell T rel past g' z k a b) (sym (q .put .column));
     }
       where
         members : (a : ℕ) → bit (haveOf s') a ≡ true → a < T .members
-        members a e = ⊎-elim (λ t. h .members a t) (λ t. wanted a (is-needed a t))
-            (or-cases (bit (haveOf s) a) (bit need a) (sym (bit-or (haveOf s) need a) ∙ ap (λ (w : ℕ). bit w a) (sym (q .have)) ∙ e))
+        members a e = ⊎-elim (λ t. h .members a t) (λ t. wanted a (within a t))
+            (or-cases (bit (haveOf s) a) (bit need a) (sym (bit-or (haveOf s) need a) ∙ ap (λ (w : ℕ). bit w a) (sym (q .put .have)) ∙ e))
 
-        go : (g' : Assignment) (x' : ℕ) → Vars (T .members) g' → Under s g' x' → (a b : ℕ) → bit (haveOf s') a ≡ true → (c : Bool) → bit need a ≡ c
-            → bit (getD s' a 0) b ≡ cell T rel past g' x' k a b
-        go g' x' v' u a b e true t =
-            ap (λ (w : ℕ). bit w b) (stored-row a (members a e) true t) ∙ d .bits a b t
-            ∙ cell-as x x' k (readsOf s) v v' (h .covers) (λ y l z. sym (under y l z) ∙ u y l z) a b
-        go g' x' v' u a b e false t =
-            ap (λ (w : ℕ). bit w b) (stored-row a (members a e) false t)
-            ∙ h .right g' x' v' u a b (⊎-elim (λ z. z) (λ z. absurd (not-both (bit need a) z t))
-            (or-cases (bit (haveOf s) a) (bit need a) (sym (bit-or (haveOf s) need a) ∙ ap (λ (w : ℕ). bit w a) (sym (q .have)) ∙ e)))
+        go : (g' : Assignment) → Vars (T .members) g' → Under s g' → (a b : ℕ) → a < T .members → knows s' a b ≡ true
+            → (c : Bool) → (bit need a && bit (q .ask) b) ≡ c → bit (getD s' a 0) b ≡ cell T rel past g' (columnOf s) k a b
+        go g' v' u a b l e true t =
+            row-is a b l true t ∙ d .bits a b (and-left (bit need a) _ t)
+            ∙ asked-cell h g x col a b (sym (q .asked b) ∙ and-right (bit need a) (bit (q .ask) b) t)
+            ∙ column-as h v v' under u a b
+        go g' v' u a b l e false t =
+            row-is a b l false t
+            ∙ h .right g' v' u a b (⊎-elim (λ z. z) (λ z. absurd (not-both (bit need a && bit (q .ask) b) z t))
+            (or-cases (knows s a b) (bit need a && bit (q .ask) b) (sym (q .put .known a b (low a l)) ∙ e)))
 
     pub stored-rows : Rows want (cell T rel past g x k) r'
     stored-rows = record { long = q .long; bits = λ a b w. go a b w (bit need a) refl }
       where
-        had : (w t : Bool) → w ≡ true → false ≡ (w && not t) → t ≡ true
-        had true true e z = refl
-        had true false e z = absurd (true≢false (sym z))
-        had false t e z = absurd (true≢false (sym e))
+        -- a bit that is known
+        had : (a b : ℕ) → bit want a ≡ true → bit need a ≡ false → asks s g x b ≡ true → bit (getD s' a 0) b ≡ cell T rel past g (columnOf s) k a b
+        had a b w t e = row-is a b (wanted a w) false (ap (λ (z : Bool). z && bit (q .ask) b) t) ∙ h .right g v under a b (known a w t b e)
+
+        spread : (n : Bool) (b : ℕ) → bit (cond n all 0) b ≡ (ltb b (T .members) && n)
+        spread true b = all-is b ∙ sym (and-true (ltb b (T .members)))
+        spread false b = bit-zero b ∙ sym (and-false (ltb b (T .members)))
+
+        low-is : (b : ℕ) → ltb b (T .members) ≡ true → ltb b 64 ≡ true
+        low-is b e = lt-ltb b 64 (let l : b < T .members = ltb-true b (T .members) e in omega arith)
+
+        kept : (a b : ℕ) → bit want a ≡ true → bit need a ≡ false → (c : Bool) → bit (readsOf s) x ≡ c
+            → bit (cond c (bitAnd all (getD s' a 0)) (cond (bit (getD s' a 0) (g (columnOf s))) all 0)) b ≡ cell T rel past g x k a b
+        kept a b w t true e =
+            bit-and all (getD s' a 0) b ∙ ap (λ (z : Bool). z && bit (getD s' a 0) b) (all-is b)
+            ∙ and-under (ltb b (T .members)) (bit (getD s' a 0) b) (cell T rel past g x k a b) (λ l.
+            had a b w t (ap (λ (z : Bool). cond z (ltb b 64) (ltb b 64 && eqb b (g (columnOf s)))) e ∙ low-is b l)
+            ∙ ap (λ (z : ℕ). cell T rel past g z k a b) (col e))
+            ∙ cell-inside g x k a b
+        kept a b w t false e =
+            let c : ℕ = g (columnOf s) in
+            let here : ltb c (T .members) ≡ true = lt-ltb c (T .members) (stands v (columnOf s)) in
+            ap (λ (z : Bool). bit (cond z all 0) b)
+            (had a c w t (ap (λ (z : Bool). cond z (ltb c 64) (ltb c 64 && eqb c c)) e ∙ and-both (ltb c 64) (eqb c c) (low-is c here) (eq-eqb c c refl))
+            ∙ own-cell h g a ∙ ap (λ (z : Bool). z && nowAt T rel past g k a) here)
+            ∙ spread (nowAt T rel past g k a) b ∙ sym (closed-cell h g x e a b)
 
         go : (a b : ℕ) → bit want a ≡ true → (c : Bool) → bit need a ≡ c → bit (getD r' a 0) b ≡ cell T rel past g x k a b
         go a b w true t =
-            ap (λ (z : ℕ). bit z b) (q .out a (let l : a < T .members = wanted a w in omega arith)
-            ∙ ap₂ (λ (y z : Bool). cond (y && not z) (getD s' a 0) (getD r a 0)) w t) ∙ d .bits a b t
+            ap (λ (z : ℕ). bit z b) (q .out a (low a (wanted a w))
+            ∙ ap₂ (λ (y z : Bool). cond (y && not z) (shows s g x all (getD s' a 0)) (getD r a 0)) w t) ∙ d .bits a b t
         go a b w false t =
-            ap (λ (z : ℕ). bit z b) (q .out a (let l : a < T .members = wanted a w in omega arith)
-            ∙ ap₂ (λ (y z : Bool). cond (y && not z) (getD s' a 0) (getD r a 0)) w t ∙ stored-row a (wanted a w) false t)
-            ∙ h .right g x v under a b (had (bit want a) (bit (haveOf s) a) w (sym t ∙ needed a))
+            ap (λ (z : ℕ). bit z b) (q .out a (low a (wanted a w))
+            ∙ ap₂ (λ (y z : Bool). cond (y && not z) (shows s g x all (getD s' a 0)) (getD r a 0)) w t)
+            ∙ kept a b w t (bit (readsOf s) x) refl
 
 -- ---- a memo
 module _ {T : Terms} {rel past : List ℕ} where
@@ -163,61 +241,61 @@ module _ {T : Terms} {rel past : List ℕ} where
     above = record { long = q .above .long; same = λ k kl. q .above .same k (omega arith) };
   }
     where
-      go : (k : ℕ) → k < n' → 82 * k + 82 ≤ length m' → (c : Bool) → ltb k n ≡ c → Slot T rel past k (slotOf k m')
+      go : (k : ℕ) → k < n' → 133 * k + 133 ≤ length m' → (c : Bool) → ltb k n ≡ c → Slot T rel past k (slotOf k m')
       go k kl f true e = q .memo .slot k (ltb-true k n e) f
       go k kl f false e =
           subst (λ (z : List ℕ). Slot T rel past k z) (sym (q .above .same k (ltb-false k n e)))
-          (h .slot k kl (subst (λ (z : ℕ). 82 * k + 82 ≤ z) (q .above .long) f))
+          (h .slot k kl (subst (λ (z : ℕ). 133 * k + 133 ≤ z) (q .above .long) f))
 
   -- one slot changed
   pub grown-slot : (n : ℕ) {m m' : List ℕ} → Memo T rel past (n + 1) m → Apart n m m'
-      → (82 * n + 82 ≤ length m → Slot T rel past n (slotOf n m')) → Grown T rel past (n + 1) m m'
+      → (133 * n + 133 ≤ length m → Slot T rel past n (slotOf n m')) → Grown T rel past (n + 1) m m'
   grown-slot n {m} {m'} h q new = record {
-    memo = record { slot = λ k kl f. go k kl (subst (λ (z : ℕ). 82 * k + 82 ≤ z) (q .long) f) (eqb k n) refl };
+    memo = record { slot = λ k kl f. go k kl (subst (λ (z : ℕ). 133 * k + 133 ≤ z) (q .long) f) (eqb k n) refl };
     above = record { long = q .long; same = λ k kl. q .same k (λ e. let z : ⊥ = omega arith in z) };
   }
     where
-      go : (k : ℕ) → k < n + 1 → 82 * k + 82 ≤ length m → (c : Bool) → eqb k n ≡ c → Slot T rel past k (slotOf k m')
+      go : (k : ℕ) → k < n + 1 → 133 * k + 133 ≤ length m → (c : Bool) → eqb k n ≡ c → Slot T rel past k (slotOf k m')
       go k kl f true e =
           let is : k ≡ n = eqb-true k n e in
-          subst (λ (j : ℕ). Slot T rel past j (slotOf j m')) (sym is) (new (subst (λ (j : ℕ). 82 * j + 82 ≤ length m) is f))
+          subst (λ (j : ℕ). Slot T rel past j (slotOf j m')) (sym is) (new (subst (λ (j : ℕ). 133 * j + 133 ≤ length m) is f))
       go k kl f false e =
           subst (λ (z : List ℕ). Slot T rel past k z) (sym (q .same k (eqb-false k n e))) (h .slot k kl f)
 
   -- an entry whose rows are kept: the slot is made one for g and x, the entry is worked out, and its rows are stored
-  pub decided-kept : {g : Assignment} {x want need n : ℕ} {m m₁ m₂ m₃ r r' : List ℕ} → T .members < 65 → Vars (T .members) g
-      → ((a : ℕ) → bit want a ≡ true → a < T .members) → 82 * n + 82 ≤ length m → Memo T rel past (n + 1) m
+  pub decided-kept : {g : Assignment} {x all want need n : ℕ} {m m₁ m₂ m₃ r r' : List ℕ} → T .members < 65 → ((b : ℕ) → bit all b ≡ ltb b (T .members)) → Vars (T .members) g
+      → ((a : ℕ) → bit want a ≡ true → a < T .members) → 133 * n + 133 ≤ length m → Memo T rel past (n + 1) m
       → Missing g x want need (slotOf n m) (slotOf n m₁) → Apart n m m₁ → Rows need (cell T rel past g x n) r → Grown T rel past n m₁ m₂
-      → Stored need want (slotOf n m₂) r (slotOf n m₃) r' → Apart n m₂ m₃
+      → Stored g x all need want (slotOf n m₂) r (slotOf n m₃) r' → Apart n m₂ m₃
       → Rows want (cell T rel past g x n) r' × Grown T rel past (n + 1) m m₃
-  decided-kept {g} {x} {want} {need} {n} {m} {m₁} {m₂} {m₃} {r} {r'} few v wanted fits h miss a₁ d grow store a₂ =
+  decided-kept {g} {x} {all} {want} {need} {n} {m} {m₁} {m₂} {m₃} {r} {r'} few all-is v wanted fits h miss a₁ d grow store a₂ =
       let s₁ : Slot T rel past n (slotOf n m₁) = missing-slot T rel past few (h .slot n (omega arith) fits) miss in
       let g₁ : Grown T rel past (n + 1) m m₁ = grown-slot n h a₁ (λ f. s₁) in
       let g₂ : Grown T rel past (n + 1) m₁ m₂ = grown-up (omega arith) (g₁ .memo) grow in
       let same : slotOf n m₂ ≡ slotOf n m₁ = grow .above .same n (omega arith) in
-      let st : Stored need want (slotOf n m₁) r (slotOf n m₃) r' = subst (λ (z : List ℕ). Stored need want z r (slotOf n m₃) r') same store in (
-        stored-rows T rel past few x v wanted s₁ (miss .under) (miss .bits) d st,
-        grown-then g₁ (grown-then g₂ (grown-slot n (g₂ .memo) a₂ (λ f. stored-slot T rel past few x v wanted s₁ (miss .under) (miss .bits) d st))),
+      let st : Stored g x all need want (slotOf n m₁) r (slotOf n m₃) r' = subst (λ (z : List ℕ). Stored g x all need want z r (slotOf n m₃) r') same store in (
+        stored-rows T rel past few x v wanted all-is s₁ (miss .column) (miss .under) (miss .within) (miss .known) d st,
+        grown-then g₁ (grown-then g₂ (grown-slot n (g₂ .memo) a₂ (λ f. stored-slot T rel past few x v wanted all-is s₁ (miss .column) (miss .under) (miss .within) (miss .known) d st))),
       )
 
   -- the slots below n, where that of n is changed
   pub memo-apart : (n : ℕ) {m m' : List ℕ} → Memo T rel past (n + 1) m → Apart n m m' → Memo T rel past n m'
   memo-apart n {m} {m'} h q = record {
     slot = λ k kl f. subst (λ (z : List ℕ). Slot T rel past k z) (sym (q .same k (λ e. let z : ⊥ = omega arith in z)))
-        (h .slot k (omega arith) (subst (λ (z : ℕ). 82 * k + 82 ≤ z) (q .long) f));
+        (h .slot k (omega arith) (subst (λ (z : ℕ). 133 * k + 133 ≤ z) (q .long) f));
   }
 
   -- an entry is decided, its rows kept or not
-  module _ {g : Assignment} {x want need n : ℕ} {m m₁ m₂ m₃ r r' : List ℕ} where
-    pub decided : (kept : Bool) → T .members < 65 → Vars (T .members) g → ((a : ℕ) → bit want a ≡ true → a < T .members)
-        → (kept ≡ true → 82 * n + 82 ≤ length m) → Memo T rel past (n + 1) m
+  module _ {g : Assignment} {x all want need n : ℕ} {m m₁ m₂ m₃ r r' : List ℕ} where
+    pub decided : (kept : Bool) → T .members < 65 → ((b : ℕ) → bit all b ≡ ltb b (T .members)) → Vars (T .members) g → ((a : ℕ) → bit want a ≡ true → a < T .members)
+        → (kept ≡ true → 133 * n + 133 ≤ length m) → Memo T rel past (n + 1) m
         → (kept ≡ true → Missing g x want need (slotOf n m) (slotOf n m₁)) → (kept ≡ false → (need ≡ want) × (m₁ ≡ m)) → Apart n m m₁
         → Rows need (cell T rel past g x n) r → Grown T rel past n m₁ m₂
-        → (kept ≡ true → Stored need want (slotOf n m₂) r (slotOf n m₃) r') → (kept ≡ false → (m₃ ≡ m₂) × (r' ≡ r)) → Apart n m₂ m₃
+        → (kept ≡ true → Stored g x all need want (slotOf n m₂) r (slotOf n m₃) r') → (kept ≡ false → (m₃ ≡ m₂) × (r' ≡ r)) → Apart n m₂ m₃
         → Rows want (cell T rel past g x n) r' × Grown T rel past (n + 1) m m₃
-    decided true few v wanted fits h miss plain a₁ d grow store same a₂ =
-        decided-kept few v wanted (fits refl) h (miss refl) a₁ d grow (store refl) a₂
-    decided false few v wanted fits h miss plain a₁ d grow store same a₂ = (
+    decided true few all-is v wanted fits h miss plain a₁ d grow store same a₂ =
+        decided-kept few all-is v wanted (fits refl) h (miss refl) a₁ d grow (store refl) a₂
+    decided false few all-is v wanted fits h miss plain a₁ d grow store same a₂ = (
       subst (λ (z : List ℕ). Rows want (cell T rel past g x n) z) (sym (same refl .1))
           (subst (λ (w : ℕ). Rows w (cell T rel past g x n) r) (plain refl .0) d),
       subst (λ (z : List ℕ). Grown T rel past (n + 1) m z) (sym (same refl .0))
@@ -226,19 +304,19 @@ module _ {T : Terms} {rel past : List ℕ} where
 
   -- ---- slots with no rows
   pub empty-slot : (k : ℕ) {s : List ℕ} → haveOf s ≡ 0 → ((y : ℕ) → reads (formula T k) y ≡ true → bit (readsOf s) y ≡ true) → Slot T rel past k s
-  empty-slot k e h = record {
+  empty-slot k {s} e h = record {
     covers = h;
     members = λ a q. absurd (true≢false (sym q ∙ ap (λ (w : ℕ). bit w a) e ∙ bit-zero a));
-    right = λ g x v u a b q. absurd (true≢false (sym q ∙ ap (λ (w : ℕ). bit w a) e ∙ bit-zero a));
+    right = λ g v u a b q. absurd (true≢false (sym (and-left (bit (haveOf s) a) _ q) ∙ ap (λ (w : ℕ). bit w a) e ∙ bit-zero a));
   }
 
-pub no-slots : {T : Terms} {rel past : List ℕ} (n : ℕ) {m : List ℕ} → length m < 82 → Memo T rel past n m
+pub no-slots : {T : Terms} {rel past : List ℕ} (n : ℕ) {m : List ℕ} → length m < 133 → Memo T rel past n m
 no-slots n l = record { slot = λ k kl f. absurd (let z : ⊥ = omega arith in z) }
 
-pub no-rows : (N n : ℕ) {m : List ℕ} → length m < 82 → Fresh N n m
+pub no-rows : (N n : ℕ) {m : List ℕ} → length m < 133 → Fresh N n m
 no-rows N n l = record { none = λ k kl kn f. absurd (let z : ⊥ = omega arith in z) }
 
 pub needed : {g : Assignment} {x want need : ℕ} {s s₁ m m₁ : List ℕ} (kept : Bool) → (kept ≡ true → Missing g x want need s s₁)
     → (kept ≡ false → (need ≡ want) × (m₁ ≡ m)) → (a : ℕ) → bit need a ≡ true → bit want a ≡ true
-needed {want = want} true miss plain a e = and-left (bit want a) _ (sym (miss refl .bits a) ∙ e)
+needed true miss plain a e = miss refl .within a e
 needed false miss plain a e = ap (λ (w : ℕ). bit w a) (sym (plain refl .0)) ∙ e

@@ -8,7 +8,7 @@ use lib.Dec.{eqb, ltb}
 use lib.ListN.{length}
 use borrow.Author.Tests.{ltb-true, ltb-false, ne-eqb}
 use Rattle.sets.specs.Sets.{bit}
-use Rattle.sets.proofs.Finite.{and-under}
+use Rattle.sets.proofs.Finite.{and-under, and-left}
 use Rattle.theory.specs.Formula.{number}
 use Rattle.theory.specs.Meaning.{Assignment}
 use Rattle.theory.specs.Terms.{Terms, formula}
@@ -17,7 +17,7 @@ use Rattle.memory.specs.Layout.{termsOf}
 use Rattle.theory.specs.Tables.{Tables, State, store}
 use Rattle.deciding.specs.Rows.{opened, nowAt, cell, Vars}
 use Rattle.deciding.specs.Moving.{HasState, tabled}
-use Rattle.deciding.specs.Memo.{slotOf, haveOf, Slot, Memo, MemoOf, Above, Grown, Fresh}
+use Rattle.deciding.specs.Memo.{slotOf, haveOf, Slot, MemoOf, Above, Fresh, columnOf}
 use Rattle.theory.proofs.Spelled.{number-lt, table-spelled, visible-spelled}
 use Rattle.theory.proofs.Good.{Good}
 use Rattle.theory.proofs.Places.{Among}
@@ -62,10 +62,10 @@ module _ (T : Terms) (fine : Good T) {S : State} {rest m m' : List ℕ} (n : ℕ
       ∙ sym (seen T fine has' (opened g x b) k a (omega arith) w al))
 
   slot-step : (k : ℕ) → k < n → {s : List ℕ} → Slot T (relationsOf m) (pastOf m) k s → Slot T (relationsOf m') (pastOf m') k s
-  slot-step k kl h = record {
+  slot-step k kl {s} h = record {
     covers = h .covers;
     members = h .members;
-    right = λ g x v u a b e. h .right g x v u a b e ∙ cell-step g x k kl v a b (h .members a e);
+    right = λ g v u a b e. h .right g v u a b e ∙ cell-step g (columnOf s) k kl v a b (h .members a (and-left (bit (haveOf s) a) _ e));
   }
 
   pub memo-step : {w : List ℕ} → MemoOf T m n w → MemoOf T m' n w
@@ -75,7 +75,7 @@ module _ (T : Terms) (fine : Good T) {S : State} {rest m m' : List ℕ} (n : ℕ
   pub memo-step-all : {w : List ℕ} → MemoOf T m (T .entries) w → Fresh (T .entries) n w → MemoOf T m' (T .entries) w
   memo-step-all {w} h q = record { slot = λ k kl f. go k kl f (ltb k n) refl }
     where
-      go : (k : ℕ) → k < T .entries → 82 * k + 82 ≤ length w → (d : Bool) → ltb k n ≡ d → Slot T (relationsOf m') (pastOf m') k (slotOf k w)
+      go : (k : ℕ) → k < T .entries → 133 * k + 133 ≤ length w → (d : Bool) → ltb k n ≡ d → Slot T (relationsOf m') (pastOf m') k (slotOf k w)
       go k kl f true e = slot-step k (ltb-true k n e) (h .slot k kl f)
       go k kl f false e = empty-slot k (q .none k (ltb-false k n e) kl f) (h .slot k kl f .covers)
 
@@ -84,5 +84,5 @@ fresh-more q = record { none = λ k l kn f. q .none k (omega arith) kn f }
 
 pub fresh-above : {N n : ℕ} {m m' : List ℕ} → Fresh N n m → Above n m m' → Fresh N n m'
 fresh-above q a = record {
-  none = λ k l kn f. ap haveOf (a .same k l) ∙ q .none k l kn (subst (λ (z : ℕ). 82 * k + 82 ≤ z) (a .long) f);
+  none = λ k l kn f. ap haveOf (a .same k l) ∙ q .none k l kn (subst (λ (z : ℕ). 133 * k + 133 ≤ z) (a .long) f);
 }

@@ -1,10 +1,10 @@
 -- What the private functions that remember rows ask of, and leave in, the lent memo: a slot for each entry.
-use Prim.Native.Nat.{ℕ, _+_, _*_, _<_, _≤_}
+use Prim.Native.Nat.{ℕ, _+_, _*_, _/_, _%_, _^_, _<_, _≤_}
 use mathlib.Core.Path.{_≡_}
 use mathlib.Core.Bool.{Bool, true, false, cond, not, _&&_, _||_}
 use mathlib.Core.List.{List, [], _∷_}
-use lib.Bits.{bitOr}
-use lib.Dec.{eqb}
+use lib.Bits.{bitOr, bitAnd}
+use lib.Dec.{eqb, ltb}
 use lib.ListN.{length, getD, take, drop}
 use Rattle.sets.specs.Sets.{bit}
 use Rattle.theory.specs.Formula.{Formula, columns}
@@ -35,33 +35,53 @@ reads (at y f) x = eqb x y || reads f x
 reads (reach y f h) x = reads h x
 reads (many l f k) x = reads f x
 
--- The slot of entry k: 64 rows, what 16 variables stood for, the set of members whose row is there, a set of variables.
+-- The slot of entry k: 64 rows, two words whose bytes tell what 16 variables stood for, the set of members that have a row, a set of
+-- variables, one of them as the column, and for each member the set of those whose bits in its row are known.
 abbrev pub slotWords : ℕ
-slotWords = 82
+slotWords = 133
 
 abbrev pub slotOf : ℕ → List ℕ → List ℕ
 slotOf k m = take slotWords (drop (slotWords * k) m)
 
+-- Byte i of a word.
+abbrev pub byteOf : (w i : ℕ) → ℕ
+byteOf w i = w / 2 ^ (8 * i) % 256
+
+-- What variable y stood for.
+abbrev pub valueOf : List ℕ → (y : ℕ) → ℕ
+valueOf s y = byteOf (getD s (blockWords + y / 8) 0) (y % 8)
+
 abbrev pub haveOf : List ℕ → ℕ
-haveOf s = getD s 80 0
+haveOf s = getD s 66 0
 
 abbrev pub readsOf : List ℕ → ℕ
-readsOf s = getD s 81 0
+readsOf s = getD s 67 0
 
--- What stands for y: a member, or the number of none where y is the open variable x.
-abbrev pub value : Assignment → (x y : ℕ) → ℕ
-value g x y = cond (eqb y x) maxMembers (g y)
+abbrev pub columnOf : List ℕ → ℕ
+columnOf s = getD s 68 0
 
--- The rows of slot s are those under g with x open.
-abbrev pub Under : List ℕ → Assignment → ℕ → Type 0
-Under s g x = (y : ℕ) → y < variables → bit (readsOf s) y ≡ true → getD s (blockWords + y) 0 ≡ value g x y
+-- Bit b of the row of a is known.
+abbrev pub knows : List ℕ → (a b : ℕ) → Bool
+knows s a b = bit (haveOf s) a && bit (getD s (69 + a) 0) b
 
--- The slot's set has every variable that entry k reads, and its rows are those of entry k.
+-- The rows of slot s are those under g, whatever the column stands for.
+abbrev pub Under : List ℕ → Assignment → Type 0
+Under s g = (y : ℕ) → y < variables → bit (readsOf s) y ≡ true → eqb y (columnOf s) ≡ false → valueOf s y ≡ g y
+
+-- The slot's set has every variable that entry k reads, and the known bits are those of entry k with the column open.
 pub record Slot (T : Terms) (rel past : List ℕ) (k : ℕ) (s : List ℕ) : Type 0 where
   pub covers : (y : ℕ) → reads (formula T k) y ≡ true → bit (readsOf s) y ≡ true
   pub members : (a : ℕ) → bit (haveOf s) a ≡ true → a < T .members
-  pub right : (g : Assignment) (x : ℕ) → Vars (T .members) g → Under s g x → (a b : ℕ) → bit (haveOf s) a ≡ true →
-      bit (getD s a 0) b ≡ cell T rel past g x k a b
+  pub right : (g : Assignment) → Vars (T .members) g → Under s g → (a b : ℕ) → knows s a b ≡ true →
+      bit (getD s a 0) b ≡ cell T rel past g (columnOf s) k a b
+
+-- Bit b of a row is asked for, under g with x open: every bit where x is read, and else that of what the column stands for.
+abbrev pub asks : List ℕ → Assignment → (x b : ℕ) → Bool
+asks s g x b = cond (bit (readsOf s) x) (ltb b maxMembers) (ltb b maxMembers && eqb b (g (columnOf s)))
+
+-- What is asked for of the row w: its own bits, of those in all, or all or nothing, as it has what the column stands for.
+abbrev pub shows : List ℕ → Assignment → (x all w : ℕ) → ℕ
+shows s g x all w = cond (bit (readsOf s) x) (bitAnd all w) (cond (bit w (g (columnOf s))) all 0)
 
 -- The slots of the entries below n, as far as there are any, are right.
 pub record Memo (T : Terms) (rel past : List ℕ) (n : ℕ) (m : List ℕ) : Type 0 where
@@ -86,25 +106,36 @@ pub record Apart (k : ℕ) (m m' : List ℕ) : Type 0 where
 pub record Fresh (N n : ℕ) (m : List ℕ) : Type 0 where
   pub none : (k : ℕ) → n ≤ k → k < N → slotWords * k + slotWords ≤ length m → haveOf (slotOf k m) ≡ 0
 
--- A slot that is made one for g with x open: need has those of want that it has no row of.
+-- A slot that is made one for g with x open: need has those of want of whose rows something that is asked for is not known.
 pub record Missing (g : Assignment) (x want need : ℕ) (s s' : List ℕ) : Type 0 where
   pub variables : readsOf s' ≡ readsOf s
-  pub under : Under s' g x
+  pub column : bit (readsOf s') x ≡ true → columnOf s' ≡ x
+  pub under : Under s' g
   pub same : (a : ℕ) → bit (haveOf s') a ≡ true → s' ≡ s
-  pub bits : Has need (λ a. bit want a && not (bit (haveOf s') a))
+  pub within : (a : ℕ) → bit need a ≡ true → bit want a ≡ true
+  pub known : (a : ℕ) → bit want a ≡ true → bit need a ≡ false → (b : ℕ) → asks s' g x b ≡ true → knows s' a b ≡ true
 
--- A slot that got the rows of need from r, and rows that got those of want that are not in need from the slot.
-pub record Stored (need want : ℕ) (s r s' r' : List ℕ) : Type 0 where
-  pub rows : (a : ℕ) → a < blockWords → getD s' a 0 ≡ cond (bit need a) (getD r a 0) (getD s a 0)
-  pub values : (y : ℕ) → y < variables → getD s' (blockWords + y) 0 ≡ getD s (blockWords + y) 0
+-- A slot that got the bits of ask in the rows of need from r.
+pub record Put (ask need : ℕ) (r s s' : List ℕ) : Type 0 where
+  pub long : length s' ≡ length s
+  pub rows : (a b : ℕ) → a < blockWords → bit (getD s' a 0) b ≡ cond (bit need a && bit ask b) (bit (getD r a 0) b) (bit (getD s a 0) b)
+  pub values : (y : ℕ) → y < variables → valueOf s' y ≡ valueOf s y
   pub have : haveOf s' ≡ bitOr (haveOf s) need
   pub variables : readsOf s' ≡ readsOf s
-  pub long : length r' ≡ blockWords
-  pub out : (a : ℕ) → a < blockWords → getD r' a 0 ≡ cond (bit want a && not (bit need a)) (getD s' a 0) (getD r a 0)
+  pub column : columnOf s' ≡ columnOf s
+  pub known : (a b : ℕ) → a < blockWords → knows s' a b ≡ (knows s a b || (bit need a && bit ask b))
 
--- s has the words of s₀, but at the members of set those of r.
-abbrev pub Copied : (set : ℕ) → (r s₀ s : List ℕ) → Type 0
-Copied set r s₀ s = (i : ℕ) → getD s i 0 ≡ cond (bit set i) (getD r i 0) (getD s₀ i 0)
+-- r' has the words of r, but at the members of set those of f.
+abbrev pub Shown : (set : ℕ) → (f : ℕ → ℕ) → (r r' : List ℕ) → Type 0
+Shown set f r r' = (i : ℕ) → getD r' i 0 ≡ cond (bit set i) (f i) (getD r i 0)
+
+-- A slot that got the rows of need from r, and rows that got those of want that are not in need from the slot.
+pub record Stored (g : Assignment) (x all need want : ℕ) (s r s' r' : List ℕ) : Type 0 where
+  pub ask : ℕ
+  pub asked : Has ask (asks s g x)
+  pub put : Put ask need r s s'
+  pub long : length r' ≡ blockWords
+  pub out : (a : ℕ) → a < blockWords → getD r' a 0 ≡ cond (bit want a && not (bit need a)) (shows s g x all (getD s' a 0)) (getD r a 0)
 
 -- The same, over the words of a state: relations, and tables with the event word.
 abbrev pub MemoOf : Terms → (state : List ℕ) → (n : ℕ) → (m : List ℕ) → Type 0

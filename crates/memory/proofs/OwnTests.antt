@@ -17,11 +17,14 @@ use Rattle.memory.specs.Layout.{relationWords, ownWords, relationAt, tab
 use Rattle.memory.specs.Checks.{fits, tableFits, level, goodEvent, goodRelations, goodState}
 use Rattle.memory.specs.Own.{ownTests, goodOwn}
 use Rattle.memory.specs.Outcome.{goodBanks}
+use Rattle.memory.proofs.StateTests.{and-assoc}
 
-pub own-tests : (T : Terms) (w : List ℕ) {a b c : Bool} → a ≡ getD (ownTests T w) 0 true → b ≡ getD (ownTests T w) 1 true →
-    c ≡ goodEvent T (getD w 2048 0) → a && (b && c) ≡ goodOwn T w
+pub own-tests : (T : Terms) (w : List ℕ) {a b : Bool} → a ≡ getD (ownTests T w) 0 true && getD (ownTests T w) 1 true →
+    b ≡ goodEvent T (getD w 2048 0) → a && b ≡ goodOwn T w
 unfolding goodOwn every
-own-tests T w ea eb ec = ap₂ _&&_ ea (ap₂ _&&_ eb (ec ∙ sym (and-true (goodEvent T (getD w 2048 0)))))
+own-tests T w ea eb =
+    ap₂ _&&_ ea (eb ∙ sym (and-true (goodEvent T (getD w 2048 0))))
+    ∙ sym (and-assoc (getD (ownTests T w) 0 true) (getD (ownTests T w) 1 true) (goodEvent T (getD w 2048 0) && true))
 
 under : (x : Bool) {y z : Bool} → (x ≡ true → y ≡ z) → x ⇒ y ≡ x ⇒ z
 under true e = e refl

@@ -42,7 +42,7 @@ fn check_banks(
             & check_state::check_own(terms, masks, plan, other))
 }
 
-// Checks terms and both banks, and leaves the terms' plan where they pass; else the lent plan is as it was.
+// Checks terms and both banks, and leaves the terms' plan where they pass. Else the lent plan is as it was.
 pub fn inspect(
     terms: &[u16],
     relations: &[u64],
@@ -69,7 +69,8 @@ pub fn inspect(
     Outcome::Done
 }
 
-// Checks terms and the relations of banks that are to be opened, and leaves the terms' plan where they pass; else the lent plan is as it was.
+// Checks terms and the relations of banks that are to be opened, and leaves the terms' plan where they pass. Else the
+// lent plan is as it was.
 pub fn inspect_opening(
     terms: &[u16],
     relations: &[u64],
@@ -96,7 +97,8 @@ pub fn inspect_opening(
     Outcome::Done
 }
 
-// Checks old terms, both banks under them and new terms that come in their place, and leaves the plans of both where they pass; else the lent plans are as they were. Of the second memory only the lengths are looked at.
+// Checks old terms, both banks under them and new terms that come in their place, and leaves the plans of both where
+// they pass. Else the lent plans are as they were. Of the second memory only the lengths are looked at.
 pub fn inspect_revision(
     old: &[u16],
     relations: &[u64],

@@ -1,6 +1,4 @@
-// What the three operands of an operator are (docs/SCOPE.md, Meaning), and which numbers they may be.
-use crate::limits::COUNT;
-use crate::limits::VARIABLES;
+// What the three operands of an operator are (docs/SCOPE.md, Meaning).
 use theory::operators::AT;
 use theory::operators::BIND;
 use theory::operators::IN;
@@ -15,7 +13,6 @@ use theory::operators::TOP;
 use theory::operators::VAR;
 ghost use mathlib.Core.Path.{_≡_};
 ghost use Rattle.theory.specs.Formula.{firstOperand, secondOperand, thirdOperand};
-ghost use Rattle.theory.specs.Fit.{operandFits};
 ghost use Rattle.memory.specs.Operands.{kindOf};
 
 // Not used, a variable, a variable to bind, a label, an entry, a number of members.
@@ -96,19 +93,5 @@ pub fn operands_of(op: usize) -> Operands
             second: Kind::Unused,
             third: Kind::Unused,
         },
-    }
-}
-
-// Whether v is in the range of an operand of entry n.
-pub fn operand_fits(kind: Kind, labels: usize, n: usize, v: usize) -> bool
-    ensures { λ r. ⌜ r ≡ operandFits (kindOf kind) labels n v ⌝ }
-{
-    match kind {
-        Kind::Unused => v == 0,
-        Kind::Variable => v < VARIABLES,
-        Kind::Binder => (0 < v) & (v < VARIABLES),
-        Kind::Label => v < labels,
-        Kind::Entry => v < n,
-        Kind::Count => (0 < v) & (v <= COUNT),
     }
 }

@@ -3,12 +3,15 @@
 use native.Mathlib.Omega.{arith}
 use mathlib.Core.Path.{_≡_, refl, sym, ap, _∙_, subst}
 use mathlib.Core.Bool.{Bool, true, false, _&&_}
-use mathlib.Core.Logic.{inl, inr}
+use mathlib.Core.Logic.{inl, inr, ⊎-elim}
 use mathlib.Core.List.{List}
 use mir.Syntax.{w64}
 use mir.Val.{Fits}
 use lib.Dec.{eqb, ltb}
 use lib.ListN.{length}
+use borrow.Author.Tests.{eq-eqb, eqb-true}
+use Rattle.sets.proofs.Finite.{or-left, or-right, or-cases, is-false}
+use Rattle.theory.specs.Formula.{isPast}
 use Rattle.theory.specs.Meaning.{Assignment}
 use Rattle.memory.specs.Layout.{termsOf}
 use Rattle.deciding.specs.Rows.{assigned, cell, ahead, behind}
@@ -104,6 +107,10 @@ callees-decide t = (
   missing-reads.Learnt,
   work-out-below t,
   work-out.Post,
+  members-reads.Asked,
+  members-reads.Learnt,
+  mask-reads.Asked,
+  mask-reads.Learnt,
   keep-reads.Asked,
   keep-reads.Learnt,
 )
@@ -207,11 +214,21 @@ site t c = record {
   all-is = sites.mask-is (start t c .pre .1 .0) (c .mask .result) (c .before .members .result) (c .mask .ensures) (c .before .members .ensures .0);
 }
 
+-- the past-time operators
+is-prev : (o : ℕ) → o ≡ 6 → isPast o ≡ true
+is-prev o e = or-left (eqb o 6) (eqb o 7) (eq-eqb o 6 e)
+
+is-since : (o : ℕ) → o ≡ 7 → isPast o ≡ true
+is-since o e = or-right (eqb o 6) (eqb o 7) (eq-eqb o 7 e)
+
+not-past : (o : ℕ) → (o ≡ 6 → ⊥) → (o ≡ 7 → ⊥) → isPast o ≡ false
+not-past o m n = is-false (isPast o) (λ p. ⊎-elim (λ e. m (eqb-true o 6 e)) (λ e. n (eqb-true o 7 e)) (or-cases (eqb o 6) (eqb o 7) p))
+
 -- there is no arm but those of the operators
 no-other : (t : ℕ) (c : here-work-out t work-out-lts.At-match-rest) → ⊥
 no-other t c =
     let rest = c .match .rest in
-    sites.no-other (site t (c .before .before .before .before .before .before .before .before)) (c .before .before .before .before .before .before .before .if2 .left) (c .before .before .before .before .before .before .if3 .left) (c .before .before .before .before .before .if5 .left) (c .before .before .before .before .if6 .left)
+    sites.no-other (site t (c .before .before .before .before .before .before .before .before .before)) (c .before .before .before .before .before .before .before .before .if2 .left) (c .before .before .before .before .before .before .before .if3 .left) (not-past _ (c .before .before .before .before .before .before .if5 .left) (c .before .before .before .before .before .if6 .left)) (c .before .before .before .before .if7 .left)
     (rest .0 .0 .0 .0 .0 .1) (λ e. rest .0 .0 .0 .0 .1 (inl e)) (rest .0 .0 .0 .1) (rest .0 .0 .1) (rest .1) (rest .0 .1) (λ e. rest .0 .0 .0 .0 .1 (inr e))
 
 lower : (f entry t : ℕ) → 2 * entry ≡ t → f < entry → 2 * f + 1 < t
@@ -249,27 +266,36 @@ decide-work-out-requires t c κs =
     let kept = c .before .before .before .before .before .before .before .has-slot .result in
     (less _ t (c .before .before .before .before .before .before .before .before .before .before .before .before .before .before .before .before .pre .0), (c .before .before .before .before .before .before .before .before .before .before .before .before .before .before .before .before .pre .1 .0, (sites.asked-fewer (miss .result) (c .before .before .before .before .before .before .before .before .before .before .before .before .before .before .before .before .pre .1 .1 .0) (rem.needed kept (miss .ensures .0) (miss .ensures .1 .0)), (c .before .before .before .before .before .before .before .before .before .before .before .before .before .before .before .before .pre .1 .1 .1 .0, rem.memo-apart _ (c .before .before .before .before .before .before .before .before .before .before .before .before .before .before .before .before .pre .1 .1 .1 .1) (miss .ensures .1 .1)))))
 
+decide-members-requires : (t : ℕ) → here-decide t decide-lts.Need-members-requires
+decide-members-requires t c κs = tt
+
+decide-mask-requires : (t : ℕ) → here-decide t decide-lts.Need-mask-requires
+decide-mask-requires t c κs = tt
+
 decide-keep-requires : (t : ℕ) → here-decide t decide-lts.Need-keep-requires
 decide-keep-requires t c κs =
-    let miss = c .before .before .before .before .before .before .before .before .before .before .before .missing in
-    let kept = c .before .before .before .before .before .before .before .before .before .before .before .before .before .before .has-slot .result in
-    let work = c .before .before .before .before .before .before .work-out in
-    (sites.entry-short (c .before .before .before .before .before .before .before .before .before .before .before .before .before .before .before .before .before .before .before .before .before .before .before .pre .1 .0) _ (c .before .before .before .before .before .before .before .before .before .before .before .before .before .before .before .before .before .before .before .before .before .before .before .pre .1 .1 .0 .exists), λ e. subst (λ (z : ℕ). 82 * c .before .before .before .before .before .before .before .before .before .before .before .before .before .before .before .before .before .before .before .before .before .before .before .args .entry + 82 ≤ z) (sym (work .ensures .1 .above .long ∙ miss .ensures .1 .1 .long)) (c .before .before .before .before .before .before .before .before .before .before .before .before .before .before .has-slot .ensures e), work .ensures .0 .long)
+    let i = c .before .before .before .before .before .before .before .before .before .before .before .before .before .before .before .before .before .before .before .before .before .before .before .before .before .before in
+    let miss = c .before .before .before .before .before .before .before .before .before .before .before .before .before .before .missing in
+    let kept = c .before .before .before .before .before .before .before .before .before .before .before .before .before .before .before .before .before .has-slot in
+    let work = c .before .before .before .before .before .before .before .before .before .work-out in
+    (sites.entry-short (i .pre .1 .0) _ (i .pre .1 .1 .0 .exists), λ e. subst (λ (z : ℕ). 133 * i .args .entry + 133 ≤ z) (sym (work .ensures .1 .above .long ∙ miss .ensures .1 .1 .long)) (kept .ensures e), work .ensures .0 .long)
 
 decide-same-length : (t : ℕ) → here-decide t decide-lts.Need-same-length
-decide-same-length t c = c .before .before .before .before .keep .kept .0 ∙ c .before .before .before .before .before .before .before .before .before .before .before .work-out .ensures .1 .above .long ∙ c .before .before .before .before .before .before .before .before .before .before .before .before .before .before .before .before .missing .kept .0
+decide-same-length t c = c .before .before .before .before .keep .kept .0 ∙ c .before .before .before .before .before .before .before .before .before .before .before .before .before .before .work-out .ensures .1 .above .long ∙ c .before .before .before .before .before .before .before .before .before .before .before .before .before .before .before .before .before .before .before .missing .kept .0
 
 decide-same-length-2 : (t : ℕ) → here-decide t decide-lts.Need-same-length-2
-decide-same-length-2 t c = c .before .before .before .before .keep .kept .1 .1 .1 .1 .1 .0 ∙ c .before .before .before .before .before .before .before .before .before .before .before .work-out .kept .1 .1 .1 .1 .1 .1 .1 .1 .1 .0
+decide-same-length-2 t c = c .before .before .before .before .keep .kept .1 .1 .1 .1 .1 .1 .1 .1 .0 ∙ c .before .before .before .before .before .before .before .before .before .before .before .before .before .before .work-out .kept .1 .1 .1 .1 .1 .1 .1 .1 .1 .0
 
 decide-returns : (t : ℕ) → here-decide t decide-lts.Need-returns
 decide-returns t c =
-    let miss = c .before .before .before .before .before .before .before .before .before .before .before .before .before .before .before .before .missing in
-    let kept = c .before .before .before .before .before .before .before .before .before .before .before .before .before .before .before .before .before .before .before .has-slot .result in
-    let work = c .before .before .before .before .before .before .before .before .before .before .before .work-out in
+    let miss = c .before .before .before .before .before .before .before .before .before .before .before .before .before .before .before .before .before .before .before .missing in
+    let kept = c .before .before .before .before .before .before .before .before .before .before .before .before .before .before .before .before .before .before .before .before .before .before .has-slot in
+    let work = c .before .before .before .before .before .before .before .before .before .before .before .before .before .before .work-out in
     let keep = c .before .before .before .before .keep in
-    let i = c .before .before .before .before .before .before .before .before .before .before .before .before .before .before .before .before .before .before .before .before .before .before .before .before .before .before .before .before in
-    rem.decided kept (good (i .args .terms .now) (i .pre .1 .0 .good) .few-members) (i .pre .1 .1 .0 .vars) (i .pre .1 .1 .0 .wanted) (c .before .before .before .before .before .before .before .before .before .before .before .before .before .before .before .before .before .before .before .has-slot .ensures) (i .pre .1 .1 .1 .1)
+    let i = c .before .before .before .before .before .before .before .before .before .before .before .before .before .before .before .before .before .before .before .before .before .before .before .before .before .before .before .before .before .before .before in
+    rem.decided (kept .result) (good (i .args .terms .now) (i .pre .1 .0 .good) .few-members)
+    (sites.mask-is (i .pre .1 .0) (c .before .before .before .before .before .before .before .before .mask .result) (c .before .before .before .before .before .before .before .before .before .members .result) (c .before .before .before .before .before .before .before .before .mask .ensures) (c .before .before .before .before .before .before .before .before .before .members .ensures .0))
+    (i .pre .1 .1 .0 .vars) (i .pre .1 .1 .0 .wanted) (kept .ensures) (i .pre .1 .1 .1 .1)
     (miss .ensures .0) (miss .ensures .1 .0) (miss .ensures .1 .1) (work .ensures .0) (work .ensures .1) (keep .ensures .0) (keep .ensures .1 .0) (keep .ensures .1 .1)
 
 work-out-returns : (t : ℕ) → here-work-out t work-out-lts.Need-returns
@@ -337,7 +363,7 @@ work-out-returns-4 t c =
 work-out-recollect-requires : (t : ℕ) → here-work-out t work-out-lts.Need-recollect-requires
 work-out-recollect-requires t c κs =
     let s = site t (c .before .before .before .before) in
-    (ops.recalling s (c .before .if5 .taken), c .before .before .before .before .before .before .before .before .before .before .before .before .before .before .before .before .before .pre .1 .1 .1 .0)
+    (ops.recalling s (is-prev _ (c .before .if5 .taken)), c .before .before .before .before .before .before .before .before .before .before .before .before .before .before .before .before .before .pre .1 .1 .1 .0)
 
 work-out-same-length-4 : (t : ℕ) → here-work-out t work-out-lts.Need-same-length-4
 work-out-same-length-4 t c = c .before .before .recollect .kept .1 .1 .1 .1 .1 .1 .1 .0
@@ -345,63 +371,76 @@ work-out-same-length-4 t c = c .before .before .recollect .kept .1 .1 .1 .1 .1 .
 work-out-returns-5 : (t : ℕ) → here-work-out t work-out-lts.Need-returns-5
 work-out-returns-5 t c =
     let s = site t (c .before .before .before .before .before .before .before) in
-    (ops.decide-past s (c .before .before .before .before .if5 .taken) (c .before .before .recollect .ensures), rem.grown-same (c .before .before .before .before .before .before .before .before .before .before .before .before .before .before .before .before .before .before .before .before .pre .1 .1 .1 .1))
+    (ops.decide-past s (is-prev _ (c .before .before .before .before .if5 .taken)) (c .before .before .recollect .ensures), rem.grown-same (c .before .before .before .before .before .before .before .before .before .before .before .before .before .before .before .before .before .before .before .before .pre .1 .1 .1 .1))
+
+work-out-recollect-requires-2 : (t : ℕ) → here-work-out t work-out-lts.Need-recollect-requires-2
+work-out-recollect-requires-2 t c κs =
+    let s = site t (c .before .before .before .before .before) in
+    (ops.recalling s (is-since _ (c .before .if6 .taken)), c .before .before .before .before .before .before .before .before .before .before .before .before .before .before .before .before .before .before .pre .1 .1 .1 .0)
+
+work-out-same-length-5 : (t : ℕ) → here-work-out t work-out-lts.Need-same-length-5
+work-out-same-length-5 t c = c .before .before .recollect2 .kept .1 .1 .1 .1 .1 .1 .1 .0
+
+work-out-returns-6 : (t : ℕ) → here-work-out t work-out-lts.Need-returns-6
+work-out-returns-6 t c =
+    let s = site t (c .before .before .before .before .before .before .before .before) in
+    (ops.decide-past s (is-since _ (c .before .before .before .before .if6 .taken)) (c .before .before .recollect2 .ensures), rem.grown-same (c .before .before .before .before .before .before .before .before .before .before .before .before .before .before .before .before .before .before .before .before .before .pre .1 .1 .1 .1))
 
 work-out-decide-requires : (t : ℕ) → here-work-out t work-out-lts.Need-decide-requires
 work-out-decide-requires t c κs =
-    let s = site t (c .before .before .before .before .before .before) in
-    let q = sites.a-lower s 2 (c .before .before .if6 .taken) refl in
-    (lower _ _ t (c .before .before .before .before .before .before .before .before .before .before .before .before .before .before .before .before .before .before .before .pre .0) q, (s .ready, (sites.operand-same s _ q, (c .before .before .before .before .before .before .before .before .before .before .before .before .before .before .before .before .before .before .before .pre .1 .1 .1 .0, rem.memo-lower (below _ _ q) (c .before .before .before .before .before .before .before .before .before .before .before .before .before .before .before .before .before .before .before .pre .1 .1 .1 .1)))))
+    let s = site t (c .before .before .before .before .before .before .before) in
+    let q = sites.a-lower s 2 (c .before .before .if7 .taken) refl in
+    (lower _ _ t (c .before .before .before .before .before .before .before .before .before .before .before .before .before .before .before .before .before .before .before .before .pre .0) q, (s .ready, (sites.operand-same s _ q, (c .before .before .before .before .before .before .before .before .before .before .before .before .before .before .before .before .before .before .before .before .pre .1 .1 .1 .0, rem.memo-lower (below _ _ q) (c .before .before .before .before .before .before .before .before .before .before .before .before .before .before .before .before .before .before .before .before .pre .1 .1 .1 .1)))))
 
 work-out-flip-requires : (t : ℕ) → here-work-out t work-out-lts.Need-flip-requires
 work-out-flip-requires t c κs = c .before .before .before .before .before .decide .ensures .0 .long
 
-work-out-same-length-5 : (t : ℕ) → here-work-out t work-out-lts.Need-same-length-5
-work-out-same-length-5 t c = c .before .before .before .before .before .before .before .before .decide .ensures .1 .above .long
-
 work-out-same-length-6 : (t : ℕ) → here-work-out t work-out-lts.Need-same-length-6
-work-out-same-length-6 t c = c .before .before .flip .kept .0 ∙ c .before .before .before .before .before .before .before .before .decide .kept .1 .1 .1 .1 .1 .1 .1 .1 .1 .0
+work-out-same-length-6 t c = c .before .before .before .before .before .before .before .before .decide .ensures .1 .above .long
 
-work-out-returns-6 : (t : ℕ) → here-work-out t work-out-lts.Need-returns-6
-work-out-returns-6 t c =
-    let s = site t (c .before .before .before .before .before .before .before .before .before .before .before .before .before .before .before) in
-    (ops.decide-neg s (c .before .before .before .before .before .before .before .before .before .before .before .if6 .taken) (c .before .before .before .before .before .before .before .before .decide .ensures .0) (c .before .before .flip .kept .0) (c .before .before .flip .ensures), rem.grown-up (below _ _ (sites.a-lower s 2 (c .before .before .before .before .before .before .before .before .before .before .before .if6 .taken) refl)) (c .before .before .before .before .before .before .before .before .before .before .before .before .before .before .before .before .before .before .before .before .before .before .before .before .before .before .before .before .pre .1 .1 .1 .1) (c .before .before .before .before .before .before .before .before .decide .ensures .1))
+work-out-same-length-7 : (t : ℕ) → here-work-out t work-out-lts.Need-same-length-7
+work-out-same-length-7 t c = c .before .before .flip .kept .0 ∙ c .before .before .before .before .before .before .before .before .decide .kept .1 .1 .1 .1 .1 .1 .1 .1 .1 .0
+
+work-out-returns-7 : (t : ℕ) → here-work-out t work-out-lts.Need-returns-7
+work-out-returns-7 t c =
+    let s = site t (c .before .before .before .before .before .before .before .before .before .before .before .before .before .before .before .before) in
+    (ops.decide-neg s (c .before .before .before .before .before .before .before .before .before .before .before .if7 .taken) (c .before .before .before .before .before .before .before .before .decide .ensures .0) (c .before .before .flip .kept .0) (c .before .before .flip .ensures), rem.grown-up (below _ _ (sites.a-lower s 2 (c .before .before .before .before .before .before .before .before .before .before .before .if7 .taken) refl)) (c .before .before .before .before .before .before .before .before .before .before .before .before .before .before .before .before .before .before .before .before .before .before .before .before .before .before .before .before .before .pre .1 .1 .1 .1) (c .before .before .before .before .before .before .before .before .decide .ensures .1))
 
 work-out-event-of-requires : (t : ℕ) → here-work-out t work-out-lts.Need-event-of-requires
 work-out-event-of-requires t c κs =
-    let s = site t (c .before .before .before .before) in
+    let s = site t (c .before .before .before .before .before) in
     (good _ (s .ready .good) .few-events, s .ready .long-past)
 
 work-out-is-absent-requires : (t : ℕ) → here-work-out t work-out-lts.Need-is-absent-requires
 work-out-is-absent-requires t c κs = tt
 
 work-out-clear-requires : (t : ℕ) → here-work-out t work-out-lts.Need-clear-requires
-work-out-clear-requires t c κs = c .before .before .before .before .before .before .before .before .before .before .before .before .before .before .before .before .before .before .before .before .before .pre .1 .1 .1 .0
+work-out-clear-requires t c κs = c .before .before .before .before .before .before .before .before .before .before .before .before .before .before .before .before .before .before .before .before .before .before .pre .1 .1 .1 .0
 
-work-out-same-length-7 : (t : ℕ) → here-work-out t work-out-lts.Need-same-length-7
-work-out-same-length-7 t c = c .before .before .clear .kept .0
+work-out-same-length-8 : (t : ℕ) → here-work-out t work-out-lts.Need-same-length-8
+work-out-same-length-8 t c = c .before .before .clear .kept .0
 
-work-out-returns-7 : (t : ℕ) → here-work-out t work-out-lts.Need-returns-7
-work-out-returns-7 t c =
-    let s = site t (c .before .before .before .before .before .before .before .before .before .before .before) in
+work-out-returns-8 : (t : ℕ) → here-work-out t work-out-lts.Need-returns-8
+work-out-returns-8 t c =
+    let s = site t (c .before .before .before .before .before .before .before .before .before .before .before .before) in
     let is-absent = c .before .before .before .before .before .is-absent in
-    (near.decide-absent s (is-absent .result) (c .before .before .before .before .if7 .taken) (rw (c .before .before .before .before .before .before .event-of .ensures) at (is-absent .ensures)) (c .before .before .clear .ensures), rem.grown-same (c .before .before .before .before .before .before .before .before .before .before .before .before .before .before .before .before .before .before .before .before .before .before .before .before .pre .1 .1 .1 .1))
+    (near.decide-absent s (is-absent .result) (c .before .before .before .before .if8 .taken) (rw (c .before .before .before .before .before .before .event-of .ensures) at (is-absent .ensures)) (c .before .before .clear .ensures), rem.grown-same (c .before .before .before .before .before .before .before .before .before .before .before .before .before .before .before .before .before .before .before .before .before .before .before .before .before .pre .1 .1 .1 .1))
 
 work-out-decide-requires-2 : (t : ℕ) → here-work-out t work-out-lts.Need-decide-requires-2
 work-out-decide-requires-2 t c κs =
-    let s = site t (c .before .before .before .before .before .before .before .before .before .before) in
+    let s = site t (c .before .before .before .before .before .before .before .before .before .before .before) in
     let q = sites.a-lower s 3 (c .before .before .match .keys1) refl in
-    (lower _ _ t (c .before .before .before .before .before .before .before .before .before .before .before .before .before .before .before .before .before .before .before .before .before .before .before .pre .0) q, (s .ready, (sites.operand-same s _ q, (c .before .before .before .before .before .before .before .before .before .before .before .before .before .before .before .before .before .before .before .before .before .before .before .pre .1 .1 .1 .0, rem.memo-lower (below _ _ q) (c .before .before .before .before .before .before .before .before .before .before .before .before .before .before .before .before .before .before .before .before .before .before .before .pre .1 .1 .1 .1)))))
+    (lower _ _ t (c .before .before .before .before .before .before .before .before .before .before .before .before .before .before .before .before .before .before .before .before .before .before .before .before .pre .0) q, (s .ready, (sites.operand-same s _ q, (c .before .before .before .before .before .before .before .before .before .before .before .before .before .before .before .before .before .before .before .before .before .before .before .before .pre .1 .1 .1 .0, rem.memo-lower (below _ _ q) (c .before .before .before .before .before .before .before .before .before .before .before .before .before .before .before .before .before .before .before .before .before .before .before .before .pre .1 .1 .1 .1)))))
 
 work-out-slice-aggregate-decide : (t : ℕ) → here-work-out t work-out-lts.Need-slice-aggregate-decide
 work-out-slice-aggregate-decide t c = refl
 
 work-out-decide-requires-3 : (t : ℕ) → here-work-out t work-out-lts.Need-decide-requires-3
 work-out-decide-requires-3 t c κs =
-    let s = site t (c .before .before .before .before .before .before .before .before .before .before .before .before .before .before .before .before .before) in
-    let g = rem.grown-up (below _ _ (sites.a-lower s 3 (c .before .before .before .before .before .before .before .before .before .match .keys1) refl)) (c .before .before .before .before .before .before .before .before .before .before .before .before .before .before .before .before .before .before .before .before .before .before .before .before .before .before .before .before .before .before .pre .1 .1 .1 .1) (c .before .before .before .before .before .before .decide2 .ensures .1) in
+    let s = site t (c .before .before .before .before .before .before .before .before .before .before .before .before .before .before .before .before .before .before) in
+    let g = rem.grown-up (below _ _ (sites.a-lower s 3 (c .before .before .before .before .before .before .before .before .before .match .keys1) refl)) (c .before .before .before .before .before .before .before .before .before .before .before .before .before .before .before .before .before .before .before .before .before .before .before .before .before .before .before .before .before .before .before .pre .1 .1 .1 .1) (c .before .before .before .before .before .before .decide2 .ensures .1) in
     let q = sites.b-lower s 3 (c .before .before .before .before .before .before .before .before .before .match .keys1) refl in
-    (lower _ _ t (c .before .before .before .before .before .before .before .before .before .before .before .before .before .before .before .before .before .before .before .before .before .before .before .before .before .before .before .before .before .before .pre .0) q, (s .ready, (sites.operand-same s _ q, (refl, rem.memo-lower (below _ _ q) (g .memo)))))
+    (lower _ _ t (c .before .before .before .before .before .before .before .before .before .before .before .before .before .before .before .before .before .before .before .before .before .before .before .before .before .before .before .before .before .before .before .pre .0) q, (s .ready, (sites.operand-same s _ q, (refl, rem.memo-lower (below _ _ q) (g .memo)))))
 
 work-out-slice-aggregate-join : (t : ℕ) → here-work-out t work-out-lts.Need-slice-aggregate-join
 work-out-slice-aggregate-join t c = sym (c .before .before .before .before .before .decide3 .ensures .0 .long)
@@ -414,7 +453,7 @@ work-out-senders-requires t c κs = tt
 
 work-out-ahead-requires : (t : ℕ) → here-work-out t work-out-lts.Need-ahead-requires
 work-out-ahead-requires t c κs =
-    let s = site t (c .before .before .before .before .before .before .before .before .before) in
+    let s = site t (c .before .before .before .before .before .before .before .before .before .before) in
     (sites.few-relations s, s .ready .long-rel)
 
 work-out-slice-aggregate-decide-2 : (t : ℕ) → here-work-out t work-out-lts.Need-slice-aggregate-decide-2
@@ -422,9 +461,9 @@ work-out-slice-aggregate-decide-2 t c = refl
 
 work-out-decide-requires-4 : (t : ℕ) → here-work-out t work-out-lts.Need-decide-requires-4
 work-out-decide-requires-4 t c κs =
-    let s = site t (c .before .before .before .before .before .before .before .before .before .before .before .before) in
+    let s = site t (c .before .before .before .before .before .before .before .before .before .before .before .before .before) in
     let e = c .before .before .before .before .match .keys2 in
-    let i = c .before .before .before .before .before .before .before .before .before .before .before .before .before .before .before .before .before .before .before .before .before .before .before .before .before in
+    let i = c .before .before .before .before .before .before .before .before .before .before .before .before .before .before .before .before .before .before .before .before .before .before .before .before .before .before in
     let q = sites.ahead-lower s e in
     (lower _ _ t (i .pre .0) q, (s .ready, (sites.operand-ahead s _ _ e (rw (c .before .before .before .before .before .before .before .event-of .ensures) at (c .before .before .ahead .ensures)), (refl, rem.memo-lower (below _ _ q) (i .pre .1 .1 .1 .1)))))
 
@@ -439,15 +478,15 @@ work-out-slice-aggregate-gather t c = sym (c .before .before .before .before .be
 
 work-out-gather-requires : (t : ℕ) → here-work-out t work-out-lts.Need-gather-requires
 work-out-gather-requires t c κs =
-    let s = site t (c .before .before .before .before .before .before .before .before .before .before .before .before .before .before .before .before .before .before .before .before) in
-    (c .before .before .before .before .before .before .before .before .before .before .before .before .before .before .before .before .before .before .before .before .before .before .before .before .before .before .before .before .before .before .before .before .before .pre .1 .1 .1 .0, c .before .before .before .before .before .before .before .decide4 .ensures .0 .long, sites.few-relations s, s .ready .long-rel)
+    let s = site t (c .before .before .before .before .before .before .before .before .before .before .before .before .before .before .before .before .before .before .before .before .before) in
+    (c .before .before .before .before .before .before .before .before .before .before .before .before .before .before .before .before .before .before .before .before .before .before .before .before .before .before .before .before .before .before .before .before .before .before .pre .1 .1 .1 .0, c .before .before .before .before .before .before .before .decide4 .ensures .0 .long, sites.few-relations s, s .ready .long-rel)
 
 work-out-senders-requires-2 : (t : ℕ) → here-work-out t work-out-lts.Need-senders-requires-2
 work-out-senders-requires-2 t c κs = tt
 
 work-out-behind-requires : (t : ℕ) → here-work-out t work-out-lts.Need-behind-requires
 work-out-behind-requires t c κs =
-    let s = site t (c .before .before .before .before .before .before .before .before .before) in
+    let s = site t (c .before .before .before .before .before .before .before .before .before .before) in
     (sites.few-relations s, s .ready .long-rel)
 
 work-out-slice-aggregate-decide-3 : (t : ℕ) → here-work-out t work-out-lts.Need-slice-aggregate-decide-3
@@ -455,30 +494,30 @@ work-out-slice-aggregate-decide-3 t c = refl
 
 work-out-decide-requires-5 : (t : ℕ) → here-work-out t work-out-lts.Need-decide-requires-5
 work-out-decide-requires-5 t c κs =
-    let s = site t (c .before .before .before .before .before .before .before .before .before .before .before .before) in
+    let s = site t (c .before .before .before .before .before .before .before .before .before .before .before .before .before) in
     let q = sites.b-lower s 5 (c .before .before .before .before .match .keys3) refl in
-    (lower _ _ t (c .before .before .before .before .before .before .before .before .before .before .before .before .before .before .before .before .before .before .before .before .before .before .before .before .before .pre .0) q, (s .ready, (sites.operand-behind s _ _ (c .before .before .before .before .match .keys3) (rw (c .before .before .before .before .before .before .before .event-of .ensures) at (c .before .before .before .senders2 .ensures)) (rw (c .before .before .before .before .before .before .before .event-of .ensures) at (c .before .before .behind .ensures)), (refl, rem.memo-lower (below _ _ q) (c .before .before .before .before .before .before .before .before .before .before .before .before .before .before .before .before .before .before .before .before .before .before .before .before .before .pre .1 .1 .1 .1)))))
+    (lower _ _ t (c .before .before .before .before .before .before .before .before .before .before .before .before .before .before .before .before .before .before .before .before .before .before .before .before .before .before .pre .0) q, (s .ready, (sites.operand-behind s _ _ (c .before .before .before .before .match .keys3) (rw (c .before .before .before .before .before .before .before .event-of .ensures) at (c .before .before .before .senders2 .ensures)) (rw (c .before .before .before .before .before .before .before .event-of .ensures) at (c .before .before .behind .ensures)), (refl, rem.memo-lower (below _ _ q) (c .before .before .before .before .before .before .before .before .before .before .before .before .before .before .before .before .before .before .before .before .before .before .before .before .before .before .pre .1 .1 .1 .1)))))
 
 work-out-slice-aggregate-scatter : (t : ℕ) → here-work-out t work-out-lts.Need-slice-aggregate-scatter
 work-out-slice-aggregate-scatter t c = sym (c .before .before .before .before .before .decide5 .ensures .0 .long)
 
 work-out-scatter-requires : (t : ℕ) → here-work-out t work-out-lts.Need-scatter-requires
 work-out-scatter-requires t c κs =
-    let s = site t (c .before .before .before .before .before .before .before .before .before .before .before .before .before .before .before .before .before .before) in
-    (c .before .before .before .before .before .before .before .before .before .before .before .before .before .before .before .before .before .before .before .before .before .before .before .before .before .before .before .before .before .before .before .pre .1 .1 .1 .0, c .before .before .before .before .before .decide5 .ensures .0 .long, sites.few-relations s, s .ready .long-rel)
+    let s = site t (c .before .before .before .before .before .before .before .before .before .before .before .before .before .before .before .before .before .before .before) in
+    (c .before .before .before .before .before .before .before .before .before .before .before .before .before .before .before .before .before .before .before .before .before .before .before .before .before .before .before .before .before .before .before .before .pre .1 .1 .1 .0, c .before .before .before .before .before .decide5 .ensures .0 .long, sites.few-relations s, s .ready .long-rel)
 
 work-out-open-under-requires : (t : ℕ) → here-work-out t work-out-lts.Need-open-under-requires
 work-out-open-under-requires t c κs = tt
 
 work-out-loop-holds : (t : ℕ) → here-work-out t work-out-lts.Need-loop-holds
-work-out-loop-holds t c = (loops.filling _ (as-word _ (c .before .before .before .before .before .before .before .before .before .before .before .before .before .before .before .before .before .before .before .before .before .before .fits .want)) (c .before .before .before .before .before .before .before .before .before .before .before .before .before .before .before .before .before .before .before .before .before .before .pre .1 .1 .1 .0), refl, rem.grown-same (c .before .before .before .before .before .before .before .before .before .before .before .before .before .before .before .before .before .before .before .before .before .before .pre .1 .1 .1 .1))
+work-out-loop-holds t c = (loops.filling _ (as-word _ (c .before .before .before .before .before .before .before .before .before .before .before .before .before .before .before .before .before .before .before .before .before .before .before .fits .want)) (c .before .before .before .before .before .before .before .before .before .before .before .before .before .before .before .before .before .before .before .before .before .before .before .pre .1 .1 .1 .0), refl, rem.grown-same (c .before .before .before .before .before .before .before .before .before .before .before .before .before .before .before .before .before .before .before .before .before .before .before .pre .1 .1 .1 .1))
 
 work-out-least-of-requires : (t : ℕ) → here-work-out t work-out-lts.Need-least-of-requires
 work-out-least-of-requires t c κs = tt
 
 work-out-rebind-requires : (t : ℕ) → here-work-out t work-out-lts.Need-rebind-requires
 work-out-rebind-requires t c κs =
-    let s = site t (c .before .before .before .before .before .before .before .before .before .before .before .before .before) in
+    let s = site t (c .before .before .before .before .before .before .before .before .before .before .before .before .before .before) in
     let loop = c .before .before .before .loop in
     let loop-test = c .before .before .loop-test in
     let least-of = c .before .least-of in
@@ -492,13 +531,13 @@ work-out-slice-aggregate-decide-4 t c = sym (c .before .before .before .before .
 
 work-out-decide-requires-6 : (t : ℕ) → here-work-out t work-out-lts.Need-decide-requires-6
 work-out-decide-requires-6 t c κs =
-    let s = site t (c .before .before .before .before .before .before .before .before .before .before .before .before .before .before .before .before) in
+    let s = site t (c .before .before .before .before .before .before .before .before .before .before .before .before .before .before .before .before .before) in
     let loop = c .before .before .before .before .before .before .loop in
     let loop-test = c .before .before .before .before .before .loop-test in
     let least-of = c .before .before .before .before .least-of in
     let single = c .before .single in
     let q = sites.b-lower s 8 (c .before .before .before .before .before .before .before .before .match .keys4) refl in (
-      lower _ _ t (c .before .before .before .before .before .before .before .before .before .before .before .before .before .before .before .before .before .before .before .before .before .before .before .before .before .before .before .before .before .pre .0) q,
+      lower _ _ t (c .before .before .before .before .before .before .before .before .before .before .before .before .before .before .before .before .before .before .before .before .before .before .before .before .before .before .before .before .before .before .pre .0) q,
       (
         s .ready,
         (
@@ -545,7 +584,7 @@ work-out-loop-less t c = loops.rest-less (c .before .before .before .before .bef
 
 work-out-loop-again : (t : ℕ) → here-work-out t work-out-lts.Need-loop-again
 work-out-loop-again t c =
-    let s = site t (c .before .before .before .before .before .before .before .before .before .before .before .before .before .before .before .before .before .before .before .before .before) in
+    let s = site t (c .before .before .before .before .before .before .before .before .before .before .before .before .before .before .before .before .before .before .before .before .before .before) in
     let loop = c .before .before .before .before .before .before .before .before .before .before .before .loop in
     let loop-test = c .before .before .before .before .before .before .before .before .before .before .loop-test in
     let least-of = c .before .before .before .before .before .before .before .before .before .least-of in
@@ -563,9 +602,9 @@ work-out-third-of-requires-2 t c κs = tt
 
 work-out-decide-requires-7 : (t : ℕ) → here-work-out t work-out-lts.Need-decide-requires-7
 work-out-decide-requires-7 t c κs =
-    let s = site t (c .before .before .before .before .before .before .before .before .before .before .before) in
+    let s = site t (c .before .before .before .before .before .before .before .before .before .before .before .before) in
     let e = c .before .before .before .match .keys5 in
-    let i = c .before .before .before .before .before .before .before .before .before .before .before .before .before .before .before .before .before .before .before .before .before .before .before .before in
+    let i = c .before .before .before .before .before .before .before .before .before .before .before .before .before .before .before .before .before .before .before .before .before .before .before .before .before in
     let q = sites.b-lower s 10 e refl in
     (lower _ _ t (i .pre .0) q, (s .ready, (sites.operand-zeros s e, (i .pre .1 .1 .1 .0, rem.memo-lower (below _ _ q) (i .pre .1 .1 .1 .1)))))
 
@@ -577,10 +616,10 @@ work-out-slice-aggregate-decide-5 t c = refl
 
 work-out-decide-requires-8 : (t : ℕ) → here-work-out t work-out-lts.Need-decide-requires-8
 work-out-decide-requires-8 t c κs =
-    let s = site t (c .before .before .before .before .before .before .before .before .before .before .before .before .before .before .before .before .before .before .before .before) in
+    let s = site t (c .before .before .before .before .before .before .before .before .before .before .before .before .before .before .before .before .before .before .before .before .before) in
     let e = c .before .before .before .before .before .before .before .before .before .before .before .before .match .keys5 in
     let z = c .before .before .before .before .before .before .before .before .before .before .before .third-of2 .ensures .0 in
-    let i = c .before .before .before .before .before .before .before .before .before .before .before .before .before .before .before .before .before .before .before .before .before .before .before .before .before .before .before .before .before .before .before .before .before in
+    let i = c .before .before .before .before .before .before .before .before .before .before .before .before .before .before .before .before .before .before .before .before .before .before .before .before .before .before .before .before .before .before .before .before .before .before in
     let d = c .before .before .before .before .before .before .before .before .decide7 .ensures in
     let together = c .before .before .together in
     let g = rem.grown-up (below _ _ (sites.b-lower s 10 e refl)) (i .pre .1 .1 .1 .1) (d .1) in
@@ -598,10 +637,10 @@ work-out-slice-aggregate-decide-6 t c = refl
 
 work-out-decide-requires-9 : (t : ℕ) → here-work-out t work-out-lts.Need-decide-requires-9
 work-out-decide-requires-9 t c κs =
-    let s = site t (c .before .before .before .before .before .before .before .before .before .before .before) in
+    let s = site t (c .before .before .before .before .before .before .before .before .before .before .before .before) in
     let e = c .before .before .before .match .keys6 in
     let q = sites.b-lower s 9 e refl in
-    (lower _ _ t (c .before .before .before .before .before .before .before .before .before .before .before .before .before .before .before .before .before .before .before .before .before .before .before .before .pre .0) q, (s .ready, (sites.operand-all s _ q, (refl, rem.memo-lower (below _ _ q) (c .before .before .before .before .before .before .before .before .before .before .before .before .before .before .before .before .before .before .before .before .before .before .before .before .pre .1 .1 .1 .1)))))
+    (lower _ _ t (c .before .before .before .before .before .before .before .before .before .before .before .before .before .before .before .before .before .before .before .before .before .before .before .before .before .pre .0) q, (s .ready, (sites.operand-all s _ q, (refl, rem.memo-lower (below _ _ q) (c .before .before .before .before .before .before .before .before .before .before .before .before .before .before .before .before .before .before .before .before .before .before .before .before .before .pre .1 .1 .1 .1)))))
 
 work-out-slice-aggregate-own-bits : (t : ℕ) → here-work-out t work-out-lts.Need-slice-aggregate-own-bits
 work-out-slice-aggregate-own-bits t c = sym (c .before .before .before .before .before .decide9 .ensures .0 .long)
@@ -610,11 +649,11 @@ work-out-own-bits-requires : (t : ℕ) → here-work-out t work-out-lts.Need-own
 work-out-own-bits-requires t c κs = c .before .before .before .before .before .decide9 .ensures .0 .long
 
 work-out-spread-requires-2 : (t : ℕ) → here-work-out t work-out-lts.Need-spread-requires-2
-work-out-spread-requires-2 t c κs = c .before .before .before .before .before .before .before .before .before .before .before .before .before .before .before .before .before .before .before .before .before .before .before .before .before .before .before .before .before .before .before .pre .1 .1 .1 .0
+work-out-spread-requires-2 t c κs = c .before .before .before .before .before .before .before .before .before .before .before .before .before .before .before .before .before .before .before .before .before .before .before .before .before .before .before .before .before .before .before .before .pre .1 .1 .1 .0
 
 work-out-member-of-requires-2 : (t : ℕ) → here-work-out t work-out-lts.Need-member-of-requires-2
 work-out-member-of-requires-2 t c κs =
-    let s = site t (c .before .before .before .before .before .before .before .before .before) in
+    let s = site t (c .before .before .before .before .before .before .before .before .before .before) in
     sites.a-variable s 9 (c .before .match .keys6) refl
 
 work-out-single-requires-2 : (t : ℕ) → here-work-out t work-out-lts.Need-single-requires-2
@@ -625,62 +664,62 @@ work-out-slice-aggregate-decide-7 t c = refl
 
 work-out-decide-requires-10 : (t : ℕ) → here-work-out t work-out-lts.Need-decide-requires-10
 work-out-decide-requires-10 t c κs =
-    let s = site t (c .before .before .before .before .before .before .before .before .before .before .before .before .before) in
+    let s = site t (c .before .before .before .before .before .before .before .before .before .before .before .before .before .before) in
     let e = c .before .before .before .before .before .match .keys6 in
     let q = sites.b-lower s 9 e refl in
     let x = sites.a-variable s 9 e refl in
     let single = c .before .single2 in (
-      lower _ _ t (c .before .before .before .before .before .before .before .before .before .before .before .before .before .before .before .before .before .before .before .before .before .before .before .before .before .before .pre .0) q,
+      lower _ _ t (c .before .before .before .before .before .before .before .before .before .before .before .before .before .before .before .before .before .before .before .before .before .before .before .before .before .before .before .pre .0) q,
       (
         s .ready,
         (
           sites.operand-one s _ _ _ q x (counting.single-is (single .result) _ (λ k. single .ensures k ∙ ap (λ (y : ℕ). ltb k 64 && eqb k y) (c .before .before .before .member-of2 .ensures)) (sites.var-below s _ x)),
-          (refl, rem.memo-lower (below _ _ q) (c .before .before .before .before .before .before .before .before .before .before .before .before .before .before .before .before .before .before .before .before .before .before .before .before .before .before .pre .1 .1 .1 .1)),
+          (refl, rem.memo-lower (below _ _ q) (c .before .before .before .before .before .before .before .before .before .before .before .before .before .before .before .before .before .before .before .before .before .before .before .before .before .before .before .pre .1 .1 .1 .1)),
         ),
       ),
     )
 
 work-out-mul-spread : (t : ℕ) → here-work-out t work-out-lts.Need-mul-spread
 work-out-mul-spread t c =
-    let s = site t (c .before .before .before .before .before .before .before .before .before .before .before .before .before .before .before .before .before .before) in
+    let s = site t (c .before .before .before .before .before .before .before .before .before .before .before .before .before .before .before .before .before .before .before) in
     in-bytes _ (member-small s _ (c .before .before .before .before .before .before .before .before .member-of2 .ensures) (sites.a-variable s 9 (c .before .before .before .before .before .before .before .before .before .before .match .keys6) refl))
 
 work-out-array-read-spread : (t : ℕ) → here-work-out t work-out-lts.Need-array-read-spread
 work-out-array-read-spread t c =
-    let s = site t (c .before .before .before .before .before .before .before .before .before .before .before .before .before .before .before .before .before .before) in
+    let s = site t (c .before .before .before .before .before .before .before .before .before .before .before .before .before .before .before .before .before .before .before) in
     member-small s _ (c .before .before .before .before .before .before .before .before .member-of2 .ensures) (sites.a-variable s 9 (c .before .before .before .before .before .before .before .before .before .before .match .keys6) refl)
 
 work-out-spread-requires-3 : (t : ℕ) → here-work-out t work-out-lts.Need-spread-requires-3
-work-out-spread-requires-3 t c κs = c .before .before .before .before .before .before .before .before .before .before .before .before .before .before .before .before .before .before .before .before .before .before .before .before .before .before .before .before .before .before .before .pre .1 .1 .1 .0
+work-out-spread-requires-3 t c κs = c .before .before .before .before .before .before .before .before .before .before .before .before .before .before .before .before .before .before .before .before .before .before .before .before .before .before .before .before .before .before .before .before .pre .1 .1 .1 .0
 
 work-out-clear-requires-2 : (t : ℕ) → here-work-out t work-out-lts.Need-clear-requires-2
-work-out-clear-requires-2 t c κs = c .before .before .before .before .before .before .before .before .before .before .before .before .before .before .before .before .before .before .before .before .before .before .pre .1 .1 .1 .0
-
-work-out-same-length-8 : (t : ℕ) → here-work-out t work-out-lts.Need-same-length-8
-work-out-same-length-8 t c = c .before .before .before .before .before .before .before .before .decide3 .ensures .1 .above .long ∙ c .before .before .before .before .before .before .before .before .before .before .before .before .before .before .before .decide2 .ensures .1 .above .long
+work-out-clear-requires-2 t c κs = c .before .before .before .before .before .before .before .before .before .before .before .before .before .before .before .before .before .before .before .before .before .before .before .pre .1 .1 .1 .0
 
 work-out-same-length-9 : (t : ℕ) → here-work-out t work-out-lts.Need-same-length-9
-work-out-same-length-9 t c = c .before .before .join .kept .0 ∙ c .before .before .before .before .before .before .before .before .before .before .before .before .before .before .before .decide2 .kept .1 .1 .1 .1 .1 .1 .1 .1 .1 .0
+work-out-same-length-9 t c = c .before .before .before .before .before .before .before .before .decide3 .ensures .1 .above .long ∙ c .before .before .before .before .before .before .before .before .before .before .before .before .before .before .before .decide2 .ensures .1 .above .long
 
-work-out-returns-8 : (t : ℕ) → here-work-out t work-out-lts.Need-returns-8
-work-out-returns-8 t c =
-    let s = site t (c .before .before .before .before .before .before .before .before .before .before .before .before .before .before .before .before .before .before .before .before .before .before .before .before .before .before) in
-    let g = rem.grown-up (below _ _ (sites.a-lower s 3 (c .before .before .before .before .before .before .before .before .before .before .before .before .before .before .before .before .before .before .match .keys1) refl)) (c .before .before .before .before .before .before .before .before .before .before .before .before .before .before .before .before .before .before .before .before .before .before .before .before .before .before .before .before .before .before .before .before .before .before .before .before .before .before .before .pre .1 .1 .1 .1) (c .before .before .before .before .before .before .before .before .before .before .before .before .before .before .before .decide2 .ensures .1) in (
+work-out-same-length-10 : (t : ℕ) → here-work-out t work-out-lts.Need-same-length-10
+work-out-same-length-10 t c = c .before .before .join .kept .0 ∙ c .before .before .before .before .before .before .before .before .before .before .before .before .before .before .before .decide2 .kept .1 .1 .1 .1 .1 .1 .1 .1 .1 .0
+
+work-out-returns-9 : (t : ℕ) → here-work-out t work-out-lts.Need-returns-9
+work-out-returns-9 t c =
+    let s = site t (c .before .before .before .before .before .before .before .before .before .before .before .before .before .before .before .before .before .before .before .before .before .before .before .before .before .before .before) in
+    let g = rem.grown-up (below _ _ (sites.a-lower s 3 (c .before .before .before .before .before .before .before .before .before .before .before .before .before .before .before .before .before .before .match .keys1) refl)) (c .before .before .before .before .before .before .before .before .before .before .before .before .before .before .before .before .before .before .before .before .before .before .before .before .before .before .before .before .before .before .before .before .before .before .before .before .before .before .before .before .pre .1 .1 .1 .1) (c .before .before .before .before .before .before .before .before .before .before .before .before .before .before .before .decide2 .ensures .1) in (
       ops.decide-or s (c .before .before .before .before .before .before .before .before .before .before .before .before .before .before .before .before .before .before .match .keys1) (c .before .before .before .before .before .before .before .before .before .before .before .before .before .before .before .decide2 .ensures .0) (c .before .before .before .before .before .before .before .before .decide3 .ensures .0) (c .before .before .join .kept .0) (c .before .before .join .ensures),
       rem.grown-then g (rem.grown-up (below _ _ (sites.b-lower s 3 (c .before .before .before .before .before .before .before .before .before .before .before .before .before .before .before .before .before .before .match .keys1) refl)) (g .memo) (c .before .before .before .before .before .before .before .before .decide3 .ensures .1)),
     )
 
-work-out-same-length-10 : (t : ℕ) → here-work-out t work-out-lts.Need-same-length-10
-work-out-same-length-10 t c = c .before .before .before .before .before .before .before .before .before .before .decide4 .ensures .1 .above .long
-
 work-out-same-length-11 : (t : ℕ) → here-work-out t work-out-lts.Need-same-length-11
-work-out-same-length-11 t c = c .before .before .gather .kept .0
+work-out-same-length-11 t c = c .before .before .before .before .before .before .before .before .before .before .decide4 .ensures .1 .above .long
 
-work-out-returns-9 : (t : ℕ) → here-work-out t work-out-lts.Need-returns-9
-work-out-returns-9 t c =
-    let s = site t (c .before .before .before .before .before .before .before .before .before .before .before .before .before .before .before .before .before .before .before .before .before .before .before) in
+work-out-same-length-12 : (t : ℕ) → here-work-out t work-out-lts.Need-same-length-12
+work-out-same-length-12 t c = c .before .before .gather .kept .0
+
+work-out-returns-10 : (t : ℕ) → here-work-out t work-out-lts.Need-returns-10
+work-out-returns-10 t c =
+    let s = site t (c .before .before .before .before .before .before .before .before .before .before .before .before .before .before .before .before .before .before .before .before .before .before .before .before) in
     let e = c .before .before .before .before .before .before .before .before .before .before .before .before .before .before .before .match .keys2 in
-    let i = c .before .before .before .before .before .before .before .before .before .before .before .before .before .before .before .before .before .before .before .before .before .before .before .before .before .before .before .before .before .before .before .before .before .before .before .before in
+    let i = c .before .before .before .before .before .before .before .before .before .before .before .before .before .before .before .before .before .before .before .before .before .before .before .before .before .before .before .before .before .before .before .before .before .before .before .before .before in
     let senders = c .before .before .before .before .before .before .before .before .before .before .before .before .before .before .senders in
     let ahead = c .before .before .before .before .before .before .before .before .before .before .before .before .before .ahead in
     let d = c .before .before .before .before .before .before .before .before .before .before .decide4 .ensures in
@@ -692,43 +731,43 @@ work-out-returns-9 t c =
       rem.grown-up (below _ _ (sites.ahead-lower s e)) (i .pre .1 .1 .1 .1) (d .1),
     )
 
-work-out-same-length-12 : (t : ℕ) → here-work-out t work-out-lts.Need-same-length-12
-work-out-same-length-12 t c = c .before .before .before .before .before .before .before .before .decide5 .ensures .1 .above .long
-
 work-out-same-length-13 : (t : ℕ) → here-work-out t work-out-lts.Need-same-length-13
-work-out-same-length-13 t c = c .before .before .scatter .kept .0
+work-out-same-length-13 t c = c .before .before .before .before .before .before .before .before .decide5 .ensures .1 .above .long
 
-work-out-returns-10 : (t : ℕ) → here-work-out t work-out-lts.Need-returns-10
-work-out-returns-10 t c =
-    let s = site t (c .before .before .before .before .before .before .before .before .before .before .before .before .before .before .before .before .before .before .before .before .before) in
+work-out-same-length-14 : (t : ℕ) → here-work-out t work-out-lts.Need-same-length-14
+work-out-same-length-14 t c = c .before .before .scatter .kept .0
+
+work-out-returns-11 : (t : ℕ) → here-work-out t work-out-lts.Need-returns-11
+work-out-returns-11 t c =
+    let s = site t (c .before .before .before .before .before .before .before .before .before .before .before .before .before .before .before .before .before .before .before .before .before .before) in
     let event = c .before .before .before .before .before .before .before .before .before .before .before .before .before .before .before .before .event-of .ensures in
     let senders = c .before .before .before .before .before .before .before .before .before .before .before .before .senders2 in
     let behind = c .before .before .before .before .before .before .before .before .before .before .before .behind in (
       near.decide-into s (senders .result) (behind .result) (c .before .before .before .before .before .before .before .before .before .before .before .before .before .match .keys3) (rw event at (senders .ensures)) (rw event at (behind .ensures)) (c .before .before .before .before .before .before .before .before .decide5 .ensures .0) (rw event at (c .before .before .scatter .ensures)),
-      rem.grown-up (below _ _ (sites.b-lower s 5 (c .before .before .before .before .before .before .before .before .before .before .before .before .before .match .keys3) refl)) (c .before .before .before .before .before .before .before .before .before .before .before .before .before .before .before .before .before .before .before .before .before .before .before .before .before .before .before .before .before .before .before .before .before .before .pre .1 .1 .1 .1) (c .before .before .before .before .before .before .before .before .decide5 .ensures .1),
+      rem.grown-up (below _ _ (sites.b-lower s 5 (c .before .before .before .before .before .before .before .before .before .before .before .before .before .match .keys3) refl)) (c .before .before .before .before .before .before .before .before .before .before .before .before .before .before .before .before .before .before .before .before .before .before .before .before .before .before .before .before .before .before .before .before .before .before .before .pre .1 .1 .1 .1) (c .before .before .before .before .before .before .before .before .decide5 .ensures .1),
     )
 
-work-out-same-length-14 : (t : ℕ) → here-work-out t work-out-lts.Need-same-length-14
-work-out-same-length-14 t c = c .before .loop .inv .2 .above .long
-
 work-out-same-length-15 : (t : ℕ) → here-work-out t work-out-lts.Need-same-length-15
-work-out-same-length-15 t c = c .before .loop .inv .0 .long ∙ sym (c .before .before .before .before .before .before .before .before .before .before .before .before .before .before .before .before .before .before .before .before .before .before .before .before .pre .1 .1 .1 .0)
-
-work-out-returns-11 : (t : ℕ) → here-work-out t work-out-lts.Need-returns-11
-work-out-returns-11 t c = (loops.filled (c .before .loop .inv .0) (c .loop-test .left), c .before .loop .inv .2)
+work-out-same-length-15 t c = c .before .loop .inv .2 .above .long
 
 work-out-same-length-16 : (t : ℕ) → here-work-out t work-out-lts.Need-same-length-16
-work-out-same-length-16 t c = c .before .before .before .before .before .before .before .before .decide8 .ensures .1 .above .long ∙ c .before .before .before .before .before .before .before .before .before .before .before .before .before .before .before .before .before .decide7 .ensures .1 .above .long
-
-work-out-same-length-17 : (t : ℕ) → here-work-out t work-out-lts.Need-same-length-17
-work-out-same-length-17 t c = c .before .before .follow .kept .0 ∙ c .before .before .before .before .before .before .before .before .before .before .before .before .before .before .before .before .before .decide7 .kept .1 .1 .1 .1 .1 .1 .1 .1 .1 .0
+work-out-same-length-16 t c = c .before .loop .inv .0 .long ∙ sym (c .before .before .before .before .before .before .before .before .before .before .before .before .before .before .before .before .before .before .before .before .before .before .before .before .before .pre .1 .1 .1 .0)
 
 work-out-returns-12 : (t : ℕ) → here-work-out t work-out-lts.Need-returns-12
-work-out-returns-12 t c =
-    let s = site t (c .before .before .before .before .before .before .before .before .before .before .before .before .before .before .before .before .before .before .before .before .before .before .before .before .before .before .before .before .before) in
+work-out-returns-12 t c = (loops.filled (c .before .loop .inv .0) (c .loop-test .left), c .before .loop .inv .2)
+
+work-out-same-length-17 : (t : ℕ) → here-work-out t work-out-lts.Need-same-length-17
+work-out-same-length-17 t c = c .before .before .before .before .before .before .before .before .decide8 .ensures .1 .above .long ∙ c .before .before .before .before .before .before .before .before .before .before .before .before .before .before .before .before .before .decide7 .ensures .1 .above .long
+
+work-out-same-length-18 : (t : ℕ) → here-work-out t work-out-lts.Need-same-length-18
+work-out-same-length-18 t c = c .before .before .follow .kept .0 ∙ c .before .before .before .before .before .before .before .before .before .before .before .before .before .before .before .before .before .decide7 .kept .1 .1 .1 .1 .1 .1 .1 .1 .1 .0
+
+work-out-returns-13 : (t : ℕ) → here-work-out t work-out-lts.Need-returns-13
+work-out-returns-13 t c =
+    let s = site t (c .before .before .before .before .before .before .before .before .before .before .before .before .before .before .before .before .before .before .before .before .before .before .before .before .before .before .before .before .before .before) in
     let e = c .before .before .before .before .before .before .before .before .before .before .before .before .before .before .before .before .before .before .before .before .before .match .keys5 in
     let z = c .before .before .before .before .before .before .before .before .before .before .before .before .before .before .before .before .before .before .before .before .third-of2 .ensures .0 in
-    let i = c .before .before .before .before .before .before .before .before .before .before .before .before .before .before .before .before .before .before .before .before .before .before .before .before .before .before .before .before .before .before .before .before .before .before .before .before .before .before .before .before .before .before in
+    let i = c .before .before .before .before .before .before .before .before .before .before .before .before .before .before .before .before .before .before .before .before .before .before .before .before .before .before .before .before .before .before .before .before .before .before .before .before .before .before .before .before .before .before .before in
     let d = c .before .before .before .before .before .before .before .before .before .before .before .before .before .before .before .before .before .decide7 .ensures in
     let together = c .before .before .before .before .before .before .before .before .before .before .before .together in
     let g = rem.grown-up (below _ _ (sites.b-lower s 10 e refl)) (i .pre .1 .1 .1 .1) (d .1) in
@@ -738,45 +777,45 @@ work-out-returns-12 t c =
       rem.grown-then g (rem.grown-up (below _ _ q) (g .memo) (d' .1)),
     )
 
-work-out-same-length-18 : (t : ℕ) → here-work-out t work-out-lts.Need-same-length-18
-work-out-same-length-18 t c = c .before .before .before .before .before .before .before .before .before .decide9 .ensures .1 .above .long
-
 work-out-same-length-19 : (t : ℕ) → here-work-out t work-out-lts.Need-same-length-19
-work-out-same-length-19 t c = c .before .before .spread2 .kept .0
-
-work-out-returns-13 : (t : ℕ) → here-work-out t work-out-lts.Need-returns-13
-work-out-returns-13 t c =
-    let s = site t (c .before .before .before .before .before .before .before .before .before .before .before .before .before .before .before .before .before .before .before .before .before) in
-    let e = c .before .before .before .before .before .before .before .before .before .before .before .before .before .match .keys6 in
-    let own-bits = c .before .before .before .own-bits in (
-      ops.decide-at-open s (own-bits .result) e (c .before .before .before .before .before .before .before .before .before .before .before .before .if8 .taken) (c .before .before .before .before .before .before .before .before .before .decide9 .ensures .0) (own-bits .ensures) (c .before .before .spread2 .ensures),
-      rem.grown-up (below _ _ (sites.b-lower s 9 e refl)) (c .before .before .before .before .before .before .before .before .before .before .before .before .before .before .before .before .before .before .before .before .before .before .before .before .before .before .before .before .before .before .before .before .before .before .pre .1 .1 .1 .1) (c .before .before .before .before .before .before .before .before .before .decide9 .ensures .1),
-    )
+work-out-same-length-19 t c = c .before .before .before .before .before .before .before .before .before .decide9 .ensures .1 .above .long
 
 work-out-same-length-20 : (t : ℕ) → here-work-out t work-out-lts.Need-same-length-20
-work-out-same-length-20 t c = c .before .before .before .before .before .before .before .decide10 .ensures .1 .above .long
-
-work-out-same-length-21 : (t : ℕ) → here-work-out t work-out-lts.Need-same-length-21
-work-out-same-length-21 t c = c .before .before .spread3 .kept .0
+work-out-same-length-20 t c = c .before .before .spread2 .kept .0
 
 work-out-returns-14 : (t : ℕ) → here-work-out t work-out-lts.Need-returns-14
 work-out-returns-14 t c =
-    let s = site t (c .before .before .before .before .before .before .before .before .before .before .before .before .before .before .before .before .before .before .before .before .before) in
+    let s = site t (c .before .before .before .before .before .before .before .before .before .before .before .before .before .before .before .before .before .before .before .before .before .before) in
+    let e = c .before .before .before .before .before .before .before .before .before .before .before .before .before .match .keys6 in
+    let own-bits = c .before .before .before .own-bits in (
+      ops.decide-at-open s (own-bits .result) e (c .before .before .before .before .before .before .before .before .before .before .before .before .if9 .taken) (c .before .before .before .before .before .before .before .before .before .decide9 .ensures .0) (own-bits .ensures) (c .before .before .spread2 .ensures),
+      rem.grown-up (below _ _ (sites.b-lower s 9 e refl)) (c .before .before .before .before .before .before .before .before .before .before .before .before .before .before .before .before .before .before .before .before .before .before .before .before .before .before .before .before .before .before .before .before .before .before .before .pre .1 .1 .1 .1) (c .before .before .before .before .before .before .before .before .before .decide9 .ensures .1),
+    )
+
+work-out-same-length-21 : (t : ℕ) → here-work-out t work-out-lts.Need-same-length-21
+work-out-same-length-21 t c = c .before .before .before .before .before .before .before .decide10 .ensures .1 .above .long
+
+work-out-same-length-22 : (t : ℕ) → here-work-out t work-out-lts.Need-same-length-22
+work-out-same-length-22 t c = c .before .before .spread3 .kept .0
+
+work-out-returns-15 : (t : ℕ) → here-work-out t work-out-lts.Need-returns-15
+work-out-returns-15 t c =
+    let s = site t (c .before .before .before .before .before .before .before .before .before .before .before .before .before .before .before .before .before .before .before .before .before .before) in
     let e = c .before .before .before .before .before .before .before .before .before .before .before .before .before .match .keys6 in
     let single = c .before .before .before .before .before .before .before .before .before .single2 in
     let member-of = c .before .before .before .before .before .before .before .before .before .before .before .member-of2 in
     let x = sites.a-variable s 9 e refl in (
-      ops.decide-at s (member-of .result) (single .result) e (c .before .before .before .before .before .before .before .before .before .before .before .before .if8 .left) (member-of .ensures)
+      ops.decide-at s (member-of .result) (single .result) e (c .before .before .before .before .before .before .before .before .before .before .before .before .if9 .left) (member-of .ensures)
           (counting.single-is (single .result) _ (λ k. single .ensures k ∙ ap (λ (y : ℕ). ltb k 64 && eqb k y) (member-of .ensures)) (sites.var-below s _ x))
           (c .before .before .before .before .before .before .before .decide10 .ensures .0) (c .before .before .spread3 .ensures),
-      rem.grown-up (below _ _ (sites.b-lower s 9 e refl)) (c .before .before .before .before .before .before .before .before .before .before .before .before .before .before .before .before .before .before .before .before .before .before .before .before .before .before .before .before .before .before .before .before .before .before .pre .1 .1 .1 .1) (c .before .before .before .before .before .before .before .decide10 .ensures .1),
+      rem.grown-up (below _ _ (sites.b-lower s 9 e refl)) (c .before .before .before .before .before .before .before .before .before .before .before .before .before .before .before .before .before .before .before .before .before .before .before .before .before .before .before .before .before .before .before .before .before .before .before .pre .1 .1 .1 .1) (c .before .before .before .before .before .before .before .decide10 .ensures .1),
     )
 
-work-out-same-length-22 : (t : ℕ) → here-work-out t work-out-lts.Need-same-length-22
-work-out-same-length-22 t c = c .before .before .clear2 .kept .0
+work-out-same-length-23 : (t : ℕ) → here-work-out t work-out-lts.Need-same-length-23
+work-out-same-length-23 t c = c .before .before .clear2 .kept .0
 
-work-out-returns-15 : (t : ℕ) → here-work-out t work-out-lts.Need-returns-15
-work-out-returns-15 t c = absurd (no-other t (c .before .before .before .before))
+work-out-returns-16 : (t : ℕ) → here-work-out t work-out-lts.Need-returns-16
+work-out-returns-16 t c = absurd (no-other t (c .before .before .before .before))
 
 pub +decide+work-out-spec : {M : Type 1} → statement M
 +decide+work-out-spec = close μ-decide μ-work-out (λ t. decide-lts.spec (
@@ -788,6 +827,10 @@ pub +decide+work-out-spec : {M : Type 1} → statement M
   missing-reads.Learnt,
   work-out-below t,
   work-out.Post,
+  members-reads.Asked,
+  members-reads.Learnt,
+  mask-reads.Asked,
+  mask-reads.Learnt,
   keep-reads.Asked,
   keep-reads.Learnt,
 )
@@ -797,6 +840,8 @@ pub +decide+work-out-spec : {M : Type 1} → statement M
     (decide-has-slot-requires t)
     (decide-missing-requires t)
     (decide-work-out-requires t)
+    (decide-members-requires t)
+    (decide-mask-requires t)
     (decide-keep-requires t)
     (decide-same-length t)
     (decide-same-length-2 t)
@@ -824,16 +869,19 @@ pub +decide+work-out-spec : {M : Type 1} → statement M
     (work-out-recollect-requires t)
     (work-out-same-length-4 t)
     (work-out-returns-5 t)
+    (work-out-recollect-requires-2 t)
+    (work-out-same-length-5 t)
+    (work-out-returns-6 t)
     (work-out-decide-requires t)
     (work-out-flip-requires t)
-    (work-out-same-length-5 t)
     (work-out-same-length-6 t)
-    (work-out-returns-6 t)
+    (work-out-same-length-7 t)
+    (work-out-returns-7 t)
     (work-out-event-of-requires t)
     (work-out-is-absent-requires t)
     (work-out-clear-requires t)
-    (work-out-same-length-7 t)
-    (work-out-returns-7 t)
+    (work-out-same-length-8 t)
+    (work-out-returns-8 t)
     (work-out-decide-requires-2 t)
     (work-out-slice-aggregate-decide t)
     (work-out-decide-requires-3 t)
@@ -887,26 +935,26 @@ pub +decide+work-out-spec : {M : Type 1} → statement M
     (work-out-array-read-spread t)
     (work-out-spread-requires-3 t)
     (work-out-clear-requires-2 t)
-    (work-out-same-length-8 t)
     (work-out-same-length-9 t)
-    (work-out-returns-8 t)
     (work-out-same-length-10 t)
-    (work-out-same-length-11 t)
     (work-out-returns-9 t)
+    (work-out-same-length-11 t)
     (work-out-same-length-12 t)
-    (work-out-same-length-13 t)
     (work-out-returns-10 t)
+    (work-out-same-length-13 t)
     (work-out-same-length-14 t)
-    (work-out-same-length-15 t)
     (work-out-returns-11 t)
+    (work-out-same-length-15 t)
     (work-out-same-length-16 t)
-    (work-out-same-length-17 t)
     (work-out-returns-12 t)
+    (work-out-same-length-17 t)
     (work-out-same-length-18 t)
-    (work-out-same-length-19 t)
     (work-out-returns-13 t)
+    (work-out-same-length-19 t)
     (work-out-same-length-20 t)
-    (work-out-same-length-21 t)
     (work-out-returns-14 t)
+    (work-out-same-length-21 t)
     (work-out-same-length-22 t)
     (work-out-returns-15 t)
+    (work-out-same-length-23 t)
+    (work-out-returns-16 t)

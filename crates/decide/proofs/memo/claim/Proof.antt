@@ -1,85 +1,117 @@
-use lib.ListN.{set, length-set}
-use lib.Seq.{getD-set-same, getD-set-other}
-use borrow.Author.Count.{below-more}
-use Prim.Native.Nat.{ℕ, _+_, _-_, _<_, _≤_}
-use mathlib.Core.Path.{_≡_, refl, sym, ap, _∙_}
-use lib.ListN.{length, getD}
-use Rattle.deciding.specs.Rows.{assigned}
-use Rattle.deciding.specs.Memo.{value}
+use Prim.Native.Nat.{ℕ, _+_, _-_, _/_, _%_, _<_, _≤_}
 use native.Mathlib.Omega.{arith}
+use mathlib.Core.Path.{_≡_, ap, ap₂, _∙_}
+use mathlib.Core.List.{List}
+use mathlib.Core.Logic.{⊎-elim}
+use lib.Dec.{ltb}
+use lib.ListN.{length, getD, set, length-set}
+use lib.Seq.{getD-set-same, getD-set-other}
 use borrow.Author.Needs.{needs}
+use borrow.Author.Tests.{ltb-true, ltb-false}
+use Rattle.sets.proofs.Finite.{true-or-false}
+use Rattle.deciding.specs.Memo.{byteOf, valueOf, haveOf, readsOf, columnOf}
 use Rattle.decide.proofs.memo.claim.Statement.{statement}
 use Rattle.decide.proofs.memo.claim.Tie as tie
 
-abbrev Inv-loop : tie.InvT-loop
-Inv-loop slot₀ vars x y₀ slot y = (y ≤ 16) × (length slot ≡ 82) × (getD slot 80 0 ≡ 0) × (getD slot 81 0 ≡ getD slot₀ 81 0) × ((k : ℕ) → k < y → getD slot (64 + k) 0 ≡ value (assigned vars) x k)
+-- what is left of slot s, where p and q have the variables
+module _ (s : List ℕ) (z p q : ℕ) (long : length s ≡ 133) where
+  abbrev s₁ : List ℕ
+  s₁ = set s 66 0
 
-abbrev μ-loop : tie.MeasureT-loop
-μ-loop slot₀ vars x y₀ slot y = 16 - y
+  abbrev s₂ : List ℕ
+  s₂ = set s₁ 68 z
 
-slice-write-slot : tie.Need-slice-write-slot Inv-loop μ-loop
-slice-write-slot c = omega arith
+  abbrev s₃ : List ℕ
+  s₃ = set s₂ 64 p
 
-loop-holds : tie.Need-loop-holds Inv-loop μ-loop
-loop-holds c =
-    let s = c .before .args .slot .now in
-    (omega arith, length-set s 80 0 ∙ c .before .pre, getD-set-same s 80 0 0 (omega (arith, c .before .pre)), refl, λ k l. absurd (let z : ⊥ = omega arith in z))
+  abbrev s₄ : List ℕ
+  s₄ = set s₃ 65 q
 
-value-of-requires : tie.Need-value-of-requires Inv-loop μ-loop
-value-of-requires c κs = omega arith
+  long₂ : length s₂ ≡ 133
+  long₂ = length-set s₁ 68 z ∙ length-set s 66 0 ∙ long
 
-add-slot : tie.Need-add-slot Inv-loop μ-loop
-add-slot c = omega arith
+  other : (i : ℕ) → 66 ≤ i → getD s₄ i 0 ≡ getD s₂ i 0
+  other i l = getD-set-other s₃ 65 i q 0 (λ e. let z : ⊥ = omega arith in z) ∙ getD-set-other s₂ 64 i p 0 (λ e. let z : ⊥ = omega arith in z)
 
-mul-slot : tie.Need-mul-slot Inv-loop μ-loop
-mul-slot c = omega arith
+  have : haveOf s₄ ≡ 0
+  have = other 66 (omega arith) ∙ getD-set-other s₁ 68 66 z 0 (λ e. let z : ⊥ = omega arith in z) ∙ getD-set-same s 66 0 0 (omega arith)
 
-slice-write-slot-2 : tie.Need-slice-write-slot-2 Inv-loop μ-loop
-slice-write-slot-2 c = omega arith
+  reads : readsOf s₄ ≡ readsOf s
+  reads =
+      other 67 (omega arith) ∙ getD-set-other s₁ 68 67 z 0 (λ e. let z : ⊥ = omega arith in z)
+      ∙ getD-set-other s 66 67 0 0 (λ e. let z : ⊥ = omega arith in z)
 
-add-y : tie.Need-add-y Inv-loop μ-loop
-add-y c = omega arith
+  column : columnOf s₄ ≡ z
+  column = other 68 (omega arith) ∙ getD-set-same s₁ 68 z 0 (rw (length-set s 66 0) (omega arith))
 
-loop-less : tie.Need-loop-less Inv-loop μ-loop
-loop-less c = omega arith
+  low : getD s₄ 64 0 ≡ p
+  low = getD-set-other s₃ 65 64 q 0 (λ e. let z : ⊥ = omega arith in z) ∙ getD-set-same s₂ 64 p 0 (let l = long₂ in omega arith)
 
-loop-again : tie.Need-loop-again Inv-loop μ-loop
-loop-again c =
-    let l = c .before .before .loop in
-    let s = l .slot in
-    let v = c .value-of .result in (
-      omega arith,
-      length-set s (64 + l .y) v ∙ l .inv .1,
-      getD-set-other s (64 + l .y) 80 v 0 (λ e. let z : ⊥ = omega arith in z) ∙ l .inv .2,
-      getD-set-other s (64 + l .y) 81 v 0 (λ e. let z : ⊥ = omega arith in z) ∙ l .inv .3,
-      below-more (λ k. getD (set s (64 + l .y) v) (64 + k) 0 ≡ value (assigned (c .before .before .before .before .args .vars .now)) (c .before .before .before .before .args .x) k) (l .y)
-          (λ k kl. getD-set-other s (64 + l .y) (64 + k) v 0 (λ e. let z : ⊥ = omega arith in z) ∙ l .inv .4 k kl)
-          (getD-set-same s (64 + l .y) v 0 (omega (arith, l .inv .1)) ∙ c .value-of .ensures),
-    )
+  high : getD s₄ 65 0 ≡ q
+  high = getD-set-same s₃ 65 q 0 (rw (length-set s₂ 64 p) (let l = long₂ in omega arith))
 
-same-length : tie.Need-same-length Inv-loop μ-loop
+  values : (g : ℕ → ℕ) → ((i : ℕ) → i < 8 → byteOf p i ≡ g (0 + i)) → ((i : ℕ) → i < 8 → byteOf q i ≡ g (8 + i)) → (y : ℕ) → y < 16 → valueOf s₄ y ≡ g y
+  values g lo hi y l =
+      ⊎-elim
+      (λ e.
+      let n : y < 8 = ltb-true y 8 e in
+      ap₂ (λ (i j : ℕ). byteOf (getD s₄ (64 + i) 0) j) (let z : y / 8 ≡ 0 = omega arith in z) (let z : y % 8 ≡ y = omega arith in z)
+      ∙ ap (λ (w : ℕ). byteOf w y) low ∙ lo y n ∙ ap g (let z : 0 + y ≡ y = omega arith in z))
+      (λ e.
+      let n : 8 ≤ y = ltb-false y 8 e in
+      ap₂ (λ (i j : ℕ). byteOf (getD s₄ (64 + i) 0) j) (let z : y / 8 ≡ 1 = omega arith in z) (let z : y % 8 ≡ y - 8 = omega arith in z)
+      ∙ ap (λ (w : ℕ). byteOf w (y - 8)) high ∙ hi (y - 8) (omega arith) ∙ ap g (let z : 8 + (y - 8) ≡ y = omega arith in z))
+      (true-or-false (ltb y 8))
+
+slice-write-slot : tie.Need-slice-write-slot
+slice-write-slot c = search needs
+
+slice-write-slot-2 : tie.Need-slice-write-slot-2
+slice-write-slot-2 c = search needs
+
+packed-requires : tie.Need-packed-requires
+packed-requires c κs = search needs
+
+slice-write-slot-3 : tie.Need-slice-write-slot-3
+slice-write-slot-3 c = search needs
+
+packed-requires-2 : tie.Need-packed-requires-2
+packed-requires-2 c κs = search needs
+
+add-slot : tie.Need-add-slot
+add-slot c = search needs
+
+mul-slot : tie.Need-mul-slot
+mul-slot c = search needs
+
+slice-write-slot-4 : tie.Need-slice-write-slot-4
+slice-write-slot-4 c = search needs
+
+same-length : tie.Need-same-length
 same-length c = search needs
 
-returns : tie.Need-returns Inv-loop μ-loop
+returns : tie.Need-returns
 returns c =
-    let l = c .before .loop in
-    let s = c .before .before .before .args .slot .now in
-    ((l .inv .2, l .inv .3 ∙ getD-set-other s 80 81 0 0 (λ e. let z : ⊥ = omega arith in z)), λ y yl. l .inv .4 y (omega arith))
+    let i = c .before .before .before in
+    let p = c .before .packed in
+    let s = i .args .slot .now in
+    let z = i .args .z in
+    let q = c .packed2 in (
+      (have s z (p .result) (q .result) (i .pre), reads s z (p .result) (q .result) (i .pre), column s z (p .result) (q .result) (i .pre)),
+      values s z (p .result) (q .result) (i .pre) _ (p .ensures) (q .ensures),
+    )
 
 pub claim-spec : {M : Type 1} → statement M
 claim-spec =
     tie.close
     (tie.spec
-    Inv-loop
-    μ-loop
     slice-write-slot
-    loop-holds
-    value-of-requires
+    slice-write-slot-2
+    packed-requires
+    slice-write-slot-3
+    packed-requires-2
     add-slot
     mul-slot
-    slice-write-slot-2
-    add-y
-    loop-less
-    loop-again
+    slice-write-slot-4
     same-length
     returns)

@@ -41,7 +41,7 @@ returns c =
     let i = c .before .before .before .before .before .before .before .before .before .before in
     let k = c .before .before .before .before .keep-in in
     let fits = (c .before .before .before .before .before .before .before .before .before .before .pre .1 (c .before .before .before .before .before .before .before .if1 .taken)) in (
-      (λ e. copy.lent-as (i .args .entry) (i .args .memo .now) fits (λ s s'. Stored (i .args .need) (i .args .want) s (i .args .out .now) s' (k .last .1 .1 .1 .0)) (k .last .0) (k .kept .0) (k .ensures)),
+      (λ e. copy.lent-as (i .args .entry) (i .args .memo .now) fits (λ s s'. Stored (assigned (i .args .vars .now)) (i .args .x) (i .args .all) (i .args .need) (i .args .want) s (i .args .out .now) s' (k .last .1 .1 .1 .1 .1 .1 .0)) (k .last .0) (k .kept .0) (k .ensures)),
       ((λ e. absurd (not-both _ (c .before .before .before .before .before .before .before .if1 .taken) e)), copy.lent-back (i .args .entry) (i .args .memo .now) fits (k .last .0) (k .kept .0) .1),
     )
 

@@ -1,24 +1,39 @@
-use lib.ListN.{length, length-set}
+use Prim.Native.Nat.{ℕ}
+use mathlib.Core.Path.{_≡_, ap, ap₂, _∙_}
+use mathlib.Core.Bool.{Bool, cond, _&&_}
+use lib.Bits.{bitAnd, bitXor}
+use lib.Dec.{eqb, ltb}
+use lib.ListN.{length, getD}
+use Rattle.sets.specs.Sets.{bit}
+use Rattle.deciding.specs.Rows.{assigned}
 use Rattle.deciding.proofs.Copying as copy
 use native.Mathlib.Omega.{arith}
 use borrow.Author.Needs.{needs}
 use Rattle.decide.proofs.memo.keep_in.Statement.{statement}
 use Rattle.decide.proofs.memo.keep_in.Tie as tie
 
-copy-requires : tie.Need-copy-requires
-copy-requires c κs = (omega (arith, c .before .before .before .before .pre .0), omega (arith, c .before .before .before .before .pre .1))
+slice-read-has : tie.Need-slice-read-has
+slice-read-has c = omega (arith, c .before .before .before .pre .0)
 
-slice-read-slot : tie.Need-slice-read-slot
-slice-read-slot c = omega (arith, c .before .before .before .copy .kept .0, c .before .before .before .before .before .before .before .before .pre .0)
+has-requires : tie.Need-has-requires
+has-requires c κs = tt
 
-slice-write-slot : tie.Need-slice-write-slot
-slice-write-slot c = omega (arith, c .before .before .before .copy .kept .0, c .before .before .before .before .before .before .before .before .pre .0)
+slice-read-standing : tie.Need-slice-read-standing
+slice-read-standing c = omega (arith, c .before .before .before .before .before .before .pre .0)
 
-copy-requires-2 : tie.Need-copy-requires-2
-copy-requires-2 c κs =
-    let i = c .before .before .before .before .before .before .before .before .before .before in
-    let q = c .before .before .before .before .before .copy in
-    (omega (arith, i .pre .1), rw (length-set (q .last .0) 80 _) (omega (arith, q .kept .0, i .pre .0)))
+standing-requires : tie.Need-standing-requires
+standing-requires c κs = tt
+
+asked-requires : tie.Need-asked-requires
+asked-requires c κs = tt
+
+put-requires : tie.Need-put-requires
+put-requires c κs = (c .before .before .before .before .before .before .before .before .before .before .pre .0, omega (arith, c .before .before .before .before .before .before .before .before .before .before .pre .1))
+
+show-requires : tie.Need-show-requires
+show-requires c κs =
+    let i = c .before .before .before .before .before .before .before .before .before .before .before .before .before .before .before in
+    (omega (arith, i .pre .1), omega (arith, c .before .before .before .before .put .kept .0, i .pre .0))
 
 same-length : tie.Need-same-length
 same-length c = search needs
@@ -28,19 +43,31 @@ same-length-2 c = search needs
 
 returns : tie.Need-returns
 returns c =
-    let i = c .before .before .before .before .before .before .before .before .before .before .before .before .before in
-    let q = c .before .before .before .before .before .before .before .before .copy in
-    let z = c .before .before .copy2 in
-    copy.stored (i .args .need) (i .args .want) (i .args .slot .now) (i .args .out .now) (q .last .0) (z .last .0) (omega arith) (i .pre .0) (i .pre .1) (q .kept .0) (q .ensures) (z .kept .0) (z .ensures)
+    let i = c .before .before .before .before .before .before .before .before .before .before .before .before .before .before .before .before .before .before in
+    let x = i .args in
+    let show = c .before .before .show in
+    let put = c .before .before .before .before .before .before .before .put in
+    let ask = c .before .before .before .before .before .before .before .before .asked in
+    let stands = c .before .before .before .before .before .before .before .before .before .before .before .standing in
+    let whole = c .before .before .before .before .before .before .before .before .before .before .before .before .before .before .has in
+    copy.stored (assigned (x .vars .now)) (x .x) (x .all) (x .need) (x .want) (ask .result)
+    (λ b. ask .ensures b ∙ ap₂ (λ (t : Bool) (n : ℕ). cond t (ltb b 64) (ltb b 64 && eqb b n)) (whole .ensures) (stands .ensures))
+    (put .ensures) (show .kept .0) (i .pre .1)
+    (λ a. show .ensures a
+    ∙ ap₂ (λ (t : Bool) (n : ℕ). cond {A = ℕ} (bit (bitXor (x .want) (bitAnd (x .want) (x .need))) a) (cond t (bitAnd (x .all) (getD (put .last .0) a 0)) (cond (bit (getD (put .last .0) a 0) n) (x .all) 0)) (getD (x .out .now) a 0))
+    (whole .ensures) (stands .ensures))
 
 pub keep-in-spec : {M : Type 1} → statement M
 keep-in-spec =
     tie.close
     (tie.spec
-    copy-requires
-    slice-read-slot
-    slice-write-slot
-    copy-requires-2
+    slice-read-has
+    has-requires
+    slice-read-standing
+    standing-requires
+    asked-requires
+    put-requires
+    show-requires
     same-length
     same-length-2
     returns)

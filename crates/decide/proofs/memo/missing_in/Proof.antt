@@ -1,46 +1,114 @@
+use Prim.Native.Nat.{ℕ}
 use borrow.Author.Needs.{needs}
+use borrow.Author.Tests.{eqb-true}
 use native.Mathlib.Omega.{arith}
-use mathlib.Core.Path.{_≡_, refl, sym, ap, _∙_, subst}
-use mathlib.Core.Bool.{Bool, true, false, cond, _&&_}
+use mathlib.Core.Path.{_≡_, refl, sym, ap, ap₂, _∙_}
+use mathlib.Core.Bool.{Bool, true, false, cond, not, _&&_, true≢false}
+use lib.Dec.{eqb, ltb}
+use lib.ListN.{getD}
+use Rattle.sets.proofs.Finite.{not-both}
 use Rattle.deciding.specs.Rows.{assigned}
 use Rattle.deciding.proofs.Copying as copy
 use Rattle.decide.proofs.memo.missing_in.Statement.{statement}
 use Rattle.decide.proofs.memo.missing_in.Tie as tie
 
-is-same-requires : tie.Need-is-same-requires
-is-same-requires c κs = c .before .before .pre
+-- what is not read, or is the column
+is-column : (w t : Bool) → (w && not t) ≡ false → w ≡ true → t ≡ true
+is-column true true e q = refl
+is-column true false e q = absurd (true≢false e)
+is-column false t e q = absurd (true≢false (sym q))
 
-slice-read-result : tie.Need-slice-read-result
-slice-read-result c = omega (arith, c .before .before .before .before .before .pre)
+slice-read-has : tie.Need-slice-read-has
+slice-read-has c = omega (arith, c .before .before .pre)
+
+has-requires : tie.Need-has-requires
+has-requires c κs = tt
+
+slice-read-z : tie.Need-slice-read-z
+slice-read-z c = omega (arith, c .before .before .before .before .pre)
+
+claim-requires : tie.Need-claim-requires
+claim-requires c κs = c .before .before .before .before .before .before .pre
 
 same-length : tie.Need-same-length
 same-length c = search needs
 
 returns : tie.Need-returns
 returns c =
-    let i = c .before .before .before .before .before in
-    copy.missing-same (assigned (i .args .vars .now)) (i .args .x) (i .args .want) (i .args .slot .now) (c .before .before .is-same .ensures (c .before .if1 .taken))
+    let i = c .before .before .before .before .before .before .before .before .before in
+    let k = c .before .before .claim in
+    copy.missing-all (assigned (i .args .vars .now)) (i .args .x) (i .args .want) (i .args .slot .now) (k .last .0) (k .ensures .0 .0) (k .ensures .0 .1) (λ e. k .ensures .0 .2) (k .ensures .1)
 
-claim-requires : tie.Need-claim-requires
-claim-requires c κs = c .before .before .before .before .before .pre
+differing-requires : tie.Need-differing-requires
+differing-requires c κs = c .before .before .before .before .before .before .pre
+
+standing-requires : tie.Need-standing-requires
+standing-requires c κs = tt
+
+asked-requires : tie.Need-asked-requires
+asked-requires c κs = tt
+
+lacking-requires : tie.Need-lacking-requires
+lacking-requires c κs = c .before .before .before .before .before .before .before .before .before .before .before .before .pre
 
 same-length-2 : tie.Need-same-length-2
 same-length-2 c = search needs
 
 returns-2 : tie.Need-returns-2
 returns-2 c =
-    let i = c .before .before .before .before .before .before .before .before in
-    let k = c .before .before .claim in
-    copy.missing-all (assigned (i .args .vars .now)) (i .args .x) (i .args .want) (i .args .slot .now) (k .last .0) (k .ensures .0 .0) (k .ensures .0 .1) (k .ensures .1)
+    let i = c .before .before .before .before .before .before .before .before .before .before .before .before .before in
+    let whole = c .before .before .before .before .before .before .before .before .before .before .has in
+    let s = i .args .slot .now in
+    copy.missing-same (assigned (i .args .vars .now)) (i .args .x) (i .args .want) (c .lacking .result) (c .before .asked .result) s
+    (c .before .before .before .before .before .before .differing .ensures (c .before .before .before .before .before .if2 .taken))
+    (λ e. eqb-true (getD s 68 0) (i .args .x) (is-column (whole .result) (eqb (getD s 68 0) (i .args .x)) (c .before .before .before .before .before .before .before .before .if1 .left) (whole .ensures ∙ e)))
+    (λ b. c .before .asked .ensures b ∙ ap₂ (λ (t : Bool) (n : ℕ). cond t (ltb b 64) (ltb b 64 && eqb b n)) (whole .ensures) (c .before .before .standing .ensures))
+    (c .lacking .ensures .0) (c .lacking .ensures .1)
+
+claim-requires-2 : tie.Need-claim-requires-2
+claim-requires-2 c κs = c .before .before .before .before .before .before .before .before .before .before .pre
+
+same-length-3 : tie.Need-same-length-3
+same-length-3 c = search needs
+
+returns-3 : tie.Need-returns-3
+returns-3 c =
+    let i = c .before .before .before .before .before .before .before .before .before .before .before .before .before in
+    let k = c .before .before .claim2 in
+    copy.missing-all (assigned (i .args .vars .now)) (i .args .x) (i .args .want) (i .args .slot .now) (k .last .0) (k .ensures .0 .0) (k .ensures .0 .1) (λ e. k .ensures .0 .2) (k .ensures .1)
+
+claim-requires-3 : tie.Need-claim-requires-3
+claim-requires-3 c κs = c .before .before .before .before .before .before .before .before .before .before .pre
+
+same-length-4 : tie.Need-same-length-4
+same-length-4 c = search needs
+
+returns-4 : tie.Need-returns-4
+returns-4 c =
+    let i = c .before .before .before .before .before .before .before .before .before .before .before .before .before in
+    let k = c .before .before .claim3 in
+    copy.missing-all (assigned (i .args .vars .now)) (i .args .x) (i .args .want) (i .args .slot .now) (k .last .0) (k .ensures .0 .0) (k .ensures .0 .1)
+    (λ e. absurd (not-both _ (c .before .before .before .before .before .before .before .before .before .before .has .ensures ∙ e) (c .before .before .before .before .if3 .left))) (k .ensures .1)
 
 pub missing-in-spec : {M : Type 1} → statement M
 missing-in-spec =
     tie.close
     (tie.spec
-    is-same-requires
-    slice-read-result
+    slice-read-has
+    has-requires
+    slice-read-z
+    claim-requires
     same-length
     returns
-    claim-requires
+    differing-requires
+    standing-requires
+    asked-requires
+    lacking-requires
     same-length-2
-    returns-2)
+    returns-2
+    claim-requires-2
+    same-length-3
+    returns-3
+    claim-requires-3
+    same-length-4
+    returns-4)

@@ -6,15 +6,14 @@ use Rattle.memory.proofs.check_state.check_own.Tie as tie
 
 returns : tie.Need-returns
 returns c =
-    let x = c .before .before .before .before .before .before .before .before .args in
+    let x = c .before .before .before .before .before .before .before .args in
     own-tests (termsOf (x .terms .now)) (x .own .now)
-    (c .before .before .before .tables-fit .ensures) (c .before .before .tables-level .ensures) (c .event-fits .ensures)
+    (c .before .before .tables-fit .ensures) (c .event-fits .ensures)
 
 pub check-own-spec : {M : Type 1} → statement M
 check-own-spec =
     tie.close
     (tie.spec
-    (λ c κs. search needs)
     (λ c κs. search needs)
     (λ c. search needs)
     (λ c κs. search needs)

@@ -1,54 +1,50 @@
--- The loop's invariant: ok says that the words passed have bits at members only.
-use Prim.Native.Nat.{ℕ, _-_, _≤_}
+-- The loop's invariant: off is 0 where the words of the members passed have bits at members only.
+use Prim.Native.Nat.{ℕ, _+_, _-_, _*_, _≤_}
 use native.Mathlib.Omega.{arith}
 use mathlib.Core.Path.{_≡_, sym, ap, _∙_}
+use lib.Dec.{eqb}
 use lib.ListN.{getD}
 use Rattle.sets.specs.Sets.{allBelow}
 use Rattle.sets.proofs.Finite.{all-none}
 use Rattle.memory.specs.Checks.{pairFits}
-use Rattle.memory.proofs.StateTests.{all-turn}
-use Rattle.memory.proofs.Pairs.{pair-fits}
+use Rattle.memory.proofs.Pairs.{word-fits, pairs-turn, pairs-fit}
 use Rattle.memory.proofs.check_state.pair_fits.Statement.{statement}
 use Rattle.memory.proofs.check_state.pair_fits.Tie as tie
 
 abbrev Inv-loop : tie.InvT-loop
-Inv-loop ws n ok₀ i₀ ok i = (i ≤ 64) × (ok ≡ allBelow i (λ j. pairFits n j (getD ws j 0)))
+Inv-loop ws n first second third fourth off₀ a₀ off a = (a ≤ n) × (eqb off 0 ≡ allBelow (4 * a) (λ i. pairFits n i (getD ws i 0)))
 
 abbrev μ-loop : tie.MeasureT-loop
-μ-loop ws n ok₀ i₀ ok i = 64 - i
+μ-loop ws n first second third fourth off₀ a₀ off a = n - a
 
 loop-holds : tie.Need-loop-holds Inv-loop μ-loop
 loop-holds c = (omega arith, sym (all-none _))
 
-mul-w : tie.Need-mul-w Inv-loop μ-loop
-mul-w c = omega arith
-
-shared-slice-read-w : tie.Need-shared-slice-read-w Inv-loop μ-loop
-shared-slice-read-w c = omega arith
-
-permitted-requires : tie.Need-permitted-requires Inv-loop μ-loop
-permitted-requires c κs = omega arith
-
-add-i : tie.Need-add-i Inv-loop μ-loop
-add-i c = omega arith
-
-loop-less : tie.Need-loop-less Inv-loop μ-loop
-loop-less c = omega arith
-
 loop-again : tie.Need-loop-again Inv-loop μ-loop
 loop-again c =
-    let x = c .before .before .before .before .before .args in
-    let l = c .before .before .before .loop in (
+    let h = c .before .before .before .before .before .before .before .before .before in
+    let p = h .before in
+    let k = p .before .before .before .before in
+    let n = k .before .args .n in
+    let ws = k .before .args .ws .now in
+    let a = h .loop .a in (
       omega arith,
-      all-turn (l .i) (λ j. pairFits (x .n) j (getD (x .ws .now) j 0))
-          (pair-fits (x .n) (l .i) (getD (x .ws .now) (l .i) 0) (c .permitted .result)
-          (omega (arith, c .before .before .before .before .shared-slice-known .given (l .i))) (c .permitted .ensures)) (l .inv .1),
+      pairs-turn a (λ i. pairFits n i (getD ws i 0)) (h .loop .off) (c .beyond4 .result) (c .before .before .beyond3 .result)
+          (c .before .before .before .before .beyond2 .result) (c .before .before .before .before .before .before .beyond .result)
+          (c .beyond4 .ensures ∙ word-fits n (4 * a) 0 (getD ws (4 * a) 0) _ (omega arith) (omega arith) (omega (arith, k .shared-slice-known .given (4 * a))) (p .before .before .before .permitted .ensures))
+          (c .before .before .beyond3 .ensures ∙ word-fits n (4 * a + 1) 1 (getD ws (4 * a + 1) 0) _ (omega arith) (omega arith) (omega (arith, k .shared-slice-known .given (4 * a + 1))) (p .before .before .permitted2 .ensures))
+          (c .before .before .before .before .beyond2 .ensures ∙ word-fits n (4 * a + 2) 2 (getD ws (4 * a + 2) 0) _ (omega arith) (omega arith) (omega (arith, k .shared-slice-known .given (4 * a + 2))) (p .before .permitted3 .ensures))
+          (c .before .before .before .before .before .before .beyond .ensures ∙ word-fits n (4 * a + 3) 3 (getD ws (4 * a + 3) 0) _ (omega arith) (omega arith) (omega (arith, k .shared-slice-known .given (4 * a + 3))) (p .permitted4 .ensures))
+          (h .loop .inv .1),
     )
 
 returns : tie.Need-returns Inv-loop μ-loop
 returns c =
-    let x = c .before .before .before .args in
-    c .before .loop .inv .1 ∙ ap (λ k. allBelow k (λ i. pairFits (x .n) i (getD (x .ws .now) i 0))) (let e : c .before .loop .i ≡ 64 = omega arith in e)
+    let h = c .before .before .before in
+    let k = h .before .before .before .before .before in
+    let x = k .before in
+    pairs-fit (x .args .ws .now) (x .args .n) (c .union-of .result) (h .loop .off) (x .pre .0) (x .pre .1) (λ i. omega (arith, k .shared-slice-known .given i)) (c .union-of .ensures)
+    (h .loop .inv .1 ∙ ap (λ a. allBelow (4 * a) (λ i. pairFits (x .args .n) i (getD (x .args .ws .now) i 0))) (let e : h .loop .a ≡ x .args .n = omega arith in e))
 
 pub pair-fits-spec : {M : Type 1} → statement M
 pair-fits-spec =
@@ -56,11 +52,34 @@ pair-fits-spec =
     (tie.spec
     Inv-loop
     μ-loop
+    (λ c κs. omega arith)
+    (λ c κs. omega arith)
+    (λ c κs. omega arith)
+    (λ c κs. omega arith)
     loop-holds
-    mul-w
-    shared-slice-read-w
-    permitted-requires
-    add-i
-    loop-less
+    (λ c. omega arith)
+    (λ c. omega arith)
+    (λ c. omega arith)
+    (λ c. omega arith)
+    (λ c κs. tt)
+    (λ c. omega arith)
+    (λ c. omega arith)
+    (λ c. omega arith)
+    (λ c κs. tt)
+    (λ c. omega arith)
+    (λ c. omega arith)
+    (λ c. omega arith)
+    (λ c κs. tt)
+    (λ c. omega arith)
+    (λ c. omega arith)
+    (λ c κs. tt)
+    (λ c. omega arith)
+    (λ c. omega arith)
     loop-again
+    (λ c. omega arith)
+    (λ c. omega arith)
+    (λ c. omega arith)
+    (λ c. omega arith)
+    (λ c. omega arith)
+    (λ c κs. tt)
     returns)

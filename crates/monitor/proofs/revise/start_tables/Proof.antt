@@ -15,7 +15,7 @@ use Rattle.monitor.proofs.revise.start_tables.Tie as tie
 abbrev Inv-loop : tie.InvT-loop
 Inv-loop old before relations own new plan taken second₀ entries memo₀ f₀ rows₀ n₀ second memo f rows n =
     (n ≤ entries) × (length second ≡ length second₀) × Begun old (relations ++ own) new n [] (relations ++ second)
-    × MemoOf (termsOf new) (relations ++ second) (termsOf new .entries) memo × Fresh (termsOf new .entries) n memo × (length memo ≡ 20992) × (length f ≡ 64) × (length rows ≡ 64)
+    × MemoOf (termsOf new) (relations ++ second) (termsOf new .entries) memo × Fresh (termsOf new .entries) n memo × (length memo ≡ 34048) × (length f ≡ 64) × (length rows ≡ 64)
 
 abbrev μ-loop : tie.MeasureT-loop
 μ-loop old before relations own new plan taken second₀ entries memo₀ f₀ rows₀ n₀ second memo f rows n = entries - n

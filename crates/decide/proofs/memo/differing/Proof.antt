@@ -1,0 +1,115 @@
+use Prim.Native.Nat.{ℕ, _+_, _<_}
+use mathlib.Core.Path.{_≡_, sym, ap, _∙_}
+use mathlib.Core.Bool.{Bool, true, false, not, _&&_, and-not-self}
+use borrow.Author.Needs.{needs}
+use borrow.Author.Tests.{lt-ltb, ltb-true}
+use Rattle.sets.proofs.Bits.{bit-and}
+use lib.Bits.{bitAnd}
+use Rattle.sets.proofs.Finite.{not-both, and-implied, and-both, and-left, and-right}
+use lib.Dec.{eqb, ltb}
+use lib.ListN.{getD}
+use Rattle.sets.specs.Sets.{bit}
+use Rattle.deciding.specs.Rows.{assigned}
+use Rattle.deciding.specs.Memo.{valueOf}
+use Rattle.deciding.proofs.Loops as loops
+use Rattle.deciding.proofs.Copying as copy
+use native.Mathlib.Omega.{arith}
+use Rattle.decide.proofs.memo.differing.Statement.{statement}
+use Rattle.decide.proofs.memo.differing.Tie as tie
+
+abbrev Inv-loop : tie.InvT-loop
+Inv-loop slot vars rest₀ rest = loops.Going rest₀ rest × ((k : ℕ) → loops.Done rest₀ rest k ≡ true → valueOf slot k ≡ assigned vars k) × ((k : ℕ) → bit rest₀ k ≡ (bit (getD slot 67 0) k && ltb k 16) && not (eqb k (getD slot 68 0)))
+
+abbrev μ-loop : tie.MeasureT-loop
+μ-loop slot vars rest₀ rest = rest
+
+shared-slice-read-without : tie.Need-shared-slice-read-without Inv-loop μ-loop
+shared-slice-read-without c = omega (arith, c .before .before .pre)
+
+mask-requires : tie.Need-mask-requires Inv-loop μ-loop
+mask-requires c κs = tt
+
+shared-slice-read-without-2 : tie.Need-shared-slice-read-without-2 Inv-loop μ-loop
+shared-slice-read-without-2 c = omega (arith, c .before .before .before .before .pre)
+
+without-requires : tie.Need-without-requires Inv-loop μ-loop
+without-requires c κs = tt
+
+loop-holds : tie.Need-loop-holds Inv-loop μ-loop
+loop-holds c =
+    let s = c .before .before .before .before .before .args .slot .now in
+    let m = c .before .before .mask in (
+      loops.going _ (omega (arith, c .without .ok)),
+      (λ k e. absurd (not-both _ e (and-not-self (bit (c .without .result) k)))),
+      λ k.
+          c .without .ensures k ∙ ap (λ (t : Bool). t && not (eqb k (getD s 68 0)))
+          (bit-and (getD s 67 0) (m .result) k ∙ ap (λ (t : Bool). bit (getD s 67 0) k && t) (m .ensures k ∙ and-implied (ltb k 64) (ltb k 16) (λ e. lt-ltb k 64 (let l : k < 16 = ltb-true k 16 e in omega arith)))),
+    )
+
+least-of-requires : tie.Need-least-of-requires Inv-loop μ-loop
+least-of-requires c κs = tt
+
+small : (c : tie.After-least-of Inv-loop μ-loop) → c .least-of .result < 16
+small c =
+    let l = c .before .before .loop in
+    let w = loops.least-wanted (l .inv .0) (c .before .loop-test .taken) (c .least-of .ensures) in
+    let y = c .least-of .result in
+    let s = c .before .before .before .before .before .before .before .before .args .slot .now in
+    ltb-true y 16 (and-right (bit (getD s 67 0) y) (ltb y 16) (and-left (bit (getD s 67 0) y && ltb y 16) _ (sym (l .inv .2 y) ∙ w)))
+
+value-of-requires : tie.Need-value-of-requires Inv-loop μ-loop
+value-of-requires c κs = (c .before .before .before .before .before .before .before .before .pre, small c)
+
+element-copy-out-wide : tie.Need-element-copy-out-wide Inv-loop μ-loop
+element-copy-out-wide c = let l = small (c .before) in search needs
+
+wide-requires : tie.Need-wide-requires Inv-loop μ-loop
+wide-requires c κs = search needs
+
+returns : tie.Need-returns Inv-loop μ-loop
+returns c = λ e. absurd (let z : ⊥ = omega (arith, e, small (c .before .before .before .before)) in z)
+
+rest-of-requires : tie.Need-rest-of-requires Inv-loop μ-loop
+rest-of-requires c κs = tt
+
+loop-less : tie.Need-loop-less Inv-loop μ-loop
+loop-less c = loops.rest-less (c .before .before .before .before .before .before .before .loop .inv .0) (c .before .before .before .before .before .before .loop-test .taken) (c .rest-of .ensures)
+
+loop-again : tie.Need-loop-again Inv-loop μ-loop
+loop-again c =
+    let l = c .before .before .before .before .before .before .before .loop in
+    let i = c .before .before .before .before .before .before .before .before .before .before .before .before .before in
+    let t = loops.turn (l .inv .0) (c .before .before .before .before .before .before .loop-test .taken) (c .before .before .before .before .before .least-of .ensures) (c .rest-of .ensures) in (
+      loops.going-on t,
+      copy.done-with (λ k. valueOf (i .args .slot .now) k ≡ assigned (i .args .vars .now) k) t (l .inv .1)
+          (sym (c .before .before .before .before .value-of .ensures) ∙ c .before .if1 .left ∙ c .before .before .wide .ensures .0),
+      l .inv .2,
+    )
+
+returns-2 : tie.Need-returns-2 Inv-loop μ-loop
+returns-2 c = λ e y yl q n.
+    let l = c .before .loop in
+    let s = c .before .before .before .before .before .before .before .args .slot .now in
+    l .inv .1 y (loops.done-all _ _ y (c .loop-test .left) ∙ l .inv .2 y
+    ∙ and-both (bit (getD s 67 0) y && ltb y 16) _ (and-both (bit (getD s 67 0) y) (ltb y 16) q (lt-ltb y 16 yl)) (ap not n))
+
+pub differing-spec : {M : Type 1} → statement M
+differing-spec =
+    tie.close
+    (tie.spec
+    Inv-loop
+    μ-loop
+    shared-slice-read-without
+    mask-requires
+    shared-slice-read-without-2
+    without-requires
+    loop-holds
+    least-of-requires
+    value-of-requires
+    element-copy-out-wide
+    wide-requires
+    returns
+    rest-of-requires
+    loop-less
+    loop-again
+    returns-2)
