@@ -96,4 +96,8 @@ fn a_policy_that_is_seldom_met_is_tried_for_long() {
     );
     let said = run(&["check", folder.path()]);
     assert!(!said.err.contains("remix") && !said.out.contains("remix"), "{}{}", said.out, said.err);
+    folder.write("requests.say", "remix cleo warm-pad\nremix cleo warm-pad\n");
+    let said = run(&["check", folder.path()]).out;
+    assert!(said.contains("requests.say asks 2 times for remix and is denied each time"), "{said}");
+    assert!(said.contains("= `cuckooormolu why` says what was lacking each time"), "{said}");
 }

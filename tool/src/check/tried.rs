@@ -17,7 +17,7 @@ const REQUESTS: usize = 400;
 const RUNS: usize = 4;
 /// No more is tried in one go after so many moments, and at all after so many looks.
 const MOMENTS: usize = 40;
-const LOOKS: usize = 6_000;
+const LOOKS: usize = 20_000;
 
 /// What is often wrong with a policy that is never met.
 const IN_FOR_OUT: &str =
@@ -27,6 +27,11 @@ const IN_FOR_OUT: &str =
 const TURNED: &str =
     "is a sentence the wrong way round, `a owns b` for `b owns a`? `cuckooormolu aloud` reads it aloud, \
      and `cuckooormolu can` seeks requests that lead there";
+
+/// The same where the folder's own requests are all denied.
+const LACKING: &str =
+    "`cuckooormolu why` says what was lacking each time; is a sentence the wrong way round, \
+                       `a owns b` for `b owns a`?";
 
 /// How often each event was granted and denied.
 #[derive(Clone, Copy, Default)]
@@ -66,7 +71,7 @@ pub fn one_sided(both: &Both, subject: &Subject, folder: &Folder) -> Result<Vec<
             let times = asked.denied;
             let file = folder::name(&folder.asked);
             let what = format!("{file} asks {times} times for {name} and is denied each time");
-            ("denied", what, [IN_FOR_OUT, TURNED])
+            ("denied", what, [IN_FOR_OUT, LACKING])
         } else {
             continue;
         };
@@ -96,7 +101,12 @@ fn asked(folder: &Folder, events: usize) -> Result<Vec<Count>, Stop> {
 fn seen(both: &Both) -> Result<(Vec<Count>, usize), Stop> {
     let terms = both.terms();
     let mut members = busiest(terms);
-    let mut counts = vec![Count::default(); terms.events];
+    // What is always so, or never, is not looked at.
+    let count = |policy: &usize| match is_constant(terms, *policy) {
+        true => Count { granted: 1, denied: 1 },
+        false => Count::default(),
+    };
+    let mut counts: Vec<Count> = terms.policies.iter().map(count).collect();
     look_around(both, &members, &mut counts, LOOKS / RUNS)?;
     members.truncate(TRYING);
     let (stored, mut moments, mut random) = (both.store()?, 1, 1u64);
