@@ -71,7 +71,8 @@ impl Plan {
 pub fn fits(terms: &Terms) -> Result<(), Stop> {
     let most = |what: &str, count: usize, most: usize| {
         Err(Stop::Failed(format!(
-            "a plan is decided where there are at most {most} {what}; here are {count}"
+            "a plan is decided where there are at most {most} {what}; here are {count}: try it in a copy of the \
+             folder, without those that do not matter to the plan"
         )))
     };
     match (terms.members, terms.events) {

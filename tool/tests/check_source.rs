@@ -79,3 +79,25 @@ fn outdated_terms_are_told() {
     assert_eq!(run(&["compile", folder.path()]).status, 0);
     assert!(!run(&["check", folder.path()]).out.contains("terms.tsv"));
 }
+
+/// A policy that is met only after two requests, in that order, is not said to be never met.
+#[test]
+fn a_policy_that_is_seldom_met_is_tried_for_long() {
+    let folder = Folder::new();
+    folder.write(
+        "terms.say",
+        "members players: anna, ben, cleo; presets: warm-pad, glass-bell; banks: north\n\
+         relations owns, friend\n\
+         event share, withdraw when me is player and target is player\n\
+         event befriend when me is player and target is player then add me friend target\n\
+         event suspend, lift when me is bank and target is player\n\
+         event remix when some owner owns target: once (owner share me and me friend owner)\n\
+         first anna owns warm-pad, ben owns glass-bell\n",
+    );
+    let said = run(&["check", folder.path()]);
+    assert!(!said.err.contains("remix") && !said.out.contains("remix"), "{}{}", said.out, said.err);
+    folder.write("requests.say", "remix cleo warm-pad\nremix cleo warm-pad\n");
+    let said = run(&["check", folder.path()]).out;
+    assert!(said.contains("requests.say asks 2 times for remix and is denied each time"), "{said}");
+    assert!(said.contains("= `cuckooormolu why` says what was lacking each time"), "{said}");
+}

@@ -144,7 +144,7 @@ fn a_game_has_at_most_8_members_and_4_events() {
     assert!(said.err.contains("at most 8 members; here are 9"), "{}", said.err);
     folder.write("terms.say", "members a, b, c\nevent see, hear, feel, taste, smell by anyone\n");
     let said = plan(folder.path(), "see c", &words);
-    assert!(said.err.contains("at most 4 events; here are 5"), "{}", said.err);
+    assert!(said.err.contains("at most 4 events; here are 5: try it in a copy"), "{}", said.err);
 }
 
 /// Without a source, its sentences are those of the terms with their names.

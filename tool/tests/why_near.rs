@@ -171,7 +171,8 @@ fn inside_somebody_found_at_that_moment() {
         [
             "dora owned saw at moment 1, and dora shared with pete then, but pete was not trusted then",
             "  no member had ever vouched for pete up to moment 1",
-            "there was no moment so far at which some A that owned saw was such that A had just shared with pete and pete was trusted",
+            "there was no moment so far at which some A that owned saw was such that A had just shared with \
+             pete and pete was trusted",
         ]
     );
     // Of two who shared with me, one was trusted and one was the owner.

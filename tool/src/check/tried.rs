@@ -13,16 +13,25 @@ const LOOKED_AT: usize = 24;
 const TRYING: usize = 6;
 /// So many requests are made: of the folder's, and of those tried.
 const REQUESTS: usize = 400;
-/// No more is tried after so many moments or looks.
+/// So often it is begun anew.
+const RUNS: usize = 4;
+/// No more is tried in one go after so many moments, and at all after so many looks.
 const MOMENTS: usize = 40;
-const LOOKS: usize = 3_000;
+const LOOKS: usize = 20_000;
 
 /// What is often wrong with a policy that is never met.
 const IN_FOR_OUT: &str =
-    "is `in` written where `out` is meant, or `out` for `in`? `cuckooormolu aloud` reads it aloud";
+    "is `in` written where `out` is meant, or `out` for `in`? `cuckooormolu aloud` reads it aloud, \
+     and `cuckooormolu can` seeks requests that lead there";
 /// The same in a source.
 const TURNED: &str =
-    "is a sentence the wrong way round, `a owns b` for `b owns a`? `cuckooormolu aloud` reads it aloud";
+    "is a sentence the wrong way round, `a owns b` for `b owns a`? `cuckooormolu aloud` reads it aloud, \
+     and `cuckooormolu can` seeks requests that lead there";
+
+/// The same where the folder's own requests are all denied.
+const LACKING: &str =
+    "`cuckooormolu why` says what was lacking each time; is a sentence the wrong way round, \
+                       `a owns b` for `b owns a`?";
 
 /// How often each event was granted and denied.
 #[derive(Clone, Copy, Default)]
@@ -62,7 +71,7 @@ pub fn one_sided(both: &Both, subject: &Subject, folder: &Folder) -> Result<Vec<
             let times = asked.denied;
             let file = folder::name(&folder.asked);
             let what = format!("{file} asks {times} times for {name} and is denied each time");
-            ("denied", what, [IN_FOR_OUT, TURNED])
+            ("denied", what, [IN_FOR_OUT, LACKING])
         } else {
             continue;
         };
@@ -92,31 +101,39 @@ fn asked(folder: &Folder, events: usize) -> Result<Vec<Count>, Stop> {
 fn seen(both: &Both) -> Result<(Vec<Count>, usize), Stop> {
     let terms = both.terms();
     let mut members = busiest(terms);
-    let mut counts = vec![Count::default(); terms.events];
-    // A record of its own: the one at hand stays at moment 0.
-    let mut trial = Both::accepted(&both.store()?)?;
-    look_around(&trial, &members, &mut counts)?;
+    // What is always so, or never, is not looked at.
+    let count = |policy: &usize| match is_constant(terms, *policy) {
+        true => Count { granted: 1, denied: 1 },
+        false => Count::default(),
+    };
+    let mut counts: Vec<Count> = terms.policies.iter().map(count).collect();
+    look_around(both, &members, &mut counts, LOOKS / RUNS)?;
     members.truncate(TRYING);
-    let mut random = 1u64;
+    let (stored, mut moments, mut random) = (both.store()?, 1, 1u64);
     let mut below = |bound: usize| {
         random =
             random.wrapping_mul(6_364_136_223_846_793_005).wrapping_add(1_442_695_040_888_963_407);
         (random >> 33) as usize % bound
     };
-    for _ in 0..REQUESTS {
-        let over = trial.record().graphs().len() > MOMENTS || looks(&counts) >= LOOKS;
-        if over || counts.iter().all(is_mixed) {
-            break;
+    for run in 1..=RUNS {
+        // A record of its own: the one at hand stays at moment 0.
+        let (mut trial, most) = (Both::accepted(&stored)?, LOOKS * run / RUNS);
+        for _ in 0..REQUESTS {
+            let over = trial.record().graphs().len() > MOMENTS || looks(&counts) >= most;
+            if over || counts.iter().all(is_mixed) {
+                break;
+            }
+            let (event, from, to) =
+                (below(terms.events), members[below(members.len())], members[below(members.len())]);
+            let before = trial.record().graphs().len();
+            trial.request(event, from, to)?;
+            if trial.record().graphs().len() > before {
+                look_around(&trial, &members, &mut counts, most)?;
+            }
         }
-        let (event, from, to) =
-            (below(terms.events), members[below(members.len())], members[below(members.len())]);
-        let before = trial.record().graphs().len();
-        trial.request(event, from, to)?;
-        if trial.record().graphs().len() > before {
-            look_around(&trial, &members, &mut counts)?;
-        }
+        moments += trial.record().graphs().len() - 1;
     }
-    Ok((counts, trial.record().graphs().len()))
+    Ok((counts, moments))
 }
 
 fn is_mixed(count: &Count) -> bool {
@@ -129,9 +146,15 @@ fn looks(counts: &[Count]) -> usize {
 }
 
 /// Looks at every event between the members that isn't granted here and denied
-/// there already; each event has its share of the looks.
-fn look_around(both: &Both, members: &[usize], counts: &mut [Count]) -> Result<(), Stop> {
-    let share = LOOKS / counts.len();
+/// there already; each of these has its share of the looks.
+fn look_around(
+    both: &Both,
+    members: &[usize],
+    counts: &mut [Count],
+    most: usize,
+) -> Result<(), Stop> {
+    let open = counts.iter().filter(|count| !is_mixed(count)).count();
+    let share = most / open.max(1);
     for (event, count) in counts.iter_mut().enumerate() {
         for &from in members {
             for &to in members {

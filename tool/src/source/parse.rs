@@ -32,6 +32,8 @@ struct Parser {
     begins: Vec<bool>,
     /// The words that are declared as relations and events.
     declared: HashSet<String>,
+    /// The names of definitions.
+    defined: HashSet<String>,
     /// How many formulas the present one stands in.
     depth: usize,
     /// How many formulas stand in one another in the one read last.
@@ -120,7 +122,7 @@ impl Parser {
         } else if self.take("by") {
             if !self.take("anyone") {
                 let mistake = self.expected("`anyone` after `by`", &["anyone"]);
-                return Err(mistake.advise("`by anyone`, or `when` and a condition"));
+                return Err(mistake.advise(self.by_whom()));
             }
             Formula { kind: Kind::True, span: self.last() }
         } else {
@@ -211,10 +213,18 @@ impl Parser {
             facts.push(Fact { from: other, relation, to: from });
             return Ok(());
         }
+        if self.is_sign(',') {
+            let mistake = self.expected("the name of a relation", &[]);
+            return Err(mistake.advise("say it of each: `first dora owns saw, pete owns saw`"));
+        }
         let relation = self.name("the name of a relation")?;
         let mut ends = vec![self.name("the name of a member")?];
         while self.take("and") {
             ends.push(self.name("the name of a member")?);
+        }
+        if self.name_ahead(0) && !self.begins[self.next] {
+            let mistake = self.expected("`,`, `and` or the next statement", &[]);
+            return Err(mistake.advise("a name of two words is joined by `-`: warm-pad"));
         }
         let both = self.take("both");
         if both && !self.take("ways") {

@@ -153,6 +153,10 @@ fn unknown(rest: &str, letter: char, place: usize) -> Mistake {
         let message = format!("an invisible character, U+{:04X}", letter as u32);
         return Mistake::new(Span { start: place, end }, message).advise("delete it");
     }
+    if rest.strip_prefix('.').is_some_and(|rest| rest.starts_with(char::is_alphabetic)) {
+        let advice = "somebody's owner has to be looked for: `some owner owns target: ...`";
+        return Mistake::new(Span { start: place, end }, "`.` has no meaning here").advise(advice);
+    }
     let found = ELSEWHERE.iter().find(|(sign, _)| rest.starts_with(sign));
     let length = found.map_or(letter.len_utf8(), |(sign, _)| sign.len());
     let span = Span { start: place, end: place + length };

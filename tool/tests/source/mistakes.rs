@@ -82,6 +82,26 @@ fn named_precisely() {
         ("target isn't me", "`target is not preset`"),
         ("me didnt share target", "put `not` before the sentence"),
         ("target is no preset", "write `target is not preset`"),
+        ("owner of target share me", "4:17: `owner of target` names nobody"),
+        ("owns of target share me", "look for them: `some owns of target as x: ...`"),
+        ("target.owner share me", "`some owner owns target: ...`"),
+        ("owner owns target and owner share me", "to look for somebody, say `some owner owns target:`"),
+        ("some owner owns target, owner share me", "4:33: a `:` is missing here"),
+        ("at most 3 owns of me", "write `not` before `at least 4 ...`"),
+        ("3 owns of me", "`at least 3 ...`"),
+        ("once share", "say who and whom: `me share target`"),
+        ("me owns target\nplayers: cleo", "`members players: ...`"),
+        ("me owns target\nfirst dora owns warm pad", "a name of two words is joined by `-`"),
+        ("me is shut\ndefine shut: me is not target", "`define p is shut: ...`"),
+        ("the owner of target share me", "look for them: `some owner owns target: ...`"),
+        ("if me owns target", "leave it out: a condition begins after `when`"),
+        ("unless me owns target", "write `not` before the sentence"),
+        ("everyone", "is written `by anyone`"),
+        ("me can load target", "4:20: `can` has no meaning here"),
+        ("once me load target twice", "`once (me load target and previously once me load target)`"),
+        ("me owns target\ndora owns saw", "begins with `first`: `first dora owns saw`"),
+        ("me owns target\nallow share", "a statement begins with `members`"),
+        ("me owns target\nfirst dora, pete owns saw", "say it of each"),
         ("3rd owns target", "`3rd` is neither a number nor a name"),
     ];
     let told = |(formula, part): &(&str, &str)| {
@@ -107,6 +127,8 @@ fn in_statements() {
         ("event load when me denied shrae target", "4:20: no event `shrae` that could be denied; did you mean `share`?"),
         ("event load when me denied some", "expected the name of an event after `denied`"),
         ("event denied by anyone", "`denied` is reserved"),
+        ("event load by players", "such as `when me is player`"),
+        ("event load for players", "such as `when me is player`"),
         ("event load by everyone", "expected `anyone` after `by`, found `everyone`"),
         ("event first by anyone", "`first` is reserved"),
         ("event load by anyone then add me own target", "no relation `own`; did you mean `owns`?"),
@@ -264,4 +286,20 @@ fn definitions_that_use_one_another_without_end() {
     assert!(said(&text).contains("unfold to more than"));
     let wide = vec!["me owns target"; 700].join(" or ");
     assert!(policy(&wide).contains("more than 600 parts stand side by side"));
+}
+
+/// English words may be names of what is declared.
+#[test]
+fn english_words_that_are_names() {
+    for rest in [
+        "define a can b: a owns b\nevent load when some x owns target: x can me",
+        "define p is can: p owns p\nevent load when me is can",
+        "event may when me share target\nevent load when some x may target: x may me",
+        "define everyone: true\nevent load when everyone",
+    ] {
+        let text = format!("{START}{rest}\n");
+        if let Err(mistakes) = compile(&text) {
+            panic!("{}", shown(&mistakes, &text));
+        }
+    }
 }

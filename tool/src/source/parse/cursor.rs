@@ -17,6 +17,11 @@ impl Parser {
         self.tokens[self.next.min(self.tokens.len() - 1)].1
     }
 
+    /// The stretch of a token that comes later.
+    pub(super) fn span_ahead(&self, places: usize) -> Span {
+        self.tokens[(self.next + places).min(self.tokens.len() - 1)].1
+    }
+
     /// The stretch of the token read last.
     pub(super) fn last(&self) -> Span {
         self.tokens[self.next.saturating_sub(1)].1

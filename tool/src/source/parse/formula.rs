@@ -107,7 +107,7 @@ impl Parser {
     }
 
     fn sentence(&mut self) -> Result<Kind, Mistake> {
-        if self.is_word("at") && self.word_ahead(1) != Some("least") {
+        if self.is_word("at") && self.word_ahead(1) != Some("least") && self.at_most().is_none() {
             self.next += 1;
             let person = self.person("whom it is said of, or `least`")?;
             return Ok(Kind::At(person, self.body("after `at` and a name")?));
@@ -129,10 +129,14 @@ impl Parser {
         if special {
             return self.told();
         }
+        if let Some(mistake) = self.beginning() {
+            return Err(mistake);
+        }
         if !self.name_ahead(0) {
             return Err(self.no_formula(&BEGINNINGS));
         }
-        if let Some(mistake) = self.other_quantifier().or_else(|| self.article()) {
+        let english = self.other_quantifier().or_else(|| self.article());
+        if let Some(mistake) = english.or_else(|| self.owner_of()) {
             return Err(mistake);
         }
         if matches!(self.word_ahead(1), Some("is" | "not")) || self.label_ahead(1) {

@@ -34,9 +34,9 @@ pub fn read(text: &str) -> Read {
         let before = text[..span.start].rsplit('\n').next().unwrap_or("");
         before.chars().all(char::is_whitespace)
     };
-    let declared = declared(&tokens);
+    let (declared, defined) = (declared(&tokens), defined(&tokens));
     let begins = tokens.iter().map(|(_, span)| first(span)).collect();
-    let mut parser = Parser { tokens, begins, declared, ..Parser::default() };
+    let mut parser = Parser { tokens, begins, declared, defined, ..Parser::default() };
     let mut read = Read::default();
     while *parser.token() != Token::End {
         let (first, start) = (parser.next, parser.span());
@@ -100,4 +100,19 @@ fn declared(tokens: &[(Token, Span)]) -> HashSet<String> {
         }
     }
     declared
+}
+
+/// The names of definitions.
+fn defined(tokens: &[(Token, Span)]) -> HashSet<String> {
+    let word = |place: usize| match tokens.get(place) {
+        Some((Token::Word(word), _)) => Some(word.as_str()),
+        _ => None,
+    };
+    let heads = (0..tokens.len()).filter(|place| word(*place) == Some("define"));
+    let names = heads.filter_map(|place| match [1, 2, 3].map(|after| word(place + after)) {
+        [_, Some("is"), name] => name,
+        [_, Some(name), Some(_)] => Some(name),
+        [name, ..] => name,
+    });
+    names.map(str::to_string).collect()
 }

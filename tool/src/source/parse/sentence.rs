@@ -14,6 +14,9 @@ impl Parser {
         if self.take("every") {
             return Ok(Some(Quantifier::Every));
         }
+        if let Some(mistake) = self.at_most() {
+            return Err(mistake);
+        }
         if !(self.is_word("at") && self.word_ahead(1) == Some("least")) {
             return Ok(None);
         }

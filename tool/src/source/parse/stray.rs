@@ -1,6 +1,8 @@
 //! What is said where something stands that can't, and how reading goes on.
 
 use super::*;
+use crate::names::nearest;
+use crate::source::kinds::singular;
 
 /// The mistake that an effect is about somebody other than `me` and `target`.
 pub fn third(span: Span) -> Mistake {
@@ -52,13 +54,36 @@ impl Parser {
         let mistake = self.expected(what, &["when", "by"]);
         match self.word_ahead(0) {
             Some("if" | "where" | "while" | "unless") => mistake.advise("write `when`"),
+            Some("for") => mistake.advise(self.by_whom()),
             _ if self.at_statement() => {
                 let advice = "say who may do it: `by anyone`, or `when` and a condition";
                 Mistake { span: self.last(), ..mistake }.advise(advice)
             }
-            _ if self.name_ahead(0) && mistake.advice.is_none() => mistake
-                .advise("put a `,` between two names, and `when` or `by anyone` after the last"),
+            _ if self.name_ahead(0) && mistake.advice.is_none() => mistake.advise(
+                "put a `,` between two names, and `when` or `by anyone` after the last; a \
+                    name of two words is joined by `-`: warm-pad",
+            ),
             _ => mistake,
+        }
+    }
+
+    /// What is said of a line that begins as no statement does.
+    fn no_statement(&self) -> Option<Mistake> {
+        let word = self.word_ahead(0).filter(|_| self.begins[self.next] && self.name_ahead(0))?;
+        let mistake = self.expected("the next statement", &STATEMENTS);
+        let declared = |word: &str| word == "is" || self.declared.contains(word);
+        match (self.ahead(1), self.ahead(2)) {
+            (Token::Sign(':'), _) => {
+                Some(mistake.advise(format!("a kind of members is declared so: `members {word}: ...`")))
+            }
+            (Token::Word(verb), Token::Word(whom)) if declared(verb) => {
+                let what = "what is there from the start begins with `first`";
+                Some(mistake.advise(format!("{what}: `first {word} {verb} {whom}`")))
+            }
+            _ if nearest(word, STATEMENTS).is_some() => None,
+            _ => Some(mistake.advise(
+                "a statement begins with `members`, `relation`, `event`, `keep denied`, `define` or `first`",
+            )),
         }
     }
 
@@ -71,10 +96,14 @@ impl Parser {
             let advice = "`a until b` is written `not b since a`";
             return Mistake::new(self.span(), "`until` has no meaning here").advise(advice);
         }
-        if self.bare == Some(self.next) && !matches!(self.token(), Token::Sign(_)) {
+        let is_sign = matches!(self.token(), Token::Sign(sign) if *sign != ',');
+        if self.bare == Some(self.next) && !is_sign {
             let message = "a `:` is missing here";
             let advice = "`some`, `every` and `at least` say whom they are about, then `:`, then what holds of them";
             return Mistake::new(self.last(), message).advise(advice);
+        }
+        if let Some(mistake) = self.no_statement() {
+            return mistake;
         }
         if self.is_word("when") {
             let advice = "an event has one `when`: join the two conditions with `and` or `or`";
@@ -96,12 +125,22 @@ impl Parser {
                  For three at once see docs/LANGUAGE.md, Three at once"
             }
             (_, Some("unless")) => "write `and not` in place of `unless`",
+            (_, Some("twice")) => {
+                "say that it was so, and once before: `once (me load target and previously once me load target)`"
+            }
             (_, Some("if")) => "a condition begins with `when`, and its parts are joined with `and` \
                 and `or`",
             _ if mistake.advice.is_some() => return mistake,
             _ => "a sentence is of three words, `me owns target`; join two sentences with `and` or `or`",
         };
         mistake.advise(advice)
+    }
+
+    /// How to say who may do it, for the word that follows `by` or `for`.
+    pub(super) fn by_whom(&self) -> String {
+        let whom = self.word_ahead(usize::from(self.is_word("for"))).map(singular);
+        let whom = whom.unwrap_or_else(|| "player".to_string());
+        format!("`by anyone`, or `when` and a condition, such as `when me is {whom}`")
     }
 
     /// The word some places before the next token.
@@ -199,7 +238,10 @@ impl Parser {
             }
             (_, Some("and" | "or")) => "`and` and `or` stand between two formulas; one is missing before this",
             (Token::End, _) => "the last formula is cut off: say what has to hold",
-            (Token::Number(_), _) => "a number stands after `at least` only",
+            (Token::Number(count), _) => {
+                let advice = format!("a number stands after `at least` only: `at least {count} ...`");
+                return mistake.advise(advice);
+            }
             (Token::Sign(')'), _) => "something has to stand between the parentheses",
             _ if mistake.advice.is_some() => return mistake,
             _ => "a formula is a sentence such as `me owns target`, or parts joined with `and` and `or`",

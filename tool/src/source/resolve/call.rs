@@ -33,7 +33,11 @@ impl Resolver<'_> {
                 [one, other] => format!("{one} {name} {other}"),
                 several => format!("{name}({})", several.join(", ")),
             };
-            return Err(Mistake::new(span, message).advise(format!("it is defined as `{head}`")));
+            let advice = match (due, given) {
+                (0, 1) => format!("to say it of somebody, define it so: `define p is {name}: ...`"),
+                _ => format!("it is defined as `{head}`"),
+            };
+            return Err(Mistake::new(span, message).advise(advice));
         }
         // Whoever is `here` gets a name: in the definition it may be another.
         let mut names = Vec::new();

@@ -56,11 +56,15 @@ impl Resolver<'_> {
         let hint = did_you_mean(text, all);
         let mistake = Mistake::unknown(name, format!("{what} is called `{text}` here{hint}"));
         let known = format!("names in sight: {}", known.join(", "));
-        match also_defined && hint.is_empty() {
-            true => mistake.advise(format!(
+        match (also_defined, hint.is_empty()) {
+            (true, true) => mistake.advise(format!(
                 "{known}; or declare it: `relation {text}`, or `define p is {text}: ...`"
             )),
-            false => mistake.advise(known),
+            (false, true) if scope.is_empty() => mistake.advise(format!(
+                "{known}; to look for somebody, say `some {text} {} target:` and after the `:` what holds of them",
+                self.source.relations.first().map_or("owns", |relation| &relation.text)
+            )),
+            _ => mistake.advise(known),
         }
     }
 
@@ -87,8 +91,12 @@ impl Resolver<'_> {
             let people = scope.iter().any(|(known, _)| known == text);
             if people || self.find_label(text).is_some() {
                 let message = format!("`{text}` alone is no formula");
-                let advice =
-                    "say who does it to whom: `me owns target`, or who is who: `x is target`";
+                let advice = match people {
+                    true => format!(
+                        "say what {text} does or is: `{text} owns target`, `{text} is target`"
+                    ),
+                    false => format!("say who and whom: `me {text} target`"),
+                };
                 return Mistake::new(name.span, message).advise(advice);
             }
             let known = self.source.definitions.iter().map(|known| known.name.text.as_str());
