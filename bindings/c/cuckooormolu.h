@@ -10,7 +10,7 @@
  *           KiB, writing a terms text or asking for its size 193 KiB, an
  *           opening, revision, look, request or set list 172 KiB, of two banks
  *           too, a plan 172 KiB, and each 1.21 KiB more for every level by which
- *           entries nest, at most 500 KiB; renumbering takes 18 KiB, storing and
+ *           entries nest, at most 510 KiB; renumbering takes 18 KiB, storing and
  *           the other calls 4 KiB. Provide CUCKOOORMOLU_STACK_BYTES; with small
  *           terms requests take far less (bindings/README.md, Stack).
  * Time      measured, not proved. Entries that share others take no more than

@@ -7,7 +7,7 @@
 //! * **Stack**: measured, not proved. Reading takes 168 KiB, into two banks 191,
 //!   writing 193 KiB, an opening, revision, look, request, set list or plan 172
 //!   KiB, of two banks too, and each 1.21 KiB more for every level by which entries
-//!   nest, at most 500 KiB. Renumbering takes 18 KiB, storing 4 KiB.
+//!   nest, at most 510 KiB. Renumbering takes 18 KiB, storing 4 KiB.
 //! * **Terms and states are plain words** that may be copied and kept. In a
 //!   file they have the machine's byte order, little-endian. A stored text
 //!   ([`Monitor::store`]) keeps the same for any machine, and for people.

@@ -10,7 +10,7 @@ use lib.ListN.{length, getD, take, drop}
 use borrow.Author.Tests.{lt-ltb, le-ltb, ltb-true, eq-eqb, eqb-true}
 use Rattle.sets.specs.Sets.{allBelow, bit, joined}
 use Rattle.sets.proofs.Finite.{bool-iff, and-right, and-both, and-under, below-suc, all-true, all-out, all-cong}
-use Rattle.sets.proofs.Bits.{bit-zero, bits-below, bit-and, same-bits, bit-below}
+use Rattle.sets.proofs.Bits.{bit-zero, bit-and, same-bits, bit-below}
 use Rattle.theory.specs.Columns.{insidePair}
 use Rattle.theory.specs.Fit.{_⇒_}
 use Rattle.theory.proofs.Good.{implied, implies}
@@ -74,14 +74,6 @@ permitting-all n i s q d h k =
     turned false true true false = refl
     turned false true false c = refl
     turned false false b c = refl
-
--- a set of members of at most 16 is below 65,536
-pub mask-fits : (n w : ℕ) → n < 17 → w < 2 ^ 64 → ((m : ℕ) → bit w m ≡ (ltb m 64 && ltb m n)) → w < 65536
-mask-fits n w l h b = bits-below 16 w 64 h (λ k e. omega (arith, ltb-true k n (and-right (ltb k 64) _ (sym (b k) ∙ e))))
-
-pub only-fits : (c : Bool) (w r : ℕ) → r ≡ cond c w 0 → w < 65536 → r < 65536
-only-fits true w r e l = omega arith
-only-fits false w r e l = omega arith
 
 -- a word of such a table keeps the layout exactly when it has permitted bits only
 pair-fits : (N i w permitted : ℕ) → w < 2 ^ 64 → ((k : ℕ) → bit permitted k ≡ insidePair N i k) → eqb w (bitAnd w permitted) ≡ pairFits N i w

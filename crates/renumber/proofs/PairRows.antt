@@ -1,5 +1,5 @@
 -- The rows of a table with two columns go to the quarters of their new numbers, one after another, and so do the tables of a state.
-use Prim.Native.Nat.{ℕ, _+_, _-_, _*_, _/_, _%_, _^_, _≤_, _<_}
+use Prim.Native.Nat.{ℕ, _+_, _-_, _*_, _/_, _%_, _≤_, _<_}
 use native.Mathlib.Omega.{arith}
 use native.Mathlib.Numerals.{add-one}
 use mathlib.Core.Path.{_≡_, refl, sym, ap, ap₂, subst, _∙_}
@@ -13,7 +13,7 @@ use borrow.Author.Tests.{eq-eqb, eqb-true, eqb-false, lt-ltb, ltb-true, ltb-fals
 use borrow.Rule.Slice.PartMut.{putMid}
 use Rattle.sets.specs.Sets.{anyBelow, bit}
 use Rattle.sets.proofs.Finite.{bool-iff, is-false, not-both, and-left, and-right, and-both, any-intro, any-elim, any-cong, last-or-below}
-use Rattle.sets.proofs.Bits.{bit-zero, bits-below}
+use Rattle.sets.proofs.Bits.{bit-zero}
 use Rattle.theory.specs.Formula.{number, isPast, columns}
 use Rattle.theory.specs.Columns.{columnsFit, inside, wordUnder, bitUnder}
 use Rattle.theory.specs.Terms.{Terms, formula}
@@ -70,11 +70,6 @@ module _ (p : ℕ → ℕ) (few : Few p) (w q r row : ℕ) (here : (c : ℕ) →
         there (p c) ∙ any-intro 16 (λ x. bit r x && (ltb (p c) 64 && eqb (p c) (p x))) c l
         (and-both _ _ (here c ∙ and-both _ _ (lt-ltb c 16 l) e)
         (and-both _ _ (lt-ltb (p c) 64 (let z : p c < 16 = few c l in omega arith)) (eq-eqb (p c) (p c) refl)))
-
-    pub row-fits : row < 2 ^ 64 → row < 65536
-    row-fits h =
-        bits-below 16 row 64 h
-        (λ m e. let s = from-row m e in let z : p (s .0) < 16 = few (s .0) (s .1) in let y : m ≡ p (s .0) = s .3 in omega arith)
 
     -- in quarter b of a word
     quartered : (b k : ℕ) → (eqb (k / 16) b && bit row (k % 16)) ≡ anyBelow 16 (λ c. bit w (16 * q + c) && eqb k (16 * b + p c))

@@ -5,12 +5,12 @@ use mathlib.Core.Bool.{Bool, true, false, cond, _&&_, _||_, and-false, or-false}
 use mathlib.Core.Logic.{⊎-elim}
 use native.Mathlib.Omega.{arith}
 use native.Mathlib.Nat.{pow-suc, mul-assoc, mul-mod-left}
-use lib.Bits.{bitAnd, bitOr}
+use lib.Bits.{bitAnd, bitOr, and-le-r}
 use lib.Dec.{eqb, ltb}
 use lib.Pow.{pow-add, shr-shr, shl-shr, shl-exact}
 use borrow.Author.Tests.{lt-ltb, le-ltb, ltb-true, ltb-false, eqb-true, eqb-false, ne-eqb}
 use Rattle.sets.specs.Sets.{bit}
-use Rattle.sets.proofs.Finite.{is-false, and-true, and-implied, below-suc, true-or-false}
+use Rattle.sets.proofs.Finite.{is-false, and-left, and-right, and-true, and-implied, below-suc, true-or-false}
 use Rattle.sets.proofs.Bits.{bit-and, bit-or, bit-zero, bit-mask, bit-below}
 
 pub bit-shr : (w j k : ℕ) → bit (w / 2 ^ j) k ≡ bit w (j + k)
@@ -45,7 +45,7 @@ quarter-bits w q c =
     swap false false = refl
 
 -- a row of 16 bits put in as quarter q
-pub placed-bits : (row q k : ℕ) → q < 4 → row < 65536 → bit (row * 2 ^ (16 * q) % 2 ^ 64) k ≡ (eqb (k / 16) q && bit row (k % 16))
+placed-bits : (row q k : ℕ) → q < 4 → row < 65536 → bit (row * 2 ^ (16 * q) % 2 ^ 64) k ≡ (eqb (k / 16) q && bit row (k % 16))
 placed-bits row q k ql rl =
     ap (λ (x : ℕ). bit x k) (shl-exact 16 (16 * q) 64 rl (omega arith))
     ∙ ⊎-elim
@@ -63,6 +63,32 @@ placed-bits row q k ql rl =
         is-false (bit row (k - 16 * q)) (λ b. let s : k - 16 * q < 16 = bit-below row 16 (k - 16 * q) rl b in l (omega arith))
         ∙ sym (ap (λ (x : Bool). x && bit row (k % 16)) e))
         (true-or-false (eqb (k / 16) q))
+
+-- a number from 4 up is no quarter
+module _ (q k : ℕ) (x : Bool) where
+  pub in-quarter : q < 4 → (ltb k 64 && (eqb (k / 16) q && x)) ≡ (eqb (k / 16) q && x)
+  in-quarter l =
+      and-implied (ltb k 64) (eqb (k / 16) q && x)
+      (λ e. lt-ltb k 64 (let z : k / 16 ≡ q = eqb-true (k / 16) q (and-left (eqb (k / 16) q) x e) in omega arith))
+
+  pub no-quarter : 4 ≤ q → (ltb k 64 && (eqb (k / 16) q && x)) ≡ false
+  no-quarter l =
+      is-false _ (λ e.
+      let s : k < 64 = ltb-true k 64 (and-left (ltb k 64) (eqb (k / 16) q && x) e) in
+      let z : k / 16 ≡ q = eqb-true (k / 16) q (and-left (eqb (k / 16) q) x (and-right (ltb k 64) (eqb (k / 16) q && x) e)) in
+      omega arith)
+
+-- a row cut to 16 bits and put in as quarter q
+pub put-bits : (row q k : ℕ) → q < 4 →
+    bit (bitAnd row 65535 * 2 ^ (16 * q) % 2 ^ 64) k ≡ (ltb k 64 && (eqb (k / 16) q && bit row (k % 16)))
+put-bits row q k l =
+    placed-bits (bitAnd row 65535) q k l (omega (arith, and-le-r row 65535))
+    ∙ ap (λ (b : Bool). eqb (k / 16) q && b) cut ∙ sym (in-quarter q k (bit row (k % 16)) l)
+  where
+    cut : bit (bitAnd row 65535) (k % 16) ≡ bit row (k % 16)
+    cut =
+        bit-and row 65535 (k % 16) ∙ ap (λ (b : Bool). bit row (k % 16) && b) (bit-mask 16 (k % 16) ∙ lt-ltb (k % 16) 16 (omega arith))
+        ∙ and-true (bit row (k % 16))
 
 -- ---- a set made of a test of each number in turn
 

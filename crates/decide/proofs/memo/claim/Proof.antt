@@ -63,33 +63,6 @@ module _ (s : List ℕ) (z p q : ℕ) (long : length s ≡ 133) where
       ∙ ap (λ (w : ℕ). byteOf w (y - 8)) high ∙ hi (y - 8) (omega arith) ∙ ap g (let z : 8 + (y - 8) ≡ y = omega arith in z))
       (true-or-false (ltb y 8))
 
-slice-write-slot : tie.Need-slice-write-slot
-slice-write-slot c = search needs
-
-slice-write-slot-2 : tie.Need-slice-write-slot-2
-slice-write-slot-2 c = search needs
-
-packed-requires : tie.Need-packed-requires
-packed-requires c κs = search needs
-
-slice-write-slot-3 : tie.Need-slice-write-slot-3
-slice-write-slot-3 c = search needs
-
-packed-requires-2 : tie.Need-packed-requires-2
-packed-requires-2 c κs = search needs
-
-add-slot : tie.Need-add-slot
-add-slot c = search needs
-
-mul-slot : tie.Need-mul-slot
-mul-slot c = search needs
-
-slice-write-slot-4 : tie.Need-slice-write-slot-4
-slice-write-slot-4 c = search needs
-
-same-length : tie.Need-same-length
-same-length c = search needs
-
 returns : tie.Need-returns
 returns c =
     let i = c .before .before .before in
@@ -105,13 +78,13 @@ pub claim-spec : {M : Type 1} → statement M
 claim-spec =
     tie.close
     (tie.spec
-    slice-write-slot
-    slice-write-slot-2
-    packed-requires
-    slice-write-slot-3
-    packed-requires-2
-    add-slot
-    mul-slot
-    slice-write-slot-4
-    same-length
+    (λ c. search needs)
+    (λ c. search needs)
+    (λ c κs. search needs)
+    (λ c. search needs)
+    (λ c κs. search needs)
+    (λ c. search needs)
+    (λ c. search needs)
+    (λ c. search needs)
+    (λ c. search needs)
     returns)

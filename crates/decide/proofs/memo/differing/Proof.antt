@@ -1,10 +1,9 @@
-use Prim.Native.Nat.{ℕ, _+_, _<_}
+use Prim.Native.Nat.{ℕ, _<_}
 use mathlib.Core.Path.{_≡_, sym, ap, _∙_}
-use mathlib.Core.Bool.{Bool, true, false, not, _&&_, and-not-self}
+use mathlib.Core.Bool.{Bool, true, not, _&&_, and-not-self}
 use borrow.Author.Needs.{needs}
 use borrow.Author.Tests.{lt-ltb, ltb-true}
 use Rattle.sets.proofs.Bits.{bit-and}
-use lib.Bits.{bitAnd}
 use Rattle.sets.proofs.Finite.{not-both, and-implied, and-both, and-left, and-right}
 use lib.Dec.{eqb, ltb}
 use lib.ListN.{getD}
@@ -63,9 +62,6 @@ value-of-requires c κs = (c .before .before .before .before .before .before .be
 element-copy-out-wide : tie.Need-element-copy-out-wide Inv-loop μ-loop
 element-copy-out-wide c = let l = small (c .before) in search needs
 
-wide-requires : tie.Need-wide-requires Inv-loop μ-loop
-wide-requires c κs = search needs
-
 returns : tie.Need-returns Inv-loop μ-loop
 returns c = λ e. absurd (let z : ⊥ = omega (arith, e, small (c .before .before .before .before)) in z)
 
@@ -107,7 +103,7 @@ differing-spec =
     least-of-requires
     value-of-requires
     element-copy-out-wide
-    wide-requires
+    (λ c κs. search needs)
     returns
     rest-of-requires
     loop-less

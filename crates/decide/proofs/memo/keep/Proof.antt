@@ -1,10 +1,9 @@
 use borrow.Author.Needs.{needs}
 use native.Mathlib.Omega.{arith}
-use mathlib.Core.Path.{_≡_, refl, sym, ap, _∙_, subst}
-use mathlib.Core.Bool.{Bool, true, false, cond, _&&_}
+use mathlib.Core.Path.{refl}
 use Rattle.sets.proofs.Finite.{not-both}
 use Rattle.deciding.specs.Rows.{assigned}
-use Rattle.deciding.specs.Memo.{Missing, Stored}
+use Rattle.deciding.specs.Memo.{Stored}
 use Rattle.deciding.proofs.Copying as copy
 use Rattle.decide.proofs.memo.keep.Statement.{statement}
 use Rattle.decide.proofs.memo.keep.Tie as tie
@@ -30,12 +29,6 @@ part-keep-in-end c = omega (arith, c .before .before .before .pre .0, c .before 
 keep-in-requires : tie.Need-keep-in-requires
 keep-in-requires c κs = (copy.part-long (c .before .before .before .before .before .args .entry) (c .before .before .before .before .before .args .memo .now) (c .before .before .before .before .before .pre .1 (c .before .before .if1 .taken)), c .before .before .before .before .before .pre .2)
 
-same-length : tie.Need-same-length
-same-length c = search needs
-
-same-length-2 : tie.Need-same-length-2
-same-length-2 c = search needs
-
 returns : tie.Need-returns
 returns c =
     let i = c .before .before .before .before .before .before .before .before .before .before in
@@ -59,7 +52,7 @@ keep-spec =
     part-keep-in-start
     part-keep-in-end
     keep-in-requires
-    same-length
-    same-length-2
+    (λ c. search needs)
+    (λ c. search needs)
     returns
     returns-2)

@@ -1,9 +1,9 @@
 use Prim.Native.Nat.{ℕ}
-use mathlib.Core.Path.{_≡_, ap, ap₂, _∙_}
+use mathlib.Core.Path.{ap₂, _∙_}
 use mathlib.Core.Bool.{Bool, cond, _&&_}
 use lib.Bits.{bitAnd, bitXor}
 use lib.Dec.{eqb, ltb}
-use lib.ListN.{length, getD}
+use lib.ListN.{getD}
 use Rattle.sets.specs.Sets.{bit}
 use Rattle.deciding.specs.Rows.{assigned}
 use Rattle.deciding.proofs.Copying as copy
@@ -35,12 +35,6 @@ show-requires c κs =
     let i = c .before .before .before .before .before .before .before .before .before .before .before .before .before .before .before in
     (omega (arith, i .pre .1), omega (arith, c .before .before .before .before .put .kept .0, i .pre .0))
 
-same-length : tie.Need-same-length
-same-length c = search needs
-
-same-length-2 : tie.Need-same-length-2
-same-length-2 c = search needs
-
 returns : tie.Need-returns
 returns c =
     let i = c .before .before .before .before .before .before .before .before .before .before .before .before .before .before .before .before .before .before in
@@ -68,6 +62,6 @@ keep-in-spec =
     asked-requires
     put-requires
     show-requires
-    same-length
-    same-length-2
+    (λ c. search needs)
+    (λ c. search needs)
     returns)

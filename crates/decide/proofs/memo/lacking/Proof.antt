@@ -1,5 +1,3 @@
-use Prim.Native.Nat.{ℕ, _<_}
-use mathlib.Core.Path.{_≡_}
 use lib.Bits.{and-le-l}
 use lib.ListN.{getD}
 use native.Mathlib.Omega.{arith}

@@ -2,7 +2,7 @@ use Prim.Native.Nat.{ℕ}
 use borrow.Author.Needs.{needs}
 use borrow.Author.Tests.{eqb-true}
 use native.Mathlib.Omega.{arith}
-use mathlib.Core.Path.{_≡_, refl, sym, ap, ap₂, _∙_}
+use mathlib.Core.Path.{_≡_, refl, sym, ap₂, _∙_}
 use mathlib.Core.Bool.{Bool, true, false, cond, not, _&&_, true≢false}
 use lib.Dec.{eqb, ltb}
 use lib.ListN.{getD}
@@ -30,9 +30,6 @@ slice-read-z c = omega (arith, c .before .before .before .before .pre)
 claim-requires : tie.Need-claim-requires
 claim-requires c κs = c .before .before .before .before .before .before .pre
 
-same-length : tie.Need-same-length
-same-length c = search needs
-
 returns : tie.Need-returns
 returns c =
     let i = c .before .before .before .before .before .before .before .before .before in
@@ -51,9 +48,6 @@ asked-requires c κs = tt
 lacking-requires : tie.Need-lacking-requires
 lacking-requires c κs = c .before .before .before .before .before .before .before .before .before .before .before .before .pre
 
-same-length-2 : tie.Need-same-length-2
-same-length-2 c = search needs
-
 returns-2 : tie.Need-returns-2
 returns-2 c =
     let i = c .before .before .before .before .before .before .before .before .before .before .before .before .before in
@@ -68,9 +62,6 @@ returns-2 c =
 claim-requires-2 : tie.Need-claim-requires-2
 claim-requires-2 c κs = c .before .before .before .before .before .before .before .before .before .before .pre
 
-same-length-3 : tie.Need-same-length-3
-same-length-3 c = search needs
-
 returns-3 : tie.Need-returns-3
 returns-3 c =
     let i = c .before .before .before .before .before .before .before .before .before .before .before .before .before in
@@ -79,9 +70,6 @@ returns-3 c =
 
 claim-requires-3 : tie.Need-claim-requires-3
 claim-requires-3 c κs = c .before .before .before .before .before .before .before .before .before .before .pre
-
-same-length-4 : tie.Need-same-length-4
-same-length-4 c = search needs
 
 returns-4 : tie.Need-returns-4
 returns-4 c =
@@ -98,17 +86,17 @@ missing-in-spec =
     has-requires
     slice-read-z
     claim-requires
-    same-length
+    (λ c. search needs)
     returns
     differing-requires
     standing-requires
     asked-requires
     lacking-requires
-    same-length-2
+    (λ c. search needs)
     returns-2
     claim-requires-2
-    same-length-3
+    (λ c. search needs)
     returns-3
     claim-requires-3
-    same-length-4
+    (λ c. search needs)
     returns-4)

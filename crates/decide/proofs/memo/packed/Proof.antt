@@ -1,6 +1,5 @@
 use native.Mathlib.Omega.{arith}
-use Prim.Native.Nat.{ℕ, _+_}
-use mathlib.Core.Path.{_≡_, ap, _∙_}
+use Prim.Native.Nat.{_+_}
 use borrow.Author.Needs.{needs}
 use Rattle.deciding.specs.Rows.{assigned}
 use Rattle.deciding.proofs.Bytes as bytes
@@ -16,9 +15,6 @@ abbrev μ-loop : tie.MeasureT-loop
 loop-holds : tie.Need-loop-holds Inv-loop μ-loop
 loop-holds c = bytes.packed _
 
-sub-i : tie.Need-sub-i Inv-loop μ-loop
-sub-i c = search needs
-
 mul-w : tie.Need-mul-w Inv-loop μ-loop
 mul-w c = omega (arith, bytes.packed-fits (c .before .loop .inv) (c .loop-test .taken))
 
@@ -27,9 +23,6 @@ add-wide c = omega (arith, c .before .loop .inv .few)
 
 element-copy-out-wide : tie.Need-element-copy-out-wide Inv-loop μ-loop
 element-copy-out-wide c = omega (arith, c .before .loop .inv .few)
-
-wide-requires : tie.Need-wide-requires Inv-loop μ-loop
-wide-requires c κs = search needs
 
 add-w : tie.Need-add-w Inv-loop μ-loop
 add-w c = omega (arith, bytes.packed-fits (c .before .before .before .loop .inv) (c .before .before .loop-test .taken), c .wide .ensures .1)
@@ -51,11 +44,11 @@ packed-spec =
     Inv-loop
     μ-loop
     loop-holds
-    sub-i
+    (λ c. search needs)
     mul-w
     add-wide
     element-copy-out-wide
-    wide-requires
+    (λ c κs. search needs)
     add-w
     loop-less
     loop-again

@@ -1,12 +1,11 @@
 use Prim.Native.Nat.{ℕ, _+_}
 use mathlib.Core.Path.{_≡_, refl, ap, _∙_}
 use mathlib.Core.Bool.{Bool, _&&_, _||_}
-use lib.ListN.{length, getD, set, length-set}
+use lib.ListN.{getD, length-set}
 use Rattle.sets.specs.Sets.{bit}
 use Rattle.deciding.proofs.Loops as loops
 use Rattle.deciding.proofs.Copying as copy
 use native.Mathlib.Omega.{arith}
-use borrow.Author.Needs.{needs}
 use Rattle.decide.proofs.memo.put.Statement.{statement}
 use Rattle.decide.proofs.memo.put.Tie as tie
 

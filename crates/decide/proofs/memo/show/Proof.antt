@@ -1,4 +1,3 @@
-use Prim.Native.Nat.{ℕ}
 use mathlib.Core.Bool.{cond}
 use lib.Bits.{bitAnd}
 use lib.ListN.{getD}
@@ -49,9 +48,6 @@ loop-again c =
     copy.showing-more (c .before .row-of .result) (loop .inv) (loops.turn (loop .inv .upon) (c .before .before .before .before .loop-test .taken) (c .before .before .before .least-of .ensures) (c .rest-of .ensures))
     (c .before .before .before .before .before .before .before .before .pre .0) (c .before .row-of .ensures)
 
-same-length : tie.Need-same-length Inv-loop μ-loop
-same-length c = search needs
-
 returns : tie.Need-returns Inv-loop μ-loop
 returns c = copy.shown (c .before .loop .inv) (c .loop-test .left)
 
@@ -71,5 +67,5 @@ show-spec =
     rest-of-requires
     loop-less
     loop-again
-    same-length
+    (λ c. search needs)
     returns)

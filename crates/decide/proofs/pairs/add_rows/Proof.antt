@@ -2,10 +2,11 @@
 use Prim.Native.Nat.{_+_, _-_, _*_, _/_, _%_}
 use mathlib.Core.Path.{ap, _∙_}
 use mathlib.Core.Bool.{Bool, _&&_, _||_}
-use lib.Bits.{and-le-r}
+use lib.Bits.{bitAnd}
 use lib.Dec.{eqb}
 use lib.ListN.{getD}
 use Rattle.sets.specs.Sets.{bit}
+use Rattle.sets.proofs.Shifts.{in-quarter}
 use native.Mathlib.Omega.{arith}
 use Rattle.deciding.proofs.Pairs as pairs
 use Rattle.decide.proofs.pairs.add_rows.Statement.{statement}
@@ -38,11 +39,6 @@ mul-with-quarter-2 c = omega arith
 shared-slice-read-with-quarter : tie.Need-shared-slice-read-with-quarter Inv-loop μ-loop
 shared-slice-read-with-quarter c = omega arith
 
-with-quarter-requires : tie.Need-with-quarter-requires Inv-loop μ-loop
-with-quarter-requires c κs =
-    let x = c .before .before .before .before .before .before .args in
-    (omega arith, omega (arith, and-le-r (getD (x .rows .now) (c .before .before .before .loop .a) 0) 65535))
-
 mul-table : tie.Need-mul-table Inv-loop μ-loop
 mul-table c = omega arith
 
@@ -62,6 +58,7 @@ loop-again c =
     let x = i .args in
     pairs.putting-more (c .with-quarter .result) (i .pre .2) (i .pre .3) (c .before .before .before .loop-test .taken) (l .inv)
     (λ k. c .with-quarter .ensures k
+    ∙ ap (λ (y : Bool). bit (getD (l .table) (4 * l .a + x .b / 4) 0) k || y) (in-quarter (x .b % 4) k (bit (bitAnd (getD (x .rows .now) (l .a) 0) 65535) (k % 16)) (omega arith))
     ∙ ap (λ (y : Bool). bit (getD (l .table) (4 * l .a + x .b / 4) 0) k || (eqb (k / 16) (x .b % 4) && y)) (pairs.cut-row (getD (x .rows .now) (l .a) 0) k))
 
 same-length : tie.Need-same-length Inv-loop μ-loop
@@ -83,7 +80,7 @@ add-rows-spec =
     slice-read-with-quarter
     mul-with-quarter-2
     shared-slice-read-with-quarter
-    with-quarter-requires
+    (λ c κs. tt)
     mul-table
     slice-write-table
     add-a

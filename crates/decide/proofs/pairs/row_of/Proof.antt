@@ -1,4 +1,12 @@
 use borrow.Author.Needs.{needs}
+use borrow.Author.Tests.{lt-ltb}
+use Prim.Native.Nat.{_+_, _*_, _/_, _%_}
+use native.Mathlib.Omega.{arith}
+use mathlib.Core.Path.{ap₂, _∙_}
+use mathlib.Core.Bool.{Bool, _&&_}
+use lib.Dec.{ltb}
+use lib.ListN.{length, getD}
+use Rattle.sets.specs.Sets.{bit}
 use Rattle.deciding.proofs.Pairs as pairs
 use Rattle.decide.proofs.pairs.row_of.Statement.{statement}
 use Rattle.decide.proofs.pairs.row_of.Tie as tie
@@ -9,7 +17,10 @@ stripe-requires c κs = search needs
 returns : tie.Need-returns
 returns c =
     let x = c .before .before .before .args in
-    pairs.row-first (x .past .now) (x .at) (x .b) (x .c) (x .free) (c .stripe .result) (c .before .if1 .taken) (c .stripe .ensures)
+    pairs.row-first (x .past .now) (x .at) (x .b) (x .c) (x .free) (c .stripe .result) (c .before .if1 .taken)
+    (λ v. c .stripe .ensures v
+    ∙ ap₂ (λ (p q : Bool). p && (q && (ltb v 16 && bit (getD (x .past .now) (x .at + v / 4) 0) (16 * (v % 4) + x .c))))
+    (lt-ltb (x .at + 3) (length (x .past .now)) (omega arith)) (lt-ltb (x .c) 16 (omega arith)))
 
 add-w : tie.Need-add-w
 add-w c = search needs

@@ -1,9 +1,11 @@
 -- The loop's invariant: s has the bits of the quarters below q.
-use Prim.Native.Nat.{_+_, _-_, _*_, _/_, _%_}
-use mathlib.Core.Bool.{_&&_}
-use lib.Dec.{ltb}
+use Prim.Native.Nat.{_-_, _%_}
+use mathlib.Core.Path.{ap, _∙_}
+use mathlib.Core.Bool.{Bool, _||_}
 use native.Mathlib.Omega.{arith}
 use borrow.Author.Needs.{needs}
+use Rattle.sets.specs.Sets.{bit}
+use Rattle.sets.proofs.Shifts.{in-quarter}
 use Rattle.memory.proofs.Pairs as pairs
 use Rattle.memory.proofs.check_state.permitted.Statement.{statement}
 use Rattle.memory.proofs.check_state.permitted.Tie as tie
@@ -29,14 +31,6 @@ add-there c = omega arith
 only-requires : tie.Need-only-requires Inv-loop μ-loop
 only-requires c κs = search needs
 
-with-quarter-requires : tie.Need-with-quarter-requires Inv-loop μ-loop
-with-quarter-requires c κs = (
-  omega arith,
-  pairs.only-fits (ltb (c .before .before .before .before .args .i / 4) (c .before .before .before .before .args .n)
-      && ltb (4 * (c .before .before .before .before .args .i % 4) + c .before .before .loop .q) (c .before .before .before .before .args .n)) _ _
-      (c .only .ensures) (pairs.mask-fits _ _ (c .before .before .before .before .pre .0) (omega arith) (c .before .before .before .mask .ensures)),
-)
-
 add-q : tie.Need-add-q Inv-loop μ-loop
 add-q c = omega arith
 
@@ -46,7 +40,9 @@ loop-less c = omega arith
 loop-again : tie.Need-loop-again Inv-loop μ-loop
 loop-again c =
     pairs.permitting-more _ _ _ _ _ _ _ (c .before .before .loop-test .taken) (c .before .before .before .loop .inv) (c .before .before .before .before .mask .ensures)
-    (c .before .only .ensures) (c .with-quarter .ensures)
+    (c .before .only .ensures)
+    (λ k. c .with-quarter .ensures k
+    ∙ ap (λ (x : Bool). bit (c .before .before .before .loop .s) k || x) (in-quarter (c .before .before .before .loop .q) k (bit (c .before .only .result) (k % 16)) (c .before .before .loop-test .taken)))
 
 returns : tie.Need-returns Inv-loop μ-loop
 returns c = pairs.permitting-all _ _ _ _ (λ l. omega arith) (c .before .loop .inv)
@@ -62,7 +58,7 @@ permitted-spec =
     mul-there
     add-there
     only-requires
-    with-quarter-requires
+    (λ c κs. search needs)
     add-q
     loop-less
     loop-again

@@ -1,9 +1,12 @@
 -- The loop's invariant: the rows before the quarter q of word i have gone to their places.
 use borrow.Author.Needs.{needs}
 use native.Mathlib.Omega.{arith}
-use Prim.Native.Nat.{ℕ, _+_, _-_, _*_, _/_, _<_, _≤_}
-use mathlib.Core.Path.{_≡_, refl, subst}
+use Prim.Native.Nat.{ℕ, _+_, _-_, _*_, _/_, _%_, _<_, _≤_}
+use mathlib.Core.Path.{_≡_, refl, ap, subst, _∙_}
+use mathlib.Core.Bool.{Bool, _||_}
 use lib.ListN.{getD}
+use Rattle.sets.specs.Sets.{bit}
+use Rattle.sets.proofs.Shifts.{in-quarter}
 use Rattle.theory.specs.NewNumbers.{newNumber}
 use Rattle.renumber.specs.PairRows.{Gone}
 use Rattle.renumber.proofs.PairRows as rows
@@ -50,15 +53,6 @@ mul-with-quarter c = omega (arith, place c)
 slice-read-with-quarter : tie.Need-slice-read-with-quarter Inv-loop μ-loop
 slice-read-with-quarter c = omega (arith, place (c .before), loop (c .before) .loop .inv .1 .long)
 
-with-quarter-requires : tie.Need-with-quarter-requires Inv-loop μ-loop
-with-quarter-requires c κs =
-    let k = c .before in
-    let x = start k in (
-      omega arith,
-      rows.row-fits (newNumber (x .args .numbers .now)) (x .pre .1 .0 .1) (getD (x .args .from .now) (x .args .i) 0) (loop k .loop .q) (k .before .quarter .result) _
-          (k .before .quarter .ensures) (rows.first-part (newNumber (x .args .numbers .now)) _ _ (k .spread-part .ensures (newNumber (x .args .numbers .now)) (x .pre .1 .0 .0))) (omega arith),
-    )
-
 mul-into : tie.Need-mul-into Inv-loop μ-loop
 mul-into c = omega (arith, place (c .before .before))
 
@@ -77,7 +71,10 @@ loop-again c =
           (rows.gone-more p (x .pre .1 .0 .1) (λ a. getD (x .args .from .now) a 0) (l .into) (4 * x .args .i + l .q) (x .args .i) (l .q)
           (loop k .before .new-number .result) (k .before .before .new-number2 .result) _ (k .before .quarter .result) (k .spread-part .result) (c .with-quarter .result)
           (l .inv .1) (x .pre .0 .1) (k .before .before .before .loop-test .taken) refl (loop k .before .new-number .ensures .0) (k .before .before .new-number2 .ensures .0) refl
-          (k .before .quarter .ensures) (rows.first-part p _ _ (k .spread-part .ensures p (x .pre .1 .0 .0))) (c .with-quarter .ensures)),
+          (k .before .quarter .ensures) (rows.first-part p _ _ (k .spread-part .ensures p (x .pre .1 .0 .0)))
+          (λ m. c .with-quarter .ensures m
+          ∙ ap (λ (y : Bool). bit (getD (l .into) (4 * loop k .before .new-number .result + k .before .before .new-number2 .result / 4) 0) m || y)
+          (in-quarter (k .before .before .new-number2 .result % 4) m (bit (k .spread-part .result) (m % 16)) (omega arith)))),
     )
 
 same-length : tie.Need-same-length Inv-loop μ-loop
@@ -109,7 +106,7 @@ move-word-spec =
     add-k
     mul-with-quarter
     slice-read-with-quarter
-    with-quarter-requires
+    (λ c κs. tt)
     mul-into
     slice-write-into
     (λ c. omega arith)
