@@ -6,17 +6,18 @@
  * RAM       terms 2,504 bytes, state 24,584 bytes, scratch 512 bytes; two
  *           banks 44,504 bytes in all; a plan is lent 74,264 bytes. The library
  *           allocates nothing and has no state of its own.
- * Stack     measured, not proved: reading takes 168 KiB, into two banks 191
- *           KiB, writing a terms text or asking for its size 193 KiB, an
- *           opening, revision, look, request or set list 172 KiB, of two banks
- *           too, a plan 172 KiB, and each 1.21 KiB more for every level by which
- *           entries nest, at most 510 KiB; renumbering takes 18 KiB, storing and
- *           the other calls 4 KiB. Provide CUCKOOORMOLU_STACK_BYTES; with small
- *           terms requests take far less (bindings/README.md, Stack).
+ * Stack     measured, not proved: reading, opening, a revision, look, request,
+ *           set list or plan takes 272 KiB, of two banks too, reading into two
+ *           banks or writing a terms text or asking for its size 295 KiB, and
+ *           each 0.85 KiB more for every level by which entries nest, at most
+ *           512 KiB; renumbering takes 18 KiB, storing and the other calls
+ *           4 KiB. Provide CUCKOOORMOLU_STACK_BYTES; with small terms requests
+ *           take far less (bindings/README.md, Stack).
  * Time      measured, not proved. Entries that share others take no more than
- *           a memo's time; what can still take long is nested binds over
- *           entries that read their variables: about N to the depth of such
- *           binds, N the members.
+ *           a memo's time, and entries that read one variable N times that, N
+ *           the members. What can still take long is three variables or more
+ *           that are bound anew in turn, where every level reads all of them:
+ *           N times as long with each level.
  * Kept      terms and state are plain words: they may be copied, kept and
  *           lent again. In a file they have the machine's byte order,
  *           little-endian on x86-64. Scratch need not be kept. A stored text
