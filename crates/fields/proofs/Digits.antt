@@ -59,6 +59,14 @@ digits-one : (k n : ℕ) → n < 10 → digitsIn (suc k) n ≡ (48 + n) ∷ []
 unfolding digitsIn
 digits-one k n h = rw (lt-ltb n 10 h) refl
 
+pub digits-single : (n : ℕ) → n < 10 → (48 + n) ∷ [] ≡ digits n
+unfolding digits
+digits-single n h = sym (digits-one 4 n h)
+
+pub digits-double : (n : ℕ) → 10 ≤ n → n < 100 → (48 + n / 10) ∷ (48 + n % 10) ∷ [] ≡ digits n
+unfolding digits
+digits-double n h k = sym (digits-more 4 n h ∙ rw (digits-one 3 (n / 10) (omega arith)) refl)
+
 -- ---- the digits of a field's value are the field
 
 -- a list that is not empty has a last element

@@ -30,8 +30,12 @@ pub put-long : {o p : List ℕ} {i j : ℕ} {bs : List ℕ} → Put o p i j bs �
 put-long {o} {p} {i} {j} {bs} f = ap length (f .left) ∙ length-sets o i bs
 
 -- past the end nothing is stored
-pub put-out : (o : List ℕ) (at b : ℕ) → length o ≤ at → Put o o at (at + 1) (b ∷ [])
-put-out o at b h = record { next = refl; left = sym (set-out o at b h) }
+sets-out : (o : List ℕ) (at : ℕ) (bs : List ℕ) → length o ≤ at → sets o at bs ≡ o
+sets-out o at [] h = refl
+sets-out o at (b ∷ bs) h = rw (set-out o at b h) (sets-out o (suc at) bs (omega arith))
+
+pub put-out : (o : List ℕ) (at m : ℕ) (bs : List ℕ) → length o ≤ at → m ≡ at + length bs → Put o o at m bs
+put-out o at m bs h e = record { next = e; left = sym (sets-out o at bs h) }
 
 -- one byte more of a word
 pub put-more : {o p q : List ℕ} {at j k : ℕ} (w : List ℕ) (i : ℕ) → i < length w

@@ -32,8 +32,8 @@ pub(crate) fn put_word(out: &mut [u8], at: usize, w: &[u8]) -> usize
     next
 }
 
-// Puts the digits of n.
-pub(crate) fn put_number(out: &mut [u8], at: usize, n: usize) -> usize
+// Puts the digits of n, worked out from the last one on.
+fn put_digits(out: &mut [u8], at: usize, n: usize) -> usize
     requires { ⌜ (n < 100000) × (at < 2 ^ 61) ⌝ }
     ensures { λ r. ⌜ Put (now (out .entry)) (now (out .exit)) at r (digits n) ⌝ }
 {
@@ -48,4 +48,19 @@ pub(crate) fn put_number(out: &mut [u8], at: usize, n: usize) -> usize
     i -= 1;
     d[i] = 48 + v as u8;
     put_word(out, at, &d[i..])
+}
+
+// Puts the digits of n, one or two of them without working out how many there are.
+pub(crate) fn put_number(out: &mut [u8], at: usize, n: usize) -> usize
+    requires { ⌜ (n < 100000) × (at < 2 ^ 61) ⌝ }
+    ensures { λ r. ⌜ Put (now (out .entry)) (now (out .exit)) at r (digits n) ⌝ }
+{
+    if n < 10 {
+        return put(out, at, 48 + n as u8);
+    }
+    if n < 100 {
+        let next = put(out, at, 48 + (n / 10) as u8);
+        return put(out, next, 48 + (n % 10) as u8);
+    }
+    put_digits(out, at, n)
 }

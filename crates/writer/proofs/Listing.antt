@@ -6,19 +6,20 @@ use mathlib.Core.List.{List, [], _∷_, _++_, append-assoc, append-nil}
 use native.Mathlib.Omega.{arith}
 use native.Mathlib.Nat.{add-zero, add-suc, mul-suc}
 use native.Mathlib.Numerals.{add-one}
-use lib.ListN.{getD}
+use lib.ListN.{length, getD, length-append}
 use borrow.Author.Tests.{lt-ltb, ne-eqb}
 use Rattle.sets.specs.Sets.{bit}
 use Rattle.sets.proofs.Bits.{bit-zero}
 use Rattle.memory.specs.Layout.{effectAt, effectsFrom, eventOf, stateOf}
 use Rattle.file.specs.Line.{printed}
+use Rattle.fields.specs.Split.{join}
 use Rattle.fields.specs.Put.{Put}
 use Rattle.theory.specs.Terms.{Terms}
 use Rattle.file.specs.Writing.{listed, markLine, effectLines, bitAt, eventEdgeLine, printedAll}
 use Rattle.writer.specs.Kinds.{Paired, edgeLines, tableLines, tripleOf, says, bitOf, rowOf, rowsOf}
 use Rattle.file.specs.declared.line.Line.{Line}
 use Rattle.file.specs.declared.line.Line.the-variants.{TableBit, PairBit, EventEdge, Mark}
-use Rattle.fields.proofs.Output.{put-none, put-then}
+use Rattle.fields.proofs.Output.{put-none, put-then, put-out}
 use Rattle.file.proofs.SoFar.{event-line}
 
 -- ---- lists of lines
@@ -115,6 +116,24 @@ unfolding printedAll
 put-row-none o at t s w i e =
     let none : rowOf t s w i ≡ [] = listed-cong 64 (λ b h. bit-at t s w i b h ∙ rw (e, bit-zero b) refl) ∙ listed-empty 64 in
     rw none (put-none o at)
+
+-- ---- lines past the end of an output
+
+-- what is put into no output is put past the end of any
+pub put-skipped : {at m : ℕ} {bs : List ℕ} (o : List ℕ) → length o ≤ at → Put [] [] at m bs → Put o o at m bs
+put-skipped o h x = put-out o _ _ _ h (x .next)
+
+-- the fields of a line have a tab or the line feed after each
+module _ (at r : ℕ) (k d e f : List ℕ) where
+  pub skip-three : r ≡ at + 4 + length k + length d + length e + length f
+      → Put [] [] at r (join 9 (k ∷ d ∷ e ∷ f ∷ []) ++ (10 ∷ []))
+  unfolding join
+  skip-three h = put-out [] at r _ (omega arith) (simp length-append (omega arith))
+
+  pub skip-four : (g : List ℕ) → r ≡ at + 5 + length k + length d + length e + length f + length g
+      → Put [] [] at r (join 9 (k ∷ d ∷ e ∷ f ∷ g ∷ []) ++ (10 ∷ []))
+  unfolding join
+  skip-four g h = put-out [] at r _ (omega arith) (simp length-append (omega arith))
 
 -- ---- the lines of n words from one on are those of the relations or tables that they hold
 

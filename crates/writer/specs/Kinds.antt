@@ -2,14 +2,16 @@
 use Prim.Native.Nat.{ℕ, _+_, _*_}
 use mathlib.Core.Path.{_≡_}
 use mathlib.Core.Bool.{Bool, true, false, cond}
-use mathlib.Core.List.{List, [], _∷_}
+use mathlib.Core.List.{List, [], _∷_, _++_}
 use lib.Dec.{eqb}
-use lib.ListN.{getD}
+use lib.ListN.{length, getD}
 use Rattle.sets.specs.Sets.{bit}
 use Rattle.theory.specs.Columns.{pairMember, pairFirst, pairLast}
 use Rattle.theory.specs.Terms.{Terms}
 use Rattle.theory.specs.Moment.{Relations}
 use Rattle.theory.specs.Tables.{Tables}
+use Rattle.fields.specs.Split.{join}
+use Rattle.fields.specs.Put.{Put}
 use Rattle.file.specs.Writing.{listed, lineOfEntry, markLine, effectLines, bitAt, tableSays}
 use Rattle.file.specs.File.{pairTable}
 use Rattle.file.specs.declared.line.Line.{Line}
@@ -70,3 +72,7 @@ rowOf table pairs w i = listed 64 (bitOf table pairs w i)
 
 abbrev pub rowsOf : (table : Bool) → (pairs : ℕ) → (state : List ℕ) → (first n : ℕ) → List Line
 rowsOf table pairs state first n = listed n (λ i. rowOf table pairs (getD state (first + i) 0) i)
+
+-- A line of a letter and some fields ends at r, past the end of an output.
+abbrev pub Skipped : (at r : ℕ) → List (List ℕ) → Type 0
+Skipped at r fs = (k : List ℕ) → length k ≡ 1 → Put [] [] at r (join 9 (k ∷ fs) ++ (10 ∷ []))

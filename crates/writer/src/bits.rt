@@ -2,6 +2,7 @@
 use crate::kind;
 use crate::print::put_quad;
 use crate::print::put_triple;
+use crate::skip::skip_row;
 use memory::layout::BLOCK;
 use memory::layout::EVENT_AT;
 use memory::layout::TABLES_AT;
@@ -59,17 +60,19 @@ fn put_bits(out: &mut [u8], at: usize, table: bool, pairs: u64, w: u64, i: usize
     next
 }
 
-// The same; a word without bits is passed over.
+// The same; a word without bits is passed over, and past the end of the output the lines are only counted.
 fn put_row(out: &mut [u8], at: usize, table: bool, pairs: u64, w: u64, i: usize) -> usize
     requires { ⌜ (i < eventAt) × (at < 2 ^ 57) ⌝ }
     ensures { λ r. ⌜ Put (now (out .entry)) (now (out .exit)) at r (printedAll (rowOf table pairs w i)) ⌝ }
     ensures { λ r. ⌜ r ≤ at + 32 * 64 ⌝ }
 {
     if w == 0 {
-        at
-    } else {
-        put_bits(out, at, table, pairs, w, i)
+        return at;
     }
+    if out.len() <= at {
+        return skip_row(at, table, pairs, w, i);
+    }
+    put_bits(out, at, table, pairs, w, i)
 }
 
 // Puts the lines of the words of the state from one on.

@@ -4,6 +4,7 @@ mod fresh;
 mod kind;
 mod pairs;
 mod print;
+mod skip;
 pub mod store;
 mod vocabulary;
 pub mod write;

@@ -1,4 +1,5 @@
 -- `fields::put::put` meets its contract: past the end nothing is stored.
+use mathlib.Core.Path.{refl}
 use borrow.Author.Needs.{needs}
 use Rattle.fields.proofs.Output.{put-out}
 use Rattle.fields.proofs.put.put.Statement.{statement}
@@ -20,7 +21,7 @@ returns : tie.Need-returns
 returns c = search needs
 
 returns-2 : tie.Need-returns-2
-returns-2 c = put-out _ _ _ (c .if1 .left)
+returns-2 c = put-out _ _ _ _ (c .if1 .left) (refl)
 
 pub put-spec : {M : Type 1} → statement M
 put-spec =
