@@ -10,8 +10,8 @@
  *           set list or plan takes 272 KiB, of two banks too, reading into two
  *           banks or writing a terms text or asking for its size 295 KiB, and
  *           each 0.85 KiB more for every level by which entries nest, at most
- *           512 KiB; renumbering takes 18 KiB, storing and the other calls
- *           4 KiB. Provide CUCKOOORMOLU_STACK_BYTES; with small terms requests
+ *           512 KiB with the archive; renumbering takes 18 KiB, storing and the
+ *           other calls 4 KiB. Provide CUCKOOORMOLU_STACK_BYTES; with small terms requests
  *           take far less (bindings/README.md, Stack).
  * Time      measured, not proved. Entries that share others take no more than
  *           a memo's time, and entries that read one variable N times that, N
@@ -95,8 +95,13 @@ extern "C" {
 #define CUCKOOORMOLU_TEXT_BYTES 728109
 #define CUCKOOORMOLU_STORED_BYTES 2169916
 
-/* More stack than any call was measured to take. */
+/* More stack than any call was measured to take: with the archive, or with the
+ * C file as compilers compile it. */
+#ifdef CUCKOOORMOLU_AMALGAMATION
+#define CUCKOOORMOLU_STACK_BYTES (1024 * 1024)
+#else
 #define CUCKOOORMOLU_STACK_BYTES (512 * 1024)
+#endif
 
 /*
  * The codes of calls. No code is 0, and a refusal's is below 100; granted and
