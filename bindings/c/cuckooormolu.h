@@ -11,8 +11,8 @@
  *           banks or writing a terms text or asking for its size 295 KiB, and
  *           each 0.85 KiB more for every level by which entries nest, at most
  *           512 KiB with the archive; renumbering takes 18 KiB, storing and the
- *           other calls 4 KiB. Provide CUCKOOORMOLU_STACK_BYTES; with small terms requests
- *           take far less (bindings/README.md, Stack).
+ *           other calls 4 KiB. Provide CUCKOOORMOLU_STACK_BYTES; with small
+ *           terms requests take far less (bindings/README.md, Stack).
  * Time      measured, not proved. Entries that share others take no more than
  *           a memo's time, and entries that read one variable N times that, N
  *           the members. What can still take long is three variables or more
