@@ -8,7 +8,7 @@
 //! * `reader`: the lines in turn; `line`: what a line is made of
 //! * `entries`, `others`, `stored`: F lines; M, L, P, K, E and G lines; S, T and V lines
 //! * `advice`: what would be right
-//! * `warnings`, `tried`, `long`: what is accepted and yet seldom meant
+//! * `warnings`, `tried`, `sought`, `long`: what is accepted and yet seldom meant
 
 mod advice;
 mod entries;
@@ -17,6 +17,7 @@ mod line;
 mod long;
 mod others;
 mod reader;
+mod sought;
 mod stored;
 mod tried;
 mod warnings;

@@ -39,22 +39,22 @@ pub enum Found {
 
 /// Seeks the shortest list after which a request is granted.
 pub fn search(monitor: &Monitor, asked: Request, limits: Limits) -> Found {
-    let mut search = Search::new(monitor, asked);
-    search.meet(*monitor.state().words(), None);
-    let mut depth = 0;
-    while search.found.is_none() {
-        if search.nodes.len() == search.level {
-            return Found::Never { states: search.nodes.len() };
-        }
-        if depth == limits.within {
-            return Found::NotWithin { states: search.nodes.len() };
-        }
-        if !search.deepen(limits) {
-            return Found::GivenUp { states: search.nodes.len(), within: depth };
-        }
-        depth += 1;
-    }
-    Found::After(search.list())
+    let members: Vec<usize> = (0..monitor.terms().members().len()).collect();
+    Search::new(monitor, &members, Sought::Request(asked)).run(monitor, limits)
+}
+
+/// Seeks requests among some members after which one of them is granted an event. After
+/// a request only pairs with one of its two members are looked at, each for a try.
+pub fn search_event(monitor: &Monitor, event: usize, members: &[usize], limits: Limits) -> Found {
+    Search::new(monitor, members, Sought::Event(event)).run(monitor, limits)
+}
+
+/// What is to be granted.
+#[derive(Clone, Copy)]
+enum Sought {
+    Request(Request),
+    /// An event, between any two of the members.
+    Event(usize),
 }
 
 struct Search<'a> {
@@ -62,7 +62,8 @@ struct Search<'a> {
     requests: Vec<Request>,
     /// For each event whether its denied requests make a moment.
     kept: Vec<bool>,
-    asked: Request,
+    members: Vec<usize>,
+    sought: Sought,
     /// The states so far, those of fewer requests first.
     nodes: Vec<Node>,
     known: HashSet<Rc<[u8]>>,
@@ -81,21 +82,15 @@ struct Node {
 }
 
 impl<'a> Search<'a> {
-    fn new(monitor: &'a Monitor, asked: Request) -> Search<'a> {
+    fn new(monitor: &'a Monitor, members: &[usize], sought: Sought) -> Search<'a> {
         let terms = monitor.terms();
-        let (events, members) = (terms.events().len(), terms.members().len());
-        let all = |event| {
-            (0..members * members).map(move |pair| Request {
-                event,
-                from: pair / members,
-                to: pair % members,
-            })
-        };
+        let all = |event| pairs(members).map(move |(from, to)| Request { event, from, to });
         Search {
             terms: terms.words(),
-            requests: (0..events).flat_map(all).collect(),
+            requests: (0..terms.events().len()).flat_map(all).collect(),
             kept: terms.events().map(|event| terms.keeps(event)).collect(),
-            asked,
+            members: members.to_vec(),
+            sought,
             nodes: Vec::new(),
             known: HashSet::new(),
             level: 0,
@@ -103,6 +98,25 @@ impl<'a> Search<'a> {
             bytes: 0,
             found: None,
         }
+    }
+
+    /// Goes on from level to level.
+    fn run(mut self, monitor: &Monitor, limits: Limits) -> Found {
+        self.meet(*monitor.state().words(), None);
+        let mut depth = 0;
+        while self.found.is_none() {
+            if self.nodes.len() == self.level {
+                return Found::Never { states: self.nodes.len() };
+            }
+            if depth == limits.within {
+                return Found::NotWithin { states: self.nodes.len() };
+            }
+            if !self.deepen(limits) {
+                return Found::GivenUp { states: self.nodes.len(), within: depth };
+            }
+            depth += 1;
+        }
+        Found::After(self.list())
     }
 
     /// Makes every request in each state of the last level; whether that was not too
@@ -141,10 +155,27 @@ impl<'a> Search<'a> {
         }
         self.bytes += packed.len() + NODE_BYTES;
         self.nodes.push(Node { state: packed, from });
-        let look = raw::look(self.terms, &state, &[0; SCRATCH_WORDS], self.asked);
-        if look == Ok(Answer::Grant) {
+        let granted = match self.sought {
+            Sought::Request(asked) => self.is_granted(&state, asked),
+            Sought::Event(event) => {
+                let near = |member| match from {
+                    Some((_, request)) => member == request.from || member == request.to,
+                    None => true,
+                };
+                let pairs = pairs(&self.members).filter(|(from, to)| near(*from) || near(*to));
+                let looks: Vec<Request> =
+                    pairs.map(|(from, to)| Request { event, from, to }).collect();
+                self.tries += looks.len();
+                looks.into_iter().any(|asked| self.is_granted(&state, asked))
+            }
+        };
+        if granted {
             self.found.get_or_insert(self.nodes.len() - 1);
         }
+    }
+
+    fn is_granted(&self, state: &[u64; STATE_WORDS], asked: Request) -> bool {
+        raw::look(self.terms, state, &[0; SCRATCH_WORDS], asked) == Ok(Answer::Grant)
     }
 
     /// The requests that lead to the state that was found.
@@ -158,6 +189,11 @@ impl<'a> Search<'a> {
         list.reverse();
         list
     }
+}
+
+/// All pairs of members.
+fn pairs(members: &[usize]) -> impl Iterator<Item = (usize, usize)> + '_ {
+    members.iter().flat_map(move |from| members.iter().map(move |to| (*from, *to)))
 }
 
 /// About what a state takes besides its words.
@@ -220,6 +256,16 @@ mod tests {
         assert!(matches!(sought(TEXT, 2, small), Found::GivenUp { within: 0, .. }));
         let within = Limits { within: 100, ..Limits::USUAL };
         assert_eq!(sought(TEXT, 2, within), Found::Never { states });
+    }
+
+    #[test]
+    fn an_event_of_any_two() {
+        let sought = |event| search_event(&read(TEXT), event, &[0, 1], Limits::USUAL);
+        assert_eq!(sought(0), Found::After(vec![]));
+        assert!(matches!(sought(1), Found::After(list) if list.len() == 2));
+        assert!(matches!(sought(2), Found::Never { .. }));
+        let few = Limits { tries: 12, ..Limits::USUAL };
+        assert!(matches!(search_event(&read(TEXT), 2, &[0, 1], few), Found::GivenUp { .. }));
     }
 
     #[test]

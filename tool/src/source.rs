@@ -3,6 +3,7 @@
 //! * `tokens`, `parse`, `ast`: a text, read
 //! * `kinds`: kinds of members as attributes
 //! * `passing`: events of one moment where the past seems to be meant
+//! * `seldom`: other sentences that say something else than they seem to
 //! * `resolve`, `said`: names found, definitions and derived forms unfolded
 //! * `tree`: at which member each part is said
 //! * `entries`: variables numbered, equal parts made one entry
@@ -23,6 +24,7 @@ mod passing;
 pub mod print;
 mod resolve;
 mod said;
+mod seldom;
 pub mod tokens;
 mod tree;
 

@@ -13,6 +13,9 @@ pub mod run;
 use crate::source::ast::Span;
 use keeper::terms::Edge;
 
+/// The tests of a folder.
+pub const TESTS: &str = "tests.say";
+
 /// A test: its title and its statements, in order.
 #[derive(Clone, Debug, PartialEq)]
 pub struct Test {

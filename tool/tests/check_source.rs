@@ -101,3 +101,47 @@ fn a_policy_that_is_seldom_met_is_tried_for_long() {
     assert!(said.contains("requests.say asks 2 times for remix and is denied each time"), "{said}");
     assert!(said.contains("= `cuckooormolu why` says what was lacking each time"), "{said}");
 }
+
+/// Four moments apart and in order: hardly met by chance.
+const SELDOM: &str = "\
+members players: p1, p2, p3, p4, p5, p6, p7, p8, p9, p10; presets: saw, pad, bell, drum; banks: north
+relations owns, friend
+event share, withdraw when me is player and target is player
+event befriend when me is player and target is player then add me friend target
+event suspend, lift when me is bank and target is player
+event praise when previously (previously (previously (previously me befriend target)) and me share target)
+first p9 owns saw, p10 owns pad, p8 owns bell
+";
+
+#[test]
+fn what_the_tests_are_granted_counts() {
+    let folder = Folder::new();
+    folder.write("terms.say", SELDOM);
+    let never = "nobody was ever granted praise";
+    assert!(run(&["check", folder.path()]).out.contains(never));
+    let steps = ["befriend p2", "befriend p3", "befriend p3", "share p2", "share p3"];
+    let steps: String = steps.iter().map(|step| format!("  given p1 {step}\n")).collect();
+    folder.write("tests.say", &format!("test praise in its turn\n{steps}  p1 may praise p2\n"));
+    assert_eq!(run(&["test", folder.path()]).status, 0);
+    let said = run(&["check", folder.path()]).out;
+    assert!(!said.contains(never), "{said}");
+    // Tests with a mistake count for nothing.
+    folder.write("tests.say", "p1 may praise p2\n");
+    assert!(run(&["check", folder.path()]).out.contains(never));
+}
+
+/// Two requests of certain members, which a search finds.
+#[test]
+fn a_short_search_comes_before_the_warning() {
+    let folder = Folder::new();
+    let praise = "event praise when (some b lift me: b is bank) and \
+        (previously some s share target: s owns some preset) and me is not target\n";
+    let terms: Vec<&str> = SELDOM.lines().filter(|line| !line.contains("praise")).collect();
+    folder.write("terms.say", &format!("{}\n{praise}", terms.join("\n")));
+    let said = run(&["check", folder.path()]).out;
+    assert!(!said.contains("nobody was ever granted"), "{said}");
+    let impossible = "event praise when me is preset and (some b lift me: b is bank)\n";
+    folder.write("terms.say", &format!("{}\n{impossible}", terms.join("\n")));
+    let said = run(&["check", folder.path()]).out;
+    assert!(said.contains("nobody was ever granted praise"), "{said}");
+}

@@ -1,5 +1,6 @@
 //! Policies that were never met, or always, when requests were tried.
 
+use super::sought::{is_found, tested};
 use super::warnings::{About, Subject, Warning};
 use crate::both::{Both, Verdict};
 use crate::folder::{self, Folder, Request};
@@ -35,32 +36,44 @@ const LACKING: &str =
 
 /// How often each event was granted and denied.
 #[derive(Clone, Copy, Default)]
-struct Count {
-    granted: usize,
-    denied: usize,
+pub struct Count {
+    pub granted: usize,
+    pub denied: usize,
 }
 
 /// Warnings for events that were all granted or all denied: by the folder's
-/// requests, and by looks to begin with and after requests tried in turn.
+/// requests and tests, by looks to begin with and after requests tried in turn, and by a
+/// short search.
 pub fn one_sided(both: &Both, subject: &Subject, folder: &Folder) -> Result<Vec<Warning>, Stop> {
     let (terms, names) = (subject.terms, subject.names);
     let asked = asked(folder, terms.events)?;
     let (seen, moments) = seen(both)?;
+    let one_sided = |event: &usize| {
+        let (asked, seen) = (asked[*event], seen[*event]);
+        asked.granted + seen.granted == 0 || asked.denied + seen.denied == 0
+    };
+    let tested = match (0..terms.events).any(|event| one_sided(&event)) {
+        true => tested(both, folder)?,
+        false => vec![Count::default(); terms.events],
+    };
+    let never =
+        |event: &usize| asked[*event].granted + seen[*event].granted + tested[*event].granted == 0;
+    let constant = |event: &usize| is_constant(terms, terms.policies[*event]);
+    let sought: Vec<usize> =
+        (0..terms.events).filter(|event| !constant(event) && never(event)).collect();
     let mut warnings = Vec::new();
-    for event in 0..terms.events {
-        if is_constant(terms, terms.policies[event]) {
-            continue;
-        }
+    for event in (0..terms.events).filter(|event| !constant(event)) {
+        let found = sought.contains(&event) && is_found(both, event, sought.len());
         let (asked, seen, name) = (asked[event], seen[event], names.event(event));
         let s = if moments == 1 { "" } else { "s" };
         let looks = format!("in {} looks at {moments} moment{s}", seen.granted + seen.denied);
         let no_proof = "that is no proof, but";
-        let (kind, what, right) = if asked.granted + seen.granted == 0 {
+        let (kind, what, right) = if sought.contains(&event) && !found {
             let what = format!(
                 "nobody was ever granted {name} {looks}; {no_proof} can its policy be met?"
             );
             ("never", what, [IN_FOR_OUT, TURNED])
-        } else if asked.denied + seen.denied == 0 {
+        } else if asked.denied + seen.denied + tested[event].denied == 0 {
             let what = format!("nobody was ever denied {name} {looks}; {no_proof} does its policy ask for anything?");
             (
                 "always",
@@ -108,7 +121,7 @@ fn seen(both: &Both) -> Result<(Vec<Count>, usize), Stop> {
     };
     let mut counts: Vec<Count> = terms.policies.iter().map(count).collect();
     look_around(both, &members, &mut counts, LOOKS / RUNS)?;
-    members.truncate(TRYING);
+    members = varied(terms, &members, TRYING);
     let (stored, mut moments, mut random) = (both.store()?, 1, 1u64);
     let mut below = |bound: usize| {
         random =
@@ -172,7 +185,7 @@ fn look_around(
 }
 
 /// A few members, those of the first edges before the others.
-fn busiest(terms: &Terms) -> Vec<usize> {
+pub fn busiest(terms: &Terms) -> Vec<usize> {
     let ends = terms.edges.iter().flat_map(|&(_, from, to)| [from, to]);
     let mut members: Vec<usize> = Vec::new();
     for member in ends.chain(0..terms.members) {
@@ -181,6 +194,22 @@ fn busiest(terms: &Terms) -> Vec<usize> {
         }
     }
     members
+}
+
+/// So many of the members, in turn one of those with each set of attributes.
+pub fn varied(terms: &Terms, members: &[usize], most: usize) -> Vec<usize> {
+    let attributes = |member: &usize| -> Vec<usize> {
+        let loops = terms.edges.iter().filter(|(_, from, to)| from == member && to == member);
+        loops.map(|(relation, ..)| *relation).collect()
+    };
+    // How many alike come before each.
+    let alike = |place: usize| {
+        let own = attributes(&members[place]);
+        members[..place].iter().filter(|other| attributes(other) == own).count()
+    };
+    let mut places: Vec<usize> = (0..members.len()).collect();
+    places.sort_by_key(|place| alike(*place));
+    places.into_iter().take(most).map(|place| members[place]).collect()
 }
 
 /// Whether a policy is meant to be met always or never.

@@ -9,14 +9,11 @@ use crate::source::mistake::{Mistake, Mistaken};
 use crate::stop::{Stop, FAILING, UNUSABLE, WELL};
 use crate::testing::read::read;
 use crate::testing::run::{run, Failure, Outcome};
-use crate::testing::Test;
+use crate::testing::{Test, TESTS};
 use crate::watch::watch;
 use std::fs;
 use std::io::{ErrorKind, Write};
 use std::path::Path;
-
-/// The tests of a folder.
-const TESTS: &str = "tests.say";
 
 pub const HELP: &str = "\
 usage: cuckooormolu test DIR... [--all] [--json] [--watch]

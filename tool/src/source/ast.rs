@@ -13,6 +13,12 @@ impl Span {
     pub fn to(self, other: Span) -> Span {
         Span { start: self.start, end: other.end }
     }
+
+    /// Its words, one space between two.
+    pub fn words(self, text: &str) -> String {
+        let part = text.get(self.start..self.end).unwrap_or("");
+        part.split_whitespace().collect::<Vec<_>>().join(" ")
+    }
 }
 
 impl PartialEq for Span {
@@ -54,9 +60,20 @@ pub struct Source {
 pub struct MemberKind {
     pub name: Name,
     pub members: Vec<Name>,
+    /// The relation that it becomes, once it is known which word a formula has for it.
+    pub relation: Option<String>,
 }
 
 impl Source {
+    pub fn is_event(&self, label: &str) -> bool {
+        self.events.iter().any(|event| event.name.text == label)
+    }
+
+    /// The definition of a name.
+    pub fn defined(&self, name: &str) -> Option<&Definition> {
+        self.definitions.iter().find(|known| known.name.text == name)
+    }
+
     /// Adds what another source has, after this one's.
     pub fn add(&mut self, other: Source) {
         self.members.extend(other.members);
@@ -139,6 +156,18 @@ impl Formula {
     /// A formula that stands nowhere in a text.
     pub fn new(kind: Kind) -> Formula {
         Formula { kind, span: Span::default() }
+    }
+
+    /// The formulas that it is made of.
+    pub fn parts(&self) -> Vec<&Formula> {
+        match &self.kind {
+            Kind::True | Kind::False | Kind::Is(..) | Kind::Edge(..) | Kind::Defined(..) => vec![],
+            Kind::Not(f) | Kind::Once(f) | Kind::Always(f) | Kind::Never(f) => vec![f],
+            Kind::Previously(f) | Kind::At(_, f) | Kind::As(_, f) => vec![f],
+            Kind::And(f, g) | Kind::Or(f, g) | Kind::Since(f, g) => vec![f, g],
+            Kind::Walk(walk) => vec![&walk.body],
+            Kind::Step(step) => vec![&step.leads, &step.body],
+        }
     }
 }
 

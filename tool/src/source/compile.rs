@@ -11,6 +11,7 @@ use super::parse::{read, Read};
 use super::passing::passing;
 use super::resolve::Resolver;
 use super::said::Said;
+use super::seldom::seldom;
 use super::tree::{Crowd, Placer};
 use crate::names::{Called, Kind, Names, Spoken};
 use declared::{changes, declared};
@@ -56,6 +57,7 @@ pub fn compile(text: &str) -> Result<Compiled, Vec<Mistake>> {
     let resolved = resolved(&source, &mut notes);
     warnings.extend(resolved.warnings);
     warnings.extend(passing(&source, text));
+    warnings.extend(seldom(&source, text));
     mistakes.extend(notes.without(&doubtful));
     if !mistakes.is_empty() {
         mistakes.sort_by_key(|mistake| mistake.span.start);
@@ -184,9 +186,7 @@ pub(super) fn crowded(crowd: &Crowd, resolver: &Resolver, text: &str, members: u
     let name = |id: &Option<_>| id.map_or("whom it is said of", |id| resolver.name(id));
     let mut people: Vec<&str> = crowd.people.iter().map(name).collect();
     let last = people.pop().unwrap_or_default();
-    let part = text.get(crowd.span.start..crowd.span.end).unwrap_or("");
-    let part: Vec<&str> = part.split_whitespace().collect();
-    let part = part.join(" ");
+    let part = crowd.span.words(text);
     let speaks =
         format!("`{part}` speaks of {} people: {} and {last}", people.len() + 1, people.join(", "));
     if let Some(to) = crowd.to {

@@ -5,8 +5,9 @@
 use super::ast::{Fact, Formula, Kind, Name, Source, Who};
 use std::collections::HashSet;
 
-/// Adds a relation, with its first edges, for each kind that a formula asks for. A
-/// relation, an event or a definition of that name goes before.
+/// Adds a relation, with its first edges, for each kind that a formula asks for, in the
+/// singular or by its own name. A relation, an event or a definition of that name goes
+/// before.
 pub fn unfold(source: &mut Source) {
     let mut asked = HashSet::new();
     let definitions = source.definitions.iter().map(|definition| &definition.body);
@@ -16,14 +17,15 @@ pub fn unfold(source: &mut Source) {
     let relations = source.relations.iter().map(|name| &name.text);
     let events = source.events.iter().map(|event| &event.name.text);
     let definitions = source.definitions.iter().map(|definition| &definition.name.text);
-    let taken: HashSet<String> = relations.chain(events).chain(definitions).cloned().collect();
-    for kind in source.kinds.clone() {
-        let text = singular(&kind.name.text);
-        if !asked.contains(&text) || taken.contains(&text) {
-            continue;
-        }
+    let mut taken: HashSet<String> = relations.chain(events).chain(definitions).cloned().collect();
+    for place in 0..source.kinds.len() {
+        let kind = source.kinds[place].clone();
+        let asked = |form: &String| asked.contains(form) && !taken.contains(form);
+        let Some(text) = forms(&kind.name.text).into_iter().find(asked) else { continue };
+        taken.insert(text.clone());
         let relation = Name { text, span: kind.name.span };
         source.relations.push(relation.clone());
+        source.kinds[place].relation = Some(relation.text.clone());
         let loops = kind.members.into_iter().map(|member| Fact {
             from: member.clone(),
             relation: relation.clone(),
@@ -33,39 +35,49 @@ pub fn unfold(source: &mut Source) {
     }
 }
 
+/// Kinds whose singular is another word.
+const OTHERS: [(&str, &str); 4] =
+    [("people", "person"), ("children", "child"), ("men", "man"), ("women", "woman")];
+
 /// One of a kind: `players` has a player.
 pub fn singular(kind: &str) -> String {
-    if let Some(stem) = kind.strip_suffix("ies") {
-        return format!("{stem}y");
+    singulars(kind).into_iter().next().unwrap_or_else(|| kind.to_string())
+}
+
+/// How one of a kind may be called, the likeliest first: `boxes` has a box, and might
+/// have a boxe.
+pub fn singulars(kind: &str) -> Vec<String> {
+    if let Some((_, one)) = OTHERS.iter().find(|(many, _)| *many == kind) {
+        return vec![one.to_string()];
     }
-    match kind.strip_suffix('s') {
-        Some(stem) if !stem.ends_with('s') && !stem.is_empty() => stem.to_string(),
-        _ => kind.to_string(),
+    let Some(stem) = kind.strip_suffix('s').filter(|stem| !stem.is_empty()) else { return vec![] };
+    if let Some(stem) = stem.strip_suffix("ie") {
+        return vec![format!("{stem}y"), format!("{stem}ie")];
     }
+    // bus, chorus, brass, basis: one already.
+    if ["u", "s", "i"].iter().any(|end| stem.ends_with(end)) {
+        return vec![];
+    }
+    let hissing =
+        |stem: &&str| ["us", "ss", "x", "z", "ch", "sh"].iter().any(|end| stem.ends_with(end));
+    let short = stem.strip_suffix('e').filter(hissing).map(str::to_string);
+    short.into_iter().chain([stem.to_string()]).collect()
+}
+
+/// All words by which a formula may ask for a kind.
+pub fn forms(kind: &str) -> Vec<String> {
+    singulars(kind).into_iter().chain([kind.to_string()]).collect()
 }
 
 /// The names that stand after `is` in a formula.
 fn attributes(formula: &Formula, asked: &mut HashSet<String>) {
-    match &formula.kind {
-        Kind::Is(_, other) => {
-            if let Who::Named(text) = &other.who {
-                asked.insert(text.clone());
-            }
+    if let Kind::Is(_, other) = &formula.kind {
+        if let Who::Named(text) = &other.who {
+            asked.insert(text.clone());
         }
-        Kind::True | Kind::False | Kind::Edge(..) | Kind::Defined(..) => {}
-        Kind::Not(f) | Kind::Once(f) | Kind::Always(f) | Kind::Never(f) | Kind::Previously(f) => {
-            attributes(f, asked);
-        }
-        Kind::And(f, g) | Kind::Or(f, g) | Kind::Since(f, g) => {
-            attributes(f, asked);
-            attributes(g, asked);
-        }
-        Kind::Walk(walk) => attributes(&walk.body, asked),
-        Kind::Step(step) => {
-            attributes(&step.leads, asked);
-            attributes(&step.body, asked);
-        }
-        Kind::At(_, f) | Kind::As(_, f) => attributes(f, asked),
+    }
+    for part in formula.parts() {
+        attributes(part, asked);
     }
 }
 
@@ -78,8 +90,13 @@ mod tests {
         for (kind, one) in [
             ("players", "player"),
             ("libraries", "library"),
-            ("people", "people"),
+            ("people", "person"),
+            ("staff", "staff"),
             ("brass", "brass"),
+            ("bus", "bus"),
+            ("buses", "bus"),
+            ("boxes", "box"),
+            ("cases", "case"),
             ("s", "s"),
         ] {
             assert_eq!(singular(kind), one);

@@ -1,19 +1,22 @@
 //! Reads a source text: the statements. Formulas are read in `parse/formula.rs`.
 
 mod cursor;
+mod effect;
 mod english;
 mod formula;
+mod joined;
 mod read;
 mod sentence;
 mod stray;
+mod unfinished;
 
 use super::ast::*;
 use super::mistake::Mistake;
 use super::tokens::{tokens, Token, WORDS};
 use std::collections::HashSet;
 
+pub(super) use effect::third;
 pub use read::{formula, parse, read, Read};
-pub(super) use stray::third;
 
 /// The deepest that formulas may stand in one another.
 const DEEPEST: usize = 200;
@@ -32,6 +35,8 @@ struct Parser {
     begins: Vec<bool>,
     /// The words that are declared as relations and events.
     declared: HashSet<String>,
+    /// Those of them that are events.
+    events: HashSet<String>,
     /// The names of definitions.
     defined: HashSet<String>,
     /// How many formulas the present one stands in.
@@ -49,7 +54,6 @@ impl Parser {
             "member" | "members" => {
                 self.next += 1;
                 self.members(source)?;
-                self.list_ends()?;
             }
             "relation" | "relations" => {
                 self.next += 1;
@@ -103,8 +107,10 @@ impl Parser {
             let kind = if kinded { Some(self.name("the name of a kind")?) } else { None };
             self.next += usize::from(kinded);
             let members = self.names("the name of a member")?;
+            self.next_kind()?;
+            self.list_ends()?;
             source.members.extend(members.clone());
-            source.kinds.extend(kind.map(|name| MemberKind { name, members }));
+            source.kinds.extend(kind.map(|name| MemberKind { name, members, relation: None }));
             if !self.take_sign(';') {
                 return Ok(());
             }
@@ -128,13 +134,10 @@ impl Parser {
         } else {
             return Err(self.no_policy());
         };
-        let mut effects = Vec::new();
-        if self.take("then") {
-            effects.push(self.effect(&names[0].0.text)?);
-            while self.take_sign(',') {
-                effects.push(self.effect(&names[0].0.text)?);
-            }
-        }
+        let effects = match self.take("then") {
+            true => self.effects(&names[0].0.text)?,
+            false => Vec::new(),
+        };
         self.statement_ends(&["then"])?;
         for (name, said) in names {
             events.push(Event { name, said, policy: policy.clone(), effects: effects.clone() });
@@ -154,32 +157,12 @@ impl Parser {
         }
     }
 
-    fn effect(&mut self, event: &str) -> Result<Effect, Mistake> {
-        let add = self.take("add");
-        if !add && !self.take("remove") {
-            let mistake = self.expected("`add` or `remove`", &["add", "remove"]);
-            return Err(mistake.advise("like this: `then add me owns target`"));
-        }
-        let from = self.person("`me` or `target`")?;
-        if self.take("is") {
-            let relation = self.name("the name of a relation")?;
-            if !self.take("of") {
-                return Err(self.alone(add, &from, &relation, event));
-            }
-            let to = self.person("`me` or `target`")?;
-            return Ok(Effect { add, from: to, relation, to: from });
-        }
-        let relation = self.name("the name of a relation")?;
-        let to = self.person("`me` or `target`")?;
-        if from.who == to.who && matches!(from.who, Who::Me | Who::Target) {
-            return Err(self.alone(add, &from, &relation, event));
-        }
-        Ok(Effect { add, from, relation, to })
-    }
-
     /// `define name: f`, `define name(a, b): f`, `define a is name: f` or
     /// `define a name b: f`.
     fn definition(&mut self) -> Result<Definition, Mistake> {
+        if let Some(mistake) = self.own_words() {
+            return Err(mistake);
+        }
         let first = self.name("the name of the definition, or of somebody in it")?;
         let (name, parameters) = if self.take("is") {
             (self.name("the name of the definition")?, vec![first])
@@ -213,9 +196,8 @@ impl Parser {
             facts.push(Fact { from: other, relation, to: from });
             return Ok(());
         }
-        if self.is_sign(',') {
-            let mistake = self.expected("the name of a relation", &[]);
-            return Err(mistake.advise("say it of each: `first dora owns saw, pete owns saw`"));
+        if self.is_sign(',') || self.is_word("and") {
+            return Err(self.fact_of_several(&from));
         }
         let relation = self.name("the name of a relation")?;
         let mut ends = vec![self.name("the name of a member")?];

@@ -27,12 +27,10 @@ impl Seeker<'_> {
     /// `sought` is whether the formula is said of somebody found along a relation.
     fn look(&mut self, formula: &Formula, sought: bool) {
         match &formula.kind {
-            Kind::Edge(_, label, _) if sought && self.is_event(&label.text) => {
-                let said: Vec<&str> =
-                    self.text[formula.span.start..formula.span.end].split_whitespace().collect();
+            Kind::Edge(_, label, _) if sought && self.source.is_event(&label.text) => {
                 let message =
                     format!("this is true for one moment only, straight after the {}", label.text);
-                let advice = format!("did you mean `once {}`?", said.join(" "));
+                let advice = format!("did you mean `once {}`?", formula.span.words(self.text));
                 self.found.push(Mistake::new(formula.span, message).advise(advice));
             }
             // Now this, and that a moment ago: it is meant.
@@ -41,14 +39,12 @@ impl Seeker<'_> {
                 self.look(f, sought);
                 self.look(g, sought);
             }
-            Kind::Walk(walk) if !self.is_event(&walk.label.text) => self.look(&walk.body, true),
+            Kind::Walk(walk) if !self.source.is_event(&walk.label.text) => {
+                self.look(&walk.body, true)
+            }
             Kind::At(_, f) | Kind::As(_, f) => self.look(f, sought),
             _ => {}
         }
-    }
-
-    fn is_event(&self, label: &str) -> bool {
-        self.source.events.iter().any(|event| event.name.text == label)
     }
 }
 

@@ -36,6 +36,9 @@ pub struct Resolver<'a> {
     depth: usize,
     /// The definitions that lead back to themselves, with the mistake.
     cyclic: HashMap<usize, Mistake>,
+    /// How to name those that the walks around the present formula find, where they
+    /// have no name.
+    nameless: Vec<String>,
     warnings: Vec<Mistake>,
 }
 
@@ -44,9 +47,10 @@ impl<'a> Resolver<'a> {
         let mut people = vec![("target".into(), None), ("me".into(), Some(1))];
         // `x1` to `x15` ask for the variable of their number.
         people.extend((1..VARIABLES).map(|x| (format!("x{x}"), Some(x))));
-        let (unfolded, inside) = (HashMap::new(), Vec::new());
+        let (unfolded, inside, nameless) = (HashMap::new(), Vec::new(), Vec::new());
         let (cyclic, warnings) = (HashMap::new(), Vec::new());
-        Resolver { source, people, unfolded, inside, made: 0, depth: 0, cyclic, warnings }
+        let (made, depth) = (0, 0);
+        Resolver { source, people, unfolded, inside, made, depth, cyclic, nameless, warnings }
     }
 
     /// What a policy says, of the initiator.
@@ -66,6 +70,7 @@ impl<'a> Resolver<'a> {
     /// Nothing is inside anything: a mistake may have left something so.
     fn begin(&mut self) {
         self.inside.clear();
+        self.nameless.clear();
         self.depth = 0;
     }
 
@@ -181,7 +186,7 @@ impl<'a> Resolver<'a> {
                         scope,
                     );
                 }
-                if let Some(label) = self.find_label(text) {
+                if let Some(label) = self.find_label(text).or_else(|| self.kind_label(text)) {
                     let who = self.person(one, scope)?;
                     return Ok(said(Form::Edge(Some(who), label, Some(who))));
                 }

@@ -70,6 +70,27 @@ pub fn run(test: &Test, both: &Both, text: &[u8], names: &Names) -> Result<Outco
     Ok(outcome)
 }
 
+/// How the requests and questions of a test are answered, whatever is expected: the
+/// event of each, and whether it is granted.
+pub fn answers(test: &Test, both: &Both, text: &[u8]) -> Result<Vec<(usize, bool)>, Stop> {
+    let mut begun = begun(test, both, text)?;
+    let mut answers = Vec::new();
+    for statement in &test.statements {
+        match &statement.said {
+            Said::First { .. } => {}
+            Said::Made { call: Call { event, from, to }, .. } => {
+                answers.push((*event, begun.request(*event, *from, *to)? == Verdict::Grant));
+            }
+            Said::Asked { calls, .. } => {
+                for (Call { event, from, to }, _) in calls {
+                    answers.push((*event, begun.look(*event, *from, *to)? == Verdict::Grant));
+                }
+            }
+        }
+    }
+    Ok(answers)
+}
+
 /// Moment 0 of a test: the terms with the edges that it gives.
 fn begun(test: &Test, both: &Both, text: &[u8]) -> Result<Both, Stop> {
     let mut edges = both.terms().edges.clone();

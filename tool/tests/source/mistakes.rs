@@ -88,7 +88,7 @@ fn named_precisely() {
         ("owner owns target and owner share me", "to look for somebody, say `some owner owns target:`"),
         ("some owner owns target, owner share me", "4:33: a `:` is missing here"),
         ("at most 3 owns of me", "write `not` before `at least 4 ...`"),
-        ("3 owns of me", "`at least 3 ...`"),
+        ("3 owns of me", "`at least 3 owns of me`"),
         ("once share", "say who and whom: `me share target`"),
         ("me owns target\nplayers: cleo", "`members players: ...`"),
         ("me owns target\nfirst dora owns warm pad", "a name of two words is joined by `-`"),
@@ -101,7 +101,7 @@ fn named_precisely() {
         ("once me load target twice", "`once (me load target and previously once me load target)`"),
         ("me owns target\ndora owns saw", "begins with `first`: `first dora owns saw`"),
         ("me owns target\nallow share", "a statement begins with `members`"),
-        ("me owns target\nfirst dora, pete owns saw", "say it of each"),
+        ("me owns target\nfirst dora, pete owns saw", "one fact for each: `first dora owns saw, pete owns saw`"),
         ("3rd owns target", "`3rd` is neither a number nor a name"),
     ];
     let told = |(formula, part): &(&str, &str)| {

@@ -1,7 +1,7 @@
 //! Kinds of members and the wordings of events, as names.tsv has them.
 
 use super::super::ast::{MemberKind, Name, Source};
-use super::super::kinds::singular;
+use super::super::kinds::forms;
 use super::agrees;
 use crate::names::{Names, Spoken};
 use keeper::terms::Terms;
@@ -43,14 +43,15 @@ fn kinds(source: &Source, names: &Names) -> Vec<MemberKind> {
     let together = members.chunk_by(|one, other| kind(*one) == kind(*other));
     let declared = together.filter_map(|members| {
         let named = members.iter().map(|member| source.members[*member].clone());
-        Some(MemberKind { name: Name::new(&kind(members[0])?), members: named.collect() })
+        let name = Name::new(&kind(members[0])?);
+        Some(MemberKind { name, members: named.collect(), relation: None })
     });
     declared.collect()
 }
 
 /// The source without the relations and first edges that its kinds stand for.
 fn folded(mut source: Source) -> Source {
-    let ones: Vec<String> = source.kinds.iter().map(|kind| singular(&kind.name.text)).collect();
+    let ones: Vec<String> = source.kinds.iter().flat_map(|kind| forms(&kind.name.text)).collect();
     source.relations.retain(|relation| !ones.contains(&relation.text));
     source.first.retain(|fact| !ones.contains(&fact.relation.text));
     source

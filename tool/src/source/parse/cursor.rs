@@ -71,7 +71,12 @@ impl Parser {
     }
 
     /// The mistake that something else was expected here.
+    /// Where the statement ends, its own end is shown and not the next one.
     pub(super) fn expected(&self, what: &str, known: &[&str]) -> Mistake {
+        if self.is_cut_off() && *self.token() != Token::End {
+            let message = format!("expected {what}, but the statement ends here");
+            return Mistake::new(self.last(), message);
+        }
         let (found, hint) = match self.token() {
             Token::Word(word) if known.contains(&word.as_str()) => (format!("`{word}`"), "".into()),
             Token::Word(word) => (format!("`{word}`"), did_you_mean(word, known.iter().copied())),
@@ -80,7 +85,8 @@ impl Parser {
             Token::Quoted(words) => (format!("\"{words}\""), String::new()),
             Token::End => ("the end of the file".to_string(), String::new()),
         };
-        let mistake = Mistake::new(self.span(), format!("expected {what}, found {found}{hint}"));
+        let span = if *self.token() == Token::End { self.last() } else { self.span() };
+        let mistake = Mistake::new(span, format!("expected {what}, found {found}{hint}"));
         match self.token() {
             Token::Word(word)
                 if known.iter().any(|known| *known == word.to_lowercase() && known != word) =>
@@ -108,7 +114,7 @@ impl Parser {
     pub(super) fn name(&mut self, what: &str) -> Result<Name, Mistake> {
         let span = self.span();
         match self.token().clone() {
-            Token::Word(word) if WORDS.contains(&word.as_str()) => {
+            Token::Word(word) if WORDS.contains(&word.as_str()) && !self.is_cut_off() => {
                 let message = format!("expected {what}; `{word}` is reserved");
                 let advice = match word.as_str() {
                     "me" | "target" | "here" => {
@@ -118,7 +124,7 @@ impl Parser {
                 };
                 Err(Mistake::new(span, message).advise(advice))
             }
-            Token::Word(text) => {
+            Token::Word(text) if !WORDS.contains(&text.as_str()) => {
                 self.next += 1;
                 Ok(Name { text, span })
             }

@@ -2,10 +2,15 @@
 //! and `not` where English has it.
 
 use super::*;
+use crate::source::kinds::singulars;
 
 /// Words that one may try for `some` and `every`, and what is written here.
 const QUANTIFIERS: [(&str, &str); 5] =
     [("any", "some"), ("exists", "some"), ("all", "every"), ("each", "every"), ("forall", "every")];
+
+/// Numbers in words, from 1.
+pub(super) const NUMBERS: [&str; 10] =
+    ["one", "two", "three", "four", "five", "six", "seven", "eight", "nine", "ten"];
 
 /// Words that are put before an event in English, and not here.
 const AUXILIARIES: [&str; 12] =
@@ -54,35 +59,49 @@ impl Parser {
     }
 
     /// The next word, if it is no name of a relation, an event or a definition.
-    fn english(&self) -> Option<&str> {
+    pub(super) fn english(&self) -> Option<&str> {
         let known = |word: &&str| self.declared.contains(*word) || self.defined.contains(*word);
         self.word_ahead(0).filter(|word| !known(word))
     }
 
-    /// `any owner owns target`, where `some` or `every` is meant.
+    /// `any owner owns target`, where `some` or `every` is meant; `no friend of me`, `two
+    /// friends of me`.
     pub(super) fn other_quantifier(&self) -> Option<Mistake> {
         let word = self.english()?;
-        let meant = QUANTIFIERS.iter().find(|(tried, _)| *tried == word)?.1;
-        let three = self.name_ahead(1) && (self.name_ahead(2) || self.word_ahead(2) == Some("of"));
-        three.then(|| {
-            let message = format!("`{word}` has no meaning here");
-            let advice = format!("write `{meant}`; `some` asks for one, `every` for all of them");
-            Mistake::new(self.span(), message).advise(advice)
-        })
-    }
-
-    /// `when if me owns target`, `when everyone`.
-    pub(super) fn beginning(&self) -> Option<Mistake> {
-        let word = self.english()?;
-        let advice = match word {
-            "if" => "leave it out: a condition begins after `when`",
-            "unless" => "write `not` before the sentence: `not me owns target`",
-            "anyone" | "everyone" | "anybody" | "everybody" => {
-                "that everybody may is written `by anyone`, in the place of `when`; in a sentence write `someone`"
+        if !self.name_ahead(1) || !(self.name_ahead(2) || self.word_ahead(2) == Some("of")) {
+            return None;
+        }
+        let counted = || self.counted(1).unwrap_or_else(|| "...".to_string());
+        let number = NUMBERS.iter().position(|known| *known == word);
+        let advice = match (QUANTIFIERS.iter().find(|(tried, _)| *tried == word), number) {
+            (Some((_, meant)), _) => {
+                format!("write `{meant}`; `some` asks for one, `every` for all of them")
             }
+            (None, Some(place)) => format!("write `at least {} {}`", place + 1, counted()),
+            (None, None) if word == "no" => format!("write `not some {}`", counted()),
             _ => return None,
         };
-        Some(Mistake::new(self.span(), format!("`{word}` has no meaning here")).advise(advice))
+        let message = format!("`{word}` has no meaning here");
+        Some(Mistake::new(self.span(), message).advise(advice))
+    }
+
+    /// `friends of me` some places ahead, with the relation as it is declared.
+    pub(super) fn counted(&self, places: usize) -> Option<String> {
+        let noun = self.word_ahead(places).filter(|_| self.name_ahead(places))?;
+        let (then, whom) = (self.word_ahead(places + 1)?, self.word_ahead(places + 2)?);
+        let told = then == "of" || self.declared.contains(then);
+        let called = match (self.word_ahead(places + 3), self.word_ahead(places + 4)) {
+            (Some("as"), Some(name)) => format!(" as {name}"),
+            _ => String::new(),
+        };
+        told.then(|| format!("{} {then} {whom}{called}", self.declared_one(noun)))
+    }
+
+    /// A noun in the form in which it is declared.
+    fn declared_one(&self, noun: &str) -> String {
+        let forms = std::iter::once(noun.to_string()).chain(singulars(noun));
+        let declared = forms.into_iter().find(|form| self.declared.contains(form));
+        declared.unwrap_or_else(|| noun.to_string())
     }
 
     /// `owner of target share me`, where somebody has to be looked for.
@@ -118,6 +137,10 @@ impl Parser {
     /// `owner has shared with me`, where the event's own name is meant.
     fn auxiliary(&self) -> Option<Mistake> {
         let word = self.english()?;
+        if let Some(advice) = self.having() {
+            let message = format!("`{word}` has no meaning here");
+            return Some(Mistake::new(self.span(), message).advise(advice));
+        }
         let named = self.name_ahead(1) || self.word_ahead(1) == Some("not");
         (AUXILIARIES.contains(&word) && named).then(|| {
             let message = format!("`{word}` has no meaning here");
@@ -126,6 +149,28 @@ impl Parser {
                           \"at some time\", `not` for the contrary";
             Mistake::new(self.span(), message).advise(advice)
         })
+    }
+
+    /// `me has at least 2 friends`, where they are counted along a relation.
+    fn having(&self) -> Option<String> {
+        let subject = self.last_word().filter(|_| self.is_word("has") || self.is_word("have"))?;
+        let number = |word: &str| NUMBERS.iter().position(|known| *known == word);
+        let (quantity, noun) = match (self.ahead(1), self.ahead(2), self.ahead(3)) {
+            (Token::Word(at), Token::Word(least), Token::Number(count))
+                if at == "at" && least == "least" =>
+            {
+                (format!("at least {count}"), 4)
+            }
+            (Token::Number(count), ..) => (format!("at least {count}"), 2),
+            (Token::Word(word), ..) => match word.as_str() {
+                "some" | "every" => (word.clone(), 2),
+                "no" => ("not some".to_string(), 2),
+                word => (format!("at least {}", number(word)? + 1), 2),
+            },
+            _ => return None,
+        };
+        let noun = self.declared_one(self.word_ahead(noun).filter(|_| self.name_ahead(noun))?);
+        Some(format!("write `{quantity} {noun} of {subject}`"))
     }
 
     /// `target not is preset`, `me not owns target`.

@@ -32,6 +32,9 @@ impl Parser {
             }
             self.next += 1;
             let other = self.part()?;
+            if let Some(mistake) = self.who_again(&formula, &word, &other) {
+                return Err(mistake);
+            }
             height = height.max(self.height) + 1;
             if height > TALLEST {
                 let message = format!("more than {TALLEST} parts stand side by side");

@@ -34,9 +34,10 @@ pub fn read(text: &str) -> Read {
         let before = text[..span.start].rsplit('\n').next().unwrap_or("");
         before.chars().all(char::is_whitespace)
     };
-    let (declared, defined) = (declared(&tokens), defined(&tokens));
+    let events = declared(&tokens, &STATEMENTS[4..6]);
+    let (declared, defined) = (declared(&tokens, &STATEMENTS[2..6]), defined(&tokens));
     let begins = tokens.iter().map(|(_, span)| first(span)).collect();
-    let mut parser = Parser { tokens, begins, declared, defined, ..Parser::default() };
+    let mut parser = Parser { tokens, begins, declared, events, defined, ..Parser::default() };
     let mut read = Read::default();
     while *parser.token() != Token::End {
         let (first, start) = (parser.next, parser.span());
@@ -44,6 +45,7 @@ pub fn read(text: &str) -> Read {
         match parser.statement(&mut source) {
             Ok(()) => read.source.add(source),
             Err(mistake) => {
+                let stopped = parser.span().start.max(mistake.span.start);
                 parser.pass_over(first);
                 let words = parser.tokens[first..parser.next].iter();
                 read.doubtful.extend(words.filter_map(|(token, _)| match token {
@@ -54,8 +56,10 @@ pub fn read(text: &str) -> Read {
                 let within = |other: &&Mistake| {
                     (start.start..parser.span().start).contains(&other.span.start)
                 };
-                let earlier = unknown.iter().filter(within).cloned().chain([mistake]);
-                read.mistakes.extend(earlier.min_by_key(|mistake| mistake.span.start));
+                let met =
+                    unknown.iter().filter(within).map(|other| (other.span.start, other.clone()));
+                let earliest = met.chain([(stopped, mistake)]).min_by_key(|(place, _)| *place);
+                read.mistakes.extend(earliest.map(|(_, mistake)| mistake));
                 read.passed.push(start.start..parser.span().start);
             }
         }
@@ -87,15 +91,21 @@ pub fn formula(text: &str, declared: HashSet<String>) -> Result<Formula, Mistake
     }
 }
 
-/// The words after `relation` and `event`, up to whatever is no list.
-fn declared(tokens: &[(Token, Span)]) -> HashSet<String> {
+/// The names after `relation` or `event`: the first, and each after a comma.
+fn declared(tokens: &[(Token, Span)], statements: &[&str]) -> HashSet<String> {
     let mut declared = HashSet::new();
-    let mut within = false;
+    let (mut within, mut due) = (false, false);
     for (token, _) in tokens {
         match token {
-            Token::Word(word) if STATEMENTS[2..6].contains(&word.as_str()) => within = true,
+            Token::Word(word) if statements.contains(&word.as_str()) => {
+                (within, due) = (true, true)
+            }
             Token::Word(word) if WORDS.contains(&word.as_str()) => within = false,
-            Token::Word(word) if within => drop(declared.insert(word.clone())),
+            Token::Word(word) if within && due => {
+                declared.insert(word.clone());
+                due = false;
+            }
+            Token::Sign(',') => due = true,
             _ => {}
         }
     }

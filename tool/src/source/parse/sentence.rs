@@ -102,8 +102,8 @@ impl Parser {
         let start = self.span();
         let nobody = self.is_word("nobody");
         let subject = self.anybody("somebody")?;
+        let word = self.last_word().unwrap_or("target").to_string();
         if let Some(subject) = subject.clone().filter(|_| self.is_word("is")) {
-            let word = self.last_word().unwrap_or("target").to_string();
             self.next += 1;
             return match self.no_such(&word) {
                 Some(mistake) => Err(mistake),
@@ -112,6 +112,12 @@ impl Parser {
         }
         if let Some(mistake) = self.english_verb() {
             return Err(mistake);
+        }
+        if self.is_cut_off() {
+            let mistake = self.expected("`is`, a relation, an event or a definition", &[]);
+            let advice =
+                format!("say what `{word}` does or is: `{word} owns ...`, `{word} is ...`");
+            return Err(mistake.advise(advice));
         }
         let label = self.label("`is`, a relation, an event or a definition")?;
         let walking = self.span();
@@ -127,6 +133,9 @@ impl Parser {
             }
             (None, subject) => {
                 let negative = self.is_word("nobody");
+                if let Some(mistake) = self.no_object(&word, &label).filter(|_| subject.is_some()) {
+                    return Err(mistake);
+                }
                 let object = self.anybody("whom, or `some` or `every`")?;
                 if subject.is_none() && object.is_none() {
                     let message =

@@ -1,17 +1,9 @@
 //! What is said where something stands that can't, and how reading goes on.
 
+use super::english::NUMBERS;
 use super::*;
 use crate::names::nearest;
 use crate::source::kinds::singular;
-
-/// The mistake that an effect is about somebody other than `me` and `target`.
-pub fn third(span: Span) -> Mistake {
-    let message = "an effect is between `me` and `target`, one way or the other";
-    let advice =
-        "an event changes nothing about third members; let them ask themselves, by an event of \
-        their own";
-    Mistake::new(span, message).advise(advice)
-}
 
 impl Parser {
     /// Whether a statement begins here, or the source ends.
@@ -53,7 +45,10 @@ impl Parser {
         let what = "`when` and who may do it, or `by anyone`";
         let mistake = self.expected(what, &["when", "by"]);
         match self.word_ahead(0) {
-            Some("if" | "where" | "while" | "unless") => mistake.advise("write `when`"),
+            Some("if" | "where" | "while" | "only") => mistake.advise("write `when`"),
+            Some("unless") => mistake.advise("write `when not`"),
+            Some("after") => mistake.advise("write `when once`"),
+            Some("before") => mistake.advise("write `when never`"),
             Some("for") => mistake.advise(self.by_whom()),
             _ if self.at_statement() => {
                 let advice = "say who may do it: `by anyone`, or `when` and a condition";
@@ -92,9 +87,8 @@ impl Parser {
         if let Some(mistake) = self.article_before() {
             return mistake;
         }
-        if self.is_word("until") {
-            let advice = "`a until b` is written `not b since a`";
-            return Mistake::new(self.span(), "`until` has no meaning here").advise(advice);
+        if let Some(mistake) = self.joining() {
+            return mistake;
         }
         let is_sign = matches!(self.token(), Token::Sign(sign) if *sign != ',');
         if self.bare == Some(self.next) && !is_sign {
@@ -124,7 +118,6 @@ impl Parser {
                 "a sentence is of two: who does it, its name as declared, and to whom: `owner share me`. \
                  For three at once see docs/LANGUAGE.md, Three at once"
             }
-            (_, Some("unless")) => "write `and not` in place of `unless`",
             (_, Some("twice")) => {
                 "say that it was so, and once before: `once (me load target and previously once me load target)`"
             }
@@ -138,7 +131,8 @@ impl Parser {
 
     /// How to say who may do it, for the word that follows `by` or `for`.
     pub(super) fn by_whom(&self) -> String {
-        let whom = self.word_ahead(usize::from(self.is_word("for"))).map(singular);
+        let place = usize::from(self.is_word("for"));
+        let whom = self.word_ahead(place).filter(|_| self.name_ahead(place)).map(singular);
         let whom = whom.unwrap_or_else(|| "player".to_string());
         format!("`by anyone`, or `when` and a condition, such as `when me is {whom}`")
     }
@@ -166,56 +160,6 @@ impl Parser {
         (somebody(from) && named(to)).then(|| format!("{from} {label} some {to}"))
     }
 
-    /// What is said of an effect on one alone: `add target is suspended`.
-    pub(super) fn alone(&self, add: bool, who: &Person, relation: &Name, event: &str) -> Mistake {
-        if !matches!(who.who, Who::Me | Who::Target) {
-            return third(who.span.to(self.last()));
-        }
-        let own = who.who == Who::Me;
-        let whom = if own { "`me`" } else { "the target" };
-        let does = |event: &str| match own {
-            true => format!("p {event} someone"),
-            false => format!("someone {event} p"),
-        };
-        let other = self.opposite(add, &relation.text).map(does);
-        let body = match (add, other) {
-            (true, Some(ends)) => format!("not {ends} since {}", does(event)),
-            (true, None) => format!("once {}", does(event)),
-            (false, Some(begins)) => format!("not {} since {begins}", does(event)),
-            (false, None) => format!("never {}", does(event)),
-        };
-        let name = &relation.text;
-        let instead = match self.declared.contains(name) {
-            true => format!(", without `relation {name}`"),
-            false => String::new(),
-        };
-        let advice =
-            format!("remember it from the event instead{instead}: `define p is {name}: {body}`");
-        let message = format!("an effect cannot change something about {whom} alone");
-        Mistake::new(who.span.to(self.last()), message).advise(advice)
-    }
-
-    /// The event that has the contrary effect on one alone.
-    fn opposite(&self, add: bool, relation: &str) -> Option<&str> {
-        let word = |place: usize| match self.tokens.get(place) {
-            Some((Token::Word(word), _)) => Some(word.as_str()),
-            _ => None,
-        };
-        let contrary = if add { "remove" } else { "add" };
-        let effect = (0..self.tokens.len()).find(|place| {
-            word(*place) == Some(contrary) && {
-                let said = [1, 2, 3].map(|after| word(place + after));
-                said[1] == Some(relation) && said[0] == said[2]
-                    || said[1] == Some("is")
-                        && said[2] == Some(relation)
-                        && word(place + 4) != Some("of")
-            }
-        })?;
-        let declares = |place: &usize| matches!(word(*place), Some("event" | "events"));
-        let event = (0..effect).rev().find(declares)?;
-        word(event + 1)
-    }
-
     /// What is said of a parenthesis that is not closed, where it opened.
     pub(super) fn not_closed(&self, opened: Span) -> Mistake {
         if !self.at_statement() {
@@ -229,33 +173,11 @@ impl Parser {
         Mistake::new(opened, "this `(` is not closed").advise(advice)
     }
 
-    /// What is said where a formula should begin.
-    pub(super) fn no_formula(&self, beginnings: &[&str]) -> Mistake {
-        let mistake = self.expected("a formula", beginnings);
-        let advice = match (self.token(), self.word_ahead(0)) {
-            (_, Some("since")) => {
-                "`since` stands between two formulas: `f since g` says that g held once, and f ever since"
-            }
-            (_, Some("and" | "or")) => "`and` and `or` stand between two formulas; one is missing before this",
-            (Token::End, _) => "the last formula is cut off: say what has to hold",
-            (Token::Number(count), _) => {
-                let advice = format!("a number stands after `at least` only: `at least {count} ...`");
-                return mistake.advise(advice);
-            }
-            (Token::Sign(')'), _) => "something has to stand between the parentheses",
-            _ if mistake.advice.is_some() => return mistake,
-            _ => "a formula is a sentence such as `me owns target`, or parts joined with `and` and `or`",
-        };
-        mistake.advise(advice)
-    }
-
     /// What is said where `at least` has no number.
     pub(super) fn no_number(&self) -> Mistake {
-        const WORDS: [&str; 10] =
-            ["one", "two", "three", "four", "five", "six", "seven", "eight", "nine", "ten"];
         let mistake = self.expected("a number, 1 or more, after `at least`", &[]);
         let word = self.word_ahead(0).unwrap_or("");
-        if let Some(place) = WORDS.iter().position(|known| *known == word) {
+        if let Some(place) = NUMBERS.iter().position(|known| *known == word) {
             return mistake.advise(format!("write it in digits: `at least {}`", place + 1));
         }
         mistake.advise(match self.token() {

@@ -1,11 +1,11 @@
 //! Finds people, labels and definitions by name, or says what was meant.
 
-use super::super::ast::{Name, Person, Span, Who as Written};
+use super::super::ast::{MemberKind, Name, Person, Quantifier, Span, Walk, Who as Written};
 use super::super::mistake::Mistake;
 use super::super::said::{Who, ME, TARGET};
 use super::{Resolver, Scope};
 use crate::names::did_you_mean;
-use crate::source::kinds::singular;
+use crate::source::kinds::{forms, singular};
 
 /// Other words for `me` that one may try.
 const WHO_ASKS: [&str; 7] = ["i", "you", "self", "initiator", "asker", "requester", "subject"];
@@ -46,16 +46,20 @@ impl Resolver<'_> {
         } else {
             "nobody"
         };
-        let kinds = &self.source.kinds;
-        if also_defined && kinds.iter().any(|kind| kind.name.text == *text) {
-            let one = singular(text);
-            let message = format!("{what} is called `{text}` here; did you mean `{one}`?");
-            let advice = format!("a kind is tested in the singular: `is {one}`");
-            return Mistake::unknown(name, message).advise(advice);
+        let kinds: Vec<String> =
+            self.source.kinds.iter().map(|kind| singular(&kind.name.text)).collect();
+        if also_defined {
+            all.extend(kinds.iter().map(String::as_str));
         }
         let hint = did_you_mean(text, all);
         let mistake = Mistake::unknown(name, format!("{what} is called `{text}` here{hint}"));
-        let known = format!("names in sight: {}", known.join(", "));
+        if let Some(naming) = self.nameless.last().filter(|_| !also_defined && hint.is_empty()) {
+            return mistake.advise(naming.replace('*', text));
+        }
+        let mut known = format!("names in sight: {}", known.join(", "));
+        if also_defined && !kinds.is_empty() {
+            known += &format!("; kinds: {}", self.kinds());
+        }
         match (also_defined, hint.is_empty()) {
             (true, true) => mistake.advise(format!(
                 "{known}; or declare it: `relation {text}`, or `define p is {text}: ...`"
@@ -66,6 +70,28 @@ impl Resolver<'_> {
             )),
             _ => mistake.advise(known),
         }
+    }
+
+    /// How to name whom a walk finds; `*` stands for the name.
+    pub(super) fn naming(walk: &Walk) -> String {
+        let person = match &walk.person.who {
+            Written::Me => "me",
+            Written::Target => "target",
+            Written::Here => "here",
+            Written::Named(name) => name,
+        };
+        let quantity = match walk.quantifier {
+            Quantifier::Some => "some".to_string(),
+            Quantifier::Every => "every".to_string(),
+            Quantifier::AtLeast(count) => format!("at least {count}"),
+        };
+        let label = &walk.label.text;
+        let named = match (walk.outwards, walk.label.span.start < walk.person.span.start) {
+            (true, true) => format!("{quantity} {label} of {person} as *:"),
+            (true, false) => format!("{person} {label} {quantity} *:"),
+            (false, _) => format!("{quantity} * {label} {person}:"),
+        };
+        format!("name them: `{named}`")
     }
 
     /// Adds to the advice of a mistake that `I` is written `me`.
@@ -109,6 +135,23 @@ impl Resolver<'_> {
         })
     }
 
+    /// The kinds of members, each with the word that a formula tests for it.
+    fn kinds(&self) -> String {
+        let told = self.source.kinds.iter().map(|kind| {
+            let (many, one) = (&kind.name.text, singular(&kind.name.text));
+            format!("{many} (`is {one}`)")
+        });
+        told.collect::<Vec<_>>().join(", ")
+    }
+
+    /// The relation of a kind, by any of its words.
+    pub(super) fn kind_label(&self, text: &str) -> Option<usize> {
+        let called = |kind: &&MemberKind| forms(&kind.name.text).iter().any(|form| form == text);
+        let relation =
+            self.source.kinds.iter().filter(called).find_map(|kind| kind.relation.as_ref())?;
+        self.find_label(relation)
+    }
+
     pub(super) fn find_label(&self, text: &str) -> Option<usize> {
         let (relations, events) = (&self.source.relations, &self.source.events);
         let event = |text: &str| events.iter().position(|known| known.name.text == text);
@@ -134,7 +177,10 @@ impl Resolver<'_> {
             let mistake = Mistake::unknown(word, message);
             let all = format!("relations and events: {}", known.join(", "));
             match hint.is_empty() {
-                true => mistake.advise(format!("{all}; or declare it: `relation {}`", word.text)),
+                true => mistake.advise(format!(
+                    "{all}; or declare it: `event {0} by anyone` or `relation {0}`",
+                    word.text
+                )),
                 false => mistake.advise(all),
             }
         })

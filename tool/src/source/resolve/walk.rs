@@ -105,9 +105,11 @@ impl Resolver<'_> {
             self.hiding(name, scope);
             scope.push((name.text.clone(), Who::Other(id)));
         }
+        self.nameless.extend(walk.name.is_none().then(|| Self::naming(walk)));
         let body = self.formula(&walk.body, scope);
-        if walk.name.is_some() {
-            scope.pop();
+        match walk.name {
+            Some(_) => drop(scope.pop()),
+            None => drop(self.nameless.pop()),
         }
         Ok((id, body?))
     }

@@ -1,0 +1,49 @@
+//! Whether an event is granted somewhere else than where requests were tried: in the
+//! folder's tests, or after a few requests that are sought.
+
+use super::tried::{busiest, varied, Count};
+use crate::both::Both;
+use crate::folder::Folder;
+use crate::reach::{search_event, Found, Limits};
+use crate::stop::Stop;
+use crate::testing::read::read;
+use crate::testing::run::answers;
+use crate::testing::TESTS;
+use std::fs;
+
+/// So many answers of the tests are counted.
+const ANSWERS: usize = 4_000;
+
+/// Requests are sought among so many members.
+const SOUGHT: usize = 12;
+
+/// So far they are sought, for all events together: part of a second.
+const LIMITS: Limits = Limits { within: 4, tries: 200_000, bytes: 64 * 1024 * 1024 };
+
+/// How the folder's tests are answered, whatever they expect; nothing for tests that
+/// can't be read.
+pub fn tested(both: &Both, folder: &Folder) -> Result<Vec<Count>, Stop> {
+    let mut counts = vec![Count::default(); both.terms().events];
+    let text = fs::read_to_string(folder.path.join(TESTS)).unwrap_or_default();
+    let Ok(tests) = read(&text, both, &folder.names) else { return Ok(counts) };
+    let mut counted = 0;
+    for test in &tests {
+        if counted > ANSWERS {
+            break;
+        }
+        for (event, granted) in answers(test, both, &folder.terms)? {
+            let count = &mut counts[event];
+            *(if granted { &mut count.granted } else { &mut count.denied }) += 1;
+            counted += 1;
+        }
+    }
+    Ok(counts)
+}
+
+/// Whether a search, one of some, finds requests after which somebody is granted an event.
+pub fn is_found(both: &Both, event: usize, searches: usize) -> bool {
+    let terms = both.terms();
+    let members = varied(terms, &busiest(terms), SOUGHT);
+    let limits = Limits { tries: LIMITS.tries / searches.max(1), ..LIMITS };
+    matches!(search_event(both.monitor(), event, &members, limits), Found::After(_))
+}
