@@ -102,14 +102,15 @@ fn a_policy_that_is_seldom_met_is_tried_for_long() {
     assert!(said.contains("= `cuckooormolu why` says what was lacking each time"), "{said}");
 }
 
-/// Four moments apart and in order: hardly met by chance.
+/// Five requests in order: hardly met by chance, and too far for a short search.
 const SELDOM: &str = "\
 members players: p1, p2, p3, p4, p5, p6, p7, p8, p9, p10; presets: saw, pad, bell, drum; banks: north
 relations owns, friend
 event share, withdraw when me is player and target is player
 event befriend when me is player and target is player then add me friend target
 event suspend, lift when me is bank and target is player
-event praise when previously (previously (previously (previously me befriend target)) and me share target)
+event praise when me share target and previously (me withdraw target and previously (target share me
+  and previously (target withdraw me and previously me befriend target)))
 first p9 owns saw, p10 owns pad, p8 owns bell
 ";
 
@@ -119,8 +120,9 @@ fn what_the_tests_are_granted_counts() {
     folder.write("terms.say", SELDOM);
     let never = "nobody was ever granted praise";
     assert!(run(&["check", folder.path()]).out.contains(never));
-    let steps = ["befriend p2", "befriend p3", "befriend p3", "share p2", "share p3"];
-    let steps: String = steps.iter().map(|step| format!("  given p1 {step}\n")).collect();
+    let steps =
+        ["p1 befriend p2", "p2 withdraw p1", "p2 share p1", "p1 withdraw p2", "p1 share p2"];
+    let steps: String = steps.iter().map(|step| format!("  given {step}\n")).collect();
     folder.write("tests.say", &format!("test praise in its turn\n{steps}  p1 may praise p2\n"));
     assert_eq!(run(&["test", folder.path()]).status, 0);
     let said = run(&["check", folder.path()]).out;
@@ -136,12 +138,14 @@ fn a_short_search_comes_before_the_warning() {
     let folder = Folder::new();
     let praise = "event praise when (some b lift me: b is bank) and \
         (previously some s share target: s owns some preset) and me is not target\n";
-    let terms: Vec<&str> = SELDOM.lines().filter(|line| !line.contains("praise")).collect();
-    folder.write("terms.say", &format!("{}\n{praise}", terms.join("\n")));
+    let (before, rest) = SELDOM.split_once("event praise").unwrap();
+    let (_, after) = rest.split_once("first").unwrap();
+    let with = |praise: &str| format!("{before}{praise}first{after}");
+    folder.write("terms.say", &with(praise));
     let said = run(&["check", folder.path()]).out;
     assert!(!said.contains("nobody was ever granted"), "{said}");
     let impossible = "event praise when me is preset and (some b lift me: b is bank)\n";
-    folder.write("terms.say", &format!("{}\n{impossible}", terms.join("\n")));
+    folder.write("terms.say", &with(impossible));
     let said = run(&["check", folder.path()]).out;
     assert!(said.contains("nobody was ever granted praise"), "{said}");
 }

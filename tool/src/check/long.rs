@@ -18,7 +18,7 @@ const MOST_PLACES: usize = 100_000;
 pub fn long(subject: &Subject) -> Option<Warning> {
     let (entry, depth) = deepest(subject.terms);
     let members = subject.terms.members;
-    let ways = members.saturating_pow(depth as u32);
+    let ways = ways(members, depth);
     let told = |who: String, how: &str, few: &str| {
         let what = format!(
             "{who} of {depth} members that {how} one inside the other: up to {members} to the \
@@ -29,6 +29,16 @@ pub fn long(subject: &Subject) -> Option<Warning> {
     let in_terms = || told(format!("entry {entry} speaks"), "binders name", "nested binders");
     let in_source = || told("this speaks".to_string(), "are sought", "people sought inside others");
     (ways > MANY).then(|| subject.warn("long", About::Entry(entry), in_terms, in_source))
+}
+
+fn ways(members: usize, depth: usize) -> usize {
+    members.saturating_pow(depth as u32)
+}
+
+/// About how much there is to work out for a request, all entries together.
+pub fn work(terms: &Terms) -> usize {
+    let most = ways(terms.members, deepest(terms).1.max(2));
+    terms.entries.len().saturating_mul(most)
 }
 
 /// The entry with the most free variables that were bound at the far end of an

@@ -1,6 +1,7 @@
 //! Whether an event is granted somewhere else than where requests were tried: in the
 //! folder's tests, or after a few requests that are sought.
 
+use super::long::work;
 use super::tried::{busiest, varied, Count};
 use crate::both::Both;
 use crate::folder::Folder;
@@ -17,8 +18,11 @@ const ANSWERS: usize = 4_000;
 /// Requests are sought among so many members.
 const SOUGHT: usize = 12;
 
-/// So far they are sought, for all events together: part of a second.
+/// So far they are sought, for all events together.
 const LIMITS: Limits = Limits { within: 4, tries: 200_000, bytes: 64 * 1024 * 1024 };
+
+/// And so much is worked out for that: part of a second.
+const WORK: usize = 1_500_000_000;
 
 /// How the folder's tests are answered, whatever they expect; nothing for tests that
 /// can't be read.
@@ -44,6 +48,7 @@ pub fn tested(both: &Both, folder: &Folder) -> Result<Vec<Count>, Stop> {
 pub fn is_found(both: &Both, event: usize, searches: usize) -> bool {
     let terms = both.terms();
     let members = varied(terms, &busiest(terms), SOUGHT);
-    let limits = Limits { tries: LIMITS.tries / searches.max(1), ..LIMITS };
+    let tries = LIMITS.tries.min(WORK / work(terms).max(1));
+    let limits = Limits { tries: tries / searches.max(1), ..LIMITS };
     matches!(search_event(both.monitor(), event, &members, limits), Found::After(_))
 }
