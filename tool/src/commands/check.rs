@@ -20,7 +20,8 @@ Says whether terms are accepted: those of the source, terms.say, or else those o
 a terms file. If they are not, shows each line with the mistake marked, what is
 wrong, and what would be right; for a terms file, the refusal's number too, with
 tabs shown as → and carriage returns as ↵. If they are, warns of what may be a
-mistake all the same.
+mistake all the same. That nobody is ever granted an event is said after the
+folder's requests and tests, many others, and a short search for some.
 
   --watch  check again whenever a file of the folder changes, until stopped
   --json   one line for each mistake of a source: error, file, line, column, advice;
