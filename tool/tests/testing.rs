@@ -274,3 +274,26 @@ fn the_examples_have_tests_that_pass() {
     let said = run(&arguments);
     assert_eq!((said.err.as_str(), said.status), ("", 0), "{}", said.out);
 }
+
+#[test]
+fn words_of_a_reason_may_have_others_between_them() {
+    let folder = Folder::new();
+    folder.write(
+        "terms.say",
+        "members dora, pete, saw\nrelation owns\nevent share, withdraw by anyone\n\
+         event load when me gets target\n\
+         define p gets s: some o owns s: not o withdraw p since o share p\n\
+         first dora owns saw\n",
+    );
+    folder.write(
+        "tests.say",
+        "test forms\n  given dora share pete\n  pete may load saw because dora shared pete\n\
+         \x20 pete may load saw because pete gets saw dora share pete\n\
+         \x20 dora may not load saw because dora gets saw\n",
+    );
+    let said = run(&["test", folder.path()]);
+    assert_eq!(
+        (said.status, said.out.as_str()),
+        (0, "1 test with 4 answers: 1 passed, 0 failed\n")
+    );
+}
