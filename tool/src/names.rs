@@ -1,6 +1,8 @@
 //! The names of members, relations and events.
 
+mod asked;
 mod kind;
+mod kinds;
 mod near;
 mod renumbered;
 mod settled;

@@ -1,5 +1,9 @@
 //! The shortest list of requests after which another is granted, by breadth: every
 //! state that can be reached, each step a request of the proved library on a copy.
+//!
+//! * `fixed`: policies that fail by what never changes, so that no state has to be tried
+
+pub mod fixed;
 
 use proved::raw::{self, Request};
 use proved::{Answer, Monitor, SCRATCH_WORDS, STATE_WORDS};
@@ -39,6 +43,17 @@ pub enum Found {
 
 /// Seeks the shortest list after which a request is granted.
 pub fn search(monitor: &Monitor, asked: Request, limits: Limits) -> Found {
+    search_telling(monitor, asked, limits, &mut |_, _| ())
+}
+
+/// The same; it tells from time to time how many states it has seen, and after how many
+/// requests the last of them.
+pub fn search_telling(
+    monitor: &Monitor,
+    asked: Request,
+    limits: Limits,
+    tell: &mut dyn FnMut(usize, usize),
+) -> Found {
     let mut search = Search::new(monitor, asked);
     search.meet(*monitor.state().words(), None);
     let mut depth = 0;
@@ -49,7 +64,7 @@ pub fn search(monitor: &Monitor, asked: Request, limits: Limits) -> Found {
         if depth == limits.within {
             return Found::NotWithin { states: search.nodes.len() };
         }
-        if !search.deepen(limits) {
+        if !search.deepen(limits, &mut |states| tell(states, depth + 1)) {
             return Found::GivenUp { states: search.nodes.len(), within: depth };
         }
         depth += 1;
@@ -107,7 +122,7 @@ impl<'a> Search<'a> {
 
     /// Makes every request in each state of the last level; whether that was not too
     /// much.
-    fn deepen(&mut self, limits: Limits) -> bool {
+    fn deepen(&mut self, limits: Limits, tell: &mut dyn FnMut(usize)) -> bool {
         let end = self.nodes.len();
         for node in self.level..end {
             let before = unpacked(&self.nodes[node].state);
@@ -125,6 +140,7 @@ impl<'a> Search<'a> {
                 }
             }
             self.tries += self.requests.len();
+            tell(self.nodes.len());
             if self.tries > limits.tries || self.bytes > limits.bytes {
                 return false;
             }
