@@ -12,7 +12,7 @@ use crate::replay::Replay;
 use crate::stop::{Stop, FAILING, WELL};
 use crate::trial::typed::split;
 use crate::words::Words;
-use keeper::terms::Terms;
+use keeper::terms::{Entry, Terms};
 use proved::raw;
 use std::io::{IsTerminal, Write};
 use std::path::Path;
@@ -110,6 +110,9 @@ fn fixed(both: &Both, asked: raw::Request, names: &Names) -> Result<Option<Strin
     };
     match both.look(event, from, to)? {
         Verdict::Grant => Err(Stop::Differ("a request that cannot be granted is granted".into())),
+        _ if holds && matches!(terms.entries[at.0], Entry::Var(_)) => {
+            Ok(Some(format!("both are {}", names.member(at.1))))
+        }
         _ => Ok(Some(Telling::new(terms, names).holds(at, holds, false))),
     }
 }
