@@ -1,12 +1,15 @@
 //! The files of a folder: terms.say or terms.tsv, requests.say or requests.tsv,
 //! names.tsv.
 //!
+//! * `definitions`: definitions.tsv, beside stored terms
 //! * `request`: a line of requests.tsv
 //! * `writing`: files written so that none is lost
 
+pub mod definitions;
 mod request;
 mod writing;
 
+pub use definitions::DEFINITIONS;
 pub use request::Request;
 pub use writing::{make, write};
 
@@ -77,7 +80,11 @@ impl Folder {
         if file.file_name().is_some_and(|name| name == TERMS) && source.is_file() {
             up_to_date(&terms, &file, &source)?;
         }
-        let names = Names::read(&text(&folder.join(NAMES))?).map_err(Stop::Failed)?;
+        let mut names = Names::read(&text(&folder.join(NAMES))?).map_err(Stop::Failed)?;
+        if let Ok(read) = keeper::terms::read(&terms) {
+            let beside = text(&folder.join(DEFINITIONS)).unwrap_or_default();
+            definitions::read(&beside, &read.terms, &mut names);
+        }
         Folder { path: folder, file, terms, names, ..Folder::default() }.with_requests()
     }
 

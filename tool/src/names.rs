@@ -1,8 +1,11 @@
 //! The names of members, relations and events.
 
+mod asked;
 mod kind;
+mod kinds;
 mod near;
 mod renumbered;
+mod settled;
 mod spoken;
 
 pub use kind::{Kind, Labelled};
@@ -144,6 +147,11 @@ impl Names {
     /// The definition that an entry is.
     pub fn defined(&self, entry: usize) -> Option<&Called> {
         self.defined.get(&entry)
+    }
+
+    /// Whether a definition has this name.
+    pub fn is_definition(&self, name: &str) -> bool {
+        self.defined.values().any(|called| called.name == name)
     }
 
     /// The text of names.tsv.

@@ -1,5 +1,9 @@
 //! The shortest list of requests after which another is granted, by breadth: every
 //! state that can be reached, each step a request of the proved library on a copy.
+//!
+//! * `fixed`: policies that fail by what never changes, so that no state has to be tried
+
+pub mod fixed;
 
 use proved::raw::{self, Request};
 use proved::{Answer, Monitor, SCRATCH_WORDS, STATE_WORDS};
@@ -39,14 +43,25 @@ pub enum Found {
 
 /// Seeks the shortest list after which a request is granted.
 pub fn search(monitor: &Monitor, asked: Request, limits: Limits) -> Found {
+    search_telling(monitor, asked, limits, &mut |_, _| ())
+}
+
+/// The same; it tells from time to time how many states it has seen, and after how many
+/// requests the last of them.
+pub fn search_telling(
+    monitor: &Monitor,
+    asked: Request,
+    limits: Limits,
+    tell: &mut dyn FnMut(usize, usize),
+) -> Found {
     let members: Vec<usize> = (0..monitor.terms().members().len()).collect();
-    Search::new(monitor, &members, Sought::Request(asked)).run(monitor, limits)
+    Search::new(monitor, &members, Sought::Request(asked)).run(monitor, limits, tell)
 }
 
 /// Seeks requests among some members after which one of them is granted an event. After
 /// a request only pairs with one of its two members are looked at, each for a try.
 pub fn search_event(monitor: &Monitor, event: usize, members: &[usize], limits: Limits) -> Found {
-    Search::new(monitor, members, Sought::Event(event)).run(monitor, limits)
+    Search::new(monitor, members, Sought::Event(event)).run(monitor, limits, &mut |_, _| ())
 }
 
 /// What is to be granted.
@@ -101,7 +116,12 @@ impl<'a> Search<'a> {
     }
 
     /// Goes on from level to level.
-    fn run(mut self, monitor: &Monitor, limits: Limits) -> Found {
+    fn run(
+        mut self,
+        monitor: &Monitor,
+        limits: Limits,
+        tell: &mut dyn FnMut(usize, usize),
+    ) -> Found {
         self.meet(*monitor.state().words(), None);
         let mut depth = 0;
         while self.found.is_none() {
@@ -111,7 +131,7 @@ impl<'a> Search<'a> {
             if depth == limits.within {
                 return Found::NotWithin { states: self.nodes.len() };
             }
-            if !self.deepen(limits) {
+            if !self.deepen(limits, &mut |states| tell(states, depth + 1)) {
                 return Found::GivenUp { states: self.nodes.len(), within: depth };
             }
             depth += 1;
@@ -121,7 +141,7 @@ impl<'a> Search<'a> {
 
     /// Makes every request in each state of the last level; whether that was not too
     /// much.
-    fn deepen(&mut self, limits: Limits) -> bool {
+    fn deepen(&mut self, limits: Limits, tell: &mut dyn FnMut(usize)) -> bool {
         let end = self.nodes.len();
         for node in self.level..end {
             let before = unpacked(&self.nodes[node].state);
@@ -139,6 +159,7 @@ impl<'a> Search<'a> {
                 }
             }
             self.tries += self.requests.len();
+            tell(self.nodes.len());
             if self.tries > limits.tries || self.bytes > limits.bytes {
                 return false;
             }

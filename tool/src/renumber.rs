@@ -10,7 +10,7 @@ pub mod order;
 mod source;
 
 use crate::both::Both;
-use crate::folder::{self, Folder, NAMES, REQUESTS, SOURCE, SPOKEN, TERMS};
+use crate::folder::{self, Folder, DEFINITIONS, NAMES, REQUESTS, SOURCE, SPOKEN, TERMS};
 use crate::json::Json;
 use crate::names::Names;
 use crate::replay::{Replay, Step};
@@ -89,6 +89,9 @@ fn files(
     if !names.is_empty() {
         files.push((NAMES, names.into_bytes()));
     }
+    // Formulas name no member.
+    files
+        .extend(read(DEFINITIONS).filter(|_| new.source.is_none()).map(|told| (DEFINITIONS, told)));
     if let Some(spoken) = read(SPOKEN) {
         asked::same_requests(&old.path.join(SPOKEN), &spoken, new)?;
         files.push((SPOKEN, spoken));

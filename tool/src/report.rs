@@ -38,7 +38,8 @@ pub const TABLES: &str = include_str!("report/tables.css");
 /// The whole page.
 pub fn page(title: &str, replay: &Replay, names: &Names) -> Result<String, Stop> {
     let words = Words::new(replay.both.terms(), names);
-    let drawing = Drawing::new(&words, replay.both.record().graphs());
+    let graphs = drawing::drawn(&words, replay.both.record().graphs());
+    let drawing = Drawing::new(&words, &graphs);
     let title = escaped(title);
     Ok(format!(
         "<!DOCTYPE html>\n<html lang=\"en\">\n<head>\n<meta charset=\"utf-8\">\n\
@@ -51,7 +52,7 @@ pub fn page(title: &str, replay: &Replay, names: &Names) -> Result<String, Stop>
         palette::style(words.terms.relations),
         filter::style(replay, &words),
         drawing.definitions(),
-        summary(replay),
+        summary(replay, names),
         policies::section(replay.both.record(), &words),
         moments::section(replay, &words, &drawing)?,
         tables::section(replay, &words)?,
@@ -59,8 +60,9 @@ pub fn page(title: &str, replay: &Replay, names: &Names) -> Result<String, Stop>
 }
 
 /// How many there are of everything.
-fn summary(replay: &Replay) -> String {
+fn summary(replay: &Replay, names: &Names) -> String {
     let terms = replay.both.terms();
+    let kinds = names.kind_relations(terms).len();
     let count = |wanted: fn(Verdict) -> bool| {
         replay.steps.iter().filter(|step| wanted(step.verdict)).count()
     };
@@ -72,9 +74,10 @@ fn summary(replay: &Replay) -> String {
         answers.push(format!("{refused} refused"));
     }
     format!(
-        "<p class=\"summary\">{}, {}, {}. {}: {}.</p>\n",
+        "<p class=\"summary\">{}{}, {}, {}. {}: {}.</p>\n",
         counted(terms.members, "member"),
-        counted(terms.relations, "relation"),
+        if kinds == 0 { String::new() } else { format!(" of {}", counted(kinds, "kind")) },
+        counted(terms.relations - kinds, "relation"),
         counted(terms.events, "event"),
         counted(replay.steps.len(), "request"),
         answers.join(", "),

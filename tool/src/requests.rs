@@ -1,5 +1,5 @@
-//! Requests by name, one a line: `load ben warm-pad`. So they stand in
-//! requests.say, and come from standard input. Each may name its bank first, or none
+//! Requests by name, one a line: `load ben warm-pad`, or `ben load warm-pad`. So they stand
+//! in requests.say, and come from standard input. Each may name its bank first, or none
 //! does: `left load ben warm-pad`.
 
 use crate::bank::Bank;
@@ -86,25 +86,22 @@ fn ask(words: &[&str], terms: &Terms, names: &Names) -> Result<Option<[usize; 3]
             [] => Ok(None),
             [bank, ..] => Err(match did_you_mean(bank, Bank::BOTH.map(Bank::word)) {
                 hint if words.len() == 4 && !hint.is_empty() => format!("no bank `{bank}`{hint}"),
-                _ => "a request is an event, who asks and who is asked: `load pete saw`; its bank may \
-                      come first: `left load pete saw`"
+                _ => "a request is an event, who asks and who is asked: `load pete saw` or `pete load saw`; \
+                      its bank may come first: `left load pete saw`"
                     .into(),
             }),
         };
     };
-    let event = names.lookup(Kind::Event, event, terms.events).map_err(|said| {
-        let events: Vec<String> = (0..terms.events).map(|event| names.event(event)).collect();
-        let turned = did_you_mean(from, events.iter().map(String::as_str)).contains(from);
-        match turned {
-            _ if Bank::named(event).is_some() => {
+    let asked = names.asked([event, from, to], terms).map_err(|said| {
+        let is_bank = Bank::named(event).is_some() && names.find(Kind::Member, event).is_none();
+        match is_bank && names.find(Kind::Event, event).is_none() {
+            true => {
                 format!("after the bank come an event, who asks and who is asked: `{event} load pete saw`")
             }
-            true => format!("{said}; the event comes first: `{from} {event} {to}`"),
             false => said,
         }
     })?;
-    let member = |word: &str| names.lookup(Kind::Member, word, terms.members);
-    Ok(Some([event, member(from)?, member(to)?]))
+    Ok(Some(asked))
 }
 
 /// A line without its comment. In double quotes `#` begins none.
@@ -195,9 +192,9 @@ mod tests {
     #[test]
     fn read_and_written() {
         let (terms, names) = names();
-        let text = "# first\n\nshare dora \"the saw\"  # a gift\nR\t0\t1\t0\nshare 1 -> dora\n";
+        let text = "# first\n\nshare dora \"the saw\"  # a gift\nR\t0\t1\t0\nshare 1 -> dora\ndora share 1\n";
         let read = read("f", text, &terms, &names).unwrap();
-        assert_eq!(read.lines, b"R\t0\t0\t1\nR\t0\t1\t0\nR\t0\t1\t0\n");
+        assert_eq!(read.lines, b"R\t0\t0\t1\nR\t0\t1\t0\nR\t0\t1\t0\nR\t0\t0\t1\n");
         assert_eq!(read.banks, []);
         let ask = Request::Ask { event: 0, from: 0, to: 1 };
         assert_eq!(write([ask].into_iter(), &names), ["share dora \"the saw\"\n"]);
@@ -236,12 +233,12 @@ mod tests {
     #[test]
     fn mistakes() {
         let (terms, names) = names();
-        let said = read("f", "shrae dora dora\nshare dora\ndora share dora\n", &terms, &names);
+        let said = read("f", "shrae dora dora\nshare dora\ndora shrae dora\n", &terms, &names);
         let said = said.unwrap_err().to_string();
         let lines: Vec<&str> = said.lines().collect();
         assert_eq!(lines[0], "f:1: no event `shrae`; did you mean `share`?");
         assert!(lines[1].starts_with("f:2: a request is an event, who asks"), "{said}");
-        assert!(lines[2].contains("the event comes first: `share dora dora`"), "{said}");
+        assert_eq!(lines[2], "f:3: no event `shrae`; did you mean `share`?");
         let said = |text: &str| read("f", text, &terms, &names).unwrap_err().to_string();
         assert_eq!(said("lefft share dora dora\n"), "f:1: no bank `lefft`; did you mean `left`?");
         assert!(said("right dora dora\n").starts_with("f:1: after the bank come an event"));

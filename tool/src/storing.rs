@@ -1,6 +1,6 @@
 //! The files that a folder's story is stored in, and how long files may be.
 
-use crate::folder::{self, folder_of, Folder, NAMES, SOURCE, TERMS};
+use crate::folder::{self, definitions, folder_of, Folder, DEFINITIONS, NAMES, SOURCE, TERMS};
 use crate::stop::Stop;
 use keeper::program::MOST_BYTES;
 use std::fs;
@@ -20,7 +20,7 @@ pub fn fits(file: &Path, bytes: usize) -> Result<(), Stop> {
     )))
 }
 
-/// Stores a text of terms with the names of the folder that it comes from
+/// Stores a text of terms with the names and definitions of the folder that it comes from
 /// beside it, in a folder that is made if need be.
 pub fn store(file: &Path, text: &[u8], from: &Folder) -> Result<(), Stop> {
     fits(file, text.len())?;
@@ -44,6 +44,10 @@ pub fn store(file: &Path, text: &[u8], from: &Folder) -> Result<(), Stop> {
     folder::make(&place)?;
     if own && there.is_none_or(|there| there != names) {
         folder::write(&beside, names.as_bytes())?;
+    }
+    let terms = keeper::terms::read(text).ok().filter(|_| own);
+    if let Some(told) = terms.and_then(|read| definitions::write(&read.terms, &from.names)) {
+        folder::write(&place.join(DEFINITIONS), told.as_bytes())?;
     }
     folder::write(file, text)
 }

@@ -2,8 +2,10 @@
 //!
 //! * `lines`: a text cut into statements; `read`: the statements, with their names found
 //! * `cursor`: the words of a statement; `people`: whom it speaks of
-//! * `run`: the tests made, each from the first moment, and where they fail
+//! * `run`: the tests made, each from the first moment, and where they fail; `because`: the
+//!   words that a reason has to have
 
+mod because;
 mod cursor;
 mod lines;
 mod people;

@@ -151,11 +151,35 @@ impl Lines<'_, '_> {
                 _ => self.line(story),
             });
             if depth < DEEPEST {
-                let under = story.facts.iter().flat_map(|fact| self.under(fact, depth + 1));
-                lines.extend(under.map(|line| format!("  {line}")));
+                let under = self.under_all(&story.facts, depth + 1);
+                lines.extend(under.into_iter().map(|line| format!("  {line}")));
             }
         }
         (lines, count - shown)
+    }
+
+    /// What is told under facts; where they are about several moments, each with its own.
+    fn under_all(&mut self, facts: &[Fact], depth: usize) -> Vec<String> {
+        let told: Vec<(Option<usize>, Vec<String>)> =
+            facts.iter().map(|fact| (fact.moment(), self.under(fact, depth))).collect();
+        let mut moments: Vec<Option<usize>> =
+            told.iter().filter(|(_, lines)| !lines.is_empty()).map(|(moment, _)| *moment).collect();
+        moments.dedup();
+        let when = |moment: Option<usize>| match moment {
+            Some(moment) if moments.len() > 1 && moment != self.now => {
+                format!("at moment {moment}: ")
+            }
+            Some(_) if moments.len() > 1 => "now: ".to_string(),
+            _ => String::new(),
+        };
+        let marked = |(moment, lines): (Option<usize>, Vec<String>)| {
+            let mark = move |line: String| match line.starts_with(' ') {
+                true => line,
+                false => format!("{}{line}", when(moment)),
+            };
+            lines.into_iter().map(mark)
+        };
+        told.into_iter().flat_map(marked).collect()
     }
 
     /// Why a definition holds, or doesn't, or never did.
@@ -189,6 +213,7 @@ impl Lines<'_, '_> {
             text.push_str(match index {
                 0 => "",
                 _ if story.turn == Some(index) => ", but ",
+                _ if matches!(fact, Fact::Also { nor: true, .. }) => ", ",
                 _ => ", and ",
             });
             let seen = Seen { now: self.now, last, all: self.all };

@@ -96,7 +96,7 @@ left: would be granted
 right: granted; moment 2, in the left bank without the event
 left preview pete → dora: denied
   dora has not just shared with pete
-  moment 2 was made in the right bank, where dora shared with itself: the left bank sees the moment, not the event
+  moment 2 was made in the right bank, where dora shared with themselves: the left bank sees the moment, not the event
 right: granted; moment 3, in the left bank without the event
 left: granted; moment 4, in the right bank without the event
 left load pete → saw: granted

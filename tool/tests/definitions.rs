@@ -116,3 +116,30 @@ fn a_verb_that_is_not_known_is_asked_for() {
     assert_eq!(run(&["compile", folder.path()]).status, 0);
     assert!(folder.read("names.tsv").contains("event\t0\tzap\tzap\tzapped\n"));
 }
+
+/// Whoever is handed to a definition is the same member in its head and in its body, also
+/// where the definition stands at somebody else.
+#[test]
+fn a_definition_speaks_of_one_member() {
+    let folder = Folder::new();
+    folder.write(
+        "terms.say",
+        "members dora, pete, saw\nrelations owns, friend\nevent share, withdraw by anyone\n\
+         event load when me gets target\n\
+         event show when some x friend target: x is not me and me gets target\n\
+         event keep when me is not spared\n\
+         define p gets s: some o owns s: not o withdraw p since o share p\n\
+         define p is spared: p owns p and some o owns target: once o share p\n\
+         first dora owns saw\n",
+    );
+    let said = run(&["aloud", folder.path()]).out;
+    for part in [
+        "You may load the target if you get the target.",
+        "of some A such that A is not you and you get the target.",
+        "A member M gets the target if some member that owns the target has at some time shared with M and has \
+         not\nwithdrawn from M since.",
+        "A member M is spared if M owns themselves and some member that owns the target has at some time shared with M.",
+    ] {
+        assert!(said.contains(part), "{part}\n\n{said}");
+    }
+}

@@ -126,6 +126,13 @@ fn mistakes_have_a_place_a_cause_and_a_cure() {
         ("given not dora share pete", "did not happen needs no words", "leave it out"),
         ("given dora share pete, dora owns pad", "at the beginning of a test only", "put it first"),
         ("given dora owns saw,", "expected a member, found the end of the line", ""),
+        ("pete cannot load saw", "a question has `may not`, not `cannot`", "write `may not`"),
+        ("pete can load saw", "a question has `may`, not `can`", "write `may`"),
+        ("everyone may load saw", "no member `everyone`", "write `anyone`"),
+        ("nobody except pete may load saw", "`nobody` takes no `except`", "write `only pete`"),
+        ("no player may load saw", "no member `no`", "write `nobody`"),
+        ("pete may load the saw", "no member `the`", "leave out `the`: write `saw`"),
+        ("given share dora peet", "no member `peet`; did you mean `pete`?", ""),
     ];
     for (line, message, advice) in cases {
         let folder = folder(&format!("test one\n  {line}\n"));
@@ -273,4 +280,37 @@ fn the_examples_have_tests_that_pass() {
     arguments.extend(folders.iter().map(String::as_str));
     let said = run(&arguments);
     assert_eq!((said.err.as_str(), said.status), ("", 0), "{}", said.out);
+}
+
+#[test]
+fn words_of_a_reason_may_have_others_between_them() {
+    let folder = Folder::new();
+    folder.write(
+        "terms.say",
+        "members dora, pete, saw\nrelation owns\nevent share, withdraw by anyone\n\
+         event load when me gets target\n\
+         define p gets s: some o owns s: not o withdraw p since o share p\n\
+         first dora owns saw\n",
+    );
+    folder.write(
+        "tests.say",
+        "test forms\n  given dora share pete\n  pete may load saw because dora shared pete\n\
+         \x20 pete may load saw because pete gets saw dora share pete\n\
+         \x20 dora may not load saw because dora gets saw\n",
+    );
+    let said = run(&["test", folder.path()]);
+    assert_eq!(
+        (said.status, said.out.as_str()),
+        (0, "1 test with 4 answers: 1 passed, 0 failed\n")
+    );
+}
+
+#[test]
+fn an_event_may_come_first() {
+    let folder = folder(
+        "test one\n  given share dora pete\n  pete may load saw\n  then withdraw dora pete, denied load pete saw\n\
+         \x20 pete may not load saw\n",
+    );
+    let said = run(&["test", folder.path()]);
+    assert_eq!(said.out, "1 test with 5 answers: 1 passed, 0 failed\n");
 }

@@ -222,12 +222,15 @@ fn is_so(terms: &Terms, graphs: &[Graph], meaning: &mut Meaning, fact: &Fact) ->
             let (from, to) = if out { (member, other) } else { (other, member) };
             others >> other & 1 == 1 || !has_edge(terms, &graphs[moment], label, from, to)
         }),
-        Fact::Count { label, member, others, moment, .. } => (0..terms.members)
-            .filter(|other| others >> other & 1 == 1)
-            .all(|other| has_edge(terms, &graphs[moment], label, member, other)),
+        Fact::Count { place, others, .. } => {
+            let (_, [label, ..]) = terms.entries[place.entry].parts();
+            let counted = (0..terms.members).filter(|other| others >> other & 1 == 1);
+            let graph = &graphs[place.moment];
+            counted.into_iter().all(|other| has_edge(terms, graph, label, place.member, other))
+        }
         Fact::Same { member, .. } => member < terms.members,
         Fact::Differ { member, other } => member != other,
-        Fact::NoMomentBefore | Fact::Always => true,
+        Fact::NoMomentBefore | Fact::OneEvent | Fact::Always => true,
         Fact::NotBefore(moment) | Fact::Counting(moment) => moment < graphs.len(),
         Fact::NeverSince { place, first } => {
             (first..=place.moment).all(|moment| !holds(place, moment))
@@ -243,7 +246,7 @@ fn is_so(terms: &Terms, graphs: &[Graph], meaning: &mut Meaning, fact: &Fact) ->
             (usize::from(after)..=place.moment).all(|moment| !holds(place, moment))
         }
         Fact::Stored(Claim { place, holds: value }) => holds(place, 0) == value,
-        Fact::Also { claim, ref moments } => moments.iter().all(|&moment| {
+        Fact::Also { claim, ref moments, .. } => moments.iter().all(|&moment| {
             moment < claim.place.moment && holds(claim.place, moment) == claim.holds
         }),
         Fact::Since { place, first } => (first..=place.moment).all(|moment| holds(place, moment)),

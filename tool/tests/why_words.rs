@@ -136,13 +136,7 @@ fn a_moment_that_came_near() {
     // Somebody asked me who was then a friend of the target.
     let entries = ["out 0 1", "in 1 2", "since 0 3"];
     let near = why(&entries, &["0 2 0", "0 3 3", "1 0 1"]);
-    assert_eq!(
-        near,
-        [
-            "cem asked ann at moment 1, but ben was not a friend of cem then",
-            "there was no moment so far at which some member that had just asked ann had ben as a friend",
-        ]
-    );
+    assert_eq!(near, ["cem asked ann at moment 1, but ben was not a friend of cem then",]);
 }
 
 #[test]
@@ -162,24 +156,22 @@ fn neighbours_that_are_counted() {
     let two = ["many 0 0 2"];
     assert_eq!(
         why(&two, &["1 1 0"]),
-        ["at least 2 are needed, and there is only 1: cem is a friend of ben"]
+        ["at least 2 friends of ben are needed, and there is only 1: cem"]
     );
-    assert_eq!(why(&two, &["1 0 1"]), ["at least 2 are needed, and there is none"]);
-    let enough = [
-        "at least 2 are needed, and there are 2: ann is a friend of ben and cem is a friend of ben",
-    ];
+    assert_eq!(why(&two, &["1 0 1"]), ["at least 2 friends of ann are needed, and there is none"]);
+    let enough = ["at least 2 friends of ben are needed, and there are 2: ann and cem"];
     assert_eq!(why(&two, &["0 1 0", "1 1 0"]), enough);
     let with_friends = ["out 0 0", "many 0 2 2"];
     assert_eq!(
         why(&with_friends, &["0 1 0", "0 2 3", "1 1 0"]),
         [
-            "at least 2 are needed, and there is only 1: cem is a friend of ben",
+            "at least 2 friends of ben that have some member as a friend are needed, and there is only 1: cem",
             "ann is a friend of ben, but no member is a friend of ann"
         ]
     );
     assert_eq!(
         why(&with_friends, &["0 1 0", "0 2 3", "0 0 1", "1 1 0"]),
-        ["at least 2 are needed, and there are 2: ann is a friend of ben and cem is a friend of ben, \
+        ["at least 2 friends of ben that have some member as a friend are needed, and there are 2: ann and cem, \
           and ben is a friend of ann, and x is a friend of cem"]
     );
     // Once two friends: a part that is told in a clause.

@@ -2,6 +2,7 @@
 
 use super::clause::Who;
 use super::grammar::{be, do_, with, Time};
+use super::resolve::person;
 use super::verbs::verb;
 use super::words::{listed, name, Shape, Words};
 use crate::names::Called;
@@ -68,7 +69,7 @@ pub fn clause(called: &Called, of: Who, given: &[(usize, Who)], holds: bool, tim
     let people: Vec<Who> = called.people.iter().map(person).collect();
     let object = people.get(1).map(|who| match *who == people[0] {
         true if *who == Who::You => ("yourself".to_string(), true),
-        true => ("itself".to_string(), false),
+        true => ("themselves".to_string(), false),
         false => (name(*who), *who == Who::You),
     });
     if is_of_several(called) {
@@ -82,12 +83,8 @@ pub fn clause(called: &Called, of: Who, given: &[(usize, Who)], holds: bool, tim
 
 /// What stands before the clause of a definition: `A member M is suspended`.
 pub fn head(called: &Called) -> String {
-    let person = |(place, variable): (usize, &Option<usize>)| match variable {
-        None => (name(Who::Here), false),
-        Some(0) => (name(Who::Target), false),
-        Some(_) => (name(Who::Guest(place)), false),
-    };
-    let people: Vec<(String, bool)> = called.people.iter().enumerate().map(person).collect();
+    let person = |place: usize| (name(person(called, place)), false);
+    let people: Vec<(String, bool)> = (0..called.people.len()).map(person).collect();
     let said = said(called, &people, Time::Now, true);
     match said.strip_prefix("the target") {
         Some(rest) => format!("The target{rest}"),

@@ -37,19 +37,31 @@ pub fn of_entry(forms: &Forms, entry: usize) -> Clause {
     Resolver { forms, guests: 0 }.inside(forms.node(entry, true), Who::Here, named)
 }
 
-/// What an entry that is a definition says of its people: the member it is said of,
-/// the target, or else guests, by their places. Whoever else it speaks of is the
-/// initiator or the target.
+/// What an entry that is a definition says of its people: a member M, the target, or
+/// else guests, by their places. Whoever else it speaks of is the initiator or the target.
 pub fn of_defined(forms: &Forms, entry: usize, called: &Called) -> Clause {
     let mut named = Named([Who::You; VARIABLES]).with(0, Who::Target);
     for (place, variable) in called.people.iter().enumerate() {
-        if let Some(variable @ 1..) = variable {
-            named = named.with(*variable, Who::Guest(place));
+        if let Some(variable) = variable {
+            named = named.with(*variable, person(called, place));
         }
+    }
+    for variable in (0..VARIABLES).filter(|x| called.here >> x & 1 == 1) {
+        named = named.with(variable, Who::Here);
     }
     let here = if called.people.contains(&None) { Who::Here } else { Who::You };
     let guests = called.people.len();
     Resolver { forms, guests }.inside(Node { entry, holds: true }, here, named)
+}
+
+/// Who is said at a place of a definition.
+pub fn person(called: &Called, place: usize) -> Who {
+    match called.people[place] {
+        Some(0) => Who::Target,
+        None => Who::Here,
+        Some(_) if called.first() == Some(place) => Who::Here,
+        Some(_) => Who::Guest(place),
+    }
 }
 
 /// What an entry, or its negation, says at a member, with every variable
@@ -63,6 +75,13 @@ pub fn of_place(forms: &Forms, (entry, member, assigned): At, holds: bool) -> Cl
 pub fn by_name(forms: &Forms, (entry, member, assigned): At, holds: bool) -> Clause {
     let (here, named) = (Who::Member(member), standing(assigned));
     Resolver { forms, guests: 0 }.node(forms.node(entry, holds), here, named)
+}
+
+/// The label of a `many` at a place, and what it says of those it counts.
+pub fn counted(forms: &Forms, (entry, _, assigned): At, who: Who) -> Option<(usize, Clause)> {
+    let Entry::Many(label, there, _) = forms.terms.entries[entry] else { return None };
+    let (node, named) = (forms.node(there, true), standing(assigned));
+    Some((label, Resolver { forms, guests: 1 }.node(node, who, named)))
 }
 
 /// That the step of a reach leads from a member to nobody.

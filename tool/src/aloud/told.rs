@@ -1,12 +1,13 @@
 //! Sentences about single members, for reasons: `dora owns saw`, `pete has never
 //! shared with saw`.
 
+mod sought;
+
 use super::clause::Clause;
 use super::define;
 use super::form::Forms;
 use super::grammar::Time;
 use super::labels::{Labels, Manner, Voice};
-use super::render::Speaker;
 use super::resolve;
 use super::words::{full, letters, named, Words};
 use crate::names::{Called, Names};
@@ -39,14 +40,14 @@ impl<'a> Telling<'a> {
         }
         let (from, to) = if self.labels.is_reversed(label) { (to, from) } else { (from, to) };
         let link = self.labels.link(label, Voice::Active, false, time, manner);
-        let to = if from == to { "itself" } else { to };
+        let to = if from == to { "themselves" } else { to };
         link.map_or_else(String::new, |link| format!("{from} {}", link.with(to)))
     }
 
     /// An event at a moment that is named after it: `dora shared with pete`, `no
     /// member shared with pete`, `dora did not share with pete`.
     pub fn event(&self, label: usize, from: &str, to: &str, holds: bool) -> String {
-        let to = if from == to { "itself" } else { to };
+        let to = if from == to { "themselves" } else { to };
         format!("{from} {} {to}", self.labels.did(label, holds))
     }
 
@@ -72,9 +73,7 @@ impl<'a> Telling<'a> {
     pub fn since(&self, at: At, then: bool) -> String {
         let time = if then { Time::Then } else { Time::Now };
         let clause = self.by_name(at);
-        let speaker =
-            Speaker { labels: &self.labels, names: self.names, apart: Vec::new(), numbered: false };
-        match speaker.ended(&clause, time, None) {
+        match self.speaker().ended(&clause, time, None) {
             Some(words) => format!("{} since", self.finish(words)),
             None => format!("at every moment since {}", self.say(&clause, Time::Then)),
         }
@@ -102,9 +101,7 @@ impl<'a> Telling<'a> {
     }
 
     fn say(&self, clause: &Clause, time: Time) -> String {
-        let mut speaker =
-            Speaker { labels: &self.labels, names: self.names, apart: Vec::new(), numbered: false };
-        self.finish(speaker.say(clause, time, None))
+        self.finish(self.speaker().say(clause, time, None))
     }
 
     fn finish(&self, words: Words) -> String {

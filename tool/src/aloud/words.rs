@@ -109,7 +109,7 @@ pub fn object(who: Who, subject: Who) -> String {
     match who == subject {
         false => name(who),
         true if who == Who::You => "yourself".to_string(),
-        true => "itself".to_string(),
+        true => "themselves".to_string(),
     }
 }
 

@@ -1,19 +1,22 @@
 //! `cuckooormolu can`: the shortest way to a request that is granted.
 
+use crate::aloud::told::Telling;
 use crate::arguments::Arguments;
 use crate::both::{Both, Verdict};
 use crate::folder::{Folder, Request};
 use crate::json::Json;
-use crate::names::{Kind, Names};
-use crate::reach::{search, Found, Limits};
+use crate::names::Names;
+use crate::reach::fixed::Fixed;
+use crate::reach::{search, search_telling, Found, Limits};
 use crate::replay::Replay;
 use crate::stop::{Stop, FAILING, WELL};
 use crate::trial::typed::split;
 use crate::words::Words;
-use keeper::terms::Terms;
+use keeper::terms::{Entry, Terms};
 use proved::raw;
-use std::io::Write;
+use std::io::{IsTerminal, Write};
 use std::path::Path;
+use std::time::{Duration, Instant};
 
 pub const HELP: &str = "\
 usage: cuckooormolu can DIR REQUEST [--within N] [--first] [--json]
@@ -22,10 +25,12 @@ Says whether a request can come to be granted after the requests of a folder, an
 the shortest list of further requests, of anybody, after which it is. REQUEST is who
 asks, the event and who is asked, as in \"pete load saw\"; the event may come first.
 
-Every state that can be reached is tried, those of fewer requests first; each step is
-made by the proved library. If no list is found, all states were seen, and there is
-none; or none within N requests; or the search takes too long or too much memory, and
-says so. Nothing is requested, so nothing changes.
+If it fails by a kind or a relation that no event changes, it is never granted, and that
+is said at once. Else every state that can be reached is tried, those of fewer requests
+first; each step is made by the proved library. If no list is found, all states were
+seen, and there is none; or none within N requests; or the search takes too long or too
+much memory, and says so. On a terminal it shows how far it is. Nothing is requested, so
+nothing changes.
 
   --within N   seek lists of at most N requests
   --first      begin at moment 0, before any request of DIR
@@ -52,7 +57,22 @@ pub fn main(arguments: &[String], out: &mut dyn Write) -> Result<i32, Stop> {
             .parse()
             .map_err(|_| Stop::Usage(format!("--within needs a number; `{word}` is none")))?,
     };
-    let found = search(both.monitor(), request, Limits { within, ..Limits::USUAL });
+    if let Some(why) = fixed(&both, request, &folder.names)? {
+        match arguments.has("--json") {
+            true => writeln!(out, "{}", fixed_json(&why, request, &folder.names))?,
+            false => {
+                let words = Words::new(both.terms(), &folder.names);
+                let asked = words.event(request.event, request.from, request.to);
+                writeln!(out, "{asked} is never granted: {why}, and no event changes that.")?;
+            }
+        }
+        return Ok(FAILING);
+    }
+    let limits = Limits { within, ..Limits::USUAL };
+    let found = match std::io::stderr().is_terminal() {
+        true => shown(|tell| search_telling(both.monitor(), request, limits, tell)),
+        false => search(both.monitor(), request, limits),
+    };
     let steps = match &found {
         Found::After(list) => confirmed(both.clone(), list, request)?,
         _ => Vec::new(),
@@ -76,16 +96,51 @@ fn asked(words: &[String], terms: &Terms, names: &Names) -> Result<raw::Request,
         let form = "a request is who asks, the event and who is asked: \"pete load saw\"";
         return Err(Stop::Usage(form.into()));
     };
-    let is_event = |word: &String| names.lookup(Kind::Event, word, terms.events).is_ok();
-    let is_member = |word: &String| names.lookup(Kind::Member, word, terms.members).is_ok();
-    let turned = is_event(first) && is_member(second) && !(is_event(second) && is_member(first));
-    let (from, event) = if turned { (second, first) } else { (first, second) };
-    let member = |word: &String| names.lookup(Kind::Member, word, terms.members);
-    Ok(raw::Request {
-        event: names.lookup(Kind::Event, event, terms.events).map_err(Stop::Usage)?,
-        from: member(from).map_err(Stop::Usage)?,
-        to: member(to).map_err(Stop::Usage)?,
-    })
+    let [event, from, to] = names.asked([first, second, to], terms).map_err(Stop::Usage)?;
+    Ok(raw::Request { event, from, to })
+}
+
+/// Why a request is never granted, where that is by what never changes. The library denies
+/// it now, too.
+fn fixed(both: &Both, asked: raw::Request, names: &Names) -> Result<Option<String>, Stop> {
+    let raw::Request { event, from, to } = asked;
+    let (terms, graph) = (both.terms(), both.present());
+    let Some((at, holds)) = Fixed::new(terms, graph).fails(event, from, to) else {
+        return Ok(None);
+    };
+    match both.look(event, from, to)? {
+        Verdict::Grant => Err(Stop::Differ("a request that cannot be granted is granted".into())),
+        _ if holds && matches!(terms.entries[at.0], Entry::Var(_)) => {
+            Ok(Some(format!("both are {}", names.member(at.1))))
+        }
+        _ => Ok(Some(Telling::new(terms, names).holds(at, holds, false))),
+    }
+}
+
+fn fixed_json(why: &str, asked: raw::Request, names: &Names) -> Json {
+    Json::Object(vec![
+        ("event", names.event(asked.event).into()),
+        ("from", names.member(asked.from).into()),
+        ("to", names.member(asked.to).into()),
+        ("granted", false.into()),
+        ("why", "never".into()),
+        ("because", why.into()),
+    ])
+}
+
+/// A search that shows on the terminal how far it is.
+fn shown(search: impl FnOnce(&mut dyn FnMut(usize, usize)) -> Found) -> Found {
+    let (mut last, mut told) = (Instant::now(), false);
+    let found = search(&mut |states, depth| {
+        if last.elapsed() >= Duration::from_millis(500) {
+            eprint!("\r{states} states seen, up to {}  ", counted(depth, "request"));
+            (last, told) = (Instant::now(), true);
+        }
+    });
+    if told {
+        eprint!("\r\x1b[K");
+    }
+    found
 }
 
 /// The requests with their answers, made once more, by the keeper too.

@@ -6,6 +6,7 @@ use crate::both::Both;
 use crate::check::{check, About, Checked, Fault, Warning};
 use crate::folder::{Folder, SOURCE, TERMS};
 use crate::json::Json;
+use crate::names::Names;
 use crate::source::mistake::Mistake;
 use crate::stop::{Stop, UNUSABLE, WELL};
 use crate::watch::watch;
@@ -62,7 +63,7 @@ fn checked(path: &Path, json: bool, out: &mut dyn Write) -> Result<i32, Stop> {
         Checked::Accepted(both, mut warnings) => {
             warnings.extend(outdated(&folder));
             if json {
-                writeln!(out, "{}", accepted_json(&both))?;
+                writeln!(out, "{}", accepted_json(&both, &folder.names))?;
                 for warning in folder.source.iter().flat_map(|source| &source.compiled.warnings) {
                     let source = folder.source.as_ref().map_or("", |source| &source.text);
                     writeln!(out, "{}", source_json(warning, source))?;
@@ -71,7 +72,7 @@ fn checked(path: &Path, json: bool, out: &mut dyn Write) -> Result<i32, Stop> {
                     writeln!(out, "{}", warning_json(warning))?;
                 }
             } else {
-                accepted(out, &both)?;
+                accepted(out, &both, &folder.names)?;
                 write!(out, "{}", folder.warnings())?;
                 for warning in &warnings {
                     warned(out, warning, &folder)?;
@@ -114,8 +115,11 @@ fn refused(out: &mut dyn Write, fault: &Fault, text: &[u8]) -> Result<(), Stop> 
     Ok(())
 }
 
-fn accepted(out: &mut dyn Write, both: &Both) -> Result<(), Stop> {
+fn accepted(out: &mut dyn Write, both: &Both, names: &Names) -> Result<(), Stop> {
     let terms = both.terms();
+    // What a source has for its kinds of members nobody wrote as relations.
+    let kinds = names.kind_relations(terms);
+    let edges = terms.edges.iter().filter(|(relation, ..)| !kinds.contains(relation)).count();
     let counted = |count: usize, one: &str, more: &str| match count {
         1 => format!("1 {one}"),
         count => format!("{count} {more}"),
@@ -123,13 +127,16 @@ fn accepted(out: &mut dyn Write, both: &Both) -> Result<(), Stop> {
     let effects = terms.effects.iter().map(Vec::len).sum();
     let mut parts = vec![
         counted(terms.members, "member", "members"),
-        counted(terms.relations, "relation", "relations"),
+        counted(terms.relations - kinds.len(), "relation", "relations"),
         counted(terms.events, "event", "events"),
         counted(terms.entries.len(), "entry", "entries"),
         counted(terms.past().len(), "of them past-time", "of them past-time"),
         counted(effects, "effect", "effects"),
-        counted(terms.edges.len(), "first edge", "first edges"),
+        counted(edges, "first edge", "first edges"),
     ];
+    if !kinds.is_empty() {
+        parts.insert(1, counted(kinds.len(), "kind", "kinds"));
+    }
     if !terms.kept.is_empty() {
         parts.push(counted(terms.kept.len(), "event kept when denied", "events kept when denied"));
     }
@@ -173,12 +180,13 @@ fn fault_json(fault: &Fault) -> Json {
     ])
 }
 
-fn accepted_json(both: &Both) -> Json {
+fn accepted_json(both: &Both, names: &Names) -> Json {
     let terms = both.terms();
     Json::Object(vec![
         ("accepted", true.into()),
         ("members", terms.members.into()),
         ("relations", terms.relations.into()),
+        ("kinds", names.kind_relations(terms).len().into()),
         ("events", terms.events.into()),
         ("entries", terms.entries.len().into()),
         ("past", terms.past().len().into()),

@@ -18,8 +18,8 @@ usage: cuckooormolu run DIR [- | --requests FILE] [--strict] [--json] [--store F
            [--write FILE]
 
 Makes the requests of a folder under its terms, and prints each with its answer.
-Requests are in DIR/requests.say, one per line by name, such as `load pete saw`, or
-else in DIR/requests.tsv. With `-` they are read from standard input, in either
+Requests are in DIR/requests.say, one per line by name, such as `load pete saw` or
+`pete load saw`, or else in DIR/requests.tsv. With `-` they are read from standard input, in either
 form; `run -` means `run . -`. The terms are those of DIR/terms.say, or else of
 DIR/terms.tsv, with the names of DIR/names.tsv if there is one. Stored terms
 continue where they were stored.
@@ -28,7 +28,8 @@ Two banks share terms and relations, each with its own past: then every request 
 name begins with its bank, such as `left load pete saw` or `right load pete saw`.
 
   --requests FILE
-                 make the requests of FILE, in either form, instead of the folder's
+                 make the requests of FILE, in either form, instead of the folder's;
+                 `-` is standard input
   --strict       exit with 1 if a request is denied or refused, with 3 if there is none
   --json         one JSON object per line; `made` is the moment a request made
   --store FILE   store terms, state and what they remember in FILE, before any answer
@@ -92,8 +93,12 @@ pub fn main(arguments: &[String], out: &mut dyn Write) -> Result<i32, Stop> {
 }
 
 /// A folder with its own requests, or those of standard input or of a file.
-fn asked(directory: &str, input: bool, file: Option<&str>) -> Result<Folder, Stop> {
+pub fn asked(directory: &str, input: bool, file: Option<&str>) -> Result<Folder, Stop> {
     let folder = Folder::load(Path::new(directory))?;
+    let (input, file) = match file {
+        Some("-") => (true, None),
+        file => (input, file),
+    };
     match (input, file) {
         (true, Some(_)) => Err(Stop::Usage("give - or --requests FILE, not both".into())),
         (true, None) => {

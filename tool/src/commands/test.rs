@@ -25,11 +25,12 @@ Runs the tests in each folder's tests.say under its terms:
     given dora share pete              a request, which must be granted
     pete may load pad                  a question; makes no moment
     then dora withdraw pete            another request
-    pete may not load pad because withdraw dora
+    pete may not load pad because dora withdraw
 
 Each test begins at moment 0, without the requests of the folder. After `because`
-come words that `why --all` must say. `nobody`, `anyone` and `only pete and quin`
-may stand for a member. `dora denied share pete` is a request that must be denied.
+come words that one reason of `why --all` must have, in this order; others may stand
+between them, and the name of an event, a relation or a definition stands for all its
+forms. `nobody`, `anyone` and `only pete and quin` may stand for a member. `dora denied share pete` is a request that must be denied.
 A test is about one bank.
 
 Prints a diff for each unexpected answer, and a summary. Of several folders, one

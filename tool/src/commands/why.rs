@@ -4,19 +4,19 @@ use super::run;
 use crate::arguments::Arguments;
 use crate::bank::Bank;
 use crate::both::Verdict;
-use crate::folder::Folder;
+use crate::folder::{Folder, Request};
 use crate::json::Json;
 use crate::replay::Step;
 use crate::session::Session;
 use crate::stop::{Stop, WELL};
+use crate::trial::typed::split;
 use crate::why::reason::Reasons;
 use crate::why::Because;
 use crate::words::Words;
 use std::io::Write;
-use std::path::Path;
 
 pub const HELP: &str = "\
-usage: cuckooormolu why DIR [LINE] [--requests FILE] [--all] [--json]
+usage: cuckooormolu why DIR [LINE | REQUEST] [- | --requests FILE] [--all] [--json]
 
 Says why each request of a folder, or the one on LINE of its file, is granted or
 denied, with the moments that decide it. Moment 0 is the first edges, or what was
@@ -25,6 +25,9 @@ line ends with the moment it makes, `granted; moment 2`, another one with the mo
 at which it was asked, `denied at moment 2`. For a denial, lists each alternative that
 failed, nearest miss first. Where a condition held at no moment, it tells at which ones
 a part of it did, and what was lacking then.
+
+A REQUEST, such as load pete saw, is not made: it says why it would be granted or denied
+after the requests of the folder. With `-` these are read from standard input.
 
 If the requests name their banks, left or right, each answer is explained by what its
 own bank has seen. Where an event of the other bank would have counted, it says so.
@@ -39,23 +42,26 @@ Exit status: 0; 3 if a file cannot be read or compiled.
 
 pub fn main(arguments: &[String], out: &mut dyn Write) -> Result<i32, Stop> {
     let arguments = Arguments::read(arguments, &["--all", "--json"], &["--requests"])?;
-    let (directory, line) = match &arguments.rest[..] {
-        [directory] => (directory, None),
-        [directory, line] => (directory, Some(line)),
-        _ => return Err(Stop::Usage("give DIR, and LINE if you like".into())),
+    let [directory, rest @ ..] = &arguments.rest[..] else {
+        return Err(Stop::Usage("give DIR, and LINE or REQUEST if you like".into()));
     };
-    let folder = Folder::load(Path::new(directory))?;
-    let folder = match arguments.option("--requests") {
-        Some(file) => folder.asking_file(Path::new(file))?,
-        None => folder,
+    let (rest, input) = match rest {
+        [rest @ .., dash] if dash == "-" => (rest, true),
+        rest => (rest, false),
     };
+    let folder = run::asked(directory, input, arguments.option("--requests"))?;
     let session = Session::of(&folder)?;
-    let chosen = match line {
-        None => {
+    let looked;
+    let chosen = match rest {
+        [] => {
             run::hint(session.steps(), directory);
             session.steps()
         }
-        Some(line) => one(session.steps(), line)?,
+        [line] if !line.contains(' ') => one(session.steps(), line)?,
+        words => {
+            looked = [look(words, &session, &folder)?];
+            &looked[..]
+        }
     };
     let words = Words::new(session.terms(), &folder.names);
     let widths = run::Widths::of(chosen, &words);
@@ -80,6 +86,25 @@ pub fn main(arguments: &[String], out: &mut dyn Write) -> Result<i32, Stop> {
         }
     }
     Ok(WELL)
+}
+
+/// A request that is looked at, of a bank where there are two.
+fn look(words: &[String], session: &Session, folder: &Folder) -> Result<Step, Stop> {
+    let words = match words {
+        [one] => split(one),
+        words => words.to_vec(),
+    };
+    let words: Vec<&str> = words.iter().map(String::as_str).collect();
+    let (bank, words) = Bank::before(&words, 3);
+    let [first, second, to] = words[..] else {
+        return Err(Stop::Usage("a REQUEST is an event, who asks and who is asked".into()));
+    };
+    let asked = folder.names.asked([first, second, to], session.terms());
+    let [event, from, to] = asked.map_err(Stop::Usage)?;
+    let verdict = session.look(bank, event, from, to)?;
+    let (line, moment) = (session.steps().len() + 1, session.moment());
+    let request = Request::Ask { event, from, to };
+    Ok(Step { line, bank, request, verdict, moment, made: false })
 }
 
 /// The moment that a step made, or else the one at which it was asked.

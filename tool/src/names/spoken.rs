@@ -1,5 +1,7 @@
 //! How events are said, where a source or names.tsv tells, and definitions.
 
+use keeper::terms::Variables;
+
 /// How an event is said: what follows `may`, and what follows `has`.
 #[derive(Clone, Debug, PartialEq, Eq)]
 pub struct Spoken {
@@ -28,4 +30,19 @@ pub struct Called {
     pub name: String,
     /// For each of its people the variable; none for the member at which it is said.
     pub people: Vec<Option<usize>>,
+    /// Further variables that stand for the member at which it is said, a bit for each.
+    pub here: Variables,
+}
+
+impl Called {
+    pub fn new(name: String, people: Vec<Option<usize>>) -> Called {
+        Called { name, people, here: 0 }
+    }
+
+    /// The person that is said first, unless it is the target: a member M.
+    pub fn first(&self) -> Option<usize> {
+        let is_target = |person: &Option<usize>| *person == Some(0);
+        let first = self.people.iter().position(Option::is_none);
+        first.or_else(|| self.people.iter().position(|person| !is_target(person)))
+    }
 }

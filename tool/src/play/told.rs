@@ -9,7 +9,7 @@ use crate::json::Json;
 use crate::matrix::Matrix;
 use crate::names::{Kind, Names};
 use crate::replay::{Replay, Step};
-use crate::report::drawing::Drawing;
+use crate::report::drawing::{drawn, Drawing};
 use crate::report::{policies, tables};
 use crate::source::ast::Span;
 use crate::source::mistake::Mistake;
@@ -133,8 +133,8 @@ fn step(replay: &mut Replay, named: &Named, names: &Names) -> Result<Made, Stop>
 /// The present moment, its picture, and the colours in it.
 fn scene(replay: &Replay, words: &Words) -> Vec<(&'static str, Json)> {
     let moment = replay.moment();
-    let graphs = replay.both.record().graphs();
-    let drawing = Drawing::new(words, graphs);
+    let graphs = drawn(words, replay.both.record().graphs());
+    let drawing = Drawing::new(words, &graphs);
     let stored = replay.both.is_stored();
     let begun = if stored { "as stored" } else { "the first edges" };
     let title = match (moment, graphs[0].event) {

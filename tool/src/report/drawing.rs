@@ -44,6 +44,17 @@ pub struct Changes {
     pub deleted: Vec<Edge>,
 }
 
+/// The graphs as they are drawn: without the relations that are kinds of members.
+pub fn drawn(words: &Words, graphs: &[Graph]) -> Vec<Graph> {
+    let kinds = words.names.kind_relations(words.terms);
+    let is_drawn = |(relation, ..): &Edge| !kinds.contains(relation);
+    let one = |graph: &Graph| Graph {
+        edges: graph.edges.iter().copied().filter(is_drawn).collect(),
+        event: graph.event,
+    };
+    graphs.iter().map(one).collect()
+}
+
 impl<'a> Drawing<'a> {
     pub fn new(words: &'a Words<'a>, graphs: &'a [Graph]) -> Drawing<'a> {
         let mut looped = vec![false; words.terms.members];
@@ -149,7 +160,23 @@ impl<'a> Drawing<'a> {
                 escaped(&self.words.names.relation(relation)),
             )
         };
-        (0..self.words.terms.relations).map(item).collect()
+        let kinds = self.words.names.kind_relations(self.words.terms);
+        let relations = (0..self.words.terms.relations).filter(|one| !kinds.contains(one));
+        relations.map(item).collect::<String>() + &self.kinds()
+    }
+
+    /// Who is of which kind, as items of the same list.
+    fn kinds(&self) -> String {
+        let names = self.words.names;
+        let relations = names.kind_relations(self.words.terms);
+        let item = |(kind, members): &(String, Vec<usize>)| {
+            let members: Vec<String> = members.iter().map(|one| self.words.member(*one)).collect();
+            format!("<li>{}: {}</li>\n", escaped(kind), escaped(&members.join(", ")))
+        };
+        match relations.is_empty() {
+            true => String::new(),
+            false => names.kinds().iter().map(item).collect(),
+        }
     }
 
     /// What stands for an event of a class.

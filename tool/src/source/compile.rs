@@ -67,6 +67,7 @@ pub fn compile(text: &str) -> Result<Compiled, Vec<Mistake>> {
     let events = source.events.iter().map(|event| event.name.span).collect();
     warnings.sort_by_key(|warning| warning.span.start);
     name_definitions(&source, &origins, &mut names);
+    names.settle(&terms);
     for kind in &source.kinds {
         let numbers = kind.members.iter().filter_map(|name| names.find(Kind::Member, &name.text));
         let numbers = numbers.collect();
@@ -93,7 +94,7 @@ fn name_definitions(source: &Source, origins: &[Origin], names: &mut Names) {
         if let Some((place, people)) = &origin.called {
             let name = source.definitions[*place].name.text.clone();
             if !people.is_empty() {
-                names.define(entry, Called { name, people: people.clone() });
+                names.define(entry, Called::new(name, people.clone()));
             }
         }
     }

@@ -1,5 +1,6 @@
 //! Reads tests.say. Statements are independent, so that every mistake is told at once.
 
+mod cures;
 mod given;
 
 use super::lines::{statements, Word};
@@ -84,6 +85,9 @@ impl<'a> Reader<'a> {
             return Ok(read);
         }
         if !self.words.iter().any(|word| word.is("may")) {
+            if let Some(mistake) = cures::of_question(self.words) {
+                return Err(mistake);
+            }
             let word = &self.words[0];
             let hint = did_you_mean(word.text, BEGINNINGS);
             let mistake = Mistake::new(word.span, format!("nothing is asked here{hint}"));
@@ -136,6 +140,9 @@ impl<'a> Reader<'a> {
             return Ok(People::Anyone);
         }
         if self.take("nobody") {
+            if let Some(mistake) = cures::of_exception(&self.words[self.next..]) {
+                return Err(mistake);
+            }
             return Ok(People::Nobody);
         }
         let only = self.take("only");
@@ -150,13 +157,13 @@ impl<'a> Reader<'a> {
     fn members(&mut self) -> Result<Vec<usize>, Mistake> {
         let word = self.word("a member")?;
         let found = self.known.names.members(word.text, self.known.terms.members);
-        found.map_err(|wrong| no_member(word, wrong))
+        found.map_err(|wrong| self.no_member(word, wrong))
     }
 
     fn member(&mut self) -> Result<usize, Mistake> {
         let word = self.word("a member")?;
         let found = self.known.names.lookup(Kind::Member, word.text, self.known.terms.members);
-        found.map_err(|wrong| no_member(word, wrong))
+        found.map_err(|wrong| self.no_member(word, wrong))
     }
 
     fn event(&mut self) -> Result<usize, Mistake> {
@@ -193,14 +200,17 @@ impl<'a> Reader<'a> {
             false => mistake,
         })
     }
-}
 
-/// What is wrong with a word that names no member. It may be a bank.
-fn no_member(word: Word, wrong: String) -> Mistake {
-    match Bank::named(word.text) {
-        Some(_) => Mistake::new(word.span, "a test is about one bank").advise(
-            "leave out the bank; `cuckooormolu why` says how requests of two banks are answered",
-        ),
-        None => Mistake::new(word.span, wrong),
+    /// What is wrong with a word, the last read, that names no member. It may be a bank.
+    fn no_member(&self, word: Word, wrong: String) -> Mistake {
+        if let Some(cure) = cures::of_member(&word, &self.words[self.next..]) {
+            return Mistake::new(word.span, format!("no member `{}`", word.text)).advise(cure);
+        }
+        match Bank::named(word.text) {
+            Some(_) => Mistake::new(word.span, "a test is about one bank").advise(
+                "leave out the bank; `cuckooormolu why` says how requests of two banks are answered",
+            ),
+            None => Mistake::new(word.span, wrong),
+        }
     }
 }

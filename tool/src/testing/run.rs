@@ -1,5 +1,6 @@
 //! Makes tests, each from the first moment; every answer is the proved library's.
 
+use super::because::{missing, says};
 use super::{Call, Said, Test};
 use crate::both::{Both, Verdict};
 use crate::folder::Request;
@@ -155,16 +156,17 @@ impl Telling<'_> {
         let (request, moment) = (Request::Ask { event, from, to }, self.replay.moment());
         let step = Step { line: 0, bank: None, request, verdict, moment, made: false };
         let because = self.why(&step)?;
-        if answer == may && wanted.is_some_and(|wanted| says(&because, wanted)) {
+        if answer == may && wanted.is_some_and(|wanted| says(&because, wanted, self.names)) {
             return Ok(None);
         }
         let reason = wanted.map_or(String::new(), |wanted| format!(" because {wanted}"));
-        let missing = wanted.filter(|_| answer == may).map(|wanted| missing(&because, wanted));
+        let unsaid = wanted.filter(|_| answer == may);
+        let unsaid = unsaid.map(|wanted| missing(&because, wanted, self.names));
         let found = format!("{} because {}", self.asked(call, answer), sentence(&because));
         Ok(Some(Failure {
             span,
             expected: self.asked(call, may) + &reason,
-            found: found + &missing.unwrap_or_default(),
+            found: found + &unsaid.unwrap_or_default(),
         }))
     }
 
@@ -179,46 +181,4 @@ impl Telling<'_> {
 fn sentence(because: &Because) -> String {
     let lines = because.lines.iter().filter(|line| !line.starts_with(' '));
     lines.map(String::as_str).collect::<Vec<_>>().join("; ")
-}
-
-/// Whether a line of the reason has the words, one after another.
-fn says(because: &Because, wanted: &str) -> bool {
-    let wanted = words(wanted);
-    because.lines.iter().any(|line| {
-        let line = words(line);
-        line.windows(wanted.len()).any(|some| some == wanted)
-    })
-}
-
-/// Which of the words no line of the reason has.
-fn missing(because: &Because, wanted: &str) -> String {
-    let said: Vec<String> = because.lines.iter().flat_map(|line| words(line)).collect();
-    let missing: Vec<String> =
-        words(wanted).into_iter().filter(|word| !said.contains(word)).collect();
-    match missing.is_empty() {
-        true => format!("; not found in this order: {wanted}"),
-        false => format!("; not found: {}", missing.join(" ")),
-    }
-}
-
-/// The words of a line, without signs, in small letters.
-fn words(line: &str) -> Vec<String> {
-    let part = |letter: char| !(letter.is_alphanumeric() || letter == '-' || letter == '_');
-    line.split(part).filter(|word| !word.is_empty()).map(str::to_lowercase).collect()
-}
-
-#[cfg(test)]
-mod tests {
-    use super::*;
-
-    #[test]
-    fn words_of_a_reason() {
-        let lines = vec!["never share dora → pete".to_string(), "pete is Suspended".to_string()];
-        let because = Because { granted: false, lines, ..Because::default() };
-        assert!(says(&because, "suspended") && says(&because, "never share dora pete"));
-        assert!(!says(&because, "pend") && !says(&because, "share pete"));
-        assert!(!says(&because, "pete is suspended again"));
-        assert_eq!(missing(&because, "Pete is banned again"), "; not found: banned again");
-        assert_eq!(missing(&because, "share pete"), "; not found in this order: share pete");
-    }
 }

@@ -5,7 +5,7 @@ use crate::names::{did_you_mean, Kind, Names};
 use keeper::terms::Terms;
 
 pub const HELP: &str = "\
-EVENT FROM TO        make a request:  share dora pete
+EVENT FROM TO        make a request:  share dora pete, or dora share pete
 look EVENT FROM TO   what the answer would be; makes no moment
 why [all]            why the last answer is what it is; with all, every fact
 why EVENT FROM TO    why it would be granted or denied
@@ -52,6 +52,9 @@ pub fn next(before: &str, terms: &Terms, names: &Names) -> Vec<String> {
         rest => (false, rest),
     };
     let events = all(Kind::Event, terms.events);
+    let is_member = |word: &str| {
+        names.find(Kind::Member, word).is_some() && names.find(Kind::Event, word).is_none()
+    };
     let banks = Bank::BOTH.map(|bank| bank.word().to_string()).to_vec();
     match (asked, rest.len()) {
         (None, 0) if !bank => {
@@ -61,6 +64,7 @@ pub fn next(before: &str, terms: &Terms, names: &Names) -> Vec<String> {
         (Some("why"), 0) if !bank => [events, vec!["all".into()], banks].concat(),
         (Some(_), 0) if !bank => [events, banks].concat(),
         (_, 0) => events,
+        (asked, 1) if asked != Some("who") && is_member(rest[0]) => events,
         (asked, 1 | 2) if asked != Some("who") => all(Kind::Member, terms.members),
         _ => Vec::new(),
     }
@@ -105,6 +109,7 @@ pub fn read(line: &str, terms: &Terms, names: &Names) -> Result<Typed, String> {
         names.lookup(Kind::Event, word, terms.events).map_err(|_| unknown(word, &known))
     };
     let call = |bank: Option<Bank>, of: &str, from: &str, to: &str| {
+        let [of, from, to] = names.event_first([of, from, to], terms);
         let event = event(of)?;
         let from = names.lookup(Kind::Member, from, terms.members)?;
         let to = names.lookup(Kind::Member, to, terms.members)?;
@@ -146,6 +151,9 @@ pub fn read(line: &str, terms: &Terms, names: &Names) -> Result<Typed, String> {
             return Err(format!("like this: {bank} EVENT FROM TO"));
         }
         [of, from, to] => Typed::Request(call(None, of, from, to)?),
+        [member, ..] if names.find(Kind::Member, member).is_some() && event(member).is_err() => {
+            return Err(format!("like this: {member} EVENT TO, or EVENT {member} TO"));
+        }
         [word, ..] => {
             event(word)?;
             return Err(format!("like this: {word} FROM TO"));
@@ -205,6 +213,8 @@ mod tests {
         let call = |bank, from, to| Call { bank, event: 0, from, to };
         assert_eq!(said("share dora \"the saw\""), Ok(Typed::Request(call(None, 0, 1))));
         assert_eq!(said("share dora → 1"), Ok(Typed::Request(call(None, 0, 1))));
+        assert_eq!(said("dora share 1"), Ok(Typed::Request(call(None, 0, 1))));
+        assert_eq!(said("why dora share 1"), Ok(Typed::WhyNot(call(None, 0, 1))));
         assert_eq!(said("look share 1 -> dora"), Ok(Typed::Look(call(None, 1, 0))));
         let right = Some(Bank::Right);
         assert_eq!(said("right share dora 1"), Ok(Typed::Request(call(right, 0, 1))));
@@ -222,6 +232,7 @@ mod tests {
         let next = |before: &str| next(before, &terms, &names).join(" ");
         assert!(next("sh").starts_with("share look why"));
         assert_eq!(next("share "), "dora \"the saw\"");
+        assert_eq!((next("dora "), next("dora share ")), ("share".into(), next("share ")));
         assert_eq!(next("look "), "share left right");
         assert_eq!(next("look left "), "share");
         assert_eq!(next("right share "), "dora \"the saw\"");
@@ -241,6 +252,8 @@ mod tests {
         assert_eq!(wrong("who"), "like this: who EVENT; events: share");
         assert_eq!(wrong("why share"), "like this: why [all], or why EVENT FROM TO");
         assert_eq!(wrong("share dora"), "like this: share FROM TO");
+        assert_eq!(wrong("dora share"), "like this: dora EVENT TO, or EVENT dora TO");
+        assert_eq!(wrong("dora shrae 1"), "no event or command `shrae`; did you mean `share`?");
         assert_eq!(wrong("left dora 1"), "like this: left EVENT FROM TO");
         assert_eq!(wrong("lefft share 0 1"), "no event or command `lefft`; did you mean `left`?");
         assert!(wrong("xyzzy").contains("events: share"));

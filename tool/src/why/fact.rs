@@ -22,9 +22,9 @@ pub enum Fact {
     /// Edges under a label lead from a member, or to it, only to or from these others: a
     /// bit for each.
     Only { label: usize, member: usize, out: bool, others: u64, moment: usize },
-    /// Of the edges under a label from a member, those to these others count: a bit
-    /// for each. They are fewer than are asked for, or just so many.
-    Count { label: usize, member: usize, others: u64, least: usize, moment: usize },
+    /// Of those that the place's `many` counts there are these: a bit for each. They are
+    /// fewer than are asked for, or just so many.
+    Count { place: Place, others: u64, least: usize },
     /// The variable stands for the member.
     Same { member: usize, variable: usize },
     /// The two are different members.
@@ -47,8 +47,10 @@ pub enum Fact {
     /// The place's entry held there from a moment on, up to the place's.
     Since { place: Place, first: usize },
     /// What was told of the claim's moment, that it was so, was so at these moments too, the
-    /// last first.
-    Also { claim: Claim, moments: Vec<usize> },
+    /// last first. `nor` is whether what was told was not so.
+    Also { claim: Claim, moments: Vec<usize>, nor: bool },
+    /// Two events are due at one moment.
+    OneEvent,
     /// The step of the place's reach leads to nobody.
     NoStep(Place),
     /// A definition, or its negation; why stands under it.
@@ -116,21 +118,10 @@ impl Fact {
                 let (from, to) = if out { (here, others) } else { (others, here) };
                 telling.edge(label, &from, &to, then(moment), true) + &at(moment)
             }
-            Fact::Count { label, member, others, least, moment } => {
-                let here = words.member(member);
+            Fact::Count { place, others, least } => {
+                let sought = telling.sought(whose(place), then(place.moment));
                 let fitting = names(words, others);
-                let one = |other: &String| telling.edge(label, &here, other, then(moment), true);
-                let told: Vec<String> = fitting.iter().map(one).collect();
-                let due = if least == 1 { "1 is".into() } else { format!("{least} are") };
-                let needed = format!("at least {due} needed");
-                let count = match (fitting.len(), fitting.len() >= least) {
-                    (0, _) => return format!("{needed}, and there is none{}", at(moment)),
-                    (1, true) => format!("{needed}, and there is 1"),
-                    (found, true) => format!("{needed}, and there are {found}"),
-                    (1, false) => format!("{needed}, and there is only 1"),
-                    (found, false) => format!("{needed}, and there are only {found}"),
-                };
-                format!("{count}{}: {}", at(moment), listed(&told))
+                count(&sought, &fitting, least, (then(place.moment), &at(place.moment)))
             }
             Fact::Same { member, variable: 0 } => format!("{} is the target", words.member(member)),
             Fact::Same { member, .. } => format!("both are {}", words.member(member)),
@@ -160,7 +151,11 @@ impl Fact {
             Fact::Counting(moment) => {
                 format!("the past counts here from moment {moment} on, when the terms were revised")
             }
-            Fact::Also { ref moments, .. } => format!("so it was at {}", several(moments, all)),
+            Fact::Also { ref moments, nor: false, .. } => {
+                format!("so it was at {}", several(moments, all))
+            }
+            Fact::Also { ref moments, .. } => format!("nor at {}", several(moments, all)),
+            Fact::OneEvent => "two events never share a moment".to_string(),
             Fact::Since { place, .. } => telling.since(whose(place), then(place.moment)),
             Fact::NoStep(place) => {
                 telling.no_step(whose(place), then(place.moment)) + &at(place.moment)
@@ -187,7 +182,8 @@ impl Fact {
     pub fn moment(&self) -> Option<usize> {
         match self {
             Fact::Edge { moment, .. } | Fact::NoEdge { moment, .. } => Some(*moment),
-            Fact::Only { moment, .. } | Fact::Count { moment, .. } => Some(*moment),
+            Fact::Only { moment, .. } => Some(*moment),
+            Fact::Count { place, .. } => Some(place.moment),
             Fact::NoStep(place) | Fact::Defined(Claim { place, .. }) => Some(place.moment),
             _ => None,
         }
@@ -196,6 +192,11 @@ impl Fact {
     /// Whether it says only who is whom, or nothing.
     pub fn is_plain(&self) -> bool {
         matches!(self, Fact::Always | Fact::Same { .. } | Fact::Differ { .. })
+    }
+
+    /// Whether it says what is not so.
+    pub fn is_negative(&self) -> bool {
+        matches!(self, Fact::NoEdge { .. } | Fact::Defined(Claim { holds: false, .. }))
     }
 
     /// How much of a possibility it shows to be there: the more, the nearer
@@ -208,6 +209,27 @@ impl Fact {
 /// Whose entry is said.
 fn whose(place: Place) -> At {
     (place.entry, place.member, place.assigned)
+}
+
+/// How many are needed and how many there are, now or at a moment.
+fn count(sought: &str, fitting: &[String], least: usize, (then, at): (bool, &str)) -> String {
+    let needed = match (least, then) {
+        (1, false) => format!("at least 1 of the {sought} is needed"),
+        (1, true) => format!("at least 1 of the {sought} was needed"),
+        (_, false) => format!("at least {least} {sought} are needed"),
+        (_, true) => format!("at least {least} {sought} were needed"),
+    };
+    let there = match (fitting.len() == 1, then) {
+        (true, false) => "there is",
+        (true, true) => "there was",
+        (false, false) => "there are",
+        (false, true) => "there were",
+    };
+    let only = if fitting.len() < least { " only" } else { "" };
+    match fitting.len() {
+        0 => format!("{needed}, and there {} none{at}", if then { "was" } else { "is" }),
+        found => format!("{needed}, and {there}{only} {found}{at}: {}", listed(fitting)),
+    }
 }
 
 /// `moment 9`, `moments 9 and 2`, `moments 9 and 2 and 3 other moments`.

@@ -1,5 +1,7 @@
 //! Tells entries as formulas of the source.
 
+mod negated;
+
 use super::super::ast::*;
 use super::Words;
 use keeper::terms::{Entry, Terms, Variables, VARIABLES};
@@ -132,61 +134,6 @@ impl<'a> Teller<'a> {
         match self.terms.entries[entry] {
             Entry::Not(f) => Some(f),
             _ => None,
-        }
-    }
-
-    /// `not f`, in a derived form where that compiles to the same.
-    fn negation(&mut self, f: usize, place: &Place) -> Formula {
-        // What can be negated without a double negation, told negated.
-        let opposite = |teller: &mut Self, g: usize| match teller.inside(g) {
-            Some(h) => teller.tell(h, place),
-            None => Formula::new(Kind::Not(teller.part(g, place))),
-        };
-        let doubled =
-            |teller: &Self, g: usize| teller.inside(g).is_some_and(|h| teller.inside(h).is_some());
-        let told = place.style == Style::Exact && self.shared[f];
-        Formula::new(match self.terms.entries[f] {
-            Entry::Top => Kind::False,
-            Entry::Or(g, h)
-                if !told
-                    && (self.inside(g).is_some() || self.inside(h).is_some())
-                    && !doubled(self, g)
-                    && !doubled(self, h) =>
-            {
-                Kind::And(Box::new(opposite(self, g)), Box::new(opposite(self, h)))
-            }
-            Entry::Since(g, h) if !told && self.terms.entries[g] == Entry::Top => {
-                match self.inside(h) {
-                    Some(i) if self.inside(i).is_none() => Kind::Always(self.part(i, place)),
-                    _ => Kind::Never(self.part(h, place)),
-                }
-            }
-            Entry::Out(label, g) | Entry::In(label, g) if !told => match self.inside(g) {
-                Some(h) if self.inside(h).is_none() => {
-                    let outwards = matches!(self.terms.entries[f], Entry::Out(..));
-                    self.neighbour(Quantifier::Every, label, outwards, h, place)
-                }
-                _ => Kind::Not(self.part(f, place)),
-            },
-            Entry::Reach(x, g, h) if !told => match self.inside(h) {
-                Some(i) if self.inside(i).is_none() => self.step(true, x, g, i, place),
-                _ => Kind::Not(self.part(f, place)),
-            },
-            Entry::Not(g) if !told => {
-                let part = Formula::new(Kind::Not(self.plain(g, place)));
-                Kind::Not(Box::new(part))
-            }
-            _ => Kind::Not(self.part(f, place)),
-        })
-    }
-
-    /// An entry under two negations, in no derived form.
-    fn plain(&mut self, entry: usize, place: &Place) -> Part {
-        match self.inside(entry) {
-            Some(f) if !(place.style == Style::Exact && self.shared[entry]) => {
-                Box::new(Formula::new(Kind::Not(self.plain(f, place))))
-            }
-            _ => self.part(entry, place),
         }
     }
 

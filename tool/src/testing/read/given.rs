@@ -12,8 +12,41 @@ impl Reader<'_> {
     pub(super) fn given(&mut self) -> Result<Statement, Mistake> {
         let start = self.span();
         let there = !self.take("not");
+        let said = match self.event_first()? {
+            Some(said) => said,
+            None => self.given_of(there)?,
+        };
+        let span = start.to(self.last());
+        match said {
+            Said::First { .. } => self.may_be_first(span)?,
+            _ if !there => {
+                let mistake = Mistake::new(span, "an event that did not happen needs no words");
+                return Err(mistake.advise("leave it out, or write `dora denied share pete`"));
+            }
+            _ => self.happened = true,
+        }
+        Ok(Statement { span, said })
+    }
+
+    /// `share dora pete`, `denied share dora pete`: an event before who asks.
+    fn event_first(&mut self) -> Result<Option<Said>, Mistake> {
+        let denied = self.words.get(self.next).is_some_and(|word| word.is("denied"));
+        let Some(word) = self.words.get(self.next + usize::from(denied)) else { return Ok(None) };
+        let Known { names, .. } = *self.known;
+        let is_event = names.find(Kind::Event, word.text).is_some();
+        if !is_event || names.find(Kind::Member, word.text).is_some() {
+            return Ok(None);
+        }
+        self.next += usize::from(denied);
+        let event = self.event()?;
+        let call = Call { event, from: self.member()?, to: self.member()? };
+        Ok(Some(Said::Made { call, granted: !denied }))
+    }
+
+    /// What is given of a member, whose name comes first.
+    fn given_of(&mut self, there: bool) -> Result<Said, Mistake> {
         let from = self.member()?;
-        let said = if self.take("is") {
+        Ok(if self.take("is") {
             if let Some(mistake) = self.definition(from) {
                 return Err(mistake);
             }
@@ -33,17 +66,7 @@ impl Reader<'_> {
                 let edges = self.edges(relation, from)?;
                 Said::First { there, edges }
             }
-        };
-        let span = start.to(self.last());
-        match said {
-            Said::First { .. } => self.may_be_first(span)?,
-            _ if !there => {
-                let mistake = Mistake::new(span, "an event that did not happen needs no words");
-                return Err(mistake.advise("leave it out, or write `dora denied share pete`"));
-            }
-            _ => self.happened = true,
-        }
-        Ok(Statement { span, said })
+        })
     }
 
     /// What is said of `pete is suspended` if a definition is named.

@@ -1,7 +1,7 @@
 //! What never held, and the moments at which a part of it did.
 
 use super::facts::{telling, Story};
-use super::missed::Missed;
+use super::missed::{Missed, Part};
 use super::{Teller, LONGEST};
 use crate::why::begin::Begin;
 use crate::why::fact::Fact;
@@ -23,6 +23,12 @@ impl Teller<'_, '_> {
             stories = self.near(failing);
             never = self.never_held(failing);
         }
+        stories.extend(self.at_odds(last.place));
+        // Where moments that came near are told, it says no more; but from where on it counts.
+        let is_first = self.reasons.begin(since.entry) == Begin::First;
+        if is_first && !stories.is_empty() {
+            return stories;
+        }
         if never.is_empty() {
             never.push(last.place);
         }
@@ -42,6 +48,10 @@ impl Teller<'_, '_> {
         let failing: Vec<Claim> =
             (first..=place.moment).map(|moment| self.reasons.claim(place.moment(moment))).collect();
         let mut stories = self.near(&failing);
+        stories.extend(self.at_odds(place));
+        if first == 0 && !stories.is_empty() {
+            return stories;
+        }
         let never = self.never_held(&failing).into_iter().map(|place| match *fact {
             Fact::NeverSince { first, .. } => Fact::NeverSince { place, first },
             _ => Fact::Never { place, after: first > 0 },
@@ -136,6 +146,20 @@ impl Teller<'_, '_> {
         stories
     }
 
+    /// For a denial, that a conjunction asks for two events at one moment, if it does.
+    fn at_odds(&self, place: Place) -> Option<Story> {
+        let terms = self.reasons.terms();
+        let event = |part: &Part| match terms.entries[part.place.entry] {
+            Entry::Out(label, _) | Entry::In(label, _) if part.due => Some(label),
+            _ => None,
+        };
+        let mut events: Vec<usize> = self.parts(place).iter().filter_map(event).collect();
+        events.retain(|label| *label >= terms.relations);
+        events.sort_unstable();
+        events.dedup();
+        (!self.granted && events.len() > 1).then(|| Story::of(Fact::OneEvent))
+    }
+
     fn may_tell_near(&self) -> bool {
         !self.granted && !self.is_near && self.left >= LONGEST / 2
     }
@@ -156,7 +180,8 @@ impl Teller<'_, '_> {
         let story = Story::default().then(edges.collect()).then(held.1).but(lacking.1);
         match lacking.0.first() {
             Some(claim) if !others.is_empty() => {
-                let also = Fact::Also { claim: *claim, moments: others.to_vec() };
+                let nor = story.facts.last().is_some_and(Fact::is_negative);
+                let also = Fact::Also { claim: *claim, moments: others.to_vec(), nor };
                 story.then(vec![Story::of(also)])
             }
             _ => story,

@@ -66,11 +66,10 @@ impl Teller<'_, '_> {
 
     /// How many of these neighbours of a `many` fit.
     fn count(&self, place: Place, claims: &[Claim]) -> Fact {
-        let Place { entry, member, moment, .. } = place;
-        let (_, [label, _, least]) = self.reasons.terms().entries[entry].parts();
+        let (_, [_, _, least]) = self.reasons.terms().entries[place.entry].parts();
         let fitting = claims.iter().filter(|claim| claim.holds);
         let others = fitting.fold(0, |others, claim| others | 1 << claim.place.member);
-        Fact::Count { label, member, others, least, moment }
+        Fact::Count { place, others, least }
     }
 
     /// Every neighbour with its own story. Told together are those who are only

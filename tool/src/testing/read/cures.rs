@@ -1,0 +1,41 @@
+//! Words of everyday speech that a test does not have, and what to write instead.
+
+use crate::source::mistake::Mistake;
+use crate::testing::lines::Word;
+
+/// What to write instead of a word that stands where a member is due.
+pub fn of_member(word: &Word, rest: &[Word]) -> Option<String> {
+    let next = rest.first().map_or("kick", |next| next.text);
+    Some(match word.text.to_lowercase().as_str() {
+        "everyone" | "everybody" | "all" | "anybody" => "write `anyone`".into(),
+        "no" | "noone" | "no-one" | "none" => "write `nobody`".into(),
+        "the" | "a" | "an" => format!("leave out `{}`: write `{next}`", word.text),
+        _ => return None,
+    })
+}
+
+/// What is wrong with `nobody except pete`, whose first word was read.
+pub fn of_exception(rest: &[Word]) -> Option<Mistake> {
+    let [except, more @ ..] = rest else { return None };
+    if !["except", "but", "besides"].iter().any(|word| except.is(word)) {
+        return None;
+    }
+    let who = more.first().map_or("pete", |who| who.text);
+    let message = format!("`nobody` takes no `{}`", except.text);
+    Some(Mistake::new(except.span, message).advise(format!("write `only {who}`")))
+}
+
+/// What is wrong with a statement that says `can` or `cannot` for `may`.
+pub fn of_question(words: &[Word]) -> Option<Mistake> {
+    let (word, instead) = words.iter().find_map(|word| {
+        let instead = match word.text {
+            _ if word.quoted => return None,
+            "can" | "might" | "is-allowed" => "may",
+            "cannot" | "can't" | "can’t" | "mayn't" | "mustn't" => "may not",
+            _ => return None,
+        };
+        Some((word, instead))
+    })?;
+    let message = format!("a question has `{instead}`, not `{}`", word.text);
+    Some(Mistake::new(word.span, message).advise(format!("write `{instead}`")))
+}
