@@ -36,6 +36,42 @@ fn a_kind_is_an_attribute() {
     assert!(run(&["compile", folder.path(), "--print"]).out.starts_with("M\t2\nL\t0\t1\n"));
 }
 
+/// The relations and first edges of a source.
+fn compiled(source: &str) -> (String, String) {
+    let folder = Folder::new();
+    folder.write("terms.say", source);
+    let said = run(&["compile", folder.path()]);
+    assert_eq!(said.status, 0, "{}", said.err);
+    let lines = |text: String, start: &str| {
+        let lines = text.lines().filter(|line| line.starts_with(start));
+        lines.map(|line| line.replace('\t', " ") + "\n").collect::<String>()
+    };
+    (lines(folder.read("names.tsv"), "relation"), lines(folder.read("terms.tsv"), "G"))
+}
+
+/// One relation for all words of a kind, in however many parts it is declared.
+#[test]
+fn a_kind_by_its_own_name() {
+    let parts = "members players: ben; presets: saw\nmembers players: cleo\nevent share when ";
+    let edges = "G 0 0 0\nG 0 2 2\n".to_string();
+    for (asked, name) in [
+        ("me is player", "player"),
+        ("me is players", "players"),
+        ("me is players and target is player", "player"),
+    ] {
+        let relation = format!("relation 0 {name}\n");
+        assert_eq!(compiled(&format!("{parts}{asked}\n")), (relation, edges.clone()), "{asked}");
+    }
+    let people = compiled("members people: ann; staff: bob\nevent share when me is person\n");
+    assert_eq!(people, ("relation 0 person\n".to_string(), "G 0 0 0\n".to_string()));
+    // The own name of a kind is that kind's, wherever it is declared.
+    let buses = "members buses: ann; bus: bob\nevent share when me is bus\n";
+    assert_eq!(compiled(buses), ("relation 0 bus\n".to_string(), "G 0 1 1\n".to_string()));
+    let boxes = "members boxes: ann; houses: bob\nevent share when me is box or me is house\n";
+    let both = "relation 0 box\nrelation 1 house\n".to_string();
+    assert_eq!(compiled(boxes), (both, "G 0 0 0\nG 1 1 1\n".to_string()));
+}
+
 /// Terms written back have their kinds, and compile to the same.
 #[test]
 fn kinds_are_written_back() {

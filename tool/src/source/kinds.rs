@@ -18,13 +18,23 @@ pub fn unfold(source: &mut Source) {
     let events = source.events.iter().map(|event| &event.name.text);
     let definitions = source.definitions.iter().map(|definition| &definition.name.text);
     let mut taken: HashSet<String> = relations.chain(events).chain(definitions).cloned().collect();
+    let own: HashSet<String> = source.kinds.iter().map(|kind| kind.name.text.clone()).collect();
     for place in 0..source.kinds.len() {
         let kind = source.kinds[place].clone();
-        let asked = |form: &String| asked.contains(form) && !taken.contains(form);
-        let Some(text) = forms(&kind.name.text).into_iter().find(asked) else { continue };
-        taken.insert(text.clone());
+        let name = &kind.name.text;
+        // A kind may be declared in several parts.
+        let earlier = source.kinds[..place].iter().find(|other| other.name.text == *name);
+        let earlier = earlier.and_then(|other| other.relation.clone());
+        // The own name of another kind is that kind's.
+        let free = |form: &String| !taken.contains(form) && (form == name || !own.contains(form));
+        let asked = |form: &String| asked.contains(form) && free(form);
+        let text = earlier.clone().or_else(|| forms(name).into_iter().find(asked));
+        let Some(text) = text else { continue };
         let relation = Name { text, span: kind.name.span };
-        source.relations.push(relation.clone());
+        if earlier.is_none() {
+            taken.insert(relation.text.clone());
+            source.relations.push(relation.clone());
+        }
         source.kinds[place].relation = Some(relation.text.clone());
         let loops = kind.members.into_iter().map(|member| Fact {
             from: member.clone(),

@@ -116,7 +116,7 @@ impl Seeker<'_> {
 }
 
 /// So far definitions are looked into.
-const DEEPEST: usize = 8;
+const DEEPEST: usize = 3;
 
 /// The parts of `a and b and c`.
 fn conjuncts(formula: &Formula) -> Vec<&Formula> {
