@@ -16,9 +16,9 @@ use Rattle.memory.specs.Plan.{inFree, restOf}
 unfoldable pub smaller : ℕ → ℕ → ℕ
 smaller x y = cond (ltb y x) y x
 
--- 2 ^ 40
+-- 2 ^ 31
 abbrev pub most : ℕ
-most = 1099511627776
+most = 2147483648
 
 abbrev pub cut : ℕ → ℕ
 cut x = smaller x most

@@ -15,8 +15,8 @@ ghost use Rattle.memory.specs.Layout.{termsOf};
 ghost use Rattle.memory.specs.Operands.{kindOf};
 ghost use Rattle.effort.specs.Effort.{smaller, most, cut, times, setOf, setsOf, isOne, rowsOf, callsOf, askedOf, more, moreIf, isEntry, moreOf, policies, rowsAt, callsAfter, askedAfter, total, brief, effort};
 
-// The most that is counted: 2 to the power of 40.
-const MOST: u64 = 1099511627776;
+// The most that is counted: 2 to the power of 31, a number of any machine.
+const MOST: u64 = 2147483648;
 
 // What is decided without a memo in a request: so many entries at each member.
 const BRIEF: u64 = 2048;
@@ -234,11 +234,7 @@ fn brief_of(n: u64) -> u64
     requires { ⌜ n < 65536 ⌝ }
     ensures { λ r. ⌜ r ≡ brief n ⌝ }
 {
-    if PAIRS < n {
-        BRIEF * n
-    } else {
-        BRIEF * n * n
-    }
+    if PAIRS < n { BRIEF * n } else { BRIEF * n * n }
 }
 
 // How many rows a request may work out by accepted terms, at most; MOST stands for more, too. Of words that are no accepted terms it says nothing.

@@ -22,8 +22,7 @@ loop-holds c = (c .before .before .pre .1, omega arith)
 loop-again : tie.Need-loop-again Inv-loop μ-loop
 loop-again c =
     let l = c .before .before .before .before .before .before .before .before .before .before .before .before .before .before .before .loop in
-    let T = termsOf (c .before .before .before .before .before .before .before .before .before .before .before .before .before .before .before .before .before .before .args .terms .now) in
-    (
+    let T = termsOf (c .before .before .before .before .before .before .before .before .before .before .before .before .before .before .before .before .before .before .args .terms .now) in (
       one-set T (l .i) (l .sets) _ _ _ _ _ (c .set-of .result) (l .inv .0) (c .before .op-of .ensures .0) (c .before .before .before .before .before .before .before .before .before .before .before .before .before .first-of .ensures .0) (c .before .before .before .before .before .before .before .before .before .before .set-at .ensures)
           (c .before .before .before .before .before .before .set-at2 .ensures ∙ ap (λ (k : ℕ). getD (l .sets) k 0) (c .before .before .before .before .before .before .before .second-of .ensures .0))
           (c .before .before .set-at3 .ensures ∙ ap (λ (k : ℕ). getD (l .sets) k 0) (c .before .before .before .third-of .ensures .0)) (c .set-of .ensures),

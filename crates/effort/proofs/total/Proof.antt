@@ -33,8 +33,7 @@ loop-again c =
     let a = c .before .before .before .before .before .before .before .before .before .before .before .before .args in
     let l = c .before .before .before .before .before .loop in
     let t = c .before .turn .ensures in
-    let n = c .before .before .before .before .before .before .entries in
-    (
+    let n = c .before .before .before .before .before .before .entries in (
       one-turn (termsOf (a .terms .now)) (a .sets .now) (a .limit) (l .i) _ (l .rows) _ _ (l .calls) (l .asked) _ _ (l .inv .0)
           (ap (λ (k : ℕ). k - (l .i + 1)) (n .ensures .0)) (t .0) (t .1 .0) (t .1 .1) (c .plus .ensures),
       omega arith,
