@@ -35,3 +35,29 @@ friends-of-friends = refl
 once-a-friend : effortOf (terms 64 (e 1 0 0 0 ∷ e 4 0 0 0 ∷ e 4 0 1 0 ∷ e 7 0 2 0 ∷ []) 3) ≡ 128
 unfolding smaller setOf setsOf isOne rowsOf callsOf askedOf more moreIf isEntry moreOf policies after total brief inFree bit pack
 once-a-friend = refl
+
+-- Three variables, bound in turn, and an entry that reads all three.
+abbrev nested : List Entry
+nested =
+    e 0 0 0 0
+    ∷ e 1 1 0 0
+    ∷ e 4 0 1 0
+    ∷ e 9 1 2 0
+    ∷ e 1 2 0 0
+    ∷ e 4 0 4 0
+    ∷ e 9 2 5 0
+    ∷ e 3 3 6 0
+    ∷ e 1 3 0 0
+    ∷ e 4 0 8 0
+    ∷ e 9 3 9 0
+    ∷ e 3 7 10 0
+    ∷ e 8 3 11 0
+    ∷ e 4 0 12 0
+    ∷ e 8 2 13 0
+    ∷ e 4 0 14 0
+    ∷ e 8 1 15 0
+    ∷ []
+
+three-variables : effortOf (terms 64 nested 16) ≡ 193218
+unfolding smaller setOf setsOf isOne rowsOf callsOf askedOf more moreIf isEntry moreOf policies after total brief inFree bit pack
+three-variables = refl
