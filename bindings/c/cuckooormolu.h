@@ -17,7 +17,9 @@
  *           a memo's time, and entries that read one variable N times that, N
  *           the members. What can still take long is three variables or more
  *           that are bound anew in turn, where every level reads all of them:
- *           N times as long with each level.
+ *           N times as long with each level. cuckooormolu_effort says how much
+ *           work a request by given terms may take; a host that accepts terms
+ *           of strangers refuses those above a bound of its own.
  * Kept      terms and state are plain words: they may be copied, kept and
  *           lent again. In a file they have the machine's byte order,
  *           little-endian on x86-64. Scratch need not be kept. A stored text
@@ -546,6 +548,7 @@ size_t cuckooormolu_raw_renumber(const uint16_t *terms, size_t terms_length,
                                  const uint64_t *state, size_t state_length,
                                  const uint8_t *numbers, size_t numbers_length,
                                  uint64_t *second, size_t second_length);
+size_t cuckooormolu_raw_effort(const uint16_t *terms, size_t terms_length);
 size_t cuckooormolu_raw_look(const uint16_t *terms, size_t terms_length,
                              const uint64_t *state, size_t state_length,
                              const uint64_t *scratch, size_t scratch_length,
@@ -768,6 +771,23 @@ cuckooormolu_store(const uint16_t *terms, size_t terms_length,
         code = cuckooormolu_raw_store(terms, terms_length, state, state_length,
                                       output, output_length, &number);
     return cuckooormolu_told(code, number, count);
+}
+
+/* What cuckooormolu_effort gives where it would be more. */
+#define CUCKOOORMOLU_MOST_EFFORT ((size_t)2147483648u)
+
+/*
+ * How many rows a request may work out, at most, by terms that are accepted: a
+ * row is one entry at one member. It is a bound by the shape of the terms alone,
+ * whatever the relations are; a request of two banks takes at most twice as
+ * many. A million rows take less than 0.1 s. Of words that are no accepted terms
+ * it says nothing.
+ */
+CUCKOOORMOLU_USED static inline size_t
+cuckooormolu_effort(const uint16_t *terms, size_t terms_length)
+{
+    CUCKOOORMOLU_LENT(uint16_t, terms, terms_length)
+    return cuckooormolu_raw_effort(terms, terms_length);
 }
 
 /* Whether terms and state are ones that a call accepts: done, 6, 7 or 8. */

@@ -14,5 +14,7 @@ pub const OWN_WORDS: usize = 2_049;
 pub const SCRATCH_WORDS: usize = 64;
 /// Words of 64 bits that a plan is lent besides.
 pub const PLAN_WORDS: usize = 9_283;
+/// What stands for as many rows as this or more, where a request's effort is told.
+pub const MOST_EFFORT: usize = 2_147_483_648;
 
 const _: () = assert!(RELATION_WORDS + OWN_WORDS == STATE_WORDS);

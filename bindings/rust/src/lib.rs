@@ -82,7 +82,9 @@ mod terms;
 mod text_error;
 
 pub use answer::Answer;
-pub use layout::{OWN_WORDS, PLAN_WORDS, RELATION_WORDS, SCRATCH_WORDS, STATE_WORDS, TERMS_WORDS};
+pub use layout::{
+    MOST_EFFORT, OWN_WORDS, PLAN_WORDS, RELATION_WORDS, SCRATCH_WORDS, STATE_WORDS, TERMS_WORDS,
+};
 pub use names::{Edge, Event, EventEdge, Member, Relation, Request, Variable};
 pub use plan::{Move, Plan, Ruling};
 pub use refusal::Refusal;

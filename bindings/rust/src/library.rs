@@ -51,6 +51,8 @@ extern "C" {
         second_length: usize,
     ) -> usize;
 
+    pub fn cuckooormolu_raw_effort(terms: *const u16, terms_length: usize) -> usize;
+
     pub fn cuckooormolu_raw_look(
         terms: *const u16,
         terms_length: usize,

@@ -181,6 +181,13 @@ pub fn check(terms: &[u16], state: &[u64]) -> Result<(), Refusal> {
     })
 }
 
+/// How many rows a request may work out, at most, by terms that are accepted: a row
+/// is one entry at one member. [`MOST_EFFORT`](crate::MOST_EFFORT) stands for more,
+/// too. Of words that are no accepted terms it says nothing.
+pub fn effort(terms: &[u16]) -> usize {
+    unsafe { library::cuckooormolu_raw_effort(terms.as_ptr(), terms.len()) }
+}
+
 /// Makes the state of moment 0 of the relations that stand in it; whatever
 /// its other words held is lost.
 ///

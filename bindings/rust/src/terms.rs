@@ -71,6 +71,23 @@ impl Terms {
         &self.0
     }
 
+    /// How many rows a request may work out by these terms, at most: a row is one
+    /// entry at one member. It is a bound by the shape of the terms alone, whatever
+    /// the relations are; [`MOST_EFFORT`](crate::MOST_EFFORT) stands for more, too. A
+    /// host that accepts terms of strangers refuses those above a bound of its own.
+    ///
+    /// ```
+    /// use cuckooormolu::*;
+    ///
+    /// let text = "M 3\nL 1 1\nF 0 var 0 0\nF 1 out 0 0\nF 2 out 0 1\nP 0 2\n";
+    /// let monitor = Monitor::read(text.replace(' ', "\t").as_bytes())?;
+    /// assert_eq!(monitor.terms().effort(), 4);
+    /// # Ok::<(), TextError>(())
+    /// ```
+    pub fn effort(&self) -> usize {
+        raw::effort(self.words())
+    }
+
     /// The members, rising.
     pub fn members(&self) -> impl ExactSizeIterator<Item = Member> {
         (0..self.0[0] as u8).map(Member)
