@@ -780,13 +780,15 @@ cuckooormolu_store(const uint16_t *terms, size_t terms_length,
  * How many rows a request may work out, at most, by terms that are accepted: a
  * row is one entry at one member. It is a bound by the shape of the terms alone,
  * whatever the relations are; a request of two banks takes at most twice as
- * many. A million rows take less than 0.1 s. Of words that are no accepted terms
- * it says nothing.
+ * many. A million rows take less than 0.1 s. Too few words give the most; of
+ * other words that are no accepted terms it says nothing.
  */
 CUCKOOORMOLU_USED static inline size_t
 cuckooormolu_effort(const uint16_t *terms, size_t terms_length)
 {
     CUCKOOORMOLU_LENT(uint16_t, terms, terms_length)
+    if (terms_length < CUCKOOORMOLU_TERMS_WORDS)
+        return CUCKOOORMOLU_MOST_EFFORT;
     return cuckooormolu_raw_effort(terms, terms_length);
 }
 
