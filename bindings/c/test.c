@@ -316,12 +316,12 @@ static void lengths(void)
 static void efforts(void)
 {
     static struct cuckooormolu far;
-    static const char text[] = "M\t3\nL\t1\t1\nF\t0\tvar\t0\t0\nF\t1\tout\t0\t0\n"
-                               "F\t2\tout\t0\t1\nP\t0\t2\n";
-    uint16_t many[4] = {3, 1, 1, 257};
-    EXPECT(cuckooormolu_done(cuckooormolu_monitor_read(&far, text, sizeof text - 1, NULL)));
+    static const char friends[] = "M\t3\nL\t1\t1\nF\t0\tvar\t0\t0\nF\t1\tout\t0\t0\n"
+                                  "F\t2\tout\t0\t1\nP\t0\t2\n";
+    uint16_t too_many[4] = {3, 1, 1, 257};
+    EXPECT(cuckooormolu_done(cuckooormolu_monitor_read(&far, friends, sizeof friends - 1, NULL)));
     EXPECT(cuckooormolu_effort(far.terms, CUCKOOORMOLU_TERMS_WORDS) == 4);
-    EXPECT(cuckooormolu_effort(many, 4) == CUCKOOORMOLU_MOST_EFFORT);
+    EXPECT(cuckooormolu_effort(too_many, 4) == CUCKOOORMOLU_MOST_EFFORT);
     EXPECT(cuckooormolu_effort(NULL, 5) == 0);
 }
 
