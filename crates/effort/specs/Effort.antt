@@ -1,5 +1,6 @@
--- How many rows a request may work out, by terms: a row is one entry, worked out at one member. It is counted from the highest entry down how often each entry is asked for, and
--- for how many rows. Every number is cut at the most that is counted.
+-- How many rows a request may work out, by terms: a row is one entry, worked out at one member. It is counted from the
+-- highest entry down how often each entry is asked for, and for how many rows. Every number is cut at the most that is
+-- counted.
 use Prim.Native.Nat.{ℕ, zero, suc, _+_, _-_, _*_}
 use mathlib.Core.Bool.{Bool, true, false, cond, _&&_, _||_}
 use mathlib.Core.List.{List}
@@ -28,7 +29,8 @@ times n x = cut (n * cut x)
 
 -- ---- the variables that entries read
 
--- The set of variables that an entry reads, from the sets f, g and h of its operands. A past-time one that reads none has the column of variable 0.
+-- The set of variables that an entry reads, from the sets f, g and h of its operands. A past-time one that reads none
+-- has the column of variable 0.
 unfoldable pub setOf : (op a f g h : ℕ) → ℕ
 setOf op a f g h = let s = pack 64 (inFree op a f g h) in cond (isPast op && eqb s 0) 1 s
 
@@ -46,11 +48,13 @@ isOne sets p = eqb (restOf (getD sets p 0)) 0
 
 -- ---- what an entry costs
 
--- Leaves and past-time entries are read, not worked out. What is asked for is worked out; of an entry that reads at most one variable no more than a limit, since its rows are kept.
+-- Leaves and past-time entries are read, not worked out. What is asked for is worked out; of an entry that reads at
+-- most one variable no more than a limit, since its rows are kept.
 unfoldable pub rowsOf : (op : ℕ) → (one : Bool) → (asked limit : ℕ) → ℕ
 rowsOf op one asked limit = cond (ltb op 2 || isPast op) 0 (cond one (smaller asked limit) asked)
 
--- How often an entry that is worked out so often, for so many rows, asks for each of its operands. A bind asks for each row apart. A past-time entry's table asks once, or, with two columns, once for each member.
+-- How often an entry that is worked out so often, for so many rows, asks for each of its operands. A bind asks for each
+-- row apart. A past-time entry's table asks once, or, with two columns, once for each member.
 unfoldable pub callsOf : (members op : ℕ) → (one : Bool) → (works rows : ℕ) → ℕ
 callsOf N op one works rows = cond (isPast op) (cond one 1 N) (cond (eqb op 8) rows works)
 
@@ -126,11 +130,13 @@ module _ (T : Terms) (sets : List ℕ) (limit : ℕ) where
 
 -- ---- the bound
 
--- A memo works out each member and value of the one variable once, and each whole row once: for the decision, for the prev tables and for the since tables.
+-- A memo works out each member and value of the one variable once, and each whole row once: for the decision, for the
+-- prev tables and for the since tables.
 abbrev pub kept : (members : ℕ) → ℕ
 kept N = 3 * (N * N + N)
 
--- What is decided without a memo: 1,024 entries for the decision and 1,024 for the tables, at each member, and for each member once more where tables may have two columns.
+-- What is decided without a memo: 1,024 entries for the decision and 1,024 for the tables, at each member, and for each
+-- member once more where tables may have two columns.
 unfoldable pub brief : (members : ℕ) → ℕ
 brief N = 2048 * N * cond (ltb pairMembers N) 1 N
 

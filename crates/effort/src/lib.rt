@@ -1,4 +1,5 @@
-// How many rows a request may work out, before its terms are taken (specs/Effort.antt). It is a bound: what a request takes is mostly far less.
+// How many rows a request may work out, before its terms are taken (specs/Effort.antt). It is a bound: what a request
+// takes is mostly far less.
 use memory::layout;
 use memory::limits::ENTRIES;
 use memory::limits::PAIR_MEMBERS;
@@ -237,7 +238,8 @@ fn brief_of(n: u64) -> u64
     if PAIRS < n { BRIEF * n } else { BRIEF * n * n }
 }
 
-// How many rows a request may work out by accepted terms, at most; MOST stands for more, too. Of words that are no accepted terms it says nothing.
+// How many rows a request may work out by accepted terms, at most; MOST stands for more, too. Of words that are no
+// accepted terms it says nothing.
 pub fn effort(terms: &[u16]) -> u64
     ensures { λ r. ⌜ r ≡ effort (now (terms .entry)) ⌝ }
 {
