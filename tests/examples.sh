@@ -1,9 +1,11 @@
 #!/bin/sh
-# examples.sh PROGRAM KEEPER: every example as it stands, and with each change that its README tells of under "Change one thing". The first column there is `line 4 to R 1 2 1`, of
-# the requests, or `without G 0 0 2`, of the terms; the second lists the answers that differ, `5, 6 deny; 7 grant`. All others must stay. Where an example has a folder `later`, its terms
-# are what is stored after the example's requests; where it has a folder `new` too, after a revision to the terms there.
-# Where it has a folder `strangers`, that has the same terms but for first edges, and what both ask alike both answer alike.
-# Where it has a folder `renumbered`, that has what `later` has, by the members' other numbers, and the same answers.
+# examples.sh PROGRAM KEEPER: every example as it stands, and with each change that its README tells of under "Change
+# one thing". The first column there is `line 4 to R 1 2 1`, of the requests, or `without G 0 0 2`, of the terms; the
+# second lists the answers that differ, `5, 6 deny; 7 grant`. All others must stay. Where an example has a folder
+# `later`, its terms are what is stored after the example's requests; where it has a folder `new` too, after a revision
+# to the terms there. Where it has a folder `strangers`, that has the same terms but for first edges, and what both ask
+# alike both answer alike. Where it has a folder `renumbered`, that has what `later` has, by the members' other numbers,
+# and the same answers.
 here=$(cd "$(dirname "$0")" && pwd)
 # shellcheck source=tests/hold.sh
 . "$here/hold.sh"

@@ -1,6 +1,6 @@
-# shellcheck shell=sh disable=SC2034
-# Sourced by the tests beside it, each of which is called with the program and the keeper. `hold` runs both in the folder "$work/case" and compares what each prints with the file
-# "$work/wanted"; `finish` ends the test.
+# shellcheck shell=sh disable=SC2034 Sourced by the tests beside it, each of which is called with the program and the
+# keeper. `hold` runs both in the folder "$work/case" and compares what each prints with the file "$work/wanted";
+# `finish` ends the test.
 set -eu
 export LC_ALL=C
 
@@ -16,7 +16,8 @@ cp "$2" "$work/keeper"
 mkdir "$work/case"
 chmod 755 "$work" "$work/case" "$work/program" "$work/keeper"
 
-# Root may read every file, so where root tests, both run as nobody. `locked` says whether a file without permissions is closed to them.
+# Root may read every file, so where root tests, both run as nobody. `locked` says whether a file without permissions is
+# closed to them.
 nobody='setpriv --reuid=65534 --regid=65534 --clear-groups'
 locked=yes
 if [ "$(id -u)" -ne 0 ]; then

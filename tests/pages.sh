@@ -1,13 +1,16 @@
 #!/bin/sh
-# pages.sh PROGRAM KEEPER: what the pages of docs/ show. The terms file of FORMAT with its requests gives its answers; each line of its table of refusals, put after the F lines,
-# gives the number; the lines of its stored form are what is stored, and the program goes on from them. The preset of SCOPE is the program's own data, its requests are the example's, and it gives its answers.
+# pages.sh PROGRAM KEEPER: what the pages of docs/ show. The terms file of FORMAT with its requests gives its answers;
+# each line of its table of refusals, put after the F lines, gives the number; the lines of its stored form are what is
+# stored, and the program goes on from them. The preset of SCOPE is the program's own data, its requests are the
+# example's, and it gives its answers.
 here=$(cd "$(dirname "$0")" && pwd)
 # shellcheck source=tests/hold.sh
 . "$here/hold.sh"
 docs=$here/../docs
 preset=$here/../examples/preset
 
-# column PAGE TITLE K: what stands between backquotes in column K of the tables under a title, a line for each row; more than one are parted by `;`. A space stands for a tab.
+# column PAGE TITLE K: what stands between backquotes in column K of the tables under a title, a line for each row; more
+# than one are parted by `;`. A space stands for a tab.
 column() {
     awk -F ' *[|] *' -v title="## $2" -v k="$3" '
         /^## / { inside = $0 == title; next }

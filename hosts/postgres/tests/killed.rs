@@ -1,6 +1,6 @@
-//! Eight workers and thousands of circles, some of which get new terms meanwhile. Workers and revisions are killed again
-//! and again, and the server twice; at the end every request and revision has one answer, the one that was told, and
-//! answers, terms and states are those of the keeper.
+//! Eight workers and thousands of circles, some of which get new terms meanwhile. Workers and revisions are killed
+//! again and again, and the server twice; at the end every request and revision has one answer, the one that was told,
+//! and answers, terms and states are those of the keeper.
 
 mod support;
 

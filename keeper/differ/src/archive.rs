@@ -124,11 +124,19 @@ extern "C" {
     ) -> usize;
 }
 
-fn done(code: usize) -> Result<(), Refusal> {
+/// The refusal that a code stands for.
+pub fn refusal(code: usize) -> Refusal {
     match u16::try_from(code) {
-        _ if code == DONE => Ok(()),
-        Ok(number @ 1..=15) => Err(Refusal::plain(number)),
+        Ok(number @ 1..=15) => Refusal::plain(number),
         _ => panic!("a code that is none: {code}"),
+    }
+}
+
+/// What the code of a call that gives no answer says.
+pub fn done(code: usize) -> Result<(), Refusal> {
+    match code {
+        DONE => Ok(()),
+        code => Err(refusal(code)),
     }
 }
 
@@ -136,7 +144,7 @@ fn answered(code: usize) -> Answer {
     match code {
         DENIED => Answer::Deny,
         GRANTED => Answer::Grant,
-        code => Answer::Refused(done(code).expect_err("a call is decided or refused")),
+        code => Answer::Refused(refusal(code)),
     }
 }
 

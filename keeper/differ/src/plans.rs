@@ -2,6 +2,7 @@
 
 pub mod named;
 
+use crate::archive::refusal;
 use keeper::plan::{Plan, Question};
 use keeper::terms::Refusal;
 
@@ -92,12 +93,5 @@ pub fn tell(question: &Question, terms: &mut [u16], state: &mut [u64]) -> Result
         HOLDS => Ok(true),
         FAILS => Ok(false),
         code => Err(refusal(code)),
-    }
-}
-
-fn refusal(code: usize) -> Refusal {
-    match u16::try_from(code) {
-        Ok(number @ 1..=15) => Refusal::plain(number),
-        _ => panic!("a code that is none: {code}"),
     }
 }

@@ -1,9 +1,7 @@
 //! The library's renumbering over slices.
 
+use crate::archive::done;
 use keeper::terms::Refusal;
-
-/// What the library returns where it is done; a refusal is its number.
-const DONE: usize = 100;
 
 extern "C" {
     // Links the archive that the binding names.
@@ -41,9 +39,5 @@ pub fn renumber(
             second.len(),
         )
     };
-    match u16::try_from(code) {
-        _ if code == DONE => Ok(()),
-        Ok(number) => Err(Refusal::plain(number)),
-        Err(_) => panic!("a code that is none: {code}"),
-    }
+    done(code)
 }

@@ -45,37 +45,12 @@ fn a_faithful_one_passes() {
 
 #[test]
 fn impostors_are_caught() {
-    use Fault::*;
-    let faults = [
-        OtherStays,
-        EventBeside,
-        EventLivesOn,
-        RelationsStay,
-        PastByNewRelations,
-        PastWithoutEvent,
-        SinceByOldRelations,
-        SinceWithEvent,
-        DenialIsOwn,
-        SpareKept,
-        TouchesBeyond,
-        OneStateChecked,
-        SpareUnchecked,
-        EmptyListUnchecked,
-        BanksSwapped,
-        ListMovesOtherOnce,
-        SecondStartsAnew,
-        SecondEventLost,
-        RelationsLeftBehind,
-        StoredIsRead,
-        OneIsOpened,
-        OwnWordsChecked,
-    ];
     let cases: Vec<Case<Step>> = small(0..300).collect();
-    for fault in faults {
+    for &fault in Fault::ALL {
         let in_cases = cases.iter().filter(|case| case_differs(fault, case).is_some()).count();
         let drawn = (0..400).filter(|&seed| drawn_differs(fault, seed).is_some()).count();
         println!("{fault:?}: {in_cases} of {} cases, {drawn} of 400 drawn", cases.len());
-        let enough = in_cases > 3 && (drawn > 3 || fault == StoredIsRead);
+        let enough = in_cases > 3 && (drawn > 3 || fault == Fault::StoredIsRead);
         assert!(enough, "{fault:?}: {in_cases}, {drawn}");
     }
 }

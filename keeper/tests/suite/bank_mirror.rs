@@ -1,6 +1,7 @@
 //! An implementation of two banks that goes by the lent words, perhaps with a
 //! fault.
 
+use crate::help::faults;
 use keeper::banks::expect;
 use keeper::banks::lent::{Lent, Loan, OWN_WORDS, RELATION_WORDS};
 use keeper::banks::step::{Deed, Outcome};
@@ -12,9 +13,7 @@ use keeper::set_list::{self, Item};
 use keeper::terms::memory::SCRATCH_WORDS;
 use keeper::terms::{self, Refusal};
 
-#[derive(Clone, Copy, PartialEq, Debug)]
-pub enum Fault {
-    None,
+faults! {
     /// Of a moment.
     OtherStays,
     EventBeside,

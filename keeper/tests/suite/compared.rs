@@ -1,5 +1,6 @@
 //! The comparison accepts a faithful implementation and catches impostors.
 
+use crate::help::any_memory;
 use crate::mirror::{Fault, Mirror};
 use keeper::compare;
 use keeper::generate::{self, revised, Rng};
@@ -170,10 +171,7 @@ fn set_lists_over_damaged_memory_are_compared() {
 /// are true of no record.
 fn revision_differs(fault: Fault, seed: u64) -> bool {
     let mut rng = Rng::new(seed);
-    let (terms, state) = match seed % 2 {
-        0 => generate::damaged_memory(seed),
-        _ => generate::drawn_memory(seed),
-    };
+    let (terms, state) = any_memory(seed);
     let revision = revised::of_words(&mut rng, &terms);
     compare::revise(&mut Mirror::new(fault), &revision, &terms, &state).is_err()
 }

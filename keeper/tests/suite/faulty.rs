@@ -1,11 +1,10 @@
 //! Readings of the meaning with one fault each.
 
+use crate::help::faults;
 use keeper::record::Graph;
 use keeper::terms::{Entry, EventEdge, Terms};
 
-#[derive(Clone, Copy, PartialEq, Debug)]
-pub enum Fault {
-    None,
+faults! {
     PrevHoldsAtFirst,
     PrevOfPastSeesPresent,
     SinceNeedsFirstToo,

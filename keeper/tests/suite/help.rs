@@ -1,7 +1,25 @@
-//! Short ways to texts, records and refusals.
+//! Short ways to texts, records, refusals, memory and impostors.
 
+use keeper::generate;
 use keeper::record::{Answer, Call, Record};
 use keeper::terms::{self, File, Refusal, Terms};
+
+/// The impostors of a kind: `Fault`, with `None` for what is right, and `ALL`, the others.
+macro_rules! faults {
+    ($($(#[$note:meta])* $fault:ident),* $(,)?) => {
+        #[derive(Clone, Copy, PartialEq, Debug)]
+        pub enum Fault {
+            None,
+            $($(#[$note])* $fault,)*
+        }
+
+        impl Fault {
+            /// All but `None`.
+            pub const ALL: &'static [Fault] = &[$(Fault::$fault),*];
+        }
+    };
+}
+pub(crate) use faults;
 
 /// The preset terms, spaces for tabs.
 pub const PRESET: &str = "\
@@ -68,4 +86,12 @@ pub fn request(record: &mut Record, event: usize, from: usize, to: usize) -> Ans
 
 pub fn look(record: &mut Record, event: usize, from: usize, to: usize) -> Answer {
     record.answer(&Call::look(event, from, to))
+}
+
+/// Memory after some calls, sound or damaged, or terms with a state that is true of no record.
+pub fn any_memory(seed: u64) -> (Vec<u16>, Vec<u64>) {
+    match seed % 2 {
+        0 => generate::damaged_memory(seed),
+        _ => generate::drawn_memory(seed),
+    }
 }

@@ -1,12 +1,12 @@
 //! The comparison of plans and questions accepts a faithful implementation and
 //! catches impostors, and its cases reach what they should.
 
-use crate::help::{opened, slashes};
+use crate::help::{any_memory, opened, slashes};
 use crate::plan_mirror::{Fault, Mirror};
 use keeper::compare::plans as compare;
 use keeper::expect;
 use keeper::generate::plans as generate;
-use keeper::generate::{damaged_memory, drawn_memory, Case, Rng};
+use keeper::generate::{Case, Rng};
 use keeper::plan::turn::Turn;
 use keeper::plan::{Plan, Question, SCRATCH_WORDS};
 use keeper::shrink::shrink;
@@ -25,7 +25,7 @@ fn small(seeds: std::ops::Range<u64>) -> Vec<Case<Turn>> {
 
 /// A plan and a question over memory that was damaged, or whose tables are drawn.
 fn memory_differs(fault: Fault, seed: u64) -> Option<String> {
-    let (terms, state) = if seed % 2 == 0 { damaged_memory(seed) } else { drawn_memory(seed) };
+    let (terms, state) = any_memory(seed);
     let (plan, question) = generate::of_words(&mut Rng::new(!seed), &terms, 99_999);
     let mut other = Mirror::new(fault);
     let judged = compare::plan(&mut other, &plan, &terms, &state);
@@ -44,35 +44,11 @@ fn a_faithful_one_passes() {
 
 #[test]
 fn impostors_are_caught() {
-    use Fault::*;
-    let faults = [
-        NeverPasses,
-        OnlyPasses,
-        OneEventOnly,
-        PlannersReplies,
-        PairSwapped,
-        AskedBefore,
-        AskedAfterReplies,
-        AskedAtEnd,
-        DenialsForgotten,
-        NineFirst,
-        OddIsCut,
-        AnySize,
-        AnyGoal,
-        ScratchKept,
-        ScratchOfRefusals,
-        ScratchBeyond,
-        StateMoved,
-        TellsSwapped,
-        TellsAny,
-    ];
     let cases = small(0..400);
-    let counts = faults.map(|fault| {
+    let rare = [Fault::OneMoveForAll, Fault::LongIsPlayed];
+    for fault in Fault::ALL.iter().copied().filter(|fault| !rare.contains(fault)) {
         let caught = cases.iter().filter(|case| case_differs(fault, case).is_some()).count();
         println!("{fault:?}: {caught} of {}", cases.len());
-        caught
-    });
-    for (fault, caught) in faults.into_iter().zip(counts) {
         assert!(caught > 2, "{fault:?}: {caught}");
     }
 }

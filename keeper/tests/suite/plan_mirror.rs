@@ -1,6 +1,7 @@
 //! An implementation of plans and questions that plays the game over its tables,
 //! and perhaps has a fault.
 
+use crate::help::faults;
 use crate::mirror::{self, Mirror as Plain};
 use keeper::compare::plans::Other;
 use keeper::compare::Other as Calls;
@@ -10,9 +11,7 @@ use keeper::record::{Answer, Call, Record};
 use keeper::set_list::Item;
 use keeper::terms::{Refusal, Terms};
 
-#[derive(Clone, Copy, PartialEq, Debug)]
-pub enum Fault {
-    None,
+faults! {
     NeverPasses,
     OnlyPasses,
     OneEventOnly,

@@ -280,10 +280,7 @@ fn impostors_are_caught_by_renumberings() {
 /// are true of no record.
 fn renumbering_differs(fault: Fault, seed: u64) -> bool {
     let mut rng = Rng::new(seed);
-    let (terms, state) = match seed % 2 {
-        0 => generate::damaged_memory(seed),
-        _ => generate::drawn_memory(seed),
-    };
+    let (terms, state) = any_memory(seed);
     let renumbering = renumbered::of_words(&mut rng, &terms);
     compare::renumber(&mut Mirror::new(fault), &renumbering, &terms, &state).is_err()
 }
