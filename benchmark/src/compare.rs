@@ -66,8 +66,7 @@ impl Start {
         Some(start)
     }
 
-    /// The text at the last depth, if at none its calls take longer than this. The machine may have other work, so
-    /// there are three tries.
+    /// The text at the last depth, if at none its calls take longer than this.
     fn grown(
         archive: &Archive,
         depths: impl Iterator<Item = usize>,
@@ -79,7 +78,7 @@ impl Start {
         for depth in depths {
             let start = Start::read(archive, &text(depth), calls.to_vec())?;
             let (_, mut batch) = start.requests(archive);
-            if !(0..3).any(|_| batch() < most) {
+            if batch() > most {
                 return None;
             }
             drop(batch);

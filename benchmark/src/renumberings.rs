@@ -71,12 +71,12 @@ pub fn print() -> Vec<Goal> {
     );
     let (one, two) = (terms(64), terms(16));
     let sparse = row("64 members, sparse", &one, &sparse(&one)).max(row(
-        "16 members, two variables, sparse",
+        "16 members, 32 tables of two variables, sparse",
         &two,
         &sparse(&two),
     ));
     let full = row("64 members, full", &one, &full(&one)).max(row(
-        "16 members, two variables, full",
+        "16 members, 32 tables of two variables, full",
         &two,
         &full(&two),
     ));

@@ -51,12 +51,12 @@ pub fn print() -> Vec<Goal> {
         "Least times, each text written in its own form:",
         &["text", "bytes", "read ms", "write ms", "read ns a byte", "write ns a byte"],
     );
-    row("edges, 64 KiB", &edges(65_536), raw::write);
-    row("edges", &edges(usize::MAX), raw::write);
-    row("stored, edges", &stored(0), raw::store);
-    row("stored, edges and 16 tables", &stored(16), raw::store);
-    row("stored, edges and 32 tables", &stored(32), raw::store);
-    refused("the same, partly filled: refused with 11", &partly_filled());
+    row("terms, the longest that the program takes", &edges(65_536), raw::write);
+    row("terms, every edge of 64 members and 16 relations", &edges(usize::MAX), raw::write);
+    row("stored, every edge", &stored(0), raw::store);
+    row("stored, every edge and 16 full tables", &stored(16), raw::store);
+    row("stored, every edge and 32 full tables", &stored(32), raw::store);
+    refused("the same but for the last bit: refused with 11", &partly_filled());
     Vec::new()
 }
 
