@@ -1,8 +1,9 @@
 //! The stack that calls of two banks take beside the single ones, under the same
 //! deepest terms.
 
+use crate::chains::deep;
+use crate::markdown::{self, Goal};
 use crate::stack::{touched, without_past, Work, MOST};
-use crate::workload::deep;
 use cuckooormolu::{raw, Answer, Refusal};
 use cuckooormolu::{OWN_WORDS, RELATION_WORDS, SCRATCH_WORDS, STATE_WORDS, TERMS_WORDS};
 
@@ -89,9 +90,9 @@ fn banks(text: &[u8]) -> [usize; 6] {
     [request, look, list, open, revise, read]
 }
 
-/// Prints the most of each call, single and of banks, the most by which banks
-/// take more, and the goals.
-pub fn print() {
+/// Prints the most of each call, single and of banks, and the most by which banks take
+/// more, and gives the goals.
+pub fn print() -> [Goal; 2] {
     let bare = touched(Box::new(|| ()));
     let mut most = [[0; 3]; NAMES.len()];
     for (_, text) in deep() {
@@ -101,18 +102,21 @@ pub fn print() {
         }
     }
     let kib = |bytes: usize| bytes as f64 / 1024.0;
-    println!("\nstack of two banks under the same terms, in KiB:");
-    println!("{:<10} {:>8} {:>8} {:>8}", "", "single", "banks", "above");
+    println!("\nStack of two banks under the same terms, in KiB:\n");
+    markdown::head(&["call", "single", "banks", "above"]);
     for (name, bytes) in NAMES.iter().zip(&most) {
-        println!("{name:<10}{}", bytes.map(|bytes| format!(" {:>8.1}", kib(bytes))).concat());
+        let cells = bytes.map(|bytes| format!("{:.1}", kib(bytes)));
+        markdown::row(&[&[name.to_string()], &cells[..]].concat());
     }
-    let say =
-        |met: bool, text: String| println!("{} {text}", if met { "met   " } else { "MISSED" });
     let (above, all) = (most[0][2], most.iter().map(|bytes| bytes[1]).max().unwrap_or(0));
-    let limit = kib(MOST_ABOVE);
-    say(
-        above <= MOST_ABOVE,
-        format!("a request {:.1} above a single one, at most {limit}", kib(above)),
-    );
-    say(all <= MOST, format!("at most {:.1} of {} KiB", kib(all), MOST >> 10));
+    let text =
+        format!("stack of a bank's request at most {} KiB above a single one", kib(MOST_ABOVE));
+    [
+        Goal::new(text, format!("{:.1} KiB", kib(above)), above <= MOST_ABOVE),
+        Goal::new(
+            format!("stack of two banks at most {} KiB", MOST >> 10),
+            format!("{:.1} KiB", kib(all)),
+            all <= MOST,
+        ),
+    ]
 }

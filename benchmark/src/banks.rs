@@ -2,6 +2,7 @@
 //! called, and has the monitor's record, so that both give the same answers.
 
 use crate::lists::{granted, recorded, REQUESTS};
+use crate::markdown::{self, whole, Goal};
 use crate::measure::{in_turn, timed, Batch};
 use crate::workload::{named, Request, Workload};
 use cuckooormolu::{raw, BankStates, Banks, Monitor, Terms};
@@ -182,8 +183,8 @@ fn few<'a>(mut call: impl FnMut() + 'a) -> Batch<'a> {
     (FEW, Box::new(move || timed(|| (0..FEW).for_each(|_| call()))))
 }
 
-/// Prints each call of banks beside the single one, and the goals.
-pub fn print() {
+/// Prints each call of banks beside the single one, and gives the goals.
+pub fn print() -> Vec<Goal> {
     let workload = Workload::preset(64);
     let (start, fresh) = (Start::new(&workload, MOMENTS), Start::new(&workload, 0));
     let calls: Vec<raw::Request> = workload
@@ -194,22 +195,26 @@ pub fn print() {
     let names_and_batches = [
         ("a request", start.requests(&calls)),
         ("a look", start.looks(&calls)),
-        ("an opening", start.openings()),
-        ("a revision to the same terms", start.revisions()),
-        ("a record in lists of 64", fresh.lists(&granted(&workload))),
+        ("an opening of both", start.openings()),
+        ("a revision of both to the same terms", start.revisions()),
+        ("a record in set lists of 64", fresh.lists(&granted(&workload))),
     ];
     let (names, batches): (Vec<_>, Vec<_>) = names_and_batches.into_iter().unzip();
     let times = in_turn(Duration::from_millis(4_000), 20, batches.into_iter().flatten().collect());
-    println!("\ntwo banks at 64 members on the preset, least ns:");
-    println!("{:<28} {:>7} {:>7} {:>6}", "", "single", "banks", "ratio");
+    markdown::table(
+        "Two banks",
+        "At 64 members on the preset, least ns:",
+        &["", "single", "bank", "ratio"],
+    );
     let ratios = names.iter().zip(times.chunks(2)).map(|(name, times)| {
         let (single, banks) = (times[0].least, times[1].least);
-        println!("{name:<28} {single:>7.0} {banks:>7.0} {:>6.2}", banks / single);
+        let ratio = format!("{:.2}", banks / single);
+        markdown::row(&[name.to_string(), whole(single), whole(banks), ratio]);
         banks / single
     });
     let ratios: Vec<f64> = ratios.collect();
-    for ((name, ratio), most) in names.iter().zip(&ratios).zip(MOST) {
-        let verdict = if *ratio <= most { "met   " } else { "MISSED" };
-        println!("{verdict} {name} of a bank: {ratio:.2} of a single one, at most {most}");
-    }
+    let goal = |((name, ratio), most): ((&&str, &f64), f64)| {
+        Goal::at_most(format!("{name} of a bank at most {most} of a single one"), *ratio, most)
+    };
+    names.iter().zip(&ratios).zip(MOST).map(goal).collect()
 }

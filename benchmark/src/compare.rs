@@ -2,9 +2,13 @@
 //! those of the others.
 
 use crate::archives::{self, Archive, SCRATCH};
+use crate::chains::chains;
+use crate::counts;
+use crate::markdown::{self, whole};
 use crate::measure::{in_turn, timed, Batch};
 use crate::stack;
-use crate::workload::{chains, Request, Workload};
+use crate::workload::{Request, Workload};
+use crate::worst::{self, Family};
 use cuckooormolu::{STATE_WORDS, TERMS_WORDS};
 use std::hint::black_box;
 use std::path::PathBuf;
@@ -13,19 +17,24 @@ use std::time::Duration;
 const CALLS: usize = 48;
 const MOMENTS: usize = 100;
 const MEMBERS: usize = 64;
+const FRIENDS: usize = 6;
+/// Chains, and the terms that take long, are grown to this; where a request takes longer than that on the way, its time
+/// is a power of the levels, and the archive is left out.
 const LEVELS: usize = 255;
-/// A chain is grown to its levels; where a request takes longer than this on
-/// the way, its time doubles with the levels, and the chain is left out.
 const SLOW: Duration = Duration::from_millis(50);
+const TURNS: usize = 5;
+const DEPTH: usize = 3;
+const SLOWEST: Duration = Duration::from_millis(200);
 
-const ACCEPTED: &str = "every archive accepts chains";
+/// An archive, its code at several places.
+type Places = [Archive; 4];
 
 /// Makes the calls of a kind, over a start.
 type Make = for<'a> fn(&'a Start, &'a Archive) -> Batch<'a>;
 
-fn batches<'a>(make: Make, start: &'a Start, places: &'a [Archive; 4]) -> Vec<Batch<'a>> {
-    places.iter().map(|archive| make(start, archive)).collect()
-}
+const REQUEST: (&str, Make) = ("request", Start::requests);
+const LOOK: (&str, Make) = ("look", Start::looks);
+const CHECK: (&str, Make) = ("check", Start::checks);
 
 /// Terms and a state as words, and the calls over them.
 struct Start {
@@ -35,10 +44,16 @@ struct Start {
 }
 
 impl Start {
-    /// A record of the workload, made by the archive; none where it refuses
-    /// the terms, since it doesn't know an operator.
+    /// What a text says; none where the archive refuses it, since it doesn't know an operator.
+    fn read(archive: &Archive, text: &[u8], calls: Vec<Request>) -> Option<Start> {
+        let (mut terms, mut state) = (vec![0; TERMS_WORDS], vec![0; STATE_WORDS]);
+        let code = archive.read(text, &mut terms, &mut state);
+        archives::is_done(code).then_some(Start { terms, state, calls })
+    }
+
+    /// A record of the workload, made by the archive.
     fn of(workload: &Workload, archive: &Archive) -> Option<Start> {
-        let mut start = Start::read(archive, &workload.text)?;
+        let mut start = Start::read(archive, &workload.text, workload.requests(11, CALLS))?;
         let mut scratch = vec![0; SCRATCH];
         let mut moments = 0;
         for request in (1_000..).flat_map(|seed| workload.requests(seed, 400)) {
@@ -48,14 +63,28 @@ impl Start {
             let code = archive.request(&start.terms, &mut start.state, &mut scratch, request);
             moments += usize::from(archives::is_granted(code));
         }
-        Some(Start { calls: workload.requests(11, CALLS), ..start })
+        Some(start)
     }
 
-    fn read(archive: &Archive, text: &[u8]) -> Option<Start> {
-        let (mut terms, mut state) = (vec![0; TERMS_WORDS], vec![0; STATE_WORDS]);
-        let code = archive.read(text, &mut terms, &mut state);
-        let start = Start { terms, state, calls: vec![[0, 1, 2], [1, 1, 2]] };
-        archives::is_done(code).then_some(start)
+    /// The text at the last depth, if at none its calls take longer than this.
+    fn grown(
+        archive: &Archive,
+        depths: impl Iterator<Item = usize>,
+        text: impl Fn(usize) -> Vec<u8>,
+        calls: &[Request],
+        most: Duration,
+    ) -> Option<Start> {
+        let mut last = None;
+        for depth in depths {
+            let start = Start::read(archive, &text(depth), calls.to_vec())?;
+            let (_, mut batch) = start.requests(archive);
+            if batch() > most {
+                return None;
+            }
+            drop(batch);
+            last = Some(start);
+        }
+        last
     }
 
     fn requests<'a>(&'a self, archive: &'a Archive) -> Batch<'a> {
@@ -96,82 +125,79 @@ impl Start {
     }
 }
 
-/// The calls of an archive, or none where they would take too long or the terms
-/// are refused.
-type Calls<'a> = Option<Vec<Batch<'a>>>;
-
-/// One line: the least ns of each archive's calls, and the ratios to the first.
-fn row(name: &str, calls: Vec<Calls>) {
-    let counts: Vec<usize> = calls.iter().map(|calls| calls.as_ref().map_or(0, Vec::len)).collect();
-    let batches = calls.into_iter().flatten().flatten().collect();
-    let times = in_turn(Duration::from_millis(2_500), 20, batches);
-    let mut times = times.iter().map(|time| time.least);
-    let least: Vec<Option<f64>> =
-        counts.iter().map(|&count| times.by_ref().take(count).reduce(f64::min)).collect();
-    print!("{name:<30}");
-    for time in &least {
-        match (time, least[0]) {
-            (Some(time), Some(first)) => print!(" {time:>9.0} {:>6.3}", time / first),
-            (Some(time), None) => print!(" {time:>9.0} {:>6}", ""),
-            (None, _) => print!(" {:>9} {:>6}", "-", ""),
+/// A row for each kind of call: the least ns of each archive's, and the ratio to the first one's.
+fn rows(
+    name: &str,
+    archives: &[Places],
+    start: impl Fn(&Archive) -> Option<Start>,
+    kinds: &[(&str, Make)],
+) {
+    // Each archive has its own words for the terms.
+    let starts: Vec<Option<Start>> = archives.iter().map(|places| start(&places[0])).collect();
+    for (call, make) in kinds {
+        let mut batches: Vec<Batch> = Vec::new();
+        for (places, start) in archives.iter().zip(&starts) {
+            batches
+                .extend(start.iter().flat_map(|start| places.each_ref().map(|at| make(start, at))));
         }
+        let times = in_turn(Duration::from_millis(2_500), 20, batches);
+        let mut times = times.chunks(archives[0].len());
+        let mut cells = vec![format!("{name}: {call}")];
+        let mut first = None;
+        for (place, start) in starts.iter().enumerate() {
+            let least = start.as_ref().and_then(|_| times.next());
+            let least =
+                least.map(|times| times.iter().map(|time| time.least).fold(f64::MAX, f64::min));
+            first = if place == 0 { least } else { first };
+            cells.push(least.map_or("-".into(), whole));
+            cells.push(
+                least.zip(first).map_or("".into(), |(time, first)| format!("{:.3}", time / first)),
+            );
+        }
+        markdown::row(&cells);
     }
-    println!();
 }
 
-/// Prints a line for each call of these archives and of the one that is
+/// Prints a row for each call of these archives and of the one that is
 /// built, and what stack they take.
 pub fn print(others: &[String]) {
     let mut paths: Vec<PathBuf> = others.iter().map(PathBuf::from).collect();
     paths.push(archives::built());
-    let archives: Vec<[Archive; 4]> = paths.iter().map(|path| Archive::open(path)).collect();
-    println!("least ns of a call at {MEMBERS} members, and its ratio to the first archive's:");
+    let archives: Vec<Places> = paths.iter().map(|path| Archive::open(path)).collect();
+    println!("Least ns of a call at {MEMBERS} members, and the ratio to the first archive's;");
+    println!("- where an archive refuses the terms, or takes so long that it is left out.\n");
+    let names: Vec<String> = paths.iter().map(|path| path.display().to_string()).collect();
+    let columns = names.iter().flat_map(|name| [name.as_str(), "ratio"]);
+    markdown::head(&["terms, call"].into_iter().chain(columns).collect::<Vec<_>>());
     for make in [Workload::preset, Workload::reach, Workload::large, Workload::random] {
         let workload = make(MEMBERS);
-        // Each archive has its own words for the terms.
-        let starts: Vec<Option<Start>> =
-            archives.iter().map(|places| Start::of(&workload, &places[0])).collect();
-        let kinds = [
-            ("request", Start::requests as Make),
-            ("look", Start::looks as Make),
-            ("check", Start::checks as Make),
-        ];
-        for (call, make) in kinds {
-            let calls = archives
-                .iter()
-                .zip(&starts)
-                .map(|(places, start)| start.as_ref().map(|start| batches(make, start, places)));
-            row(&format!("{}: {call}", workload.name), calls.collect());
-        }
+        let start = |archive: &Archive| Start::of(&workload, archive);
+        rows(workload.name, &archives, start, &[REQUEST, LOOK, CHECK]);
     }
-    let quick: Vec<[bool; 3]> = archives.iter().map(|places| are_quick(&places[0])).collect();
-    for (kind, (name, text)) in chains(LEVELS).into_iter().enumerate() {
-        let read = |places: &[Archive; 4]| Start::read(&places[0], &text).expect(ACCEPTED);
-        let starts: Vec<Start> = archives.iter().map(read).collect();
-        for (call, make) in [("request", Start::requests as Make), ("look", Start::looks as Make)] {
-            let calls =
-                archives.iter().zip(&starts).zip(&quick).map(|((places, start), quick)| {
-                    quick[kind].then(|| batches(make, start, places))
-                });
-            row(&format!("{name}: {call}"), calls.collect());
+    for (name, counted) in [("policy 20, counted", true), ("policy 20, spelled out", false)] {
+        let text = counts::text(MEMBERS, FRIENDS, counted);
+        let start =
+            |archive: &Archive| Start::read(archive, &text, counts::calls(MEMBERS, FRIENDS));
+        rows(name, &archives, start, &[REQUEST, LOOK]);
+    }
+    for (kind, (name, _)) in chains(LEVELS).into_iter().enumerate() {
+        let text = |levels| chains(levels).into_iter().nth(kind).expect("a kind").1;
+        let levels = || (8..LEVELS).step_by(4).chain([LEVELS]);
+        let calls = [[0, 1, 2], [1, 1, 2]];
+        let start = |archive: &Archive| Start::grown(archive, levels(), text, &calls, SLOW);
+        rows(name, &archives, start, &[REQUEST, LOOK]);
+    }
+    for (family, most) in [(Family::InTurn, TURNS), (Family::AllRead, DEPTH)] {
+        for depth in (1..=most).step_by(2) {
+            let text = |depth| family.text(depth);
+            let start =
+                |archive: &Archive| Start::grown(archive, 1..=depth, text, &[worst::CALL], SLOWEST);
+            let name = format!("{}, {depth} deep", family.name());
+            rows(&name, &archives, start, &[REQUEST, LOOK]);
         }
     }
     for (places, path) in archives.iter().zip(paths) {
         println!("\n{}", path.display());
-        stack::print(&places[0]);
+        _ = stack::print(&places[0]);
     }
-}
-
-/// Of each kind of chain, whether no request takes long as it grows. The
-/// machine may have other work, so it has three tries.
-fn are_quick(archive: &Archive) -> [bool; 3] {
-    [0, 1, 2].map(|kind| {
-        (8..=LEVELS).step_by(4).all(|levels| {
-            let start = Start::read(archive, &chains(levels)[kind].1).expect(ACCEPTED);
-            let (mut state, mut scratch) = (start.state.clone(), vec![0; SCRATCH]);
-            let mut request = |call| archive.request(&start.terms, &mut state, &mut scratch, call);
-            let mut calls = || start.calls.iter().for_each(|&call| _ = request(call));
-            (0..3).any(|_| timed(&mut calls) < SLOW)
-        })
-    })
 }

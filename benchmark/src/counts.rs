@@ -1,8 +1,10 @@
 //! Policy (20) of source 003, three friends there and five others here: counted,
 //! and spelled out with a binder for each friend.
 
+use crate::markdown::{self, ratio, whole, Goal};
 use crate::measure::{in_turn, timed, Batch};
-use cuckooormolu::{Event, Member, Monitor, Request};
+use crate::workload::{named, Request};
+use cuckooormolu::Monitor;
 use keeper::generate::Rng;
 use keeper::terms::{self, Entry, Terms};
 use std::collections::BTreeSet;
@@ -73,8 +75,8 @@ impl Entries {
     }
 }
 
-/// Members with so many friends each, one after the other.
-fn monitor(members: usize, friends: usize, counted: bool) -> Monitor {
+/// The text of terms by which members have so many friends each, one after the other.
+pub fn text(members: usize, friends: usize, counted: bool) -> Vec<u8> {
     let entries = Entries::default().policy(counted);
     let edges: BTreeSet<_> = (0..members)
         .flat_map(|m| (1..=friends).map(move |step| (FRIEND, m, (m + step) % members)))
@@ -83,32 +85,37 @@ fn monitor(members: usize, friends: usize, counted: bool) -> Monitor {
     let effects = vec![Vec::new()];
     let kept = BTreeSet::new();
     let terms = Terms { members, relations: 1, events: 1, entries, policies, kept, effects, edges };
-    Monitor::read(&terms::write(&terms, &terms.edges)).expect("the terms are accepted")
+    terms::write(&terms, &terms.edges)
+}
+
+/// Calls by friends of the targets.
+pub fn calls(members: usize, friends: usize) -> Vec<Request> {
+    let mut rng = Rng::new(members as u64);
+    let call = |_| {
+        let to = rng.below(members);
+        [0, (to + rng.between(1, friends)) % members, to]
+    };
+    (0..LOOKS).map(call).collect()
 }
 
 /// Prints what a look takes in both forms.
-pub fn print() {
-    println!("\npolicy 20, least ns of a look:");
-    println!(
-        "{:>7} {:>7} {:>9} {:>10} {:>12} {:>9}",
-        "members", "friends", "granted %", "many", "spelled out", "ratio"
+pub fn print() -> Vec<Goal> {
+    markdown::table(
+        "Counting",
+        "Policy 20, least ns of a look:",
+        &["members", "friends", "granted %", "many", "spelled out", "ratio"],
     );
     for (members, friends) in [(16, 4), (16, 5), (16, 6), (64, 4), (64, 5), (64, 6), (64, 12)] {
         row(members, friends);
     }
+    Vec::new()
 }
 
 fn row(members: usize, friends: usize) {
-    let (many, spelled) = (monitor(members, friends, true), monitor(members, friends, false));
-    let mut rng = Rng::new(members as u64);
-    let looks: Vec<Request> = (0..LOOKS)
-        .map(|_| {
-            // Asked by a friend of the target's.
-            let to = rng.below(members);
-            let from = (to + rng.between(1, friends)) % members;
-            Request { event: Event(0), from: Member(from as u8), to: Member(to as u8) }
-        })
-        .collect();
+    let [many, spelled] = [true, false].map(|counted| {
+        Monitor::read(&text(members, friends, counted)).expect("the terms are accepted")
+    });
+    let looks: Vec<_> = calls(members, friends).into_iter().map(named).collect();
     let answers =
         |monitor: &Monitor| -> Vec<_> { looks.iter().map(|look| monitor.look(*look)).collect() };
     assert_eq!(answers(&many), answers(&spelled), "both forms have the same answers");
@@ -125,6 +132,6 @@ fn row(members: usize, friends: usize) {
     let times = in_turn(Duration::from_millis(400), 3, vec![batch(&many), batch(&spelled)]);
     let (many, spelled) = (times[0].least, times[1].least);
     let share = 100 * granted / LOOKS;
-    let ratio = spelled / many;
-    println!("{members:>7} {friends:>7} {share:>9} {many:>10.0} {spelled:>12.0} {ratio:>9.1}");
+    let [members, friends, share] = [members, friends, share].map(|number| number.to_string());
+    markdown::row(&[members, friends, share, whole(many), whole(spelled), ratio(spelled / many)]);
 }

@@ -1,6 +1,7 @@
 //! Set lists beside single requests, at 64 members on the preset. Every
 //! record is granted.
 
+use crate::markdown::{self, whole, Goal};
 use crate::measure::{in_turn, timed, Batch};
 use crate::workload::{named, Request, Workload};
 use cuckooormolu::{raw, SCRATCH_WORDS};
@@ -13,8 +14,8 @@ const LENGTHS: [usize; 3] = [1, 8, REQUESTS];
 /// The goal: a record of the longest list, in single requests.
 const MOST: f64 = 0.6;
 
-/// Prints what a record costs in lists of each length, and the goal.
-pub fn print() {
+/// Prints what a record costs in lists of each length, and gives the goal.
+pub fn print() -> Vec<Goal> {
     let workload = Workload::preset(64);
     let monitor = workload.monitor();
     let (terms, state) = (monitor.terms().words(), monitor.state().words());
@@ -22,16 +23,20 @@ pub fn print() {
     let mut batches = vec![single(terms, state, &requests)];
     batches.extend(LENGTHS.map(|length| listed(terms, state, &requests, length)));
     let times = in_turn(Duration::from_millis(2_500), 20, batches);
-    println!("\nset lists at 64 members on the preset, all granted, least ns:");
-    println!("{:<28} {:>5.0}", "a single request", times[0].least);
+    markdown::table(
+        "Set lists",
+        "At 64 members on the preset, every record granted, least ns:",
+        &["", "ns", "of a single request"],
+    );
+    markdown::row(&["a single request".into(), whole(times[0].least), "".into()]);
     let mut ratio = 0.0;
     for (length, time) in LENGTHS.iter().zip(&times[1..]) {
         ratio = time.least / times[0].least;
         let name = format!("a record in lists of {length}");
-        println!("{name:<28} {:>5.0} {ratio:>5.2} of it", time.least);
+        markdown::row(&[name, whole(time.least), format!("{ratio:.2}")]);
     }
-    let verdict = if ratio <= MOST { "met   " } else { "MISSED" };
-    println!("{verdict} in lists of {REQUESTS} {ratio:.2} of a single request, at most {MOST}");
+    let text = format!("a record in lists of {REQUESTS} at most {MOST} of a single request");
+    vec![Goal::at_most(text, ratio, MOST)]
 }
 
 /// Requests that are granted one after another. A denied one makes no moment,

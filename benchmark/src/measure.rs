@@ -2,8 +2,11 @@
 //!
 //! A batch is short, so that some batches are not interrupted, and all that
 //! is compared is timed in turn, so that slow spells fall on all. The least
-//! time of a batch is what counts; the middle one shows the noise.
+//! time of a batch is what counts; the middle one shows the noise. A batch that
+//! is too long for that is timed by the processor's clock, which stands still
+//! while other work has its turn.
 
+use std::ffi::{c_int, c_long};
 use std::time::{Duration, Instant};
 
 /// Nanoseconds of one call.
@@ -16,11 +19,39 @@ pub struct Time {
 /// Prepares, then times a batch of calls.
 pub type Batch<'a> = (usize, Box<dyn FnMut() -> Duration + 'a>);
 
+/// Longer work may be interrupted.
+const LONG: Duration = Duration::from_millis(1);
+
+#[repr(C)]
+struct Timespec {
+    seconds: i64,
+    nanoseconds: c_long,
+}
+
+extern "C" {
+    fn clock_gettime(clock: c_int, time: *mut Timespec) -> c_int;
+}
+
+/// The clock of this thread's time on a processor.
+const CLOCK_THREAD_CPUTIME_ID: c_int = 3;
+
+fn processor() -> Duration {
+    let mut time = Timespec { seconds: 0, nanoseconds: 0 };
+    // Safety: the time is writable, and laid out as the C library's.
+    assert_eq!(unsafe { clock_gettime(CLOCK_THREAD_CPUTIME_ID, &mut time) }, 0);
+    Duration::new(time.seconds as u64, time.nanoseconds as u32)
+}
+
 /// The time from here to the end of the work.
 pub fn timed(work: impl FnOnce()) -> Duration {
+    let before = processor();
     let begin = Instant::now();
     work();
-    begin.elapsed()
+    let elapsed = begin.elapsed();
+    match elapsed < LONG {
+        true => elapsed,
+        false => elapsed.min(processor() - before),
+    }
 }
 
 /// Runs all batches in turn until the time is used up, a few times at least.

@@ -1,5 +1,6 @@
 //! Tables of two variables, at 16 members: 32 of them, beside 32 of one.
 
+use crate::markdown::{self, Goal};
 use crate::measure::{in_turn, timed, Batch};
 use cuckooormolu::{Event, Member, Monitor, Request};
 use keeper::terms::{self, Entry, Terms};
@@ -56,10 +57,13 @@ fn monitor(two: bool) -> Monitor {
     Monitor::read(&terms::write(&terms, &terms.edges)).expect("the terms are accepted")
 }
 
-/// Prints a request and a look on both, and the goal.
-pub fn print() {
-    println!("\n{TABLES} tables at {MEMBERS} members, least µs:");
-    println!("{:<28} {:>9} {:>9} {:>6}", "", "two", "one", "ratio");
+/// Prints a request and a look on both, and gives the goal.
+pub fn print() -> Vec<Goal> {
+    markdown::table(
+        "Tables of two variables",
+        "32 tables at 16 members, least µs:",
+        &["", "two variables", "one", "ratio"],
+    );
     let (two, one) = (monitor(true), monitor(false));
     let request = row("a request, granted", &two, &one, |monitor, n| {
         let request = Request { event: Event((n % 4 / 3) as u8), ..between(n) };
@@ -68,8 +72,8 @@ pub fn print() {
     row("a look", &two, &one, |monitor, n| {
         _ = black_box(monitor.look(Request { event: Event(2), ..between(n) }));
     });
-    let verdict = if request < MOST { "met   " } else { "MISSED" };
-    println!("{verdict} a request takes {request:.1} µs, less than {MOST}");
+    let text = format!("a request with {TABLES} tables of two variables at most {MOST} µs");
+    vec![Goal::at_most(text, request, MOST)]
 }
 
 fn between(n: usize) -> Request {
@@ -89,6 +93,7 @@ fn row(name: &str, two: &Monitor, one: &Monitor, call: fn(&mut Monitor, usize)) 
     };
     let times = in_turn(Duration::from_millis(900), 10, vec![batch(two), batch(one)]);
     let (two, one) = (times[0].least / 1000.0, times[1].least / 1000.0);
-    println!("{name:<28} {two:>9.1} {one:>9.1} {:>6.2}", two / one);
+    let cells = [format!("{two:.1}"), format!("{one:.1}"), format!("{:.2}", two / one)];
+    markdown::row(&[&[name.to_string()], &cells[..]].concat());
     two
 }

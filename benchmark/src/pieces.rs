@@ -1,6 +1,8 @@
 //! Where the time of a call goes, at 64 members on the preset.
 
+use crate::by_hand;
 use crate::floor;
+use crate::markdown::{self, whole, Goal};
 use crate::measure::{in_turn, timed, Batch};
 use crate::workload::{named, Workload};
 use cuckooormolu::{raw, SCRATCH_WORDS};
@@ -22,7 +24,7 @@ fn batch<'a, T>(mut piece: impl FnMut() -> T + 'a) -> Batch<'a> {
 }
 
 /// Prints the pieces, timed in turn.
-pub fn print() {
+pub fn print() -> Vec<Goal> {
     let workload = Workload::preset(64);
     let mut monitor = workload.monitor();
     // Member 1 owns 0 and shares with 7; 8 has no share.
@@ -40,9 +42,15 @@ pub fn print() {
         let request = raw::Request { event, from, to };
         batch(move || raw::request(terms, &mut state, &mut scratch, request))
     };
+    let by_hand = |asked| {
+        let (mut state, mut scratch) = (state.to_vec(), vec![0; SCRATCH_WORDS]);
+        batch(move || {
+            by_hand::request(black_box(terms), &mut state, &mut scratch, black_box(asked))
+        })
+    };
     let mut scratch = vec![1u64; SCRATCH_WORDS];
-    let names_and_batches: [(&str, Batch); 9] = [
-        ("the floor", batch(|| floor::passes(black_box(terms), black_box(state)))),
+    let names_and_batches: [(&str, Batch); 12] = [
+        ("the floor", batch(|| floor::refusal(black_box(terms), black_box(state)))),
         ("check", batch(|| raw::check(terms, state))),
         ("look refused with 9", look(9, 0, 0)),
         ("look at a share, policy top", look(SHARE, 1, 7)),
@@ -50,12 +58,18 @@ pub fn print() {
         ("request of a load, denied", request(LOAD, 8, 0)),
         ("request of a share, granted", request(SHARE, 1, 7)),
         ("request of a load, granted", request(LOAD, 7, 0)),
+        ("by hand, a load, denied", by_hand([LOAD, 8, 0])),
+        ("by hand, a share, granted", by_hand([SHARE, 1, 7])),
+        ("by hand, a load, granted", by_hand([LOAD, 7, 0])),
         ("clearing 64 words alone", batch(move || black_box(&mut scratch).fill(0))),
     ];
     let (names, batches): (Vec<_>, Vec<_>) = names_and_batches.into_iter().unzip();
     let times = in_turn(Duration::from_millis(1_500), 20, batches);
-    println!("\npieces at 64 members on the preset, least ns:");
-    for (name, time) in names.iter().zip(times) {
-        println!("{name:<28} {:>5.0}", time.least);
+    let about = "At 64 members on the preset, least ns, and the ratio to the floor:";
+    markdown::table("Where the time goes", about, &["piece", "ns", "of the floor"]);
+    for (name, time) in names.iter().zip(&times) {
+        let ratio = time.least / times[0].least;
+        markdown::row(&[name.to_string(), whole(time.least), format!("{ratio:.2}")]);
     }
+    Vec::new()
 }

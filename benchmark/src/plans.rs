@@ -2,9 +2,10 @@
 //! and a goal that is reached by the last; beside as many requests one by one. And the
 //! stack of a plan.
 
+use crate::chains::deep;
+use crate::markdown::{self, Goal};
 use crate::measure::{in_turn, timed, Batch};
 use crate::stack::{touched, MOST as MOST_STACK};
-use crate::workload::deep;
 use cuckooormolu::{raw, Event, Member, Monitor, Request, Ruling, PLAN_WORDS, SCRATCH_WORDS};
 use keeper::terms::{self, Entry, Terms};
 use std::collections::BTreeSet;
@@ -57,14 +58,15 @@ fn planned(moves: &[u64; 6], goal: usize) -> raw::Plan<'_> {
     raw::Plan { moves, planner: 0, rival: 1, goal, pair: (0, 1) }
 }
 
-/// Prints the time of such a plan, and its stack.
-pub fn print() {
-    println!("\na plan of 3 moves, {MEMBERS} members and {EVENTS} events, to the end, least ms:");
-    println!("{:<28} {:>9} {:>9} {:>6}", "", "plan", "requests", "ratio");
+/// Prints the time of such a plan, and gives its goals, that of its stack too.
+pub fn print() -> Vec<Goal> {
+    markdown::table(
+        "Plans",
+        "A plan of 3 moves, 8 members and 4 events, played to the end, least ms:",
+        &["", "plan", "its requests alone", "ratio"],
+    );
     let least = [1, 32].map(|tables| row(&monitor(tables), tables));
-    let verdict = if least[1] <= MOST { "met   " } else { "MISSED" };
-    println!("{verdict} a plan over 32 tables takes {:.1} ms, at most {MOST}", least[1]);
-    stack();
+    vec![Goal::at_most(format!("a plan over 32 tables at most {MOST} ms"), least[1], MOST), stack()]
 }
 
 fn row(monitor: &Monitor, tables: usize) -> f64 {
@@ -88,13 +90,13 @@ fn row(monitor: &Monitor, tables: usize) -> f64 {
     let times = in_turn(Duration::from_millis(900), 10, batches);
     let [plan, requests] = [0, 1].map(|place| times[place].least / 1e6);
     let name = format!("{entries} entries, {tables} tables");
-    println!("{name:<28} {plan:>9.2} {requests:>9.2} {:>6.2}", plan / requests);
+    let cells = [plan, requests, plan / requests].map(|number| format!("{number:.2}"));
+    markdown::row(&[&[name], &cells[..]].concat());
     plan
 }
 
-/// Prints the most stack of a plan under the deepest terms, with 8 members, beside a
-/// request.
-fn stack() {
+/// The most stack of a plan under the deepest terms, with 8 members, beside a request.
+fn stack() -> Goal {
     let bare = touched(Box::new(|| ()));
     let mut most = [0; 2];
     for (_, text) in deep() {
@@ -113,8 +115,8 @@ fn stack() {
         most = [most[0].max(played - bare), most[1].max(requested - bare)];
     }
     let [plan, request] = most.map(|bytes| bytes as f64 / 1024.0);
-    let verdict = if most[0] <= MOST_STACK { "met   " } else { "MISSED" };
-    println!("{verdict} a plan takes at most {plan:.1} KiB of stack, a request {request:.1}");
+    let text = format!("stack of a plan at most {} KiB", MOST_STACK >> 10);
+    Goal::new(text, format!("{plan:.1}, of a request {request:.1}"), most[0] <= MOST_STACK)
 }
 
 /// The same terms with 8 members.

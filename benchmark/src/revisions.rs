@@ -1,6 +1,7 @@
 //! New terms while playing, at 64 members: what a revision takes beside an
 //! opening of the new terms.
 
+use crate::markdown::{self, Goal};
 use crate::measure::{in_turn, timed, Batch};
 use cuckooormolu::{raw, Monitor, STATE_WORDS};
 use keeper::terms::{self, Entry, Terms};
@@ -37,13 +38,12 @@ fn monitor(entries: usize, other: impl Fn(usize) -> Entry) -> Monitor {
     Monitor::read(&terms::write(&terms, &terms.edges)).expect("the terms are accepted")
 }
 
-/// Prints a revision beside an opening, and the goal.
-pub fn print() {
-    println!("\nrevisions at {MEMBERS} members, least µs:");
-    println!("{:<28} {:>8} {:>8} {:>6}", "", "revision", "opening", "ratio");
+/// Prints a revision beside an opening, and gives the goal.
+pub fn print() -> Vec<Goal> {
+    markdown::table("Revisions", "At 64 members, least µs:", &["", "revision", "opening", "ratio"]);
     let worst = [
-        row("9 entries, all carried", &monitor(9, Entry::Not), &monitor(9, Entry::Not)),
-        row("256 entries, all carried", &monitor(256, Entry::Not), &monitor(256, Entry::Not)),
+        row("9 entries, all carried over", &monitor(9, Entry::Not), &monitor(9, Entry::Not)),
+        row("256 entries, all carried over", &monitor(256, Entry::Not), &monitor(256, Entry::Not)),
         row(
             "256 entries, all start",
             &monitor(256, Entry::Not),
@@ -52,8 +52,7 @@ pub fn print() {
     ]
     .into_iter()
     .fold(0.0, f64::max);
-    let verdict = if worst <= MOST { "met   " } else { "MISSED" };
-    println!("{verdict} at most {worst:.2} times an opening, at most {MOST}");
+    vec![Goal::at_most(format!("a revision at most {MOST} times an opening"), worst, MOST)]
 }
 
 fn row(name: &str, old: &Monitor, new: &Monitor) -> f64 {
@@ -67,7 +66,8 @@ fn row(name: &str, old: &Monitor, new: &Monitor) -> f64 {
     let times = in_turn(Duration::from_millis(900), 10, vec![batch(revision), batch(opening)]);
     let (revision, opening) = (times[0].least / 1000.0, times[1].least / 1000.0);
     let ratio = revision / opening;
-    println!("{name:<28} {revision:>8.1} {opening:>8.1} {ratio:>6.2}");
+    let [revision, opening] = [revision, opening].map(|time| format!("{time:.1}"));
+    markdown::row(&[name.into(), revision, opening, format!("{ratio:.2}")]);
     ratio
 }
 

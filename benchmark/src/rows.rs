@@ -1,77 +1,138 @@
-//! The rows of the table.
+//! The main table: calls of the monitor beside other ways to the same answers, for each number of members and each
+//! length of the record, and the goals that it decides.
 
-use crate::floor;
-use crate::log::Log;
-use crate::matrices::Matrices;
-use crate::measure::{in_turn, timed, Batch, Time};
-use crate::workload::{named, Request, Workload};
-use cuckooormolu::{raw, Monitor, State, SCRATCH_WORDS};
-use keeper::record::{Answer, Call, Record};
-use keeper::terms::Terms;
-use std::fmt;
-use std::hint::black_box;
+use crate::markdown::{self, ratio, whole, Goal};
+use crate::measure::{in_turn, Batch, Time};
+use crate::ways::{agreed, keeper_batch, monitor_batches, other_batches, records};
+use crate::workload::Workload;
 use std::time::Duration;
 
+const MEMBERS: [usize; 3] = [3, 16, 64];
 /// Calls of a batch.
 const CALLS: usize = 48;
-/// Calls of a batch of the keeper, which reads the whole record at each.
-const KEEPER_CALLS: usize = 8;
 /// Where the record is longer the keeper is left out.
 const KEEPER_MOMENTS: usize = 100;
 
-pub struct Row {
-    pub on_preset: bool,
+const COLUMNS: [&str; 14] = [
+    "terms",
+    "members",
+    "moments",
+    "granted %",
+    "request ns",
+    "look ns",
+    "check ns",
+    "floor ns",
+    "request / floor",
+    "look / floor",
+    "001 / request",
+    "SQLite / request",
+    "keeper / request",
+    "request noise",
+];
+
+struct Row {
     name: &'static str,
     /// Requests of the batch that are granted, of a hundred.
     granted: usize,
-    pub members: usize,
-    pub moments: usize,
-    pub request: Time,
-    pub look: Time,
+    members: usize,
+    moments: usize,
+    request: Time,
+    look: Time,
     check: Time,
-    pub floor: Time,
-    pub matrices: Time,
-    pub log: Option<Time>,
+    floor: Time,
+    matrices: Time,
+    log: Option<Time>,
     keeper: Option<Time>,
 }
 
-pub const HEAD: &str = "\
-| terms | members | moments | granted % | request ns | look ns | check ns | floor ns | request / floor | look / floor \
-| 001 / request | SQLite / request | keeper / request | request noise |
-|---|--:|--:|--:|--:|--:|--:|--:|--:|--:|--:|--:|--:|--:|";
-
-impl fmt::Display for Row {
-    fn fmt(&self, out: &mut fmt::Formatter<'_>) -> fmt::Result {
-        let Row { name, members, moments, request, look, check, floor, matrices, .. } = self;
-        let over = |time: Option<Time>| match time.map(|time| time.least / request.least) {
-            Some(ratio) if ratio < 10.0 => format!("{ratio:.2}"),
-            Some(ratio) => format!("{ratio:.0}"),
-            None => "".into(),
-        };
+impl Row {
+    fn print(&self) {
+        let Row { name, granted, members, moments, request, look, check, floor, .. } = self;
         let exponent = moments.ilog10();
-        write!(out, "| {name} | {members} | 10^{exponent} | {} ", self.granted)?;
-        for time in [request, look, check, floor] {
-            write!(out, "| {:.0} ", time.least)?;
-        }
-        let to_floor = [request, look].map(|time| time.least / floor.least);
-        write!(out, "| {:.2} | {:.2} ", to_floor[0], to_floor[1])?;
-        let columns = [Some(*matrices), self.log, self.keeper].map(over);
-        write!(out, "| {} | {} | {} ", columns[0], columns[1], columns[2])?;
-        write!(out, "| {:.2} |", request.middle / request.least)
+        let mut cells = vec![
+            name.to_string(),
+            members.to_string(),
+            format!("10^{exponent}"),
+            granted.to_string(),
+        ];
+        cells.extend([request, look, check, floor].map(|time| format!("{:.0}", time.least)));
+        cells.extend([request, look].map(|time| format!("{:.2}", time.least / floor.least)));
+        let over = |time: Option<Time>| time.map(|time| ratio(time.least / request.least));
+        let others = [Some(self.matrices), self.log, self.keeper];
+        cells.extend(others.map(|time| over(time).unwrap_or_default()));
+        cells.push(format!("{:.2}", request.middle / request.least));
+        markdown::row(&cells);
     }
 }
 
-/// A record of some length, as each way to an answer keeps it.
-struct Kept {
-    moments: usize,
-    state: Vec<u64>,
-    matrices: Matrices,
-    log: Option<Log>,
+/// Prints the table, and gives its goals.
+pub fn print() -> Vec<Goal> {
+    let mut about = "Least ns of a call; the ratios on the right are to one request.".to_string();
+    if !cfg!(sqlite) {
+        about += " SQLite's development files are not installed: its column is left out.";
+    }
+    markdown::table("The table", &about, &COLUMNS);
+    let mut all = Vec::new();
+    for make in [Workload::preset, Workload::reach, Workload::large, Workload::random] {
+        for members in MEMBERS {
+            let rows = measured(&make(members));
+            rows.iter().for_each(Row::print);
+            all.extend(rows.into_iter().filter(|row| row.members == 64));
+        }
+    }
+    goals(&all)
+}
+
+/// The goals at 64 members, each by its worst row.
+fn goals(all: &[Row]) -> Vec<Goal> {
+    let on = |name| all.iter().filter(move |row| row.name == name);
+    let most = |name, ratio: &dyn Fn(&Row) -> f64| on(name).map(ratio).fold(0.0, f64::max);
+    let of_floor = |name, part: fn(&Row) -> Time, most_floors: f64, call: &str| {
+        let text = format!("{name}: {call} at most {most_floors} times the floor");
+        Goal::at_most(text, most(name, &|row| part(row).least / row.floor.least), most_floors)
+    };
+    let within = |name, part: fn(&Row) -> Time, most_ns: f64, call: &str| {
+        let time = most(name, &|row| part(row).least);
+        Goal::new(
+            format!("{name}: {call} at most {} ns", whole(most_ns)),
+            whole(time),
+            time <= most_ns,
+        )
+    };
+    let matrices = 1.0 / most("preset", &|row| row.request.least / row.matrices.least);
+    let slowest = all.iter().map(|row| row.request.least / row.matrices.least).fold(0.0, f64::max);
+    let mut goals = vec![
+        of_floor("preset", |row| row.request, 1.5, "a request"),
+        of_floor("preset", |row| row.look, 1.5, "a look"),
+        of_floor("large", |row| row.check, 1.4, "the check"),
+        of_floor("large", |row| row.request, 3.0, "a request"),
+        Goal::new(
+            "preset: at least 200 times as fast as 001's algorithm",
+            format!("{matrices:.0}"),
+            matrices >= 200.0,
+        ),
+        Goal::at_most("every row: at most the time of 001's algorithm", slowest, 1.0),
+        within("random", |row| row.request, 50_000.0, "a request"),
+        within("random", |row| row.look, 5_000.0, "a look"),
+    ];
+    if on("preset").all(|row| row.log.is_some()) {
+        let times = |row: &Row| row.log.map_or(0.0, |log| log.least / row.request.least);
+        let least = on("preset").map(times).fold(f64::MAX, f64::min);
+        let text = "preset: faster than the SQLite query";
+        goals.push(Goal::new(text, format!("{least:.1} times as fast"), least > 1.0));
+    }
+    let at = |moments| on("preset").find(|row| row.moments == moments).map(|row| row.request.least);
+    if let (Some(short), Some(long)) = (at(100), at(1_000_000)) {
+        let ratio = long / short;
+        let text = "preset: cost at 10^6 moments within 5 % of that at 10^2";
+        goals.push(Goal::new(text, format!("{ratio:.3}"), (0.95..=1.05).contains(&ratio)));
+    }
+    goals
 }
 
 /// One row for each length of the record. The monitor's calls and the floor
 /// are timed in turn over all lengths, then the others.
-pub fn measured(workload: &Workload) -> Vec<Row> {
+fn measured(workload: &Workload) -> Vec<Row> {
     let mut kept = records(workload);
     let calls = workload.requests(11, CALLS);
     let granted: Vec<usize> =
@@ -94,7 +155,6 @@ pub fn measured(workload: &Workload) -> Vec<Row> {
     let keeper = in_turn(Duration::from_millis(500), 2, keeper);
     let each = slow.len() / workload.moments.len();
     let row = |(index, &moments): (usize, &usize)| Row {
-        on_preset: workload.is_preset(),
         name: workload.name,
         granted: granted[index],
         members: workload.terms.members,
@@ -108,158 +168,4 @@ pub fn measured(workload: &Workload) -> Vec<Row> {
         keeper: keeper.get(index).copied(),
     };
     workload.moments.iter().enumerate().map(row).collect()
-}
-
-/// Records of each length, one begun with the other.
-fn records(workload: &Workload) -> Vec<Kept> {
-    let mut monitor = workload.monitor();
-    let mut list = history(workload);
-    let mut moments = 0;
-    let mut logged = Vec::new();
-    let mut all = Vec::new();
-    for &wanted in workload.moments {
-        while moments < wanted {
-            let request = list.next().expect("the list has no end");
-            if monitor.request(named(request)).is_ok_and(|answer| answer.is_grant()) {
-                moments += 1;
-                logged.push(request);
-            }
-        }
-        all.push(Kept {
-            moments,
-            state: monitor.state().words().to_vec(),
-            matrices: Matrices::resume(&workload.terms, monitor.state().words()),
-            log: logged_in(workload, &logged),
-        });
-    }
-    all
-}
-
-/// The log of a record, on the preset.
-fn logged_in(workload: &Workload, granted: &[Request]) -> Option<Log> {
-    let mut log = if workload.is_preset() { Log::new(&workload.terms)? } else { return None };
-    assert!(granted.iter().all(|&request| log.request(request)));
-    Some(log)
-}
-
-/// The requests that make a record, without end.
-fn history(workload: &Workload) -> impl Iterator<Item = Request> + '_ {
-    (1_000..).flat_map(|seed| workload.requests(seed, 400))
-}
-
-/// The number of grants. All ways have to give the same answers.
-fn agreed(workload: &Workload, kept: &mut Kept, calls: &[Request]) -> usize {
-    let terms = workload.monitor().terms().clone();
-    let state = State::from_words(&terms, &kept.state).expect("the state keeps the layout");
-    let mut monitor = Monitor::resume(terms, state).expect("the state is one of the terms");
-    assert!(floor::passes(monitor.terms().words(), monitor.state().words()));
-    let mut matrices = kept.matrices.clone();
-    let mut grants = 0;
-    for &[event, from, to] in calls {
-        let request = named([event, from, to]);
-        let answer = monitor.request(request).expect("decided").is_grant();
-        assert_eq!(matrices.request(event, from, to), answer, "001's algorithm disagrees");
-        grants += usize::from(answer);
-        if let Some(log) = &mut kept.log {
-            assert_eq!(log.request([event, from, to]), answer, "the log disagrees");
-        }
-    }
-    if let Some(log) = &mut kept.log {
-        log.cut(kept.moments);
-    }
-    grants
-}
-
-/// The monitor's requests, looks and checks, and the floor.
-fn monitor_batches<'a>(terms: &'a [u16], start: &'a [u64], calls: &'a [Request]) -> [Batch<'a>; 4] {
-    let mut state = start.to_vec();
-    let mut scratch = vec![0; SCRATCH_WORDS];
-    let requests = move || {
-        state.copy_from_slice(start);
-        timed(|| {
-            for &[event, from, to] in calls {
-                let request = raw::Request { event, from, to };
-                black_box(raw::request(terms, &mut state, &mut scratch, request).is_ok());
-            }
-        })
-    };
-    let scratch = vec![0; SCRATCH_WORDS];
-    let looks = move || {
-        timed(|| {
-            for &[event, from, to] in calls {
-                let request = raw::Request { event, from, to };
-                black_box(raw::look(terms, start, &scratch, request).is_ok());
-            }
-        })
-    };
-    let checks = move || {
-        timed(|| {
-            for _ in calls {
-                black_box(raw::check(terms, start).is_ok());
-            }
-        })
-    };
-    let floor = move || {
-        timed(|| {
-            for _ in calls {
-                black_box(floor::passes(black_box(terms), black_box(start)));
-            }
-        })
-    };
-    let calls = calls.len();
-    [
-        (calls, Box::new(requests)),
-        (calls, Box::new(looks)),
-        (calls, Box::new(checks)),
-        (calls, Box::new(floor)),
-    ]
-}
-
-/// Requests of 001's algorithm and, on the preset, of the log.
-fn other_batches<'a>(kept: &'a mut Kept, calls: &'a [Request]) -> Vec<Batch<'a>> {
-    let start = &kept.matrices;
-    let requests = move || {
-        let mut matrices = start.clone();
-        timed(|| {
-            for &[event, from, to] in calls {
-                black_box(matrices.request(event, from, to));
-            }
-        })
-    };
-    let mut all: Vec<Batch> = vec![(calls.len(), Box::new(requests))];
-    if let Some(log) = &mut kept.log {
-        let moments = log.moments();
-        let requests = move || {
-            log.cut(moments);
-            timed(|| {
-                for &request in calls {
-                    black_box(log.request(request));
-                }
-            })
-        };
-        all.push((calls.len(), Box::new(requests)));
-    }
-    all
-}
-
-/// Requests of the keeper over the whole record, which is made anew each time.
-fn keeper_batch<'a>(workload: &'a Workload, moments: usize, calls: &'a [Request]) -> Batch<'a> {
-    let ask = |record: &mut Record, &[event, from, to]: &Request| {
-        record.answer(&Call::request(event, from, to)) == Answer::Grant
-    };
-    let requests = move || {
-        let mut record = Record::new(Terms::clone(&workload.terms));
-        for request in history(workload) {
-            if record.graphs().len() > moments {
-                break;
-            }
-            ask(&mut record, &request);
-        }
-        timed(|| {
-            for request in &calls[..KEEPER_CALLS] {
-                black_box(ask(&mut record, request));
-            }
-        })
-    };
-    (KEEPER_CALLS, Box::new(requests))
 }

@@ -2,7 +2,8 @@
 //! the paint that is left is counted.
 
 use crate::archives::{is_done, is_granted, Archive, SCRATCH};
-use crate::workload::{binding, deep, plain};
+use crate::chains::{binding, deep, plain};
+use crate::markdown::{self, Goal};
 use cuckooormolu::raw::Record;
 use cuckooormolu::{STATE_WORDS, TERMS_WORDS};
 use std::ffi::{c_int, c_void};
@@ -113,30 +114,29 @@ fn calls(archive: &Archive, text: &[u8]) -> Option<[usize; 6]> {
 
 /// Prints a table with a row for each of these terms, and gives the most bytes of any call.
 fn table(archive: &Archive, rows: Vec<(String, Vec<u8>)>) -> usize {
-    println!("{:<22}{}", "", CALLS.map(|call| format!(" {call:>8}")).concat());
+    markdown::head(&[&["terms"], &CALLS[..]].concat());
     let mut most = 0;
     for (name, text) in rows {
         let Some(bytes) = calls(archive, &text) else {
-            println!("{name:<22} {:>8}", "-");
             continue;
         };
-        let columns = bytes.map(|bytes| format!(" {:>8.1}", bytes as f64 / 1024.0));
-        println!("{name:<22}{}", columns.concat());
+        let columns = bytes.map(|bytes| format!("{:.1}", bytes as f64 / 1024.0));
+        markdown::row(&[&[name], &columns[..]].concat());
         most = bytes.into_iter().fold(most, usize::max);
     }
     most
 }
 
 /// Prints the stack of each call of an archive: under the deepest terms of each kind, and by the depth of the terms,
-/// where deciding takes no memo and where it takes one.
-pub fn print(archive: &Archive) {
-    println!("stack under 256 entries nested 255 deep, in KiB:");
+/// where deciding takes no memo and where it takes one. Gives the goal.
+pub fn print(archive: &Archive) -> Goal {
+    println!("\nStack under 256 entries nested 255 deep, in KiB:\n");
     let most = table(archive, deep().into_iter().map(|(name, text)| (name.into(), text)).collect());
-    let verdict = if most <= MOST { "met   " } else { "MISSED" };
-    println!("{verdict} at most {:.1} of {} KiB", most as f64 / 1024.0, MOST >> 10);
-    println!("\nstack by the depth of the terms, in KiB:");
+    println!("\nBy the depth of the terms:\n");
     let depths = [8, 16, 32, 64, 128, 255];
     let brief = depths.map(|depth| (format!("{depth} deep, no memo"), plain(depth)));
     let long = depths.map(|depth| (format!("{depth} deep, memo"), binding(depth)));
     table(archive, brief.into_iter().chain(long).collect());
+    let measured = format!("{:.1} KiB", most as f64 / 1024.0);
+    Goal::new(format!("stack at most {} KiB", MOST >> 10), measured, most <= MOST)
 }

@@ -2,6 +2,7 @@
 //! edge of 64 members and 16 relations, and the fullest stored ones. The time for
 //! a byte shows that both are linear.
 
+use crate::markdown::{self, grouped, Goal};
 use crate::measure::{in_turn, timed, Batch};
 use cuckooormolu::{raw, Refusal, STATE_WORDS, TERMS_WORDS};
 use std::hint::black_box;
@@ -44,18 +45,19 @@ fn partly_filled() -> Vec<u8> {
 }
 
 /// Prints what reading and writing a text take, each in its own form.
-pub fn print() {
-    println!("\ntexts, least ms:");
-    println!(
-        "{:<28} {:>9} {:>8} {:>8} {:>13} {:>14}",
-        "", "bytes", "read", "write", "read ns/byte", "write ns/byte"
+pub fn print() -> Vec<Goal> {
+    markdown::table(
+        "Texts",
+        "Least times, each text written in its own form:",
+        &["text", "bytes", "read ms", "write ms", "read ns a byte", "write ns a byte"],
     );
-    row("edges, 64 KiB", &edges(65_536), raw::write);
-    row("edges", &edges(usize::MAX), raw::write);
-    row("stored, edges", &stored(0), raw::store);
-    row("stored, edges and 16 tables", &stored(16), raw::store);
-    row("stored, edges and 32 tables", &stored(32), raw::store);
-    refused("the same, partly filled", &partly_filled());
+    row("terms, the longest that the program takes", &edges(65_536), raw::write);
+    row("terms, every edge of 64 members and 16 relations", &edges(usize::MAX), raw::write);
+    row("stored, every edge", &stored(0), raw::store);
+    row("stored, every edge and 16 full tables", &stored(16), raw::store);
+    row("stored, every edge and 32 full tables", &stored(32), raw::store);
+    refused("the same but for the last bit: refused with 11", &partly_filled());
+    Vec::new()
 }
 
 /// Writes one of the forms.
@@ -73,10 +75,8 @@ fn row(name: &str, text: &[u8], form: Write) {
     let batches: Vec<Batch> =
         vec![(1, Box::new(|| timed(&mut read))), (1, Box::new(|| timed(&mut write)))];
     let times = in_turn(Duration::from_millis(500), 20, batches);
-    let (read, write, bytes) = (times[0].least, times[1].least, text.len() as f64);
-    let each = (read / bytes, write / bytes);
-    let (read, write) = (read / 1e6, write / 1e6);
-    println!("{name:<28} {bytes:>9} {read:>8.2} {write:>8.2} {:>13.2} {:>14.2}", each.0, each.1);
+    let [read, write] = [0, 1].map(|place| Some(times[place].least));
+    put(name, text, read, write);
 }
 
 fn refused(name: &str, text: &[u8]) {
@@ -86,6 +86,15 @@ fn refused(name: &str, text: &[u8]) {
     let mut read = || _ = black_box(raw::read(text, &mut terms, &mut state));
     let batches: Vec<Batch> = vec![(1, Box::new(|| timed(&mut read)))];
     let read = in_turn(Duration::from_millis(500), 20, batches)[0].least;
-    let (bytes, each) = (text.len(), read / text.len() as f64);
-    println!("{name:<28} {bytes:>9} {:>8.2} {:>8} {each:>13.2}", read / 1e6, "");
+    put(name, text, Some(read), None);
+}
+
+/// Prints a row; there may be nothing to write.
+fn put(name: &str, text: &[u8], read: Option<f64>, write: Option<f64>) {
+    let both = [read, write];
+    let show = |time: f64| format!("{time:.2}");
+    let mut cells = vec![name.to_string(), grouped(text.len())];
+    cells.extend(both.map(|time| time.map_or("".into(), |time| show(time / 1e6))));
+    cells.extend(both.map(|time| time.map_or("".into(), |time| show(time / text.len() as f64))));
+    markdown::row(&cells);
 }
