@@ -1,8 +1,8 @@
 //! The stack that calls of two banks take beside the single ones, under the same
 //! deepest terms.
 
-use crate::stack::{touched, without_past, Work, MOST};
-use crate::workload::deep;
+use crate::stack::{say, touched, without_past, Work, BRIEF_DEPTH, DEPTHS, MOST, MOST_BRIEF};
+use crate::workload::{binding, deep, plain};
 use cuckooormolu::{raw, Answer, Refusal};
 use cuckooormolu::{OWN_WORDS, RELATION_WORDS, SCRATCH_WORDS, STATE_WORDS, TERMS_WORDS};
 
@@ -106,13 +106,19 @@ pub fn print() {
     for (name, bytes) in NAMES.iter().zip(&most) {
         println!("{name:<10}{}", bytes.map(|bytes| format!(" {:>8.1}", kib(bytes))).concat());
     }
-    let say =
-        |met: bool, text: String| println!("{} {text}", if met { "met   " } else { "MISSED" });
     let (above, all) = (most[0][2], most.iter().map(|bytes| bytes[1]).max().unwrap_or(0));
-    let limit = kib(MOST_ABOVE);
-    say(
-        above <= MOST_ABOVE,
-        format!("a request {:.1} above a single one, at most {limit}", kib(above)),
-    );
-    say(all <= MOST, format!("at most {:.1} of {} KiB", kib(all), MOST >> 10));
+    let (met, limit) = (above <= MOST_ABOVE, kib(MOST_ABOVE));
+    let verdict = if met { "met   " } else { "MISSED" };
+    println!("{verdict} a request {:.1} above a single one, at most {limit}", kib(above));
+    say(all, MOST, "");
+    println!("\nstack of two banks by the depth of the terms, in KiB:");
+    println!("{:<22}{}", "", NAMES.map(|name| format!(" {name:>8}")).concat());
+    let brief = DEPTHS.map(|depth| (format!("{depth} deep, no memo"), plain(depth)));
+    let long = DEPTHS.map(|depth| (format!("{depth} deep, memo"), binding(depth)));
+    for (name, text) in brief.into_iter().chain(long) {
+        let columns = banks(&text).map(|bytes| format!(" {:>8.1}", kib(bytes - bare)));
+        println!("{name:<22}{}", columns.concat());
+    }
+    let least = banks(&plain(BRIEF_DEPTH)).into_iter().max().unwrap_or(0);
+    say(least - bare, MOST_BRIEF, &format!(", {BRIEF_DEPTH} deep without a memo"));
 }
