@@ -52,6 +52,7 @@ type Revise = unsafe extern "C" fn(
     *mut u64,
     usize,
 ) -> usize;
+type Open = unsafe extern "C" fn(*const u16, usize, *mut u64, usize) -> usize;
 type Read =
     unsafe extern "C" fn(*const u8, usize, *mut u16, usize, *mut u64, usize, *mut usize) -> usize;
 type Write =
@@ -93,6 +94,7 @@ pub struct Archive {
     request: Request,
     /// An archive before 0.5 has none.
     set_list: Option<SetList>,
+    open: Open,
     read: Read,
     write: Write,
     /// None in an archive before 0.6.
@@ -146,6 +148,7 @@ impl Archive {
                 look: transmute::<*mut c_void, Look>(symbol("look")),
                 request: transmute::<*mut c_void, Request>(symbol("request")),
                 set_list: found("set_list").map(|symbol| transmute::<*mut c_void, SetList>(symbol)),
+                open: transmute::<*mut c_void, Open>(symbol("open")),
                 read: transmute::<*mut c_void, Read>(symbol("read")),
                 write: transmute::<*mut c_void, Write>(symbol("write")),
                 store: found("store").map(|store| transmute::<*mut c_void, Write>(store)),
@@ -199,6 +202,11 @@ impl Archive {
         self.set_list.map(|call| unsafe {
             call(words, terms.len(), state, length, lent, scratch.len(), list, count, &mut 0)
         })
+    }
+
+    /// Makes moment 0 of the relations in a state.
+    pub fn start(&self, terms: &[u16], state: &mut [u64]) -> usize {
+        unsafe { (self.open)(terms.as_ptr(), terms.len(), state.as_mut_ptr(), state.len()) }
     }
 
     pub fn read(&self, text: &[u8], terms: &mut [u16], state: &mut [u64]) -> usize {

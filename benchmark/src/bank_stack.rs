@@ -1,9 +1,9 @@
 //! The stack that calls of two banks take beside the single ones, under the same
 //! deepest terms.
 
-use crate::chains::deep;
+use crate::chains::{binding, deep, plain};
 use crate::markdown::{self, Goal};
-use crate::stack::{touched, without_past, Work, MOST};
+use crate::stack::{touched, without_past, Work, BRIEF_DEPTH, DEPTHS, MOST, MOST_BRIEF};
 use cuckooormolu::{raw, Answer, Refusal};
 use cuckooormolu::{OWN_WORDS, RELATION_WORDS, SCRATCH_WORDS, STATE_WORDS, TERMS_WORDS};
 
@@ -92,7 +92,7 @@ fn banks(text: &[u8]) -> [usize; 6] {
 
 /// Prints the most of each call, single and of banks, and the most by which banks take
 /// more, and gives the goals.
-pub fn print() -> [Goal; 2] {
+pub fn print() -> [Goal; 3] {
     let bare = touched(Box::new(|| ()));
     let mut most = [[0; 3]; NAMES.len()];
     for (_, text) in deep() {
@@ -109,6 +109,15 @@ pub fn print() -> [Goal; 2] {
         markdown::row(&[&[name.to_string()], &cells[..]].concat());
     }
     let (above, all) = (most[0][2], most.iter().map(|bytes| bytes[1]).max().unwrap_or(0));
+    println!("\nBy the depth of the terms:\n");
+    markdown::head(&[&["terms"], &NAMES[..]].concat());
+    let brief = DEPTHS.map(|depth| (format!("{depth} deep, no memo"), plain(depth)));
+    let long = DEPTHS.map(|depth| (format!("{depth} deep, memo"), binding(depth)));
+    for (name, text) in brief.into_iter().chain(long) {
+        let cells = banks(&text).map(|bytes| format!("{:.1}", kib(bytes - bare)));
+        markdown::row(&[&[name], &cells[..]].concat());
+    }
+    let least = banks(&plain(BRIEF_DEPTH)).into_iter().max().unwrap_or(0) - bare;
     let text =
         format!("stack of a bank's request at most {} KiB above a single one", kib(MOST_ABOVE));
     [
@@ -117,6 +126,14 @@ pub fn print() -> [Goal; 2] {
             format!("stack of two banks at most {} KiB", MOST >> 10),
             format!("{:.1} KiB", kib(all)),
             all <= MOST,
+        ),
+        Goal::new(
+            format!(
+                "the same for terms {BRIEF_DEPTH} deep without a memo at most {} KiB",
+                MOST_BRIEF >> 10
+            ),
+            format!("{:.1} KiB", kib(least)),
+            least <= MOST_BRIEF,
         ),
     ]
 }

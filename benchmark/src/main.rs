@@ -105,5 +105,5 @@ fn print(parts: &[Part]) {
 fn stacks() -> Vec<Goal> {
     println!("\n## Stack");
     let single = stack::print(&Archive::open(&archives::built())[0]);
-    [single].into_iter().chain(bank_stack::print()).collect()
+    single.into_iter().chain(bank_stack::print()).collect()
 }

@@ -6,13 +6,15 @@
  * RAM       terms 2,504 bytes, state 24,584 bytes, scratch 512 bytes; two
  *           banks 44,504 bytes in all; a plan is lent 74,264 bytes. The library
  *           allocates nothing and has no state of its own.
- * Stack     measured, not proved: reading, opening, a revision, look, request,
- *           set list or plan takes 272 KiB, of two banks too, reading into two
- *           banks or writing a terms text or asking for its size 295 KiB, and
- *           each 0.85 KiB more for every level by which entries nest, at most
- *           512 KiB with the archive; renumbering takes 18 KiB, storing and the
- *           other calls 4 KiB. Provide CUCKOOORMOLU_STACK_BYTES; with small
- *           terms requests take far less (bindings/README.md, Stack).
+ * Stack     measured, not proved: look, request, set list, plan, opening and a
+ *           revision take 9 KiB, writing a terms text or asking for its size
+ *           30 KiB, and each 0.85 KiB more for every level by which entries
+ *           nest; reading takes what opening does, and 33 KiB at least; of two
+ *           banks it takes 25 KiB more, any other call 2 KiB. Where the terms
+ *           need a memo (bindings/README.md, Stack), each takes 267 KiB more,
+ *           at most 512 KiB with the archive. Renumbering takes 18 KiB, storing
+ *           and the other calls 4 KiB. Provide CUCKOOORMOLU_STACK_BYTES, unless
+ *           you know that your terms take less.
  * Time      measured, not proved. Entries that share others take no more than
  *           a memo's time, and entries that read one variable N times that, N
  *           the members. What can still take long is three variables or more

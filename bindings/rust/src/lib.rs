@@ -4,10 +4,12 @@
 //! * **Memory**: terms have 2,504 bytes, a state 24,584, scratch 512; two banks
 //!   need 44,504 in all; a plan is lent 74,264 more. This crate puts them on the
 //!   heap; the library allocates nothing.
-//! * **Stack**: measured, not proved. Reading, opening, a revision, look, request,
-//!   set list or plan takes 272 KiB, of two banks too, reading into two banks or
-//!   writing 295 KiB, and each 0.85 KiB more for every level by which entries nest,
-//!   at most 512 KiB. Renumbering takes 18 KiB, storing 4 KiB.
+//! * **Stack**: measured, not proved. Look, request, set list, plan, opening and a
+//!   revision take 9 KiB, writing 30 KiB, and each 0.85 KiB more for every level by
+//!   which entries nest; reading takes what opening does, and 33 KiB at least; of two
+//!   banks it takes 25 KiB more, any other call 2 KiB. Where the terms need a memo
+//!   (bindings/README.md, Stack), each takes 267 KiB more, at most 512 KiB.
+//!   Renumbering takes 18 KiB, storing 4 KiB.
 //! * **Terms and states are plain words** that may be copied and kept. In a
 //!   file they have the machine's byte order, little-endian. A stored text
 //!   ([`Monitor::store`]) keeps the same for any machine, and for people.

@@ -19,7 +19,7 @@ use theory::operators::SINCE;
 const ROWS: usize = layout::BLOCK;
 
 // Makes lent words a memo with no rows. One word alone is a memo with no slot.
-pub(crate) fn renew(terms: &[u16], plan: &[u16], memo: &mut [u64])
+pub fn renew(terms: &[u16], plan: &[u16], memo: &mut [u64])
     requires { ⌜ (goodMemory (now terms) ≡ true) × Planned (termsOf (now terms)) (now plan) ⌝ }
     ensures { λ _. ⌜ Fresh (termsOf (now (terms .entry)) .entries) 0 (now (memo .exit)) ⌝ }
     ensures { λ _. ⌜ ((m : List ℕ) → MemoOf (termsOf (now (terms .entry))) m (termsOf (now (terms .entry)) .entries) (now (memo .exit))) ⌝ }

@@ -9,7 +9,7 @@ ghost use Rattle.theory.specs.Tables.{named, decideNow, opening, made, advance}
 ghost use Rattle.memory.specs.Layout.{termsWords, relationWords, ownWords, blockWords, joined, termsOf, stateOf, wordsOf};
 ghost use Rattle.memory.specs.Checks.{goodMemory, goodState, goodRelations};
 ghost use Rattle.memory.specs.Plan.{Planned};
-ghost use Rattle.deciding.specs.Moving.{Movable, Becomes, entered};
+ghost use Rattle.deciding.specs.Moving.{Movable, Becomes, entered, sinceMoved};
 ghost use Rattle.banking.specs.Banks.{quiet};
 ghost use Rattle.banking.specs.Beside.{hushed};
 ghost use Rattle.moments.specs.Moments.{Moved};
@@ -248,21 +248,45 @@ pub fn next_moments(
     clear(&mut spare[0..layout::SCRATCH]);
 }
 
+// The since sweep with a memo that has a slot for each entry. Where more words than the rows are lent, it calls itself
+// with the rows alone. (Since it calls itself, the compiler does not take the memo into the frame of a caller.)
+fn open_shared(terms: &[u16], plan: &[u16], relations: &[u64], own: &mut [u64], rows: &mut [u64])
+    requires { ⌜ Movable (now terms) (now plan) (now relations ++ now own) × (length (now relations) ≡ relationWords) × (length (now own) ≡ ownWords) × (blockWords ≤ length (now rows)) ⌝ }
+    ensures { λ _. ⌜ Becomes (now (terms .entry)) sinceMoved (now (relations .entry) ++ now (own .entry)) (now (relations .entry) ++ now (own .exit)) ⌝ }
+{
+    if ROWS < rows.len() {
+        open_shared(terms, plan, relations, own, &mut rows[0..ROWS]);
+        return;
+    }
+    let mut memo = [0u64; memo::WORDS];
+    apart::move_since(terms, plan, relations, own, &mut memo, rows);
+}
+
 // A bank's own words at moment 0 of the relations: the since sweep over tables of zeros.
 pub fn first_moment(terms: &[u16], plan: &[u16], relations: &[u64], own: &mut [u64])
     requires { ⌜ (termsWords ≤ length (now terms)) × (goodMemory (now terms) ≡ true) × Planned (termsOf (now terms)) (now plan) ⌝ }
     requires { ⌜ (relationWords ≤ length (now relations)) × (ownWords ≤ length (now own)) × (goodRelations (termsOf (now terms)) (now relations) ≡ true) ⌝ }
     ensures { λ _. ⌜ take relationWords (now (relations .entry)) ++ now (own .exit) ≡ wordsOf (termsOf (now (terms .entry))) (opening (termsOf (now (terms .entry))) (stateOf (now (relations .entry)) .now .edge)) ++ drop ownWords (now (own .entry)) ⌝ }
 {
-    let mut memo = [0u64; memo::WORDS];
     let mut rows = [0u64; ROWS];
     clear(&mut own[0..OWN]);
-    apart::move_since(
-        terms,
-        plan,
-        &relations[0..TABLES],
-        &mut own[0..OWN],
-        &mut memo,
-        &mut rows,
-    );
+    if memo_choice::are_brief(terms) {
+        let mut none = [0u64; 1];
+        apart::move_since(
+            terms,
+            plan,
+            &relations[0..TABLES],
+            &mut own[0..OWN],
+            &mut none,
+            &mut rows,
+        );
+    } else {
+        open_shared(
+            terms,
+            plan,
+            &relations[0..TABLES],
+            &mut own[0..OWN],
+            &mut rows,
+        );
+    }
 }

@@ -13,6 +13,7 @@ ghost use Rattle.memory.specs.Plan.{planTable, Planned};
 ghost use Rattle.calls.specs.Telling.{holdsAt};
 ghost use Rattle.deciding.specs.Memo.{MemoOf, Above, Fresh};
 ghost use Rattle.deciding.specs.Moving.{Movable, Becomes, put, prevAt, prevMoved, entered, sinceAt, sinceMoved};
+use crate::apart::renew;
 use crate::effects::enter;
 use decide::memo;
 use decide::memo_choice;
@@ -20,7 +21,6 @@ use decide::queries;
 use decide::tables;
 use memory::clear;
 use memory::layout;
-use memory::limits::EVENTS;
 use memory::plan;
 use theory::operators::PREV;
 use theory::operators::SINCE;
@@ -157,10 +157,10 @@ fn since_turn(
 // Moves every prev table on, from the highest entry down: a table reads only those of lower entries, which are still old.
 fn move_prev(terms: &[u16], plan: &[u16], state: &mut [u64], memo: &mut [u64], rows: &mut [u64])
     requires { ⌜ Movable (now terms) (now plan) (now state) × (length (now rows) ≡ blockWords) ⌝ }
-    requires { ⌜ MemoOf (termsOf (now terms)) (now state) (termsOf (now terms) .entries) (now memo) ⌝ }
     ensures { λ _. ⌜ Becomes (now (terms .entry)) prevMoved (now (state .entry)) (now (state .exit)) ⌝ }
 {
     let entries = layout::entries(terms);
+    renew(terms, plan, memo);
     let mut n: usize = 0;
     while n < entries {
         n += 1;
@@ -171,11 +171,11 @@ fn move_prev(terms: &[u16], plan: &[u16], state: &mut [u64], memo: &mut [u64], r
 // Moves every since table on, from the lowest entry up: a table reads only those of lower entries, which are moved already.
 fn move_since(terms: &[u16], plan: &[u16], state: &mut [u64], memo: &mut [u64], rows: &mut [u64])
     requires { ⌜ Movable (now terms) (now plan) (now state) × (length (now rows) ≡ blockWords) ⌝ }
-    requires { ⌜ MemoOf (termsOf (now terms)) (now state) (termsOf (now terms) .entries) (now memo) × Fresh (termsOf (now terms) .entries) 0 (now memo) ⌝ }
     ensures { λ _. ⌜ Becomes (now (terms .entry)) sinceMoved (now (state .entry)) (now (state .exit)) ⌝ }
 {
     let entries = layout::entries(terms);
     let mut f = [0u64; ROWS];
+    renew(terms, plan, memo);
     let mut n: usize = 0;
     while n < entries {
         since_turn(terms, plan, state, memo, &mut f, rows, n);
@@ -183,29 +183,8 @@ fn move_since(terms: &[u16], plan: &[u16], state: &mut [u64], memo: &mut [u64], 
     }
 }
 
-// The state at the next moment, where that is brief. The tables are worked out in rows.
-fn move_plain(
-    terms: &[u16],
-    plan: &[u16],
-    state: &mut [u64],
-    rows: &mut [u64],
-    granted: bool,
-    event: usize,
-    from: usize,
-    to: usize,
-)
-    requires { ⌜ Movable (now terms) (now plan) (now state) × (length (now rows) ≡ blockWords) ⌝ }
-    requires { ⌜ named (termsOf (now terms)) event from to ≡ true ⌝ }
-    ensures { λ _. ⌜ Becomes (now (terms .entry)) (λ T S. advance T S (made T (S .now) granted event from to)) (now (state .entry)) (now (state .exit)) ⌝ }
-{
-    let mut memo = [0u64; 1];
-    move_prev(terms, plan, state, &mut memo, rows);
-    enter(terms, state, granted, event, from, to);
-    move_since(terms, plan, state, &mut memo, rows);
-}
-
-// The steps up to the event word, if there is such an event.
-fn begin(
+// The state at the next moment, with the lent memo. The tables are worked out in rows.
+fn move_all(
     terms: &[u16],
     plan: &[u16],
     state: &mut [u64],
@@ -217,17 +196,16 @@ fn begin(
     to: usize,
 )
     requires { ⌜ Movable (now terms) (now plan) (now state) × (length (now rows) ≡ blockWords) ⌝ }
-    requires { ⌜ (event < termsOf (now terms) .events → named (termsOf (now terms)) event from to ≡ true) ⌝ }
-    ensures { λ _. ⌜ Becomes (now (terms .entry)) (λ T S. cond (ltb event (T .events)) (entered granted event from to T (prevMoved T S)) S) (now (state .entry)) (now (state .exit)) ⌝ }
+    requires { ⌜ named (termsOf (now terms)) event from to ≡ true ⌝ }
+    ensures { λ _. ⌜ Becomes (now (terms .entry)) (λ T S. advance T S (made T (S .now) granted event from to)) (now (state .entry)) (now (state .exit)) ⌝ }
 {
-    if event < layout::events(terms) {
-        memo::prepare(terms, plan, memo);
-        move_prev(terms, plan, state, memo, rows);
-        enter(terms, state, granted, event, from, to);
-    }
+    move_prev(terms, plan, state, memo, rows);
+    enter(terms, state, granted, event, from, to);
+    move_since(terms, plan, state, memo, rows);
 }
 
-// The state at the next moment, or, where there is no such event, of moment 0 over tables of zeros; with a memo that has a slot for each entry.
+// The same, with a memo that has a slot for each entry. Where more words than the rows are lent, it calls itself with
+// the rows alone. (Since it calls itself, the compiler does not take the memo into the frame of a caller.)
 fn move_shared(
     terms: &[u16],
     plan: &[u16],
@@ -238,12 +216,25 @@ fn move_shared(
     from: usize,
     to: usize,
 )
-    requires { ⌜ Movable (now terms) (now plan) (now state) × (length (now rows) ≡ blockWords) ⌝ }
-    requires { ⌜ (event < termsOf (now terms) .events → named (termsOf (now terms)) event from to ≡ true) ⌝ }
-    ensures { λ _. ⌜ Becomes (now (terms .entry)) (λ T S. cond (ltb event (T .events)) (advance T S (made T (S .now) granted event from to)) (sinceMoved T S)) (now (state .entry)) (now (state .exit)) ⌝ }
+    requires { ⌜ Movable (now terms) (now plan) (now state) × (blockWords ≤ length (now rows)) ⌝ }
+    requires { ⌜ named (termsOf (now terms)) event from to ≡ true ⌝ }
+    ensures { λ _. ⌜ Becomes (now (terms .entry)) (λ T S. advance T S (made T (S .now) granted event from to)) (now (state .entry)) (now (state .exit)) ⌝ }
 {
+    if ROWS < rows.len() {
+        move_shared(
+            terms,
+            plan,
+            state,
+            &mut rows[0..ROWS],
+            granted,
+            event,
+            from,
+            to,
+        );
+        return;
+    }
     let mut memo = [0u64; memo::WORDS];
-    begin(
+    move_all(
         terms,
         plan,
         state,
@@ -254,11 +245,9 @@ fn move_shared(
         from,
         to,
     );
-    memo::prepare(terms, plan, &mut memo);
-    move_since(terms, plan, state, &mut memo, rows);
 }
 
-// The state at the next moment. The tables are worked out in rows.
+// The same, without a memo where that is brief.
 fn move_on(
     terms: &[u16],
     plan: &[u16],
@@ -274,7 +263,18 @@ fn move_on(
     ensures { λ _. ⌜ Becomes (now (terms .entry)) (λ T S. advance T S (made T (S .now) granted event from to)) (now (state .entry)) (now (state .exit)) ⌝ }
 {
     if memo_choice::are_brief(terms) {
-        move_plain(terms, plan, state, rows, granted, event, from, to);
+        let mut none = [0u64; 1];
+        move_all(
+            terms,
+            plan,
+            state,
+            &mut none,
+            rows,
+            granted,
+            event,
+            from,
+            to,
+        );
     } else {
         move_shared(terms, plan, state, rows, granted, event, from, to);
     }
@@ -310,6 +310,20 @@ pub fn next_moment(
     clear(&mut scratch[0..layout::SCRATCH]);
 }
 
+// The since sweep with a memo that has a slot for each entry. As `move_shared`, it calls itself where more words than
+// the rows are lent.
+fn open_shared(terms: &[u16], plan: &[u16], state: &mut [u64], rows: &mut [u64])
+    requires { ⌜ Movable (now terms) (now plan) (now state) × (blockWords ≤ length (now rows)) ⌝ }
+    ensures { λ _. ⌜ Becomes (now (terms .entry)) sinceMoved (now (state .entry)) (now (state .exit)) ⌝ }
+{
+    if ROWS < rows.len() {
+        open_shared(terms, plan, state, &mut rows[0..ROWS]);
+        return;
+    }
+    let mut memo = [0u64; memo::WORDS];
+    move_since(terms, plan, state, &mut memo, rows);
+}
+
 // The state of moment 0 of the relations that stand there: the since sweep over tables of zeros.
 pub fn first_moment(terms: &[u16], plan: &[u16], state: &mut [u64])
     requires { ⌜ (termsWords ≤ length (now terms)) × (goodMemory (now terms) ≡ true) × Planned (termsOf (now terms)) (now plan) ⌝ }
@@ -318,6 +332,10 @@ pub fn first_moment(terms: &[u16], plan: &[u16], state: &mut [u64])
 {
     clear(&mut state[TABLES..layout::STATE]);
     let mut rows = [0u64; ROWS];
-    // no event has this number
-    move_shared(terms, plan, state, &mut rows, false, EVENTS, 0, 0);
+    if memo_choice::are_brief(terms) {
+        let mut none = [0u64; 1];
+        move_since(terms, plan, state, &mut none, &mut rows);
+    } else {
+        open_shared(terms, plan, state, &mut rows);
+    }
 }

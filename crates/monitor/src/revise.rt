@@ -12,6 +12,7 @@ ghost use Rattle.deciding.specs.Memo.{MemoOf, Fresh};
 ghost use Rattle.deciding.specs.Moving.{put};
 ghost use Rattle.deciding.specs.Starting.{Revising, Begun, Taken};
 use decide::memo;
+use decide::memo_choice;
 use memory::Outcome;
 use memory::clear;
 use memory::layout;
@@ -93,17 +94,17 @@ fn start_tables(
     plan: &[u16],
     taken: &[u16],
     second: &mut [u64],
+    memo: &mut [u64],
+    rows: &mut [u64],
 )
     requires { ⌜ Revising (now old) (now before) (now relations ++ now own) (now new) (now plan) × Taken (now old) (now new) (now taken) ⌝ }
-    requires { ⌜ (length (now relations) ≡ relationWords) × (length (now own) ≡ ownWords) × (length (now second) ≡ ownWords) ⌝ }
+    requires { ⌜ (length (now relations) ≡ relationWords) × (length (now own) ≡ ownWords) × (length (now second) ≡ ownWords) × (length (now rows) ≡ blockWords) ⌝ }
     requires { ⌜ Begun (now old) (now relations ++ now own) (now new) 0 [] (now relations ++ now second) ⌝ }
     ensures { λ _. ⌜ Begun (now (old .entry)) (now (relations .entry) ++ now (own .entry)) (now (new .entry)) (termsOf (now (new .entry)) .entries) [] (now (relations .entry) ++ now (second .exit)) ⌝ }
 {
     let entries = layout::entries(new);
-    let mut memo = [0u64; memo::WORDS];
     let mut f = [0u64; ROWS];
-    let mut rows = [0u64; ROWS];
-    memo::prepare(new, plan, &mut memo);
+    apart::renew(new, plan, memo);
     let mut n: usize = 0;
     while n < entries {
         start_turn(
@@ -115,13 +116,60 @@ fn start_tables(
             plan,
             taken,
             second,
-            &mut memo,
+            memo,
             &mut f,
-            &mut rows,
+            rows,
             n,
         );
         n += 1;
     }
+}
+
+// The same, with a memo that has a slot for each entry. Where more words than the rows are lent, it calls itself with
+// the rows alone. (Since it calls itself, the compiler does not take the memo into the frame of a caller.)
+fn start_shared(
+    old: &[u16],
+    before: &[u16],
+    relations: &[u64],
+    own: &[u64],
+    new: &[u16],
+    plan: &[u16],
+    taken: &[u16],
+    second: &mut [u64],
+    rows: &mut [u64],
+)
+    requires { ⌜ Revising (now old) (now before) (now relations ++ now own) (now new) (now plan) × Taken (now old) (now new) (now taken) ⌝ }
+    requires { ⌜ (length (now relations) ≡ relationWords) × (length (now own) ≡ ownWords) × (length (now second) ≡ ownWords) × (blockWords ≤ length (now rows)) ⌝ }
+    requires { ⌜ Begun (now old) (now relations ++ now own) (now new) 0 [] (now relations ++ now second) ⌝ }
+    ensures { λ _. ⌜ Begun (now (old .entry)) (now (relations .entry) ++ now (own .entry)) (now (new .entry)) (termsOf (now (new .entry)) .entries) [] (now (relations .entry) ++ now (second .exit)) ⌝ }
+{
+    if ROWS < rows.len() {
+        start_shared(
+            old,
+            before,
+            relations,
+            own,
+            new,
+            plan,
+            taken,
+            second,
+            &mut rows[0..ROWS],
+        );
+        return;
+    }
+    let mut memo = [0u64; memo::WORDS];
+    start_tables(
+        old,
+        before,
+        relations,
+        own,
+        new,
+        plan,
+        taken,
+        second,
+        &mut memo,
+        rows,
+    );
 }
 
 // The own words that the new terms begin with: the event word carries over, and the tables, empty at first, are filled in.
@@ -141,7 +189,34 @@ pub(crate) fn begin(
 {
     clear(second);
     second[EVENT] = own[EVENT];
-    start_tables(old, before, relations, own, new, plan, taken, second);
+    let mut rows = [0u64; ROWS];
+    if memo_choice::are_brief(new) {
+        let mut none = [0u64; 1];
+        start_tables(
+            old,
+            before,
+            relations,
+            own,
+            new,
+            plan,
+            taken,
+            second,
+            &mut none,
+            &mut rows,
+        );
+    } else {
+        start_shared(
+            old,
+            before,
+            relations,
+            own,
+            new,
+            plan,
+            taken,
+            second,
+            &mut rows,
+        );
+    }
 }
 
 // From old terms, the state under them and new terms, fills in the second state, with which the new terms go on. A refusal leaves it as lent.

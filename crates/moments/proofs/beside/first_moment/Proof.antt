@@ -2,14 +2,15 @@ use borrow.Author.Needs.{needs}
 use Prim.Native.Nat.{ℕ}
 use mathlib.Core.Path.{_≡_, ap, _∙_}
 use mathlib.Core.Bool.{false}
-use mathlib.Core.List.{[], _++_, append-nil}
+use mathlib.Core.List.{List, [], _++_, append-nil}
 use lib.ListN.{length, take, drop, replicate, length-replicate}
 use lib.Seq.{length-take-le, take-at}
 use borrow.Rule.Slice.PartMut.{putMid}
 use Rattle.theory.specs.Moment.{first}
 use Rattle.theory.specs.Tables.{opening}
 use Rattle.memory.specs.Layout.{relationWords, ownWords, termsOf, stateOf, wordsOf}
-use Rattle.deciding.specs.Moving.{HasState}
+use native.Mathlib.Omega.{arith}
+use Rattle.deciding.specs.Moving.{HasState, Movable, Becomes, sinceMoved}
 use Rattle.deciding.proofs.Parts as parts
 use Rattle.moments.proofs.beside.first_moment.Statement.{statement}
 use Rattle.moments.proofs.beside.first_moment.Tie as tie
@@ -31,25 +32,45 @@ has : (c : tie.After-clear) → let x = c .before .before .before .before .befor
     [] (take relationWords (x .relations .now) ++ take ownWords (putMid 0 ownWords (x .own .now) (c .clear .last .0)))
 has c = let i = c .before .before .before .before .before .before in parts.cleared-apart (termsOf (i .args .terms .now)) (i .args .relations .now) (i .pre .1 .0) (i .pre .1 .2) (lent c ∙ zeros c)
 
+-- the tables can be moved on
+ready : (c : tie.After-clear) → let x = c .before .before .before .before .before .before .args in Movable (x .terms .now) (x .plan .now) (take relationWords (x .relations .now) ++ take ownWords (putMid 0 ownWords (x .own .now) (c .clear .last .0)))
+ready c = let i = c .before .before .before .before .before .before in record { long-terms = i .pre .0 .0; good = i .pre .0 .1; planned = i .pre .0 .2; state = _; rest = []; has = has c }
+
 move-since-requires : tie.Need-move-since-requires
 move-since-requires c κs =
-    let k = c .before .before .before .before .before .before in
-    let i = k .before .before .before .before .before .before in (
-      record { long-terms = i .pre .0 .0; good = i .pre .0 .1; planned = i .pre .0 .2; state = _; rest = []; has = has k },
-      length-take-le relationWords (i .args .relations .now) (i .pre .1 .0),
-      lent-long k,
-      search needs,
-    )
+    let k = c .before .before .before .before .before .before .before .before in
+    let i = k .before .before .before .before .before .before in
+    (ready k, length-take-le relationWords (i .args .relations .now) (i .pre .1 .0), lent-long k, search needs)
+
+open-shared-requires : tie.Need-open-shared-requires
+open-shared-requires c κs =
+    let k = c .before .before .before .before .before .before .before in
+    let i = k .before .before .before .before .before .before in
+    (ready k, length-take-le relationWords (i .args .relations .now) (i .pre .1 .0), lent-long k, omega arith)
+
+-- the words at moment 0
+opened : (c : tie.After-clear) (r : List ℕ) → let x = c .before .before .before .before .before .before .args in
+    let m = take relationWords (x .relations .now) ++ take ownWords (putMid 0 ownWords (x .own .now) (c .clear .last .0)) in
+    length r ≡ ownWords → Becomes (x .terms .now) sinceMoved m (take relationWords (x .relations .now) ++ r) →
+    take relationWords (x .relations .now) ++ putMid 0 ownWords (putMid 0 ownWords (x .own .now) (c .clear .last .0)) r
+    ≡ wordsOf (termsOf (x .terms .now)) (opening (termsOf (x .terms .now)) (stateOf (x .relations .now) .now .edge)) ++ drop ownWords (x .own .now)
+unfolding opening
+opened k r long moved =
+    let x = k .before .before .before .before .before .before .args in
+    parts.opened-apart (take relationWords (x .relations .now)) (x .own .now) (k .clear .last .0) r (zeros-long k) long
+    (moved .each _ [] (has k) .words ∙ append-nil (wordsOf (termsOf (x .terms .now)) (opening (termsOf (x .terms .now)) (stateOf (x .relations .now) .now .edge))))
 
 returns : tie.Need-returns
-unfolding opening
 returns c =
     let s = c .before .before .before .before in
-    let k = s .before .before .before .before .before .before .before in
-    let x = k .before .before .before .before .before .before .args in
-    parts.opened-apart (take relationWords (x .relations .now)) (x .own .now) (k .clear .last .0) (s .move-since .last .1 .1 .1 .0) (zeros-long k)
-    (s .move-since .kept .1 .1 .1 .0 ∙ lent-long k)
-    (s .move-since .ensures .each _ [] (has k) .words ∙ append-nil (wordsOf (termsOf (x .terms .now)) (opening (termsOf (x .terms .now)) (stateOf (x .relations .now) .now .edge))))
+    let k = s .before .before .before .before .before .before .before .before .before in
+    opened k (s .move-since .last .1 .1 .1 .0) (s .move-since .kept .1 .1 .1 .0 ∙ lent-long k) (s .move-since .ensures)
+
+returns-2 : tie.Need-returns-2
+returns-2 c =
+    let s = c .before .before .before in
+    let k = s .before .before .before .before .before .before .before .before in
+    opened k (s .open-shared .last .1 .1 .1 .0) (s .open-shared .kept .1 .1 .1 .0 ∙ lent-long k) (s .open-shared .ensures)
 
 pub first-moment-spec : {M : Type 1} → statement M
 first-moment-spec =
@@ -58,6 +79,7 @@ first-moment-spec =
     (λ c. search needs)
     (λ c. search needs)
     (λ c. search needs)
+    (λ c κs. search needs)
     (λ c κs. search needs)
     (λ c. search needs)
     (λ c. search needs)
@@ -69,4 +91,14 @@ first-moment-spec =
     (λ c. search needs)
     move-since-requires
     (λ c. search needs)
-    returns)
+    (λ c. search needs)
+    (λ c. search needs)
+    (λ c. search needs)
+    (λ c. search needs)
+    (λ c. search needs)
+    (λ c. search needs)
+    open-shared-requires
+    (λ c. search needs)
+    returns
+    (λ c. search needs)
+    returns-2)

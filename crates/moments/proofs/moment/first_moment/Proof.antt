@@ -1,62 +1,85 @@
+-- `moment::first_moment` meets its contract: the since sweep over the cleared tables.
 use borrow.Author.Needs.{needs}
 use native.Mathlib.Omega.{arith}
-use Prim.Native.Nat.{_<_}
-use mathlib.Core.Path.{_≡_, refl, sym, ap, _∙_, subst}
-use mathlib.Core.Bool.{Bool, true, false, cond, _&&_}
-use borrow.Author.Tests.{le-ltb}
 use Rattle.theory.specs.Tables.{opening}
-use Rattle.memory.proofs.Accepted.{good}
 use Rattle.deciding.proofs.Stored.{cleared}
 use Rattle.memory.specs.Layout.{termsOf}
-use Rattle.deciding.proofs.Moves as moves
-use Rattle.deciding.proofs.Steps as steps
 use Rattle.moments.proofs.moment.first_moment.Statement.{statement}
 use Rattle.moments.proofs.moment.first_moment.Tie as tie
 
-sub-clear : tie.Need-sub-clear
-sub-clear c = search needs
+-- the function's entry, from where the tables are cleared
+abbrev start : tie.After-clear → tie.Start
+start k = k .before .before .before .before .before
 
-part-clear-start : tie.Need-part-clear-start
-part-clear-start c = search needs
+move-since-requires : tie.Need-move-since-requires
+move-since-requires c κs =
+    let k = c .before .before .before .before .before .before .before in
+    let i = start k in
+    let x = i .args in (
+      record {
+        long-terms = i .pre .0 .0;
+        good = i .pre .0 .1;
+        planned = i .pre .0 .2;
+        state = _;
+        rest = _;
+        has = cleared (termsOf (x .terms .now)) (x .state .now) (k .clear .last .0) (i .pre .1 .0) (i .pre .1 .1)
+            (k .clear .ensures);
+      },
+      search needs,
+    )
 
-part-clear-end : tie.Need-part-clear-end
-part-clear-end c = search needs
-
-clear-requires : tie.Need-clear-requires
-clear-requires c κs = search needs
-
-slice-aggregate-move-shared : tie.Need-slice-aggregate-move-shared
-slice-aggregate-move-shared c = search needs
-
-move-shared-requires : tie.Need-move-shared-requires
-move-shared-requires c κs =
-    let i = c .before .before .before .before .before .before .before .before .before in
-    let x = i .args in
-    let zeros = c .before .before .before .before .clear in
-    let few : termsOf (x .terms .now) .events < 17 = good (x .terms .now) (i .pre .0 .1) .few-events in
-    ((record { long-terms = i .pre .0 .0; good = i .pre .0 .1; planned = i .pre .0 .2; state = _; rest = _; has = cleared (termsOf (x .terms .now)) (x .state .now) (zeros .last .0) (i .pre .1 .0) (i .pre .1 .1) (zeros .ensures) }, search needs), λ l. absurd (let z : ⊥ = omega arith in z))
-
-same-length : tie.Need-same-length
-same-length c = search needs
+open-shared-requires : tie.Need-open-shared-requires
+open-shared-requires c κs =
+    let k = c .before .before .before .before .before .before in
+    let i = start k in
+    let x = i .args in (
+      record {
+        long-terms = i .pre .0 .0;
+        good = i .pre .0 .1;
+        planned = i .pre .0 .2;
+        state = _;
+        rest = _;
+        has = cleared (termsOf (x .terms .now)) (x .state .now) (k .clear .last .0) (i .pre .1 .0) (i .pre .1 .1)
+            (k .clear .ensures);
+      },
+      omega arith,
+    )
 
 returns : tie.Need-returns
 unfolding opening
 returns c =
-    let i = c .before .before .before .before .before .before .before .before .before .before .before .before .before in
+    let s = c .before .before .before .before in
+    let k = s .before .before .before .before .before .before .before .before in
+    let i = start k in
     let x = i .args in
-    let zeros = c .before .before .before .before .before .before .before .before .clear in
-    let few : termsOf (x .terms .now) .events < 17 = good (x .terms .now) (i .pre .0 .1) .few-events in
-    moves.opened false 16 0 0 (le-ltb 16 (termsOf (x .terms .now) .events) (omega arith)) (c .before .before .before .move-shared .ensures) .each _ _ (cleared (termsOf (x .terms .now)) (x .state .now) (zeros .last .0) (i .pre .1 .0) (i .pre .1 .1) (zeros .ensures)) .words
+    s .move-since .ensures .each _ _ (cleared (termsOf (x .terms .now)) (x .state .now) (k .clear .last .0) (i .pre .1 .0) (i .pre .1 .1)
+    (k .clear .ensures)) .words
+
+returns-2 : tie.Need-returns-2
+unfolding opening
+returns-2 c =
+    let s = c .before .before .before in
+    let k = s .before .before .before .before .before .before .before in
+    let i = start k in
+    let x = i .args in
+    s .open-shared .ensures .each _ _ (cleared (termsOf (x .terms .now)) (x .state .now) (k .clear .last .0) (i .pre .1 .0) (i .pre .1 .1)
+    (k .clear .ensures)) .words
 
 pub first-moment-spec : {M : Type 1} → statement M
 first-moment-spec =
     tie.close
     (tie.spec
-    sub-clear
-    part-clear-start
-    part-clear-end
-    clear-requires
-    slice-aggregate-move-shared
-    move-shared-requires
-    same-length
-    returns)
+    (λ c. search needs)
+    (λ c. search needs)
+    (λ c. search needs)
+    (λ c κs. search needs)
+    (λ c κs. search needs)
+    (λ c. search needs)
+    (λ c. search needs)
+    move-since-requires
+    (λ c. search needs)
+    open-shared-requires
+    (λ c. search needs)
+    returns
+    (λ c. search needs)
+    returns-2)

@@ -1,66 +1,55 @@
+-- `moment::move_prev` meets its contract. Assumes nothing.
+-- The loop's invariant: the prev tables of the n highest entries are moved.
 use borrow.Author.Needs.{needs}
 use native.Mathlib.Omega.{arith}
 use Prim.Native.Nat.{_-_, _≤_}
-use mathlib.Core.Path.{_≡_, refl, sym, ap, _∙_, subst}
-use mathlib.Core.Bool.{Bool, true, false, cond, _&&_}
+use mathlib.Core.Path.{_≡_, refl, sym, _∙_}
 use lib.ListN.{length}
 use Rattle.memory.specs.Layout.{termsOf}
 use Rattle.deciding.specs.Memo.{MemoOf}
 use Rattle.deciding.proofs.Moves as moves
-use Rattle.deciding.proofs.Steps as steps
 use Rattle.deciding.proofs.Remembering as rem
 use Rattle.moments.proofs.moment.move_prev.Statement.{statement}
 use Rattle.moments.proofs.moment.move_prev.Tie as tie
 
 abbrev Inv-loop : tie.InvT-loop
-Inv-loop terms plan state₀ memo₀ rows₀ entries n₀ state memo rows n = (n ≤ entries) × (length state ≡ length state₀) × (length rows ≡ 64) × moves.Downward terms (entries - n) state₀ state × MemoOf (termsOf terms) state (entries - n) memo × (length memo ≡ length memo₀)
+Inv-loop terms plan state₀ memo₀ rows₀ entries n₀ state memo rows n =
+    (n ≤ entries) × (length state ≡ length state₀) × (length rows ≡ 64) × moves.Downward terms (entries - n) state₀ state
+    × MemoOf (termsOf terms) state (entries - n) memo × (length memo ≡ length memo₀)
 
 abbrev μ-loop : tie.MeasureT-loop
 μ-loop terms plan state₀ memo₀ rows₀ entries n₀ state memo rows n = entries - n
 
-entries-requires : tie.Need-entries-requires Inv-loop μ-loop
-entries-requires c κs = search needs
+renew-requires : tie.Need-renew-requires Inv-loop μ-loop
+renew-requires c κs = let i = c .before .before .before .before .before .before .before in (i .pre .0 .good, i .pre .0 .planned)
 
 loop-holds : tie.Need-loop-holds Inv-loop μ-loop
 loop-holds c =
-    let i = c .before .before .before .before .before .before in
-    let all : c .entries .result - 0 ≡ termsOf (i .args .terms .now) .entries = omega (arith, c .entries .ensures .0) in
-    (omega arith, refl, i .pre .0 .1, rw all moves.downward, rw all (i .pre .1), refl)
-
-add-n : tie.Need-add-n Inv-loop μ-loop
-add-n c = omega arith
-
-sub-prev-turn : tie.Need-sub-prev-turn Inv-loop μ-loop
-sub-prev-turn c = omega arith
+    let i = c .before .before .before .before .before .before .before .before .before .before in
+    let e = c .before .before .before .before .entries in
+    let all : e .result - 0 ≡ termsOf (i .args .terms .now) .entries = omega (arith, e .ensures .0) in
+    (omega arith, refl, i .pre .1, rw all moves.downward, rw all (c .before .before .renew .ensures .1 (i .args .state .now)), refl)
 
 prev-turn-requires : tie.Need-prev-turn-requires Inv-loop μ-loop
 prev-turn-requires c κs =
+    let i = c .before .before .before .before .before .before .before .before .before .before .before .before .before .before .before in
     let l = c .before .before .before .before .loop in
-    let i = c .before .before .before .before .before .before .before .before .before .before .before in
-    (moves.down-movable (i .pre .0 .0) (l .inv .3), ((omega (arith, c .before .before .before .loop-test .taken, c .before .before .before .before .before .entries .ensures .0), l .inv .2), rem.memo-lower (omega (arith, c .before .before .before .loop-test .taken)) (l .inv .4)))
-
-loop-less : tie.Need-loop-less Inv-loop μ-loop
-loop-less c = omega arith
+    let less = c .before .before .before .loop-test .taken in (
+      moves.down-movable (i .pre .0) (l .inv .3),
+      ((omega (arith, less, c .before .before .before .before .before .before .before .before .before .entries .ensures .0), l .inv .2), rem.memo-lower (omega (arith, less)) (l .inv .4)),
+    )
 
 loop-again : tie.Need-loop-again Inv-loop μ-loop
 loop-again c =
     let l = c .before .before .before .before .before .before .before .before .before .before .before .loop in
     let t = c .before .before .before .before .before .before .prev-turn in
-    (omega arith, search needs, search needs, moves.down-more _ _ (omega (arith, c .before .before .before .before .before .before .before .before .before .before .loop-test .taken)) (l .inv .3) (t .ensures .0), t .ensures .1, search needs)
-
-same-length : tie.Need-same-length Inv-loop μ-loop
-same-length c = c .before .loop .inv .1
-
-same-length-2 : tie.Need-same-length-2 Inv-loop μ-loop
-same-length-2 c = c .before .loop .inv .5
-
-same-length-3 : tie.Need-same-length-3 Inv-loop μ-loop
-same-length-3 c = c .before .loop .inv .2 ∙ sym (c .before .before .before .before .before .before .before .before .pre .0 .1)
+    let less = c .before .before .before .before .before .before .before .before .before .before .loop-test .taken in
+    (omega arith, search needs, search needs, moves.down-more _ _ (omega (arith, less)) (l .inv .3) (t .ensures .0), t .ensures .1, search needs)
 
 returns : tie.Need-returns Inv-loop μ-loop
 returns c =
     let l = c .before .loop in
-    let none : c .before .before .entries .result - l .n ≡ 0 = omega arith in
+    let none : c .before .before .before .before .before .before .entries .result - l .n ≡ 0 = omega arith in
     moves.down-all (rw none at (l .inv .3))
 
 pub move-prev-spec : {M : Type 1} → statement M
@@ -69,14 +58,15 @@ move-prev-spec =
     (tie.spec
     Inv-loop
     μ-loop
-    entries-requires
+    (λ c κs. search needs)
+    renew-requires
     loop-holds
-    add-n
-    sub-prev-turn
+    (λ c. omega arith)
+    (λ c. omega arith)
     prev-turn-requires
-    loop-less
+    (λ c. omega arith)
     loop-again
-    same-length
-    same-length-2
-    same-length-3
+    (λ c. c .before .loop .inv .1)
+    (λ c. c .before .loop .inv .5 ∙ c .before .before .before .before .renew .kept .1 .1 .0)
+    (λ c. c .before .loop .inv .2 ∙ sym (c .before .before .before .before .before .before .before .before .before .before .before .before .pre .1))
     returns)
