@@ -17,14 +17,13 @@ use Rattle.theory.specs.Keeper.{Call, Answer, lastMoment, keep}
 use Rattle.theory.specs.Keeper.Verdict.{grant, deny}
 use Rattle.theory.specs.Keeper.Answer.{decided, refused}
 use Rattle.theory.specs.Tables.{made, advance}
+use Rattle.theory.specs.Fit.{Good}
 use Rattle.memory.specs.Layout.{termsWords, stateWords, relationWords, ownWords, joined, termsOf, stateOf, wordsOf}
-use Rattle.memory.specs.Checks.{goodMemory}
+use Rattle.memory.specs.Checks.{goodMemory, Inside}
 use Rattle.calls.specs.Monitor.{answer, granted, moves}
 use Rattle.calls.specs.Agreement.{fed}
-use Rattle.theory.proofs.Good.{Good}
 use Rattle.theory.proofs.Judged.{unnamed, answered, counted, madeBy, judged, granted as grantedBy}
 use Rattle.theory.proofs.Kept.{advance-kept}
-use Rattle.memory.proofs.Inside.{Inside}
 use Rattle.calls.proofs.Held.{Held, held-words}
 use Rattle.calls.proofs.InStep.{step}
 use Rattle.banking.specs.Banks.{Bank, other, quiet, asSeen, Records, judgeBank, keepBank}

@@ -15,10 +15,10 @@ use Rattle.theory.specs.Moment.{Relations, Moment, affectAll}
 use Rattle.theory.specs.Moment.Event.{none}
 use Rattle.theory.specs.Tables.{State, made, advance}
 use Rattle.memory.specs.Layout.{stateWords, relationWords, ownWords, joined, termsOf, stateOf, wordsOf}
-use Rattle.memory.specs.Checks.{goodState}
+use Rattle.memory.specs.Checks.{goodState, Inside}
 use Rattle.calls.specs.Monitor.{granted}
 use Rattle.memory.proofs.Accepted.{good}
-use Rattle.memory.proofs.Inside.{Inside, made-inside, state-inside}
+use Rattle.memory.proofs.Inside.{made-inside, state-inside}
 use Rattle.memory.proofs.Words.{length-words}
 use Rattle.calls.proofs.Answers.{moves-decided}
 use Rattle.calls.proofs.Level.{advance-good}

@@ -18,14 +18,14 @@ use Rattle.theory.specs.Moment.{Moment}
 use Rattle.theory.specs.Keeper.{recordOf, last, keeperHolds}
 use Rattle.memory.specs.Layout.{stateWords, relationAt, tableAt, eventAt, eventWord, tableColumns, stateOf, wordsOf}
 use Rattle.theory.specs.Terms.{tables, pastEntry}
-use Rattle.memory.specs.Checks.{goodState}
+use Rattle.memory.specs.Checks.{goodState, Inside}
 use Rattle.theory.specs.Tables.{State}
+use Rattle.theory.specs.Fit.{Good}
 use Rattle.calls.specs.Agreement.{Agrees}
 use Rattle.theory.proofs.Spelled.{number-lt}
-use Rattle.theory.proofs.Good.{Good}
 use Rattle.theory.proofs.Record.{coincidence}
 use Rattle.theory.proofs.Kept.{Kept}
-use Rattle.memory.proofs.Inside.{Inside, word-of-event}
+use Rattle.memory.proofs.Inside.{word-of-event}
 use Rattle.memory.proofs.Front.{state-front, good-front}
 use Rattle.memory.proofs.Words.{length-words, word-table, now-back, table-back, no-table, canonical}
 use Rattle.theory.proofs.Past.{PastEntry, past-entry, past-is}

@@ -18,9 +18,9 @@ use Rattle.theory.specs.Limits.{scratchWords}
 use Rattle.memory.specs.Layout.{termsWords, stateWords, termsOf, stateOf, wordsOf}
 use Rattle.memory.specs.Checks.{goodMemory}
 use Rattle.theory.specs.Tables.{named, decideNow, made, advance}
+use Rattle.theory.specs.Fit.{Good}
 use Rattle.calls.specs.Monitor.{answer, granted, moves, stateAfter}
 use Rattle.calls.specs.Agreement.{LentCall, fed, leaves}
-use Rattle.theory.proofs.Good.{Good}
 use Rattle.theory.proofs.Kept.{Kept, decide-kept, advance-kept}
 use Rattle.memory.proofs.Inside.{made-inside, state-inside}
 use Rattle.calls.proofs.Held.{Held, held-words}

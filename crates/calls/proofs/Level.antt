@@ -16,21 +16,21 @@ use Rattle.theory.specs.Formula.Formula.{top, var, neg, or, out, into, prev, si
 use Rattle.theory.specs.Meaning.{Graph, Assignment, assign, alone}
 use Rattle.theory.specs.Columns.{inside}
 use Rattle.theory.specs.Terms.{Terms, formula, tables}
-use Rattle.theory.specs.Fit.{_⇒_, closed}
+use Rattle.theory.specs.Fit.{_⇒_, closed, Good}
 use Rattle.theory.specs.Moment.{Event, Moment, graph}
 use Rattle.theory.specs.Moment.Event.{none as eventless, happened, tried}
 use Rattle.theory.specs.Tables.{Tables, recalled, holdsNow, store, operandNow, sinceBits, sinceStep, prevTables, sinceTables, State, advance, taken, startBits, startTables, revised}
 use Rattle.memory.specs.Layout.{tableAt, tableColumns, stateOf, wordsOf}
-use Rattle.memory.specs.Checks.{level, goodRelations, stateTests, goodState}
+use Rattle.memory.specs.Checks.{level, goodRelations, stateTests, goodState, Inside, EventInside}
 use Rattle.theory.proofs.Spelled.{Visible, tableOf, or-cases, number-lt, number-apart, spelled-prev, spelled-since, table-spelled, visible-below}
-use Rattle.theory.proofs.Good.{Good, small, implied, implies, every-at, every-in}
+use Rattle.theory.proofs.Good.{small, implied, implies, every-at, every-in}
 use Rattle.theory.proofs.Places.{Among, among-assign, among-alone, closed-columns, columns-free, place-cong}
 use Rattle.theory.proofs.Past.{past-is}
 use Rattle.theory.proofs.Sweeps.{prev-keeps, prev-worked}
 use Rattle.theory.proofs.Renumbered.{free-renumbered, past-same}
 use Rattle.theory.proofs.Taken.{first-has}
 use Rattle.memory.proofs.Row.{fits-row, table-fits-row, level-row}
-use Rattle.memory.proofs.Inside.{Inside, EventInside, state-inside, good-event}
+use Rattle.memory.proofs.Inside.{state-inside, good-event}
 use Rattle.memory.proofs.Words.{length-words, word-relation, word-of-table, word-event}
 use Rattle.memory.proofs.Front.{good-front}
 

@@ -23,16 +23,12 @@ use Rattle.memory.proofs.Accepted.{good}
 use Rattle.memory.proofs.Inside.{made-inside, state-inside}
 use Rattle.memory.proofs.Words.{length-words}
 use Rattle.calls.specs.Monitor.{answer, granted, moves, stateAfter, scratchAfter}
-use Rattle.calls.specs.SetList.{numberOf, filled, Run, singly}
+use Rattle.calls.specs.SetList.{numberOf, filled, Run, singly, gainOf}
 use Rattle.calls.specs.Agreement.{answerIn}
-use Rattle.calls.specs.Listing.{Passed, gainOf}
+use Rattle.calls.specs.Listing.{Passed}
 use Rattle.calls.specs.declared.Record.{Record}
 use Rattle.calls.proofs.Level.{advance-good}
 use Rattle.calls.proofs.Answers.{moves-decided, decided-says}
-
--- a record past the end of a list
-abbrev pub blank : Record
-blank = record { event = 0; from = 0; to = 0; answer = 0 }
 
 module _ (t : List ℕ) where
   -- what one record more makes of a run

@@ -3,14 +3,12 @@ use Prim.Native.Nat.{ℕ, _≤_}
 use mathlib.Core.Path.{_≡_}
 use mathlib.Core.Bool.{true, cond}
 use mathlib.Core.List.{List}
-use lib.Dec.{eqb}
 use lib.ListN.{length}
 use Rattle.theory.specs.Limits.{scratchWords}
 use Rattle.memory.specs.Layout.{termsWords, stateWords, termsOf}
 use Rattle.memory.specs.Checks.{goodMemory, goodState}
-use Rattle.memory.specs.Outcome.{Outcome, outcomeOf, hasPassed}
+use Rattle.memory.specs.Outcome.{Outcome, hasPassed}
 use Rattle.memory.specs.Plan.{Planned}
-use Rattle.calls.specs.SetList.{listChecks}
 
 -- Memory that has passed the checks that come before a request or a list, with the terms' plan.
 pub record Passed (terms plan state scratch : List ℕ) : Type 0 where
@@ -24,7 +22,3 @@ pub record Passed (terms plan state scratch : List ℕ) : Type 0 where
 -- How many records are answered: none where a check fails.
 unfoldable pub turnsOf : Outcome → ℕ → ℕ
 turnsOf o n = cond (hasPassed o) n 0
-
--- What an answer adds to the count of grants.
-unfoldable pub gainOf : ℕ → ℕ
-gainOf number = cond (eqb number 1) 1 0

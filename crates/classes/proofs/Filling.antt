@@ -15,7 +15,7 @@ use Rattle.theory.specs.Formula.{lowest, same}
 use Rattle.theory.specs.Limits.{maxEntries}
 use Rattle.theory.specs.Terms.{Terms, labels, formula, firstSame}
 use Rattle.theory.specs.Classes.{sameEntry, Classed}
-use Rattle.theory.proofs.Good.{Good}
+use Rattle.theory.specs.Fit.{Good}
 use Rattle.theory.proofs.Lowest.{lowest-le, lowest-cong}
 use Rattle.theory.proofs.SameEntry.{new-class, old-class}
 use Rattle.memory.specs.Layout.{termsOf}

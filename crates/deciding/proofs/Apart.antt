@@ -15,7 +15,7 @@ use Rattle.theory.specs.Formula.{columns}
 use Rattle.theory.specs.Terms.{Terms, Effect, formula}
 use Rattle.theory.specs.Moment.{Event}
 use Rattle.theory.specs.Tables.{State}
-use Rattle.theory.proofs.Good.{Good}
+use Rattle.theory.specs.Fit.{Good}
 use Rattle.memory.specs.Plan.{planTable}
 use Rattle.memory.specs.Layout.{relationWords, ownWords, stateWords, relationAt, eventWord, termsOf, wordsOf}
 use Rattle.memory.proofs.Words.{length-words}

@@ -18,11 +18,12 @@ use Rattle.memory.specs.Layout.{termsWords, stateWords, ownWords, relationAt, e
 use Rattle.theory.specs.Terms.{tables}
 use Rattle.memory.specs.Checks.{goodMemory, goodEvent, stateTests, goodState}
 use Rattle.theory.specs.Tables.{named, Tables, State, holdsNow, decideNow, prevBits, sinceBits, prevStep, prevTables, sinceTables, made, advance}
+use Rattle.theory.specs.Fit.{Good, Within, more}
 use Rattle.memory.specs.Plan.{planTable, Planned}
 use Rattle.deciding.specs.Rows.{Ready, Table, nowAt, nextPrev, nextSince}
 use Rattle.deciding.specs.Moving.{known, HasState, Movable, Becomes, put, tabled, edged, prevAt, prevMoved, effectOf, affected, allAffected, evented, entered, sinceAt, sinceBelow, sinceMoved}
 use Rattle.theory.proofs.Spelled.{number-lt}
-use Rattle.theory.proofs.Good.{Good, Within, more, every-at}
+use Rattle.theory.proofs.Good.{every-at}
 use Rattle.memory.proofs.Accepted.{good}
 use Rattle.theory.proofs.Places.{among-assign}
 use Rattle.theory.proofs.Past.{past-is}

@@ -12,7 +12,7 @@ use Rattle.theory.specs.Terms.{Terms, tables}
 use Rattle.theory.specs.Moment.{first}
 use Rattle.theory.specs.Tables.{State}
 use Rattle.theory.specs.Limits.{scratchWords}
-use Rattle.theory.proofs.Good.{Good}
+use Rattle.theory.specs.Fit.{Good}
 use Rattle.memory.specs.Layout.{stateWords, relationWords, ownWords, blockWords, joined, relationAt, tableAt, tableRow, tableColumns, termsOf, stateOf, wordsOf}
 use Rattle.memory.specs.Checks.{goodRelations, goodState}
 use Rattle.memory.proofs.Front.{state-front, good-front}

@@ -20,11 +20,12 @@ use Rattle.memory.specs.Layout.{termsWords, stateWords, termsOf, relationAt, ta
 use Rattle.theory.specs.Terms.{tables}
 use Rattle.memory.specs.Checks.{goodMemory}
 use Rattle.theory.specs.Tables.{named, State, holdsNow, prevBits, sinceBits}
+use Rattle.theory.specs.Fit.{Good}
 use Rattle.deciding.specs.Rows.{labelled, fired, edge, tableBit, pastEvent, nowAt, operandBits, nextPrev, nextSince, Ready}
 use Rattle.memory.specs.Plan.{Planned}
 use Rattle.deciding.specs.Moving.{known, HasState}
 use Rattle.theory.proofs.Spelled.{number-lt, table-spelled, visible-spelled, below-spelled}
-use Rattle.theory.proofs.Good.{Good, first-lower, second-lower}
+use Rattle.theory.proofs.Good.{first-lower, second-lower}
 use Rattle.theory.proofs.Places.{Among, inside-among, inside-member, inside-word}
 use Rattle.theory.proofs.Past.{past-is}
 use Rattle.theory.proofs.Now.{Same, SameAt, SameTable, now-cong}

@@ -7,10 +7,11 @@ use mathlib.Core.List.{List}
 use Rattle.sets.proofs.Finite.{or-left}
 use Rattle.theory.specs.Meaning.{assign}
 use Rattle.theory.specs.Terms.{Terms}
+use Rattle.theory.specs.Fit.{GoodEntry}
 use Rattle.memory.specs.Layout.{termsOf}
 use Rattle.memory.specs.Checks.{goodMemory}
 use Rattle.deciding.specs.Rows.{nowAt}
-use Rattle.theory.proofs.Good.{GoodEntry, first-lower, second-lower}
+use Rattle.theory.proofs.Good.{first-lower, second-lower}
 use Rattle.memory.proofs.Accepted.{good}
 use Rattle.deciding.proofs.Unfolded.{now-neg, now-or}
 

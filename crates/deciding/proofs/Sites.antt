@@ -14,9 +14,10 @@ use Rattle.theory.specs.Formula.{firstOperand, secondOperand, thirdOperand, isP
 use Rattle.theory.specs.Formula.Operand.{variable, label, entry}
 use Rattle.theory.specs.Meaning.{Assignment, assign}
 use Rattle.theory.specs.Terms.{Terms, labels}
+use Rattle.theory.specs.Fit.{Good, GoodEntry}
 use Rattle.memory.specs.Layout.{termsOf}
 use Rattle.deciding.specs.Rows.{edge, pastEvent, assigned, Ready, Asked, Has, inRow, ahead, behind, Senders}
-use Rattle.theory.proofs.Good.{Good, GoodEntry, first-variable, first-binder, first-label, first-lower, second-lower, third-lower, third-count}
+use Rattle.theory.proofs.Good.{first-variable, first-binder, first-label, first-lower, second-lower, third-lower, third-count}
 use Rattle.memory.proofs.Accepted.{good}
 use Rattle.deciding.proofs.Assignments.{vars-zeros, vars-assign}
 

@@ -18,6 +18,7 @@ use Rattle.theory.specs.Terms.{Terms, formula, tables, sameSize}
 use Rattle.theory.specs.Moment.{Event, graph}
 use Rattle.theory.specs.Moment.Event.{none as eventless, happened, tried}
 use Rattle.theory.specs.Tables.{Tables, State, store, operandNow, sinceBits, sinceStep, named, taken, startBits, startStep, startTables, revised}
+use Rattle.theory.specs.Fit.{Good}
 use Rattle.memory.specs.Layout.{stateWords, relationWords, relationAt, tableAt, eventAt, row, tableRow, tableColumns, termsOf, stateOf, wordsOf}
 use Rattle.memory.specs.Plan.{planTable}
 use Rattle.deciding.specs.Rows.{Table, tableWords}
@@ -25,7 +26,6 @@ use Rattle.deciding.specs.Moving.{known, HasState, Movable, Becomes, put
 use Rattle.deciding.specs.Memo.{MemoOf, Fresh}
 use Rattle.deciding.specs.Starting.{Revising, startBelow, Begun}
 use Rattle.theory.proofs.Spelled.{number-lt}
-use Rattle.theory.proofs.Good.{Good}
 use Rattle.theory.proofs.Renumbered.{columns-bare, past-same}
 use Rattle.theory.proofs.Past.{past-is}
 use Rattle.theory.proofs.Places.{inside-word}

@@ -15,11 +15,11 @@ use Rattle.theory.specs.Terms.{Terms, formula}
 use Rattle.theory.specs.Moment.{graph}
 use Rattle.memory.specs.Layout.{termsOf}
 use Rattle.theory.specs.Tables.{Tables, State, store}
+use Rattle.theory.specs.Fit.{Good}
 use Rattle.deciding.specs.Rows.{opened, nowAt, cell, Vars}
 use Rattle.deciding.specs.Moving.{HasState, tabled}
 use Rattle.deciding.specs.Memo.{slotOf, haveOf, Slot, MemoOf, Above, Fresh, columnOf}
 use Rattle.theory.proofs.Spelled.{number-lt, table-spelled, visible-spelled}
-use Rattle.theory.proofs.Good.{Good}
 use Rattle.theory.proofs.Places.{Among}
 use Rattle.theory.proofs.Now.{SameTable, now-cong}
 use Rattle.deciding.proofs.Seen.{relationsOf, pastOf, seen}

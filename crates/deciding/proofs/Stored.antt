@@ -22,9 +22,9 @@ use Rattle.memory.specs.Layout.{stateWords, relationAt, tableAt, eventAt, event
 use Rattle.theory.specs.Terms.{tables}
 use Rattle.memory.specs.Checks.{goodRelations}
 use Rattle.theory.specs.Tables.{State, store}
+use Rattle.theory.specs.Fit.{Good}
 use Rattle.deciding.specs.Rows.{Table}
 use Rattle.deciding.specs.Moving.{known, HasState, put, tabled, edged, evented}
-use Rattle.theory.proofs.Good.{Good}
 use Rattle.theory.proofs.Now.{SameAt}
 use Rattle.memory.proofs.Row.{bit-row, bit-table, table-row-cong, table-row-none}
 use Rattle.memory.proofs.Words.{length-words, words-by, relation-words}

@@ -11,8 +11,8 @@ use borrow.Author.Tests.{eqb-true, lt-ltb}
 use Rattle.theory.specs.Terms.{Terms, tables}
 use Rattle.theory.specs.Moment.{Event}
 use Rattle.theory.specs.Formula.{isPast}
-use Rattle.theory.specs.Fit.{every, entryTests}
-use Rattle.theory.proofs.Good.{Good, GoodEntry, implies}
+use Rattle.theory.specs.Fit.{every, entryTests, Good, GoodEntry}
+use Rattle.theory.proofs.Good.{implies}
 use Rattle.fields.specs.Split.{Lines, lines}
 use Rattle.file.specs.File.{File, nothing}
 use Rattle.file.specs.Reading.{complete, readOn, partlyAt, reading}

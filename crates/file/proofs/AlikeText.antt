@@ -10,10 +10,10 @@ use Rattle.theory.specs.Formula.{columns}
 use Rattle.theory.proofs.Past.{past-entry}
 use Rattle.file.specs.File.{hasTwo, pairTable}
 use mathlib.Core.List.{List, [], _∷_, _++_}
-use Rattle.theory.specs.Terms.{Terms, formula, tables, pastEntry}
+use Rattle.theory.specs.Terms.{Terms, formula, tables, pastEntry, Alike}
 use Rattle.theory.specs.Moment.{Relations}
 use Rattle.theory.specs.Tables.{State}
-use Rattle.theory.proofs.Like.{Alike, met, met-is, same-number, same-formula, same-past}
+use Rattle.theory.proofs.Like.{met, met-is, same-number, same-formula, same-past}
 use Rattle.file.specs.Writing.{listed, effectLines, bitAt, allLines, eventEdgeLine, storedLines, printedAll, written, stored}
 use Rattle.file.specs.declared.line.Line.{Line}
 use Rattle.file.specs.declared.line.Line.the-variants.{Members, Labels, Entry, Policy, Edge, Form, TableBit, PairBit, Mark}

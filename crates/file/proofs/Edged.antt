@@ -6,7 +6,7 @@ use native.Mathlib.Omega.{arith}
 use borrow.Author.Tests.{lt-ltb, le-leb}
 use Rattle.theory.specs.Terms.{Terms}
 use Rattle.theory.specs.Moment.{Relations}
-use Rattle.theory.proofs.Good.{Good}
+use Rattle.theory.specs.Fit.{Good}
 use Rattle.file.specs.File.{File, after}
 use Rattle.file.specs.Reading.{tests, rises}
 use Rattle.file.specs.Writing.{allLines}

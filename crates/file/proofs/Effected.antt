@@ -10,8 +10,8 @@ use lib.ListN.{length, length-append}
 use borrow.Author.Tests.{ltb-true, ltb-false, lt-ltb, le-leb}
 use Rattle.sets.proofs.Finite.{true-or-false, last-or-below}
 use Rattle.theory.specs.Terms.{Terms, Effect}
-use Rattle.theory.proofs.Good.{Good, Within}
-use Rattle.theory.proofs.Good.Within.{more}
+use Rattle.theory.specs.Fit.Within.{more}
+use Rattle.theory.specs.Fit.{Good, Within}
 use Rattle.file.specs.File.{File, after}
 use Rattle.file.specs.Reading.{tests, complete}
 use Rattle.file.specs.Writing.{listed, effectLines}

@@ -14,8 +14,8 @@ use Rattle.theory.specs.Formula.Operand.{entry}
 use Rattle.theory.specs.Formula as formulas
 use Rattle.theory.specs.Terms.{Terms}
 use Rattle.theory.specs.Columns.{columnsFit}
-use Rattle.theory.specs.Fit.{onlyFree}
-use Rattle.theory.proofs.Good.{Good, implies}
+use Rattle.theory.specs.Fit.{onlyFree, Good}
+use Rattle.theory.proofs.Good.{implies}
 use Rattle.theory.proofs.Spelled.{number-lt}
 use Rattle.file.specs.File.{File, update, after}
 use Rattle.file.specs.Reading.{tests, inRange}

@@ -8,7 +8,7 @@ use lib.Dec.{ltb}
 use borrow.Author.Tests.{ltb-true, ltb-false, lt-ltb, le-leb}
 use Rattle.sets.proofs.Finite.{true-or-false, last-or-below}
 use Rattle.theory.specs.Terms.{Terms}
-use Rattle.theory.proofs.Good.{Good}
+use Rattle.theory.specs.Fit.{Good}
 use Rattle.file.specs.File.{File, after}
 use Rattle.file.specs.Reading.{tests}
 use Rattle.file.specs.Writing.{listed, markLine}

@@ -16,7 +16,7 @@ use Rattle.theory.proofs.Places.{inside-word, inside-bit}
 use Rattle.theory.specs.Moment.{Relations, Event, first}
 use Rattle.theory.specs.Moment.Event.{happened, tried}
 use Rattle.theory.specs.Tables.{Tables, State}
-use Rattle.theory.proofs.Good.{Good}
+use Rattle.theory.specs.Fit.{Good}
 use Rattle.file.specs.File.{File, nothing, hasTwo, pairTable, withTableBit, eventNamed, eventSaid, after}
 use Rattle.file.specs.Reading.{tests, complete, rises, reading}
 use Rattle.file.specs.Reading.Reading.{accepted}

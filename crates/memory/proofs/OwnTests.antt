@@ -10,8 +10,7 @@ use lib.Seq.{getD-take, getD-drop, getD-append-add, length-take-le}
 use Rattle.sets.proofs.Finite.{and-true, all-cong}
 use Rattle.theory.specs.Formula.{number, isPast}
 use Rattle.theory.specs.Terms.{Terms, formula, tables}
-use Rattle.theory.specs.Fit.{_⇒_, every, closed}
-use Rattle.theory.proofs.Good.{Good}
+use Rattle.theory.specs.Fit.{_⇒_, every, closed, Good}
 use Rattle.theory.proofs.Spelled.{number-lt}
 use Rattle.memory.specs.Layout.{relationWords, ownWords, relationAt, tableAt, tableColumns, joined}
 use Rattle.memory.specs.Checks.{fits, tableFits, level, goodEvent, goodRelations, goodState}

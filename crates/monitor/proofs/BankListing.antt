@@ -8,11 +8,10 @@ use lib.ListN.{length, getD, set}
 use Rattle.theory.specs.Keeper.{Answer}
 use Rattle.memory.specs.Outcome.{Outcome, hasPassed}
 use Rattle.calls.specs.Monitor.{granted}
-use Rattle.calls.specs.SetList.{listingOf, numberOf, filled, listing}
-use Rattle.calls.specs.Listing.{turnsOf, gainOf}
+use Rattle.calls.specs.SetList.{listingOf, numberOf, filled, listing, gainOf, blank}
+use Rattle.calls.specs.Listing.{turnsOf}
 use Rattle.calls.specs.declared.Record.{Record}
 use Rattle.calls.specs.declared.Listed.{Listed}
-use Rattle.calls.proofs.Singly.{blank}
 use Rattle.banking.specs.Banking.{bankAnswer, relationsAfter, ownAfter, otherAfter, clearedAfter}
 use Rattle.banking.specs.BankList.{BankRun, bankSingly, bankListChecks, bankListed, bankLeft}
 use Rattle.banking.proofs.Answers.{each-answer}

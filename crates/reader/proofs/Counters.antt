@@ -16,7 +16,7 @@ use Rattle.theory.specs.Formula.{Formula, Operand, node, number, below, spelled
 use Rattle.theory.specs.Formula as formulas
 use Rattle.theory.specs.Formula.Operand.{variable, entry}
 use Rattle.theory.specs.Terms.{formula}
-use Rattle.theory.specs.Terms.{tables, pastEntry}
+use Rattle.theory.specs.Terms.{tables, pastEntry, Alike}
 use Rattle.theory.specs.Fit.{_⇒_, reachFits}
 use Rattle.theory.specs.Columns.{columnsFit}
 use Rattle.memory.specs.Plan.{Masked, setFits, reachSets}
@@ -32,7 +32,7 @@ use Rattle.memory.specs.Layout.{termsOf}
 use Rattle.file.specs.declared.line.Line.{Line}
 use Rattle.file.specs.declared.line.Line.the-variants.{Members, Labels, Entry, Policy, Effect, Edge, Form, TableBit, PairBit, EventEdge, Mark, Malformed}
 use Rattle.reader.specs.declared.step.Context.{Context}
-use Rattle.theory.proofs.Like.{Alike, number-agree, below-agree, spelled-agree}
+use Rattle.theory.proofs.Like.{number-agree, below-agree, spelled-agree}
 use Rattle.file.proofs.Update.{update-same, update-other}
 use Rattle.file.proofs.Fit.{operand-fits}
 use Rattle.file.proofs.Going.{Going}

@@ -14,11 +14,11 @@ use Rattle.sets.proofs.Finite.{bool-iff, is-false, not-both, and-right, all-tru
 use Rattle.sets.proofs.Bits.{bit-zero, bit-mask, same-bits}
 use Rattle.sets.proofs.Pack.{pack-cong, pack-each}
 use Rattle.theory.specs.Formula.{free, highest}
-use Rattle.theory.specs.Terms.{Terms, formula, tables, pastEntry}
+use Rattle.theory.specs.Terms.{Terms, formula, tables, pastEntry, Alike}
 use Rattle.theory.specs.Tables.{State}
-use Rattle.theory.specs.Fit.{closed}
-use Rattle.theory.proofs.Good.{Good, small}
-use Rattle.theory.proofs.Like.{Alike, met-is, same-past}
+use Rattle.theory.specs.Fit.{closed, Good}
+use Rattle.theory.proofs.Good.{small}
+use Rattle.theory.proofs.Like.{met-is, same-past}
 use Rattle.memory.specs.Layout.{tableAt, termsOf, wordsOf, tableColumns}
 use Rattle.memory.specs.Checks.{goodState}
 use Rattle.memory.specs.Outcome.{checks}

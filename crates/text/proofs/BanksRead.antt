@@ -9,10 +9,9 @@ use lib.Dec.{ltb}
 use lib.ListN.{length, take, drop, length-append}
 use lib.Seq.{take-at}
 use borrow.Author.Tests.{lt-ltb, le-ltb, ltb-false}
-use Rattle.theory.specs.Terms.{Terms}
+use Rattle.theory.specs.Terms.{Terms, Alike}
 use Rattle.theory.specs.Moment.{Relations, Moment}
 use Rattle.theory.specs.Tables.{opening}
-use Rattle.theory.proofs.Like.{Alike}
 use Rattle.memory.specs.Layout.{termsWords, stateWords, relationWords, ownWords, joined, termsOf, stateOf, wordsOf}
 use Rattle.memory.specs.Checks.{goodMemory, goodRelations}
 use Rattle.memory.specs.Outcome.{Outcome, banksOpen}

@@ -6,18 +6,16 @@ use mathlib.Core.Bool.{true, false, cond}
 use mathlib.Core.List.{List, [], _∷_, _++_}
 use lib.ListN.{length, drop, length-append, length-drop}
 use Rattle.theory.specs.Meaning.{fromFirst}
-use Rattle.theory.specs.Terms.{Terms}
+use Rattle.theory.specs.Terms.{Terms, Alike}
 use Rattle.theory.specs.Moment.{Moment, first}
 use Rattle.theory.specs.Tables.{State, opening}
-use Rattle.theory.proofs.Good.{Good}
+use Rattle.theory.specs.Fit.{Good}
 use Rattle.theory.proofs.Kept.{opening-kept}
-use Rattle.theory.proofs.Like.{Alike}
 use Rattle.memory.specs.Layout.{termsWords, stateWords, termsOf, stateOf, wordsOf}
-use Rattle.memory.specs.Checks.{goodMemory}
+use Rattle.memory.specs.Checks.{goodMemory, Inside}
 use Rattle.memory.specs.Outcome.{checks}
 use Rattle.memory.specs.Outcome.Outcome.{passed}
 use Rattle.memory.proofs.Accepted.{good}
-use Rattle.memory.proofs.Inside.{Inside}
 use Rattle.memory.proofs.Front.{state-front}
 use Rattle.memory.proofs.Words.{length-words, now-back}
 use Rattle.memory.proofs.Outcomes.{check-passed}

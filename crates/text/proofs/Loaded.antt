@@ -7,15 +7,15 @@ use mathlib.Core.List.{List, [], _∷_, _++_}
 use lib.Dec.{ltb}
 use lib.ListN.{length, getD, take, drop, length-append, length-drop, List·getD-append}
 use lib.Seq.{take-at, getD-take, length-take-le}
-use Rattle.theory.specs.Terms.{Terms}
+use Rattle.theory.specs.Terms.{Terms, Alike}
 use Rattle.theory.specs.Keeper.{Book}
-use Rattle.theory.proofs.Like.{Alike, alike-trans, kept-alike}
+use Rattle.theory.proofs.Like.{alike-trans, kept-alike}
 use Rattle.memory.specs.Layout.{termsWords, stateWords, termsOf, stateOf, wordsOf}
-use Rattle.memory.specs.Checks.{goodMemory, goodState}
+use Rattle.memory.specs.Checks.{goodMemory, goodState, Inside}
 use Rattle.memory.specs.Outcome.{Outcome, checks}
 use Rattle.memory.specs.Outcome.Outcome.{passed, failed}
 use Rattle.memory.proofs.Accepted.{good}
-use Rattle.memory.proofs.Inside.{Inside, state-inside}
+use Rattle.memory.proofs.Inside.{state-inside}
 use Rattle.memory.proofs.Front.{good-cong}
 use Rattle.memory.proofs.Outcomes.{Checked, passed-checked}
 use Rattle.calls.proofs.Held.{Held, held-words}

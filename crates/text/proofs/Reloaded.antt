@@ -12,10 +12,9 @@ use Rattle.sets.specs.Sets.{bit}
 use Rattle.theory.specs.Terms.{Terms, tables}
 use Rattle.theory.specs.Columns as places
 use Rattle.theory.specs.Tables.{State, opening}
-use Rattle.theory.proofs.Good.{Good}
+use Rattle.theory.specs.Fit.{Good}
 use Rattle.memory.specs.Layout.{termsWords, stateWords, tableAt, tableColumns, termsOf, stateOf, wordsOf}
-use Rattle.memory.specs.Checks.{goodMemory, goodState}
-use Rattle.memory.proofs.Inside.{Inside as InsideMoment}
+use Rattle.memory.specs.Checks.{goodMemory, goodState, Inside as InsideMoment}
 use Rattle.memory.proofs.Accepted.{good}
 use Rattle.memory.proofs.Front.{state-front}
 use Rattle.memory.proofs.Words.{length-words, word-table, now-back, table-back, canonical}

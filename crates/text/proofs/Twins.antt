@@ -8,7 +8,7 @@ use lib.Dec.{ltb}
 use lib.ListN.{length, getD, drop, replicate, length-append, List·getD-append}
 use borrow.Author.Tests.{le-ltb, ltb-true}
 use Rattle.sets.proofs.Finite.{and-left}
-use Rattle.theory.specs.Terms.{Terms, sameSize}
+use Rattle.theory.specs.Terms.{Terms, sameSize, Alike}
 use Rattle.theory.specs.Keeper.{Answer}
 use Rattle.theory.specs.Keeper.Verdict.{grant, deny}
 use Rattle.theory.specs.Keeper.Answer.{decided, refused}
@@ -16,7 +16,7 @@ use Rattle.theory.specs.Limits.{scratchWords}
 use Rattle.theory.specs.NewNumbers.{renumbers}
 use Rattle.theory.specs.MembersRenumbered.{stateBy}
 use Rattle.theory.specs.Tables.{named, State, decideNow, made, advance, revised}
-use Rattle.theory.proofs.Like.{Alike, alike-refl, size-alike, revised-alike}
+use Rattle.theory.proofs.Like.{alike-refl, size-alike, revised-alike}
 use Rattle.theory.proofs.Size.{same-members, same-relations, same-events}
 use Rattle.memory.specs.Layout.{termsWords, stateWords, termsOf, stateOf, wordsOf}
 use Rattle.memory.specs.Outcome.{Outcome, hasPassed, checks, revises}

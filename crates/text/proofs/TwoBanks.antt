@@ -9,11 +9,10 @@ use lib.Dec.{ltb}
 use lib.ListN.{length, getD, take}
 use borrow.Author.Tests.{le-ltb}
 use Rattle.theory.specs.Meaning.{Starts}
-use Rattle.theory.specs.Terms.{Terms}
+use Rattle.theory.specs.Terms.{Terms, Alike}
 use Rattle.theory.specs.Moment.{Relations, Moment}
 use Rattle.theory.specs.Keeper.{Answer}
-use Rattle.theory.proofs.Good.{Good}
-use Rattle.theory.proofs.Like.{Alike}
+use Rattle.theory.specs.Fit.{Good}
 use Rattle.memory.specs.Layout.{termsWords, relationWords, ownWords, joined, termsOf, wordsOf}
 use Rattle.memory.specs.Outcome.{banksOpen}
 use Rattle.memory.specs.Outcome.Outcome.{passed, failed}

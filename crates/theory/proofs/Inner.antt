@@ -15,8 +15,8 @@ use Rattle.theory.specs.Columns.{inside, memberAt, standingAt, standing,
 use Rattle.theory.specs.Terms.{Terms, formula, firstSame}
 use Rattle.theory.specs.Keeper.{Book, recordOf, last, revisedStart, revisedBook}
 use Rattle.theory.specs.Tables.{State, revised}
+use Rattle.theory.specs.Fit.{Good}
 use Rattle.theory.proofs.Spelled.{tableOf, table-spelled}
-use Rattle.theory.proofs.Good.{Good}
 use Rattle.theory.proofs.Now.{SameAt}
 use Rattle.theory.proofs.Renumbered.{Everywhere, everywhere-spelled, same-meaning, columns-bare, past-same}
 use Rattle.theory.proofs.Kept.{Together, Kept}

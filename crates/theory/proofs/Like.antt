@@ -1,12 +1,11 @@
 -- Terms that agree as far as they count entries and events: whatever reads terms reads the same in both.
-use Prim.Native.Nat.{ℕ, zero, suc, _+_, _-_, _/_, _%_, _≤_, _<_}
+use Prim.Native.Nat.{ℕ, zero, suc, _≤_, _<_}
 use native.Mathlib.Omega.{arith}
 use mathlib.Core.Path.{_≡_, refl, sym, ap, ap₂, subst, _∙_, fun-ext}
 use mathlib.Core.Bool.{Bool, true, false, cond, not, _&&_, _||_, false≢true}
 use mathlib.Core.List.{List, [], _∷_, _++_, map}
 use lib.Dec.{eqb, ltb, leb}
 use borrow.Author.Tests.{ltb-true, leb-false}
-use Rattle.sets.proofs.Finite.{and-under}
 use Rattle.theory.specs.Formula.{Formula, Entry, node, firstOperand, secondOperand, thirdOperand, isPast, number, below, spelled, highest, bare, same, columns}
 use Rattle.theory.specs.Meaning.{Graph, Starts, fromFirst, holds}
 use Rattle.theory.specs.Columns.{columnsFit, standing, member, inside}
@@ -14,17 +13,15 @@ use Rattle.theory.specs.Terms.{Terms, Effect, labels, formula}
 use Rattle.theory.specs.Moment.{Relations, Moment, graph, affectAll, denied, first}
 use Rattle.theory.specs.Moment.Event.{happened}
 use Rattle.theory.specs.Limits.{scratchWords, leastTerms, leastState}
-use Rattle.theory.specs.Keeper.{Call, Answer, Book, Step, recordOf, last, lastMoment, target, keeperHolds, judge, keep, keepAll, keeper, withMoments, revisedStart, revisedBook, keepStep}
+use Rattle.theory.specs.Keeper.{Call, Answer, Book, Step, recordOf, last, lastMoment, target, judge, keep, keepAll, keeper, withMoments, revisedStart, revisedBook, keepStep}
 use Rattle.theory.specs.Keeper.Step.{call, revise, renumber}
 use Rattle.theory.specs.NewNumbers.{renumbers, momentBy}
 use Rattle.theory.specs.Keeper.Verdict.{grant, deny}
 use Rattle.theory.specs.Keeper.Answer.{decided, done, refused}
-use Rattle.theory.specs.Terms.{tables, pastEntry, firstSame, sameSize}
-use Rattle.theory.specs.Fit.{operandFits, onlyFree, reachFits}
-use Rattle.theory.specs.Tables.{Tables, State, store, holdsNow, operandNow, sinceTables, opening, startBits, startStep, startTables, revised}
-use Rattle.theory.proofs.Good.{Good, GoodEntry, Within, second-lower, third-lower}
-use Rattle.theory.proofs.Past.{past-entry}
-use Rattle.theory.proofs.Now.{Same}
+use Rattle.theory.specs.Terms.{tables, pastEntry, firstSame, sameSize, Alike}
+use Rattle.theory.specs.Fit.{operandFits, onlyFree, reachFits, Good, GoodEntry, Within}
+use Rattle.theory.specs.Tables.{Tables, State, store, holdsNow, operandNow, sinceTables, startBits, startStep, startTables, revised}
+use Rattle.theory.proofs.Good.{second-lower, third-lower}
 use Rattle.theory.proofs.Kept.{Kept}
 use Rattle.theory.proofs.Lowest.{lowest-cong}
 
@@ -55,16 +52,6 @@ module _ (g h : ℕ → Entry) where
       λ i. node (p i) (q i) (r i .op) (r i .a) (r i .b) (r i .c)
 
 -- ---- terms
-
-pub record Alike (T U : Terms) : Type 0 where
-  pub members : T .members ≡ U .members
-  pub relations : T .relations ≡ U .relations
-  pub events : T .events ≡ U .events
-  pub entries : T .entries ≡ U .entries
-  pub entry : (n : ℕ) → n < T .entries → T .entry n ≡ U .entry n
-  pub policy : (j : ℕ) → j < T .events → T .policy j ≡ U .policy j
-  pub effects : (j : ℕ) → j < T .events → T .effects j ≡ U .effects j
-  pub kept : (j : ℕ) → j < T .events → T .kept j ≡ U .kept j
 
 highest-alike : (n : ℕ) {p q : ℕ → Bool} → ((k : ℕ) → k < n → p k ≡ q k) → highest n p ≡ highest n q
 unfolding highest

@@ -17,8 +17,9 @@ use Rattle.theory.specs.Terms.{Terms, formula, pastEntry, firstSame}
 use Rattle.theory.specs.Moment.{Moment, eventEdge, graph, first}
 use Rattle.theory.specs.Keeper.{Book, recordOf, last, lastMoment, revisedStart, revisedBook}
 use Rattle.theory.specs.Tables.{Tables, store, operandNow, sinceBits, State, taken, startBits, startStep, startTables, revised}
+use Rattle.theory.specs.Fit.{Good}
 use Rattle.theory.proofs.Spelled.{Visible, tableOf, or-cases, number-le, number-lt, spelled-prev, spelled-since, table-spelled, visible-below}
-use Rattle.theory.proofs.Good.{Good, column-free}
+use Rattle.theory.proofs.Good.{column-free}
 use Rattle.theory.proofs.Record.{prev-start, since-start}
 use Rattle.theory.proofs.Places.{inside-among, inside-member}
 use Rattle.theory.proofs.Now.{Same, SameAt, Right, now-holds}

@@ -10,7 +10,7 @@ use Rattle.sets.proofs.Finite.{and-left, and-right}
 use Rattle.theory.specs.Formula.{number, isPast}
 use Rattle.theory.specs.Terms.{Terms}
 use Rattle.theory.specs.NewNumbers.{newNumber}
-use Rattle.theory.proofs.Good.{Good}
+use Rattle.theory.specs.Fit.{Good}
 use Rattle.theory.proofs.Spelled.{number-lt}
 use Rattle.memory.specs.Layout.{termsOf, tableColumns}
 use Rattle.memory.specs.Plan.{planTable}
