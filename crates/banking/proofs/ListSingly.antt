@@ -22,7 +22,7 @@ use Rattle.calls.specs.Agreement.{answerIn}
 use Rattle.calls.specs.declared.Record.{Record}
 use Rattle.banking.specs.Banking.{bankAnswer, relationsAfter, ownAfter, otherAfter, clearedAfter}
 use Rattle.banking.specs.BankList.{bankSingly, bankListChecks, bankListed, bankLeft}
-use Rattle.banking.proofs.Answers.{BanksChecked, passed-checked, short-scratch, short-spare, unchecked, unnamed, judged, each-answer}
+use Rattle.banking.proofs.BankAnswers.{BanksChecked, passed-checked, short-scratch, short-spare, unchecked, unnamed, judged, each-answer}
 use Rattle.banking.proofs.Moved.{after-checked, cleared-long}
 
 -- ---- the checks

@@ -18,16 +18,16 @@ use Rattle.memory.specs.Layout.{termsWords, joined, termsOf}
 use Rattle.memory.specs.Checks.{goodMemory}
 use Rattle.memory.specs.Outcome.{banksOpen}
 use Rattle.memory.specs.Outcome.Outcome.{passed}
-use Rattle.theory.proofs.Like.{alike-refl, alike-sym, good-alike, keep-alike}
+use Rattle.theory.proofs.AlikeTerms.{alike-refl, alike-sym, good-alike, keep-alike}
 use Rattle.memory.proofs.Accepted.{good}
-use Rattle.calls.proofs.Held.{agrees}
+use Rattle.calls.proofs.MemoryInvariant.{agrees}
 use Rattle.banking.specs.Banks.{BankCall, Books, Records, asSeen, keepBank, keepBankStep}
 use Rattle.banking.specs.Banks.Bank.{left, right}
 use Rattle.banking.specs.Banks.BankStep.{call}
 use Rattle.banking.specs.BankRuns.{Lent, LentBankCall, fedBank, givesIn, leavesIn, BanksInUse, withLent, openedInUse, BanksAgree, openedBooks}
-use Rattle.banking.proofs.Joined.{joined-long}
-use Rattle.banking.proofs.InStep.{Stands, bank-step}
-use Rattle.banking.proofs.Opened.{banks-opened, first-stands}
+use Rattle.banking.proofs.JoinedState.{joined-long}
+use Rattle.banking.proofs.OneBankCall.{Stands, bank-step}
+use Rattle.banking.proofs.BankOpening.{banks-opened, first-stands}
 
 -- what a call makes goes by what the terms say
 judge-alike : (T U : Terms) → Alike T U → Good T → (s : Starts) (Ms : List Moment) (c : Call) → judge T s Ms c ≡ judge U s Ms c

@@ -18,7 +18,7 @@ use Rattle.calls.specs.SetList.Listing.{counted, refused as refusedList}
 use Rattle.calls.specs.declared.Record.{Record}
 use Rattle.calls.proofs.Answers.{unnamed, judged}
 use Rattle.calls.proofs.ListChecks.{list-passed, refused-alike}
-use Rattle.calls.proofs.Singly.{one-granted, after-checked, after-scratch}
+use Rattle.calls.proofs.OneByOne.{one-granted, after-checked, after-scratch}
 
 module _ (terms : List ℕ) where
   counts-ones : (state scratch : List ℕ) (rs : List Record) → singly terms state scratch rs .grants ≡ ones (singly terms state scratch rs .records)

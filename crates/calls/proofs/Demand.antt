@@ -30,24 +30,24 @@ use Rattle.calls.specs.Agreement.{LentCall, fed, fedAll, leaves, serveAl
 use Rattle.calls.specs.Agreement.LentStep.{once, setList, revise, renumber}
 use Rattle.calls.specs.declared.Record.{Record}
 use Rattle.memory.proofs.Accepted.{good}
-use Rattle.theory.proofs.Kept.{Kept, opening-kept}
-use Rattle.theory.proofs.Like.{alike-refl, alike-sym, good-alike, keep-alike, keepAll-alike, start-alike, size-alike}
+use Rattle.theory.proofs.RunInvariant.{Kept, opening-kept}
+use Rattle.theory.proofs.AlikeTerms.{alike-refl, alike-sym, good-alike, keep-alike, keepAll-alike, start-alike, size-alike}
 use Rattle.theory.proofs.Size.{same-members, same-relations, same-events}
 use Rattle.theory.proofs.Revised.{revised-kept}
 use Rattle.theory.proofs.MembersRenumbered.{renumbered-kept}
 use Rattle.memory.proofs.Inside.{relations-inside, state-inside}
 use Rattle.memory.proofs.Outcomes.{Checked, check-passed}
-use Rattle.calls.proofs.Level.{relations-good, inside-size}
-use Rattle.calls.proofs.Held.{Held, held-words, agrees}
+use Rattle.calls.proofs.LayoutKept.{relations-good, inside-size}
+use Rattle.calls.proofs.MemoryInvariant.{Held, held-words, agrees}
 use Rattle.memory.proofs.Front.{state-front, relations-front}
 use Rattle.memory.proofs.Words.{length-words, now-back}
 use Rattle.calls.proofs.Refused.{Opens, opened-says}
-use Rattle.calls.proofs.InStep.{step}
+use Rattle.calls.proofs.OneCall.{step}
 use Rattle.calls.proofs.MembersNumbers.{renumbering as numbered}
 use Rattle.calls.proofs.MembersWords.{inside-renumbered}
 use Rattle.calls.proofs.MembersOutcomes.{short-second, wrong-numbers, right-numbers, second-filled}
 use Rattle.calls.proofs.ListChecks.{list-short, list-checked}
-use Rattle.calls.proofs.Singly.{answer-back, after-scratch}
+use Rattle.calls.proofs.OneByOne.{answer-back, after-scratch}
 
 pub or-false-left : (a b : Bool) → (a || b) ≡ false → a ≡ false
 or-false-left false b e = refl

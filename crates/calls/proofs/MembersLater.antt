@@ -27,7 +27,7 @@ use Rattle.calls.specs.SetList.{Run, singly, listChecks, numberOf, listi
 use Rattle.calls.specs.Agreement.{leaves, LentStep, KeepsTerms, Lent, answerIn, answersIn, serveSteps}
 use Rattle.calls.specs.Agreement.LentStep.{once, setList, revise, renumber}
 use Rattle.calls.specs.declared.Record.{Record}
-use Rattle.theory.proofs.Spelled.{number-lt}
+use Rattle.theory.proofs.Unfolding.{number-lt}
 use Rattle.theory.proofs.Past.{past-is}
 use Rattle.theory.proofs.MembersPlaces.{under-inside}
 use Rattle.memory.proofs.Accepted.{good}
@@ -35,9 +35,9 @@ use Rattle.memory.proofs.Inside.{made-inside, state-inside}
 use Rattle.memory.proofs.Front.{state-front, good-front}
 use Rattle.memory.proofs.Outcomes.{check-passed}
 use Rattle.memory.proofs.Words.{length-words, now-back, table-back}
-use Rattle.calls.proofs.Level.{level-good}
+use Rattle.calls.proofs.LayoutKept.{level-good}
 use Rattle.calls.proofs.Answers.{moves-decided, decided-says}
-use Rattle.calls.proofs.Singly.{after-good, after-long}
+use Rattle.calls.proofs.OneByOne.{after-good, after-long}
 use Rattle.theory.specs.NewNumbers.{newNumber, oldNumber, renumbers, renumberMoment}
 use Rattle.theory.specs.MembersRenumbered.{stateBy, Renumbering}
 use Rattle.theory.specs.Fit.{Good}

@@ -20,7 +20,7 @@ use Rattle.memory.specs.Layout.{tableAt, termsOf}
 use Rattle.memory.specs.Outcome.{opens}
 use Rattle.memory.specs.Outcome.Outcome.{passed}
 use Rattle.calls.specs.Agreement.{LentStep, fedSteps, serveSteps, Agrees, openedBook, opened}
-use Rattle.theory.proofs.Spelled.{number-lt}
+use Rattle.theory.proofs.Unfolding.{number-lt}
 use Rattle.theory.proofs.Places.{Among, among-assign, among-alone, those-none, closed-columns, inside-bit, inside-word, place-member, place-inside, place-standing}
 use Rattle.theory.proofs.Good.{small, column-free}
 use Rattle.theory.proofs.Record.{coincidence}

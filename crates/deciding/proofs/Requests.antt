@@ -17,8 +17,8 @@ use Rattle.theory.specs.Terms.{Terms, formula}
 use Rattle.theory.specs.Fit.{Good}
 use Rattle.memory.specs.Layout.{termsOf}
 use Rattle.memory.specs.Plan.{planTable, planFirst, planLast, planColumns}
-use Rattle.deciding.specs.Rows.{tableBit, assigned, opened, nowAt, cell, Rows, Ready, Asked, Table, operandBits, nextPrev, nextSince, Has, inRow, Added, kept}
-use Rattle.theory.proofs.Spelled.{number-lt}
+use Rattle.deciding.specs.private.Rows.{tableBit, assigned, opened, nowAt, cell, Rows, Ready, Asked, Table, operandBits, nextPrev, nextSince, Has, inRow, Added, kept}
+use Rattle.theory.proofs.Unfolding.{number-lt}
 use Rattle.theory.proofs.Good.{first-lower, second-lower}
 use Rattle.memory.proofs.Accepted.{good}
 use Rattle.deciding.proofs.Loops.{zeros}

@@ -13,7 +13,7 @@ use Rattle.theory.specs.Meaning.{Graph, Assignment, assign, alone}
 use Rattle.theory.specs.Terms.{Terms, formula}
 use Rattle.theory.specs.Tables.{recalled, holdsNow}
 use Rattle.theory.specs.Fit.{GoodEntry}
-use Rattle.deciding.specs.Rows.{edge, tableBit, pastEvent, nowAt}
+use Rattle.deciding.specs.private.Rows.{edge, tableBit, pastEvent, nowAt}
 use Rattle.theory.proofs.Good.{formula-at}
 
 module _ (T : Terms) (rel past : List ℕ) (g : Assignment) (i m : ℕ) (e : GoodEntry T i) where

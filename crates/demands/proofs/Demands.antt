@@ -362,14 +362,14 @@ any-scratch-banks = Rattle.banking.proofs.BankScratch.any-scratch-banks
 pub advance-good : (T : Terms) (fine : Good T) →
     (m : List ℕ) → goodState T m ≡ true → (M : Moment) → Inside T M → (rest : List ℕ) →
     goodState T (wordsOf T (advance T (stateOf m) M) ++ rest) ≡ true
-advance-good = Rattle.calls.proofs.Level.advance-good
+advance-good = Rattle.calls.proofs.LayoutKept.advance-good
 
 -- New terms of the same size begin with a state that keeps their layout, whatever state kept the old terms' layout.
 pub revised-good :
     (T U : Terms) → Good T → Good U → T .members ≡ U .members → T .relations ≡ U .relations → T .events ≡ U .events →
     (m : List ℕ) → goodState T m ≡ true → (rest : List ℕ) →
     goodState U (wordsOf U (revised T (stateOf m) U) ++ rest) ≡ true
-revised-good = Rattle.calls.proofs.Level.revised-good
+revised-good = Rattle.calls.proofs.LayoutKept.revised-good
 
 -- There are terms with all operators that open, and requests over them that are granted, denied, and denied and kept.
 pub reached : Reaches 1 × Reaches 14 × Reaches 16
@@ -438,7 +438,7 @@ pub reread-fresh :
     isFresh terms state ≡ true → (terms' state' : List ℕ) → termsWords ≤ length terms' → stateWords ≤ length state' →
     (readTerms (writtenText terms state) terms' state' ≡ take termsWords terms ++ drop termsWords terms')
     × (readState (writtenText terms state) terms' state' ≡ take stateWords state ++ drop stateWords state')
-reread-fresh = Rattle.text.proofs.Yields.reread-fresh
+reread-fresh = Rattle.text.proofs.AcceptedMemory.reread-fresh
 
 -- What is written from good memory is accepted, and gives the same terms and the state of moment 0 of the same
 -- relations.
@@ -452,7 +452,7 @@ pub reread-memory :
     (readTerms (writtenText terms state) terms' state' ≡ take termsWords terms ++ drop termsWords terms')
     × (readState (writtenText terms state) terms' state'
     ≡ wordsOf (termsOf terms) (opening (termsOf terms) (stateOf state .now .edge)) ++ drop stateWords state'))
-reread-memory = Rattle.text.proofs.Yields.reread-memory
+reread-memory = Rattle.text.proofs.AcceptedMemory.reread-memory
 
 -- Words of terms are good exactly if some accepted text yields them: the condition of refusal 7.
 pub yields : (w : List ℕ) → termsWords ≤ length w →
@@ -460,7 +460,7 @@ pub yields : (w : List ℕ) → termsWords ≤ length w →
     × (memoryOf (f .terms) ≡ take termsWords w))
     × ((text : List ℕ) (f : File) → reading text ≡ accepted f → memoryOf (f .terms) ≡ take termsWords w →
     goodMemory w ≡ true)
-yields = Rattle.text.proofs.Yields.yields
+yields = Rattle.text.proofs.AcceptedMemory.yields
 
 -- What reading gave, written in the file's own form, is the text in its normal form.
 pub rewritten : (text : List ℕ) (f : File) (e : reading text ≡ accepted f) → textSaid f ≡ normalText text

@@ -21,7 +21,7 @@ use Rattle.theory.specs.Fit.Within.{more}
 use Rattle.file.specs.Line.{hasThird}
 use Rattle.file.specs.File.{update, withBit, hasTwo, eventNamed, eventSaid}
 use Rattle.file.specs.Reading.{inRange, isLower}
-use Rattle.theory.proofs.Like.{number-agree, spelled-agree}
+use Rattle.theory.proofs.AlikeTerms.{number-agree, spelled-agree}
 use Rattle.file.proofs.Update.{update-same, update-other, update-cases}
 
 -- ---- entries

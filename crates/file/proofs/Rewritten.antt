@@ -25,11 +25,11 @@ use Rattle.fields.proofs.Digits.{digits-valueOf, digits-number, digits-unpadded
 use Rattle.fields.proofs.Numeral.{value-small}
 use Rattle.file.proofs.Plain.{linesOf, lines-printed}
 use Rattle.file.proofs.Printed.{split-ranged}
-use Rattle.file.proofs.Taken.{tried-accepted, passed-formed, reading-read, reading-accepting}
-use Rattle.file.proofs.Going.{going-first, going-on}
+use Rattle.file.proofs.Derivation.{tried-accepted, passed-formed, reading-read, reading-accepting}
+use Rattle.file.proofs.Invariant.{going-first, going-on}
 use Rattle.file.proofs.Accepted.{accepted-good, accepted-level}
 use Rattle.file.proofs.Reread.{reread, reread-stored}
-use Rattle.file.proofs.Grown.{linesSaid, lines-more, first-none, all-said}
+use Rattle.file.proofs.LinesSoFar.{linesSaid, lines-more, first-none, all-said}
 
 -- ---- an accepted text printed anew
 

@@ -21,12 +21,12 @@ use Rattle.file.specs.declared.line.Line.{Line}
 use Rattle.file.proofs.Printed.{Ranged}
 use Rattle.file.proofs.Printed.Ranged.{members, labels, entry, policy, effect, edge, form, bit, pair, event, mark}
 use Rattle.file.specs.Refused.{Passed}
-use Rattle.file.proofs.Taken.{passed-at, Taken, reading-accepting}
-use Rattle.file.proofs.Taken.Taken.{none, one}
+use Rattle.file.proofs.Derivation.{passed-at, Taken, reading-accepting}
+use Rattle.file.proofs.Derivation.Taken.{none, one}
 use Rattle.file.proofs.Update.{update-other}
 use Rattle.file.proofs.Fit.{noEntry}
 use Rattle.file.proofs.SaidState.{beside-said}
-use Rattle.file.proofs.Going.{Going, going-first, going-on, entry-phase, policy-phase, complete-phase}
+use Rattle.file.proofs.Invariant.{Going, going-first, going-on, entry-phase, policy-phase, complete-phase}
 
 -- ---- the first n from g, the others from a list
 

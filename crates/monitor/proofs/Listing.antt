@@ -14,7 +14,7 @@ use Rattle.memory.specs.Outcome.Outcome.{passed, failed}
 use Rattle.calls.specs.Monitor.{granted}
 use Rattle.calls.specs.SetList.{numberOf, filled, listing, gainOf, blank}
 use Rattle.calls.specs.SetList.Listing.{counted}
-use Rattle.calls.specs.Listing.{turnsOf}
+use Rattle.calls.specs.private.Listing.{turnsOf}
 use Rattle.calls.specs.declared.Record.{Record}
 use Rattle.monitor.proofs.Records.{put-answer}
 

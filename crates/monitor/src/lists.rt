@@ -4,7 +4,7 @@ ghost use Prim.Native.Nat.{_+_, _<_, _^_};
 ghost use Rattle.memory.specs.Outcome.{outcomeOf};
 ghost use Rattle.calls.specs.Monitor.{answerOf};
 ghost use Rattle.calls.specs.SetList.{listingOf, numberOf, listing, gainOf};
-ghost use Rattle.calls.specs.Listing.{turnsOf};
+ghost use Rattle.calls.specs.private.Listing.{turnsOf};
 use calls::Answer;
 use calls::Listed;
 use calls::Verdict;

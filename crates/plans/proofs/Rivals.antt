@@ -26,11 +26,11 @@ use Rattle.plans.specs.Plans.{stepped, reachedIn, accepted, ruling}
 use Rattle.plans.specs.Game.Reply.{pass, asks}
 use Rattle.plans.specs.Game.Ruling.{accept, reject, refuse}
 use Rattle.theory.proofs.Good.{every-at}
-use Rattle.theory.proofs.Kept.{Kept, entry-kept}
+use Rattle.theory.proofs.RunInvariant.{Kept, entry-kept}
 use Rattle.memory.proofs.Front.{state-front, good-front}
 use Rattle.memory.proofs.Outcomes.{Checked}
-use Rattle.calls.proofs.Held.{Held}
-use Rattle.calls.proofs.InStep.{step}
+use Rattle.calls.proofs.MemoryInvariant.{Held}
+use Rattle.calls.proofs.OneCall.{step}
 use Rattle.calls.proofs.Telling.{told-holds}
 
 -- ---- the game is the sentence

@@ -17,7 +17,7 @@ use Rattle.theory.specs.Keeper.{Book, Call, Answer, recordOf, last, target, kee
 use Rattle.memory.specs.Outcome.{askable}
 use Rattle.plans.specs.Game.{Move, wins, movesOf, Ruling, gameTests, knownTests, gameWords, keeperStep, keeperAccepts, keeperRules}
 use Rattle.plans.specs.Game.Ruling.{accept, reject, refuse}
-use Rattle.theory.proofs.Like.{met, met-is, same-formula, keepAll-alike}
+use Rattle.theory.proofs.AlikeTerms.{met, met-is, same-formula, keepAll-alike}
 use Rattle.plans.proofs.Rulings.{game-parts}
 use Rattle.plans.proofs.Rivals.{wins-same}
 

@@ -16,7 +16,7 @@ use Rattle.theory.specs.Terms.{Terms, formula, tables, pastEntry, Alike}
 use Rattle.theory.specs.Fit.{Good}
 use Rattle.theory.proofs.FreeColumns.{columns-none, columns-single, columns-pair}
 use Rattle.theory.proofs.Good.{small}
-use Rattle.theory.proofs.Like.{met-is, same-past}
+use Rattle.theory.proofs.AlikeTerms.{met-is, same-past}
 use Rattle.theory.proofs.Past.{past-entry}
 use Rattle.memory.specs.Plan.{Masked, restOf}
 use Rattle.memory.proofs.FreeSets.{fit-set}

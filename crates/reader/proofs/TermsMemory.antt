@@ -20,7 +20,7 @@ use Rattle.memory.proofs.Row.{length-tabulate, getD-tabulate}
 use Rattle.reader.specs.Memory.{entryWord, effectWord, termsWord, memoryOf}
 use Rattle.file.proofs.Fit.{noEntry}
 use Rattle.file.proofs.Accepted.{Tidy}
-use Rattle.theory.proofs.Like.{good-alike}
+use Rattle.theory.proofs.AlikeTerms.{good-alike}
 use Rattle.reader.proofs.Effects.{Triple, effects-read, effect-fits, effects-front}
 
 pub length-memory : (T : Terms) → length (memoryOf T) ≡ termsWords

@@ -23,11 +23,11 @@ use Rattle.memory.specs.Layout.{tableAt, eventAt, tableColumns}
 use Rattle.memory.specs.Plan.{planTable, planFirst, planLast, planColumns, Planned}
 use Rattle.theory.proofs.Past.{past-is}
 use Rattle.theory.proofs.MembersPlaces.{PairInside, pair-inside, pair-word-back, pair-bit-back, under-inside, under-back}
-use Rattle.deciding.specs.Moving.{put}
+use Rattle.deciding.specs.private.Moving.{put}
 use Rattle.deciding.proofs.Stored.{put-in, put-other, put-after, put-length, put-back}
-use Rattle.renumber.specs.Spread.{spread}
+use Rattle.renumber.specs.private.Spread.{spread}
 use Rattle.renumber.proofs.Spreading.{spread-cong}
-use Rattle.renumber.specs.PairRows.{Few, goesTo, Gone, isTwo, Tabled}
+use Rattle.renumber.specs.private.PairRows.{Few, goesTo, Gone, isTwo, Tabled}
 
 any-more : (n : ℕ) (f : ℕ → Bool) → anyBelow (n + 1) f ≡ (f n || anyBelow n f)
 unfolding anyBelow

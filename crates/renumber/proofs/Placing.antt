@@ -29,8 +29,8 @@ use Rattle.theory.specs.Fit.{Good}
 use Rattle.calls.specs.Renumbering.{renumberedWords}
 use Rattle.calls.proofs.MembersNumbers.{renumbering}
 use Rattle.calls.proofs.MembersLater.{same-below}
-use Rattle.renumber.specs.Spread.{spread, Apart, placeOf, Placed, newEvent, Rewritten}
-use Rattle.renumber.specs.PairRows.{Few, isTwo, Tabled}
+use Rattle.renumber.specs.private.Spread.{spread, Apart, placeOf, Placed, newEvent, Rewritten}
+use Rattle.renumber.specs.private.PairRows.{Few, isTwo, Tabled}
 use Rattle.renumber.proofs.PairRows.{two-said}
 
 -- ---- one row after another

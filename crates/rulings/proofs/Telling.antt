@@ -20,8 +20,8 @@ use Rattle.calls.specs.Agreement.{Lent}
 use Rattle.calls.specs.Telling.{Telling, paired, holdsAt, tells}
 use Rattle.calls.specs.Telling.Telling.{holds, fails, refused}
 use Rattle.rulings.specs.Telling.{keeperTells}
-use Rattle.theory.proofs.Like.{met, met-is, same-formula}
-use Rattle.theory.proofs.Kept.{entry-kept}
+use Rattle.theory.proofs.AlikeTerms.{met, met-is, same-formula}
+use Rattle.theory.proofs.RunInvariant.{entry-kept}
 use Rattle.memory.proofs.Accepted.{good}
 use Rattle.calls.proofs.Demand.{Playing}
 

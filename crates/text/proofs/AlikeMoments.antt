@@ -12,7 +12,7 @@ use Rattle.theory.specs.Moment.{Moment, graph, affectAll}
 use Rattle.theory.specs.Moment.Event.{happened}
 use Rattle.theory.specs.Tables.{Tables, holdsNow, store, prevStep, prevTables, sinceTables, State, decideNow, made, advance}
 use Rattle.theory.specs.Fit.{Good}
-use Rattle.theory.proofs.Like.{met, met-is, below-agree, same-number, same-formula, since-met}
+use Rattle.theory.proofs.AlikeTerms.{met, met-is, below-agree, same-number, same-formula, since-met}
 
 module _ (T U : Terms) (a : Alike T U) (good : Good T) where
   abbrev W : Terms

@@ -18,7 +18,7 @@ use Rattle.theory.specs.Tables.{State, opening}
 use Rattle.theory.specs.NewNumbers.{oldNumber}
 use Rattle.theory.specs.MembersRenumbered.{stateBy}
 use Rattle.theory.proofs.Past.{past-entry}
-use Rattle.theory.proofs.Like.{met, met-is, same-number, same-formula, same-past, since-met}
+use Rattle.theory.proofs.AlikeTerms.{met, met-is, same-number, same-formula, same-past, since-met}
 use Rattle.memory.specs.Layout.{stateWords, relationWords, eventAt, eventWord, row, tableRow, tableColumns, wordAt, tabulate, wordsOf}
 use Rattle.memory.specs.Checks.{EventInside, Inside}
 use Rattle.calls.specs.Agreement.{Agrees}

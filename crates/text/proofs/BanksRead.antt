@@ -18,11 +18,11 @@ use Rattle.memory.specs.Outcome.{Outcome, banksOpen}
 use Rattle.memory.specs.Outcome.Outcome.{passed, failed}
 use Rattle.memory.proofs.Accepted.{good}
 use Rattle.memory.proofs.Words.{length-words, now-back}
-use Rattle.calls.proofs.Level.{relations-good}
+use Rattle.calls.proofs.LayoutKept.{relations-good}
 use Rattle.calls.proofs.Demand.{or-false-right}
 use Rattle.banking.specs.Banking.{ownOpened}
-use Rattle.banking.proofs.Joined.{edges-joined, good-joined, part-long, front-long}
-use Rattle.banking.proofs.Opened.{own-opened}
+use Rattle.banking.proofs.JoinedState.{edges-joined, good-joined, part-long, front-long}
+use Rattle.banking.proofs.BankOpening.{own-opened}
 use Rattle.file.specs.File.{File, stateSaid}
 use Rattle.file.specs.Reading.{Reading, reading}
 use Rattle.file.specs.Reading.Reading.{accepted, refused}

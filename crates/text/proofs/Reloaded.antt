@@ -33,8 +33,8 @@ use Rattle.writer.specs.Write.{storedText}
 use Rattle.text.specs.Text.{beginning, readState}
 use Rattle.text.proofs.AlikeWords.{state-alike}
 use Rattle.text.proofs.Storable.{storable, storable-alike}
-use Rattle.text.proofs.Tidied.{tidied, tidied-alike, tidied-good, tidied-tidy, tidied-words}
-use Rattle.text.proofs.Yields.{read-terms, read-state}
+use Rattle.text.proofs.TidyTerms.{tidied, tidied-alike, tidied-good, tidied-tidy, tidied-words}
+use Rattle.text.proofs.AcceptedMemory.{read-terms, read-state}
 
 -- The words of a state that keeps the layout are the named words of its memory.
 pub named-words : (T : Terms) → T .members < 65 → (w : List ℕ) → stateWords ≤ length w → goodState T w ≡ true → wordsOf T (stateOf w) ≡ take stateWords w

@@ -29,9 +29,9 @@ use Rattle.writer.specs.Write.{writtenText, isFresh, writeGives, oldWriteGives,
 use Rattle.writer.specs.Write.Writing.{bytes}
 use Rattle.writer.proofs.OldForm.{write-fresh}
 use Rattle.text.specs.Text.{beginning, readState, Back}
-use Rattle.text.proofs.Begun.{read-opened, begun-like, same-opened, edges-back, begun-checked}
+use Rattle.text.proofs.MomentZero.{read-opened, begun-like, same-opened, edges-back, begun-checked}
 use Rattle.text.proofs.Reloaded.{placed-state}
-use Rattle.text.proofs.Yields.{read-terms, read-state}
+use Rattle.text.proofs.AcceptedMemory.{read-terms, read-state}
 
 module _ (text : List ℕ) (f : File) (e : reading text ≡ accepted f) (terms state : List ℕ) (tl : termsWords ≤ length terms) (sl : stateWords ≤ length state) where
   read-done : readGives text terms state ≡ passed

@@ -21,7 +21,7 @@ use Rattle.theory.specs.Fit.{_⇒_, closed, Good}
 use Rattle.theory.specs.Tables.{State}
 use Rattle.theory.proofs.Good.{every-at}
 use Rattle.theory.proofs.Past.{PastEntry, past-entry}
-use Rattle.theory.proofs.Like.{met, met-is, same-number}
+use Rattle.theory.proofs.AlikeTerms.{met, met-is, same-number}
 use Rattle.memory.specs.Layout.{tableAt, tableColumns, stateOf}
 use Rattle.memory.specs.Checks.{tableFits, level, stateTests, goodState, EventInside}
 use Rattle.memory.proofs.Row.{fits-inside}

@@ -17,14 +17,14 @@ use Rattle.memory.specs.Layout.{termsWords, relationWords, ownWords, joined, te
 use Rattle.memory.specs.Outcome.{banksOpen}
 use Rattle.memory.specs.Outcome.Outcome.{passed, failed}
 use Rattle.memory.proofs.Words.{length-words}
-use Rattle.calls.proofs.Held.{Held}
+use Rattle.calls.proofs.MemoryInvariant.{Held}
 use Rattle.calls.proofs.Demand.{or-false-right}
 use Rattle.banking.specs.Banks.{Bank, BankStep, firstBooks, keepBankSteps, Placed, OfBank}
 use Rattle.banking.specs.Banks.Bank.{left, right}
 use Rattle.banking.specs.BankRefused.{LongBanks}
 use Rattle.banking.specs.BankRuns.{Lent, LentBankStep, fedBankSteps, BanksInUse, serveBankSteps, openedBanks, openedInUse, BanksAgree}
 use Rattle.banking.proofs.Lengths.{long-banks}
-use Rattle.banking.proofs.Joined.{joined-long, nothing-further, part-further, front-long}
+use Rattle.banking.proofs.JoinedState.{joined-long, nothing-further, part-further, front-long}
 use Rattle.banking.proofs.Playing.{BanksPlaying, opened-playing, banks-agree}
 use Rattle.banking.proofs.Isolated.{isolated}
 use Rattle.banking.proofs.Demand.{run-banks}

@@ -17,10 +17,10 @@ use Rattle.theory.specs.Moment.{Relations, Event, Moment, eventEdge, gra
 use Rattle.theory.specs.Moment.Event.{none, happened, tried}
 use Rattle.theory.specs.Keeper.{Call, Answer, recordOf, last, lastMoment, keeperHolds, target, judge, keep, keepAll}
 use Rattle.theory.specs.Tables.{State, made}
-use Rattle.theory.proofs.Spelled.{EachReach}
+use Rattle.theory.proofs.Unfolding.{EachReach}
 use Rattle.theory.proofs.Good.{column-free}
-use Rattle.theory.proofs.Judged.{unnamed, granted, answered, counted, madeBy, judged, named}
-use Rattle.theory.proofs.Kept.{Kept}
+use Rattle.theory.proofs.CallByTests.{unnamed, granted, answered, counted, madeBy, judged, named}
+use Rattle.theory.proofs.RunInvariant.{Kept}
 use Rattle.theory.proofs.Past.{past-is}
 use Rattle.theory.proofs.MembersPlaces.{under-inside, under-member, under-standing}
 use Rattle.theory.specs.NewNumbers.{renumberEvent, renumberMoment}

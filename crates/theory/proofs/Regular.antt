@@ -10,7 +10,7 @@ use Rattle.theory.specs.Formula.{Formula, Entry, node, number, below, fr
 use Rattle.theory.specs.Formula.Formula.{top}
 use Rattle.theory.specs.Terms.{Terms, formula}
 use Rattle.theory.specs.Fit.{onlyFree, reachFits, Good}
-use Rattle.theory.proofs.Spelled.{EachReach, below-spelled, reach-spelled}
+use Rattle.theory.proofs.Unfolding.{EachReach, below-spelled, reach-spelled}
 use Rattle.theory.proofs.Good.{small, only-out, second-lower}
 
 -- x is the only variable free in f

@@ -9,7 +9,7 @@ use borrow.Rule.Slice.PartMut.{putMid}
 use Rattle.theory.specs.Moment.{first}
 use Rattle.theory.specs.Tables.{opening}
 use Rattle.memory.specs.Layout.{relationWords, ownWords, termsOf, stateOf, wordsOf}
-use Rattle.deciding.specs.Moving.{HasState}
+use Rattle.deciding.specs.private.Moving.{HasState}
 use Rattle.deciding.proofs.Parts as parts
 use Rattle.moments.proofs.beside.first_moment.Statement.{statement}
 use Rattle.moments.proofs.beside.first_moment.Tie as tie

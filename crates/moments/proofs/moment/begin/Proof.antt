@@ -4,8 +4,8 @@ use mathlib.Core.Path.{_≡_, refl, sym, ap, _∙_, subst}
 use mathlib.Core.Bool.{Bool, true, false, cond, _&&_}
 use borrow.Author.Tests.{lt-ltb, le-ltb}
 use Rattle.memory.specs.Layout.{termsOf}
-use Rattle.deciding.proofs.Moves as moves
-use Rattle.deciding.proofs.Steps as steps
+use Rattle.deciding.proofs.MomentSteps as moves
+use Rattle.deciding.proofs.MemoInSweep as steps
 use Rattle.moments.proofs.moment.begin.Statement.{statement}
 use Rattle.moments.proofs.moment.begin.Tie as tie
 

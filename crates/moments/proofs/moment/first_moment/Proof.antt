@@ -8,8 +8,8 @@ use Rattle.theory.specs.Tables.{opening}
 use Rattle.memory.proofs.Accepted.{good}
 use Rattle.deciding.proofs.Stored.{cleared}
 use Rattle.memory.specs.Layout.{termsOf}
-use Rattle.deciding.proofs.Moves as moves
-use Rattle.deciding.proofs.Steps as steps
+use Rattle.deciding.proofs.MomentSteps as moves
+use Rattle.deciding.proofs.MemoInSweep as steps
 use Rattle.moments.proofs.moment.first_moment.Statement.{statement}
 use Rattle.moments.proofs.moment.first_moment.Tie as tie
 

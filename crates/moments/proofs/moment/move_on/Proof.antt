@@ -4,8 +4,8 @@ use mathlib.Core.Bool.{Bool, true, false, cond, _&&_}
 use lib.Dec.{ltb}
 use Rattle.sets.proofs.Finite.{and-left}
 use Rattle.memory.specs.Layout.{termsOf}
-use Rattle.deciding.proofs.Moves as moves
-use Rattle.deciding.proofs.Steps as steps
+use Rattle.deciding.proofs.MomentSteps as moves
+use Rattle.deciding.proofs.MemoInSweep as steps
 use Rattle.moments.proofs.moment.move_on.Statement.{statement}
 use Rattle.moments.proofs.moment.move_on.Tie as tie
 

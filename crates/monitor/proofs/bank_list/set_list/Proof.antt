@@ -55,7 +55,7 @@ use Rattle.memory.specs.declared.Outcome.{Outcome}
 use Rattle.calls.specs.declared.Record.{Record}
 use Rattle.calls.specs.declared.Listed.{Listed}
 use Rattle.calls.specs.SetList.{listingOf, listing, gainOf, blank}
-use Rattle.calls.specs.Listing.{turnsOf}
+use Rattle.calls.specs.private.Listing.{turnsOf}
 use Rattle.banking.specs.BankList.{bankListChecks}
 use Rattle.calls.proofs.Record as rec
 use Rattle.calls.proofs.Record.Laws as rec′

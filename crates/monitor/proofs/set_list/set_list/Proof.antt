@@ -55,8 +55,8 @@ use Rattle.calls.specs.declared.Record.{Record}
 use Rattle.calls.specs.declared.Listed.{Listed}
 use Rattle.monitor.specs.declared.set_list.Inspected.{Inspected}
 use Rattle.calls.specs.SetList.{listingOf, listing, gainOf, blank}
-use Rattle.calls.specs.Listing.{Passed, turnsOf}
-use Rattle.monitor.specs.Inspecting.{Seen}
+use Rattle.calls.specs.private.Listing.{Passed, turnsOf}
+use Rattle.monitor.specs.private.Inspecting.{Seen}
 use Rattle.calls.proofs.Record as T
 use Rattle.calls.proofs.Record.Laws as T′
 use Rattle.calls.proofs.Listed as S
