@@ -5,17 +5,17 @@ use mathlib.Core.List.{List, [], _∷_, _++_, map}
 use lib.ListN.{length, getD}
 use Rattle.theory.specs.Moment.{Relations}
 use Rattle.theory.specs.Keeper.{Answer}
+use Rattle.theory.specs.Terms.{Alike}
 use Rattle.memory.specs.Layout.{termsOf, stateOf}
 use Rattle.memory.specs.Outcome.{banksOpen}
 use Rattle.memory.specs.Outcome.Outcome.{passed}
 use Rattle.calls.specs.declared.Record.{Record}
-use Rattle.theory.proofs.Like.{Alike}
 use Rattle.banking.specs.Banks.{Bank, BankStep, Books, firstBooks, keepBankStep, keepBankSteps, Placed, OfBank}
 use Rattle.banking.specs.Banks.Bank.{left, right}
 use Rattle.banking.specs.Banks.BankStep.{call, revise as reviseStep}
-use Rattle.banking.specs.BankRuns.{Lent, LentBankStep, fedBank, fedBankRecord, offeredBanks, fedBankSteps, leavesIn, listedIn, leftBy, BanksInUse, withLent, inUse, serveBankSteps, openedInUse, BanksAgree}
+use Rattle.banking.specs.BankRuns.{Lent, LentBankStep, fedBank, fedBankRecord, offeredBanks, fedBankSteps, leavesIn, listedIn, leftBy, BanksInUse, withLent, inUse, serveBankSteps, openedInUse, BanksAgree, openedBooks}
 use Rattle.banking.specs.BankRuns.LentBankStep.{once, setList, revise}
-use Rattle.banking.proofs.Playing.{BanksPlaying, openedBooks, opened-playing, play-once, banks-agree}
+use Rattle.banking.proofs.Playing.{BanksPlaying, opened-playing, play-once, banks-agree}
 use Rattle.banking.proofs.PlayingRevised.{play-revise}
 use Rattle.banking.proofs.PlayingList.{play-list}
 use Rattle.banking.proofs.Isolated.{isolated}

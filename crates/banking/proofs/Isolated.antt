@@ -12,10 +12,10 @@ use Rattle.theory.specs.Moment.{Relations, Moment}
 use Rattle.theory.specs.Moment.Event.{none}
 use Rattle.theory.specs.Keeper.{Answer, Book, judge, revisedBook}
 use Rattle.theory.specs.Keeper.Answer.{done, refused}
-use Rattle.theory.proofs.Judged.{judge-lent}
+use Rattle.theory.proofs.CallByTests.{judge-lent}
 use Rattle.banking.specs.Banks.{Bank, other, quiet, BankCall, BankOffer, BankStep, Books, bookOf, shortOffer, revisedBooks, asSeen, judgeBank, keepBank, keepBankStep, keepBankSteps, SameCall, SameTerms, Matching, OtherBank, Place, Placed, OfBank}
 use Rattle.banking.specs.Banks.BankStep.{call, revise}
-use Rattle.banking.proofs.Seen.{not-own, seen-own, seen-beside}
+use Rattle.banking.proofs.BothBanks.{not-own, seen-own, seen-beside}
 
 seen-called : (b d : Bank) → d ≡ b → (Ms : List Moment) → asSeen b d Ms ≡ Ms
 seen-called b d e Ms = rw e (seen-own b Ms)

@@ -1,11 +1,11 @@
 pub mod Lengths
-pub mod Seen
-pub mod Joined
-pub mod Answers
+pub mod BothBanks
+pub mod JoinedState
+pub mod BankAnswers
 pub mod Moved
 pub mod ListSingly
-pub mod InStep
-pub mod Opened
+pub mod OneBankCall
+pub mod BankOpening
 pub mod Playing
 pub mod PlayingList
 pub mod PlayingRevised

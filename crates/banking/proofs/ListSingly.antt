@@ -16,16 +16,13 @@ use Rattle.memory.specs.Layout.{joined, termsOf, stateOf}
 use Rattle.memory.specs.Outcome.{Outcome, hasPassed, banksCheck}
 use Rattle.memory.specs.Outcome.Outcome.{passed, failed}
 use Rattle.calls.specs.Monitor.{granted}
-use Rattle.calls.specs.SetList.{numberOf}
+use Rattle.calls.specs.SetList.{numberOf, gainOf, ones, Plain, blank}
 use Rattle.calls.specs.SetList.Listing.{counted, refused as refusedList}
-use Rattle.calls.specs.Listing.{gainOf}
 use Rattle.calls.specs.Agreement.{answerIn}
 use Rattle.calls.specs.declared.Record.{Record}
-use Rattle.calls.proofs.Singly.{blank}
-use Rattle.calls.proofs.AsSingle.{ones, Plain}
 use Rattle.banking.specs.Banking.{bankAnswer, relationsAfter, ownAfter, otherAfter, clearedAfter}
 use Rattle.banking.specs.BankList.{bankSingly, bankListChecks, bankListed, bankLeft}
-use Rattle.banking.proofs.Answers.{BanksChecked, passed-checked, short-scratch, short-spare, unchecked, unnamed, judged, each-answer}
+use Rattle.banking.proofs.BankAnswers.{BanksChecked, passed-checked, short-scratch, short-spare, unchecked, unnamed, judged, each-answer}
 use Rattle.banking.proofs.Moved.{after-checked, cleared-long}
 
 -- ---- the checks

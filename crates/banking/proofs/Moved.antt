@@ -15,17 +15,17 @@ use Rattle.theory.specs.Moment.{Relations, Moment, affectAll}
 use Rattle.theory.specs.Moment.Event.{none}
 use Rattle.theory.specs.Tables.{State, made, advance}
 use Rattle.memory.specs.Layout.{stateWords, relationWords, ownWords, joined, termsOf, stateOf, wordsOf}
-use Rattle.memory.specs.Checks.{goodState}
+use Rattle.memory.specs.Checks.{goodState, Inside}
 use Rattle.calls.specs.Monitor.{granted}
 use Rattle.memory.proofs.Accepted.{good}
-use Rattle.memory.proofs.Inside.{Inside, made-inside, state-inside}
+use Rattle.memory.proofs.Inside.{made-inside, state-inside}
 use Rattle.memory.proofs.Words.{length-words}
 use Rattle.calls.proofs.Answers.{moves-decided}
-use Rattle.calls.proofs.Level.{advance-good}
+use Rattle.calls.proofs.LayoutKept.{advance-good}
 use Rattle.banking.specs.Banks.{quiet}
 use Rattle.banking.specs.Banking.{bankAnswer, bankMoves, movedOwn, movedOther, relationsAfter, ownAfter, otherAfter, clearedAfter}
-use Rattle.banking.proofs.Joined.{joined-back, relations-alike, edges-joined, part-long, part-further, front-long, back-long}
-use Rattle.banking.proofs.Answers.{BanksChecked, Decided, decided-says, relations-kept, own-kept, other-kept, lent-kept, relations-moved, own-moved, other-moved, lent-cleared}
+use Rattle.banking.proofs.JoinedState.{joined-back, relations-alike, edges-joined, part-long, part-further, front-long, back-long}
+use Rattle.banking.proofs.BankAnswers.{BanksChecked, Decided, decided-says, relations-kept, own-kept, other-kept, lent-kept, relations-moved, own-moved, other-moved, lent-cleared}
 
 -- a moment without its event edge goes by the relations alone
 quiet-made : (T : Terms) (g : Bool) (j u v : ℕ) (M N : Moment) → M .edge ≡ N .edge → quiet (made T M g j u v) ≡ quiet (made T N g j u v)

@@ -8,26 +8,26 @@ use lib.Dec.{ltb}
 use lib.ListN.{length, drop}
 use lib.Seq.{drop-at}
 use Rattle.theory.specs.Meaning.{Starts}
-use Rattle.theory.specs.Terms.{Terms}
+use Rattle.theory.specs.Terms.{Terms, Alike}
 use Rattle.theory.specs.Limits.{scratchWords}
 use Rattle.theory.specs.Moment.{Moment}
 use Rattle.theory.specs.Keeper.{Call, Answer, judge, keep}
 use Rattle.theory.specs.Keeper.Answer.{refused}
-use Rattle.memory.specs.Layout.{termsWords, joined, termsOf, stateOf}
+use Rattle.theory.specs.Fit.{Good}
+use Rattle.memory.specs.Layout.{termsWords, joined, termsOf}
 use Rattle.memory.specs.Checks.{goodMemory}
 use Rattle.memory.specs.Outcome.{banksOpen}
 use Rattle.memory.specs.Outcome.Outcome.{passed}
-use Rattle.theory.proofs.Good.{Good}
-use Rattle.theory.proofs.Like.{Alike, alike-refl, alike-sym, good-alike, keep-alike}
+use Rattle.theory.proofs.AlikeTerms.{alike-refl, alike-sym, good-alike, keep-alike}
 use Rattle.memory.proofs.Accepted.{good}
-use Rattle.calls.proofs.Held.{agrees}
-use Rattle.banking.specs.Banks.{BankCall, Books, Records, asSeen, firstBooks, keepBank, keepBankStep}
+use Rattle.calls.proofs.MemoryInvariant.{agrees}
+use Rattle.banking.specs.Banks.{BankCall, Books, Records, asSeen, keepBank, keepBankStep}
 use Rattle.banking.specs.Banks.Bank.{left, right}
 use Rattle.banking.specs.Banks.BankStep.{call}
-use Rattle.banking.specs.BankRuns.{Lent, LentBankCall, fedBank, givesIn, leavesIn, BanksInUse, withLent, openedInUse, BanksAgree}
-use Rattle.banking.proofs.Joined.{joined-long}
-use Rattle.banking.proofs.InStep.{Stands, bank-step}
-use Rattle.banking.proofs.Opened.{banks-opened, first-stands}
+use Rattle.banking.specs.BankRuns.{Lent, LentBankCall, fedBank, givesIn, leavesIn, BanksInUse, withLent, openedInUse, BanksAgree, openedBooks}
+use Rattle.banking.proofs.JoinedState.{joined-long}
+use Rattle.banking.proofs.OneBankCall.{Stands, bank-step}
+use Rattle.banking.proofs.BankOpening.{banks-opened, first-stands}
 
 -- what a call makes goes by what the terms say
 judge-alike : (T U : Terms) → Alike T U → Good T → (s : Starts) (Ms : List Moment) (c : Call) → judge T s Ms c ≡ judge U s Ms c
@@ -44,10 +44,6 @@ pub record BanksPlaying (B : Books) (P : BanksInUse) : Type 0 where
   pub long : termsWords ≤ length (P .terms)
   pub good-memory : goodMemory (P .terms) ≡ true
   pub stands : Stands (P .terms) long (good (P .terms) good-memory) good-memory (B .start) (P .before) (P .lent) (B .moments)
-
--- What the keeper of two banks begins with.
-abbrev pub openedBooks : (terms : List ℕ) → Lent → Books
-openedBooks terms W = firstBooks (termsOf terms) (stateOf (W .relations) .now .edge)
 
 pub opened-playing : (terms : List ℕ) (W : Lent) → banksOpen terms (W .relations) (W .own left) (W .own right) ≡ passed →
     BanksPlaying (openedBooks terms W) (openedInUse terms W)

@@ -22,11 +22,11 @@ use Rattle.banking.specs.Banks.BankStep.{call}
 use Rattle.banking.specs.Banking.{bankAnswer, relationsAfter, ownAfter, otherAfter, clearedAfter}
 use Rattle.banking.specs.BankList.{bankSingly, bankListChecks, bankListed, bankLeft}
 use Rattle.banking.specs.BankRuns.{Lent, lentTo, LentBankCall, fedBankRecord, listsIn, listedIn, leftBy, BanksInUse, withLent}
-use Rattle.banking.proofs.Answers.{BanksChecked, check-passed}
+use Rattle.banking.proofs.BankAnswers.{BanksChecked, check-passed}
 use Rattle.banking.proofs.Moved.{cleared-long}
 use Rattle.banking.proofs.ListSingly.{list-short, list-checked, answer-back}
-use Rattle.banking.proofs.Seen.{of-own, of-other, of-both, seen-none}
-use Rattle.banking.proofs.InStep.{long-now}
+use Rattle.banking.proofs.BothBanks.{of-own, of-other, of-both, seen-none}
+use Rattle.banking.proofs.OneBankCall.{long-now}
 use Rattle.banking.proofs.Playing.{BanksPlaying, play-once}
 
 -- with too little of either scratch the keeper refuses each request

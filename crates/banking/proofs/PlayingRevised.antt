@@ -17,15 +17,15 @@ use Rattle.memory.specs.Checks.{goodMemory}
 use Rattle.memory.specs.Outcome.{shortBanks, banksRevise}
 use Rattle.memory.specs.Outcome.Outcome.{passed, failed}
 use Rattle.calls.specs.Agreement.{outcomeIn}
-use Rattle.theory.proofs.Kept.{Kept}
-use Rattle.theory.proofs.Like.{alike-refl, start-alike, size-alike}
+use Rattle.theory.proofs.RunInvariant.{Kept}
+use Rattle.theory.proofs.AlikeTerms.{alike-refl, start-alike, size-alike}
 use Rattle.theory.proofs.Size.{same-members, same-relations, same-events}
 use Rattle.theory.proofs.Revised.{revised-kept}
 use Rattle.memory.proofs.Accepted.{good}
 use Rattle.memory.proofs.Inside.{state-inside}
 use Rattle.memory.proofs.Words.{length-words}
-use Rattle.calls.proofs.Level.{inside-size}
-use Rattle.calls.proofs.Held.{Held, held-words}
+use Rattle.calls.proofs.LayoutKept.{inside-size}
+use Rattle.calls.proofs.MemoryInvariant.{Held, held-words}
 use Rattle.calls.proofs.Demand.{or-false-left, or-false-right}
 use Rattle.banking.specs.Banks.{Bank, Books, bookOf, revisedBooks, keepBankStep}
 use Rattle.banking.specs.Banks.Bank.{left, right}
@@ -34,8 +34,8 @@ use Rattle.banking.specs.Banking.{begunWords, relationsRevised, ownRevis
 use Rattle.banking.specs.BankRefused.{LongBanks}
 use Rattle.banking.specs.BankRuns.{Lent, offeredBanks, BanksInUse, revisesIn, revisedIn, inUse}
 use Rattle.banking.proofs.Lengths.{long-banks, not-short}
-use Rattle.banking.proofs.Joined.{joined-long, joined-back, relations-alike, edges-joined, words-alone, part-long, part-further, front-long, back-long}
-use Rattle.banking.proofs.InStep.{Stands, relations-now, long-now}
+use Rattle.banking.proofs.JoinedState.{joined-long, joined-back, relations-alike, edges-joined, words-alone, part-long, part-further, front-long, back-long}
+use Rattle.banking.proofs.OneBankCall.{Stands, relations-now, long-now}
 use Rattle.banking.proofs.Playing.{BanksPlaying}
 
 -- ---- what new terms leave, in any memory

@@ -25,7 +25,7 @@ use Rattle.banking.specs.BankRefused.{Long, ListRefusal, Fits, Refusal}
 use Rattle.banking.specs.BankRefused.ListRefusal.{short-terms, short-banks, short-scratch, short-spare, bad-terms, bad-own, bad-other}
 use Rattle.banking.specs.BankRefused.Refusal.{as-list, no-event, no-initiator, no-target}
 use Rattle.banking.proofs.Lengths.{long-banks, not-short, why-short, is-short}
-use Rattle.banking.proofs.Answers.{BanksChecked, unnamed, judged}
+use Rattle.banking.proofs.BankAnswers.{BanksChecked, unnamed, judged}
 use Rattle.banking.proofs.ListSingly.{refused-alike}
 
 -- of two tests, one of which fails the lengths

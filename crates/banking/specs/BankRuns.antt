@@ -8,13 +8,13 @@ use lib.ListN.{length, drop}
 use Rattle.theory.specs.Meaning.{Starts}
 use Rattle.theory.specs.Terms.{Terms}
 use Rattle.theory.specs.Keeper.{Answer}
-use Rattle.memory.specs.Layout.{relationWords, ownWords, joined, termsOf}
+use Rattle.memory.specs.Layout.{relationWords, ownWords, joined, termsOf, stateOf}
 use Rattle.memory.specs.Checks.{goodMemory}
 use Rattle.memory.specs.Outcome.{Outcome, hasPassed, banksRevise}
 use Rattle.calls.specs.SetList.{Listing}
 use Rattle.calls.specs.Agreement.{LentCall, fed, fedRecord, answersIn, outcomeIn, Agrees}
 use Rattle.calls.specs.declared.Record.{Record}
-use Rattle.banking.specs.Banks.{Bank, other, BankCall, BankOffer, BankStep, Records}
+use Rattle.banking.specs.Banks.{Bank, other, BankCall, BankOffer, BankStep, Records, Books, firstBooks}
 use Rattle.banking.specs.Banks.Bank.{left, right}
 use Rattle.banking.specs.Banks.BankStep.{call, revise as reviseStep}
 use Rattle.banking.specs.Banking.{bankAnswer, relationsAfter, ownAfter, otherAfter, ownOpened, relationsRevised, ownRevised}
@@ -164,3 +164,7 @@ pub record BanksAgree (T : Terms) (s : Bank → Starts) (W₀ W : Lent) (L : Rec
   pub own-long : (d : Bank) → length (W .own d) ≡ length (W₀ .own d)
   pub further : drop relationWords (W .relations) ≡ drop relationWords (W₀ .relations)
   pub own-further : (d : Bank) → drop ownWords (W .own d) ≡ drop ownWords (W₀ .own d)
+
+-- What the keeper of two banks begins with.
+abbrev pub openedBooks : (terms : List ℕ) → Lent → Books
+openedBooks terms W = firstBooks (termsOf terms) (stateOf (W .relations) .now .edge)

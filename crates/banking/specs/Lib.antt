@@ -1,7 +1,7 @@
 pub mod Banks
-pub mod Beside
 pub mod Banking
 pub mod BankList
 pub mod BankRuns
 pub mod BankScratch
 pub mod BankRefused
+pub mod private

@@ -2,7 +2,7 @@
 use Prim.Native.Nat.{ℕ, zero, suc, _+_, _≤_, _<_}
 use native.Mathlib.Omega.{arith}
 use mathlib.Core.Path.{_≡_, refl, sym, ap, ap₂}
-use mathlib.Core.Logic.{_⊎_, inl, inr}
+use mathlib.Core.Logic.{inl, inr}
 use mathlib.Core.Bool.{Bool, true, false}
 use mathlib.Core.List.{List, [], _∷_}
 use lib.ListN.{length, getD}
@@ -13,22 +13,12 @@ use Rattle.memory.specs.Layout.{termsOf, stateOf}
 use Rattle.memory.specs.Outcome.Outcome.{passed, failed}
 use Rattle.memory.proofs.Outcomes.{Checked}
 use Rattle.calls.specs.Monitor.{answer, stateAfter, scratchAfter}
-use Rattle.calls.specs.SetList.{numberOf, singly, listChecks, listed, left}
+use Rattle.calls.specs.SetList.{numberOf, singly, listChecks, listed, left, ones, Plain, blank}
 use Rattle.calls.specs.SetList.Listing.{counted, refused as refusedList}
-use Rattle.calls.specs.Listing.{gainOf}
 use Rattle.calls.specs.declared.Record.{Record}
 use Rattle.calls.proofs.Answers.{unnamed, judged}
 use Rattle.calls.proofs.ListChecks.{list-passed, refused-alike}
-use Rattle.calls.proofs.Singly.{blank, one-granted, after-checked, after-scratch}
-
--- how many of the records have the answer 1
-unfoldable pub ones : List Record → ℕ
-ones [] = 0
-ones (r ∷ rs) = gainOf (r .answer) + ones rs
-
--- deny, grant, or refused by 9
-abbrev pub Plain : ℕ → Type 0
-Plain k = (k ≡ 0) ⊎ ((k ≡ 1) ⊎ (k ≡ 9))
+use Rattle.calls.proofs.OneByOne.{one-granted, after-checked, after-scratch}
 
 module _ (terms : List ℕ) where
   counts-ones : (state scratch : List ℕ) (rs : List Record) → singly terms state scratch rs .grants ≡ ones (singly terms state scratch rs .records)

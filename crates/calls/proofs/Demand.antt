@@ -8,9 +8,9 @@ use lib.Dec.{ltb}
 use lib.ListN.{length, drop, length-append}
 use borrow.Author.Tests.{le-ltb, ltb-true, ltb-false}
 use Rattle.theory.specs.Meaning.{Starts, fromFirst}
-use Rattle.theory.specs.Terms.{Terms, sameSize}
+use Rattle.theory.specs.Terms.{Terms, sameSize, Alike}
 use Rattle.theory.specs.Moment.{Relations, Moment, first}
-use Rattle.theory.specs.Keeper.{Call, Answer, Book, Step, judge, keep, keepAll, keeper, firstBook, withMoments, revisedStart, revisedBook, renumberedBook, keepStep, keepSteps}
+use Rattle.theory.specs.Keeper.{Call, Answer, Book, Step, judge, keep, keepAll, keeper, withMoments, revisedStart, revisedBook, renumberedBook, keepStep, keepSteps}
 use Rattle.theory.specs.Keeper.Step.{call, revise as reviseStep, renumber as renumberStep}
 use Rattle.theory.specs.Keeper.Answer.{done, refused}
 use Rattle.theory.specs.NewNumbers.{newNumber, oldNumber, renumbers, momentBy}
@@ -19,35 +19,35 @@ use Rattle.theory.specs.Limits.{scratchWords}
 use Rattle.memory.specs.Layout.{termsWords, stateWords, termsOf, stateOf, wordsOf}
 use Rattle.memory.specs.Checks.{goodMemory}
 use Rattle.theory.specs.Tables.{State, opening, revised}
+use Rattle.theory.specs.Fit.{Good}
 use Rattle.memory.specs.Outcome.{opens, revises}
 use Rattle.memory.specs.Outcome.Outcome.{passed, failed}
 use Rattle.calls.specs.Monitor.{answer, stateAfter, scratchAfter, openedState}
 use Rattle.calls.specs.SetList.{singly, listChecks, listed, left}
 use Rattle.calls.specs.Revising.{revisedState}
 use Rattle.calls.specs.Renumbering.{renumbering, renumberedState}
-use Rattle.calls.specs.Agreement.{LentCall, fed, fedAll, leaves, serveAll, LentStep, fedRecord, offered, fedSteps, KeepsTerms, fedCalls, answerIn, answersIn, outcomeIn, Lent, withState, inUse, inUseBy, serveSteps, Agrees}
+use Rattle.calls.specs.Agreement.{LentCall, fed, fedAll, leaves, serveAll, LentStep, fedRecord, offered, fedSteps, KeepsTerms, fedCalls, answerIn, answersIn, outcomeIn, Lent, withState, inUse, inUseBy, serveSteps, Agrees, openedBook, opened}
 use Rattle.calls.specs.Agreement.LentStep.{once, setList, revise, renumber}
 use Rattle.calls.specs.declared.Record.{Record}
-use Rattle.theory.proofs.Good.{Good}
 use Rattle.memory.proofs.Accepted.{good}
-use Rattle.theory.proofs.Kept.{Kept, opening-kept}
-use Rattle.theory.proofs.Like.{Alike, alike-refl, alike-sym, good-alike, keep-alike, keepAll-alike, start-alike, size-alike}
+use Rattle.theory.proofs.RunInvariant.{Kept, opening-kept}
+use Rattle.theory.proofs.AlikeTerms.{alike-refl, alike-sym, good-alike, keep-alike, keepAll-alike, start-alike, size-alike}
 use Rattle.theory.proofs.Size.{same-members, same-relations, same-events}
 use Rattle.theory.proofs.Revised.{revised-kept}
 use Rattle.theory.proofs.MembersRenumbered.{renumbered-kept}
 use Rattle.memory.proofs.Inside.{relations-inside, state-inside}
 use Rattle.memory.proofs.Outcomes.{Checked, check-passed}
-use Rattle.calls.proofs.Level.{relations-good, inside-size}
-use Rattle.calls.proofs.Held.{Held, held-words, agrees}
+use Rattle.calls.proofs.LayoutKept.{relations-good, inside-size}
+use Rattle.calls.proofs.MemoryInvariant.{Held, held-words, agrees}
 use Rattle.memory.proofs.Front.{state-front, relations-front}
 use Rattle.memory.proofs.Words.{length-words, now-back}
 use Rattle.calls.proofs.Refused.{Opens, opened-says}
-use Rattle.calls.proofs.InStep.{step}
+use Rattle.calls.proofs.OneCall.{step}
 use Rattle.calls.proofs.MembersNumbers.{renumbering as numbered}
 use Rattle.calls.proofs.MembersWords.{inside-renumbered}
 use Rattle.calls.proofs.MembersOutcomes.{short-second, wrong-numbers, right-numbers, second-filled}
 use Rattle.calls.proofs.ListChecks.{list-short, list-checked}
-use Rattle.calls.proofs.Singly.{answer-back, after-scratch}
+use Rattle.calls.proofs.OneByOne.{answer-back, after-scratch}
 
 pub or-false-left : (a b : Bool) → (a || b) ≡ false → a ≡ false
 or-false-left false b e = refl
@@ -401,13 +401,6 @@ all-first-relations terms long g R inside rest =
       ap (λ (S : State). S .now .edge) (state-front w rest front)
           ∙ ap (λ (M : Moment). M .edge) (now-back T (good terms g) (opening T R) (record { edges = inside; event = tt })),
     )
-
--- What the keeper begins with, and the memory that opening leaves.
-abbrev pub openedBook : (terms state : List ℕ) → Book
-openedBook terms state = firstBook (termsOf terms) (stateOf state .now .edge)
-
-abbrev pub opened : (terms state : List ℕ) → Lent
-opened terms state = record { terms = terms; state = openedState terms state; before = state }
 
 pub opened-playing : (terms state : List ℕ) → opens terms state ≡ passed → Playing (openedBook terms state) (opened terms state)
 opened-playing terms state e =

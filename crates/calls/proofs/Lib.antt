@@ -1,8 +1,8 @@
-pub mod Level
-pub mod Held
+pub mod LayoutKept
+pub mod MemoryInvariant
 pub mod Refused
 pub mod RefusedRevision
-pub mod InStep
+pub mod OneCall
 pub mod MembersNumbers
 pub mod MembersCarried
 pub mod MembersWords
@@ -13,7 +13,7 @@ pub mod TwoVariables
 pub mod Answers
 pub mod Reached
 pub mod ListChecks
-pub mod Singly
+pub mod OneByOne
 pub mod AsSingle
 pub mod Scratch
 pub mod Telling

@@ -15,7 +15,7 @@ use Rattle.memory.specs.Plan.{Planned}
 use Rattle.memory.proofs.Outcomes.{Checked, passed-checked}
 use Rattle.calls.specs.Monitor.{answer}
 use Rattle.calls.specs.SetList.{listChecks}
-use Rattle.calls.specs.Listing.{Passed}
+use Rattle.calls.specs.private.Listing.{Passed}
 use Rattle.calls.proofs.Answers.{short-scratch, unchecked}
 
 module _ (terms state scratch : List ℕ) where

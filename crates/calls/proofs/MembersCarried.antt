@@ -16,16 +16,18 @@ use Rattle.theory.specs.Terms.{Terms, formula}
 use Rattle.theory.specs.Moment.{Moment, graph}
 use Rattle.theory.specs.Keeper.{target}
 use Rattle.theory.specs.Tables.{Tables, recalled, holdsNow, store, operandNow, sinceBits, sinceStep, prevTables, sinceTables, State, decideNow, advance}
-use Rattle.theory.proofs.Spelled.{EachReach, Visible, tableOf, table-spelled, number-apart, visible-below, visible-spelled}
-use Rattle.theory.proofs.Good.{Good, small, column-free}
+use Rattle.theory.proofs.Unfolding.{EachReach, Visible, tableOf, table-spelled, number-apart, visible-below, visible-spelled}
+use Rattle.theory.proofs.Good.{small, column-free}
 use Rattle.theory.proofs.Places.{Among, among-assign, among-alone, columns-free, place-cong, place-inside, inside-among, inside-member}
 use Rattle.theory.proofs.MembersPlaces.{under-inside, under-member, under-standing, place-under}
 use Rattle.theory.proofs.Sweeps.{prev-keeps, prev-worked}
-use Rattle.calls.proofs.Level.{Level, free-prev, free-since-a, free-since-b, by-kind, prev-level, since-level}
+use Rattle.calls.proofs.LayoutKept.{Level, free-prev, free-since-a, free-since-b, by-kind, prev-level, since-level}
 use Rattle.theory.specs.NewNumbers.{renumberMoment}
+use Rattle.theory.specs.Fit.{Good}
+use Rattle.theory.specs.MembersRenumbered.{Renumbering}
 use Rattle.theory.proofs.Permuted.{any-permuted, count-permuted}
 use Rattle.theory.proofs.Regular.{Only, policy-target, regular, regular-below}
-use Rattle.theory.proofs.MembersRenumbered.{Renumbering, permutes, same-both, graph-renumbered}
+use Rattle.theory.proofs.MembersRenumbered.{permutes, same-both, graph-renumbered}
 
 -- ---- the meaning at the present moment
 

@@ -19,7 +19,7 @@ use Rattle.theory.specs.Keeper.Answer.{decided, refused}
 use Rattle.theory.specs.Limits.{scratchWords}
 use Rattle.theory.specs.Tables.{State, named, decideNow, made, advance}
 use Rattle.memory.specs.Layout.{termsWords, stateWords, termsOf, stateOf, tableColumns, wordsOf}
-use Rattle.memory.specs.Checks.{goodMemory, goodState}
+use Rattle.memory.specs.Checks.{goodMemory, goodState, Inside}
 use Rattle.memory.specs.Outcome.{Outcome, hasPassed, checks}
 use Rattle.memory.specs.Outcome.Outcome.{passed, failed}
 use Rattle.calls.specs.Monitor.{answer, granted, isDecided, moves, stateAfter, scratchAfter}
@@ -27,23 +27,23 @@ use Rattle.calls.specs.SetList.{Run, singly, listChecks, numberOf, listi
 use Rattle.calls.specs.Agreement.{leaves, LentStep, KeepsTerms, Lent, answerIn, answersIn, serveSteps}
 use Rattle.calls.specs.Agreement.LentStep.{once, setList, revise, renumber}
 use Rattle.calls.specs.declared.Record.{Record}
-use Rattle.theory.proofs.Spelled.{number-lt}
-use Rattle.theory.proofs.Good.{Good}
+use Rattle.theory.proofs.Unfolding.{number-lt}
 use Rattle.theory.proofs.Past.{past-is}
 use Rattle.theory.proofs.MembersPlaces.{under-inside}
 use Rattle.memory.proofs.Accepted.{good}
-use Rattle.memory.proofs.Inside.{Inside, made-inside, state-inside}
+use Rattle.memory.proofs.Inside.{made-inside, state-inside}
 use Rattle.memory.proofs.Front.{state-front, good-front}
 use Rattle.memory.proofs.Outcomes.{check-passed}
 use Rattle.memory.proofs.Words.{length-words, now-back, table-back}
-use Rattle.calls.proofs.Level.{level-good}
+use Rattle.calls.proofs.LayoutKept.{level-good}
 use Rattle.calls.proofs.Answers.{moves-decided, decided-says}
-use Rattle.calls.proofs.Singly.{after-good, after-long}
+use Rattle.calls.proofs.OneByOne.{after-good, after-long}
 use Rattle.theory.specs.NewNumbers.{newNumber, oldNumber, renumbers, renumberMoment}
-use Rattle.theory.specs.MembersRenumbered.{stateBy}
+use Rattle.theory.specs.MembersRenumbered.{stateBy, Renumbering}
+use Rattle.theory.specs.Fit.{Good}
 use Rattle.calls.specs.Renumbering.{undo, renumbering, renumberedWords, renumberedState}
 use Rattle.calls.specs.MembersLater.{callBy, recordBy, stepBy}
-use Rattle.theory.proofs.MembersRenumbered.{Renumbering, made-renumbered}
+use Rattle.theory.proofs.MembersRenumbered.{made-renumbered}
 use Rattle.calls.proofs.MembersNumbers.{renumbering as numbered, undo-renumbers}
 use Rattle.calls.proofs.MembersCarried.{Matched, decide-matched, advance-matched}
 use Rattle.calls.proofs.MembersWords.{inside-renumbered, renumbered-good, renumbered-matched, renumbered-undone}

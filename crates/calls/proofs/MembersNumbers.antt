@@ -12,9 +12,9 @@ use Rattle.sets.proofs.Finite.{and-left, and-right, and-both, all-out, all-true
 use Rattle.theory.specs.Formula.{highest}
 use Rattle.memory.proofs.Row.{length-tabulate, getD-tabulate}
 use Rattle.theory.specs.NewNumbers.{newNumber, oldNumber, renumbers}
+use Rattle.theory.specs.MembersRenumbered.{Renumbering}
 use Rattle.calls.specs.Renumbering.{undo}
 use Rattle.theory.proofs.Permuted.{Permutes, onto-permutes}
-use Rattle.theory.proofs.MembersRenumbered.{Renumbering}
 
 highest-found : (n : ℕ) (P : ℕ → Bool) → anyBelow n P ≡ true → (highest n P < n) × (P (highest n P) ≡ true)
 unfolding anyBelow highest

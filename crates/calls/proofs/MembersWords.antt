@@ -15,21 +15,21 @@ use Rattle.theory.specs.Moment.{Event, Moment}
 use Rattle.theory.specs.Moment.Event.{none, happened, tried}
 use Rattle.theory.specs.Tables.{Tables, State}
 use Rattle.memory.specs.Layout.{stateWords, relationWords, blockWords, eventAt, eventWord, stateOf, tableColumns, tabulate, wordAt, wordsOf}
-use Rattle.memory.specs.Checks.{goodState}
-use Rattle.theory.proofs.Spelled.{number-lt}
-use Rattle.theory.proofs.Good.{Good}
+use Rattle.memory.specs.Checks.{goodState, Inside, EventInside}
+use Rattle.theory.proofs.Unfolding.{number-lt}
 use Rattle.theory.proofs.Places.{closed-columns}
 use Rattle.theory.proofs.MembersPlaces.{under-inside, under-back}
 use Rattle.theory.proofs.Past.{past-is}
-use Rattle.theory.proofs.Now.{Same, SameAt}
+use Rattle.theory.proofs.MeaningNow.{Same, SameAt}
 use Rattle.memory.proofs.Row.{row-cong, table-row-cong}
-use Rattle.memory.proofs.Inside.{Inside, EventInside, state-inside}
+use Rattle.memory.proofs.Inside.{state-inside}
 use Rattle.memory.proofs.Words.{now-back, columns-fitting, table-back, canonical}
-use Rattle.calls.proofs.Level.{Level, level-good, words-level}
+use Rattle.calls.proofs.LayoutKept.{Level, level-good, words-level}
 use Rattle.theory.specs.NewNumbers.{newNumber, oldNumber, renumbers, renumberEvent, renumberMoment}
-use Rattle.theory.specs.MembersRenumbered.{renumberTables, renumberState}
+use Rattle.theory.specs.MembersRenumbered.{renumberTables, renumberState, Renumbering}
+use Rattle.theory.specs.Fit.{Good}
 use Rattle.calls.specs.Renumbering.{undo, renumberedWords}
-use Rattle.theory.proofs.MembersRenumbered.{Renumbering, undone-moment}
+use Rattle.theory.proofs.MembersRenumbered.{undone-moment}
 use Rattle.calls.proofs.MembersNumbers.{renumbering, undo-new, undo-old}
 use Rattle.calls.proofs.MembersCarried.{Matched}
 

@@ -18,7 +18,7 @@ use Rattle.calls.specs.Agreement.LentStep.{once, setList, revise, renumb
 use Rattle.calls.specs.Agreement.SameSteps.{none, calls, setLists, newTerms, newNumbers}
 use Rattle.calls.specs.SetList.{Run, filled, singly, listChecks, listing, listed, left}
 use Rattle.calls.specs.declared.Record.{Record}
-use Rattle.calls.proofs.Singly.{after-scratch}
+use Rattle.calls.proofs.OneByOne.{after-scratch}
 
 module _ (terms : List ℕ) where
   same-answer : (state small large : List ℕ) → scratchWords ≤ length small → scratchWords ≤ length large → (j u v : ℕ) →

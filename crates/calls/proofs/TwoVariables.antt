@@ -15,17 +15,18 @@ use Rattle.theory.specs.Columns.{columnsFit, wordFor, bitFor, inside, standing}
 use Rattle.theory.specs.Terms.{Terms, formula, tables}
 use Rattle.theory.specs.Moment.{Moment}
 use Rattle.theory.specs.Keeper.{recordOf, last, keeperHolds, keepSteps}
+use Rattle.theory.specs.Fit.{Good}
 use Rattle.memory.specs.Layout.{tableAt, termsOf}
 use Rattle.memory.specs.Outcome.{opens}
 use Rattle.memory.specs.Outcome.Outcome.{passed}
-use Rattle.calls.specs.Agreement.{LentStep, fedSteps, serveSteps, Agrees}
-use Rattle.theory.proofs.Spelled.{number-lt}
+use Rattle.calls.specs.Agreement.{LentStep, fedSteps, serveSteps, Agrees, openedBook, opened}
+use Rattle.theory.proofs.Unfolding.{number-lt}
 use Rattle.theory.proofs.Places.{Among, among-assign, among-alone, those-none, closed-columns, inside-bit, inside-word, place-member, place-inside, place-standing}
-use Rattle.theory.proofs.Good.{Good, small, column-free}
+use Rattle.theory.proofs.Good.{small, column-free}
 use Rattle.theory.proofs.Record.{coincidence}
 use Rattle.theory.proofs.Past.{past-is}
 use Rattle.memory.proofs.Accepted.{good}
-use Rattle.calls.proofs.Demand.{run, playing-agrees, openedBook, opened, opened-playing}
+use Rattle.calls.proofs.Demand.{run, playing-agrees, opened-playing}
 
 -- ---- the columns, from the free variables
 

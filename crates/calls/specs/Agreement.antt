@@ -11,15 +11,15 @@ use Rattle.theory.specs.Meaning.{Starts}
 use Rattle.theory.specs.Columns.{inside, standing, member}
 use Rattle.theory.specs.Terms.{Terms, formula, tables, pastEntry}
 use Rattle.theory.specs.Moment.{Moment}
-use Rattle.theory.specs.Keeper.{Call, Answer, Offer, Step, lastMoment, keeperHolds}
+use Rattle.theory.specs.Keeper.{Call, Answer, Offer, Step, lastMoment, keeperHolds, Book, firstBook}
 use Rattle.theory.specs.Keeper.Step.{call, revise as reviseStep, renumber as renumberStep}
-use Rattle.memory.specs.Layout.{stateWords, relationAt, tableAt, eventAt, eventWord, termsOf, tableColumns}
+use Rattle.memory.specs.Layout.{stateWords, relationAt, tableAt, eventAt, eventWord, termsOf, tableColumns, stateOf}
 use Rattle.memory.specs.Checks.{goodMemory}
 use Rattle.memory.specs.Outcome.{Outcome, hasPassed, revises}
 use Rattle.memory.specs.Outcome.Outcome.{passed, failed}
 use Rattle.theory.specs.Keeper.Verdict.{grant, deny}
 use Rattle.theory.specs.Keeper.Answer.{decided, done, refused}
-use Rattle.calls.specs.Monitor.{answer, stateAfter}
+use Rattle.calls.specs.Monitor.{answer, stateAfter, openedState}
 use Rattle.calls.specs.SetList.{Listing, listed, left}
 use Rattle.calls.specs.SetList.Listing.{counted, refused as refusedList}
 use Rattle.calls.specs.Revising.{revisedState}
@@ -172,3 +172,12 @@ pub record Agrees (T : Terms) (s : Starts) (m₀ m : List ℕ) (Ms : List Moment
   pub event : getD m eventAt 0 ≡ eventWord (lastMoment Ms .event)
   pub long : length m ≡ length m₀
   pub further : drop stateWords m ≡ drop stateWords m₀
+
+-- ---- from an opening
+
+-- What the keeper begins with, and the memory that opening leaves.
+abbrev pub openedBook : (terms state : List ℕ) → Book
+openedBook terms state = firstBook (termsOf terms) (stateOf state .now .edge)
+
+abbrev pub opened : (terms state : List ℕ) → Lent
+opened terms state = record { terms = terms; state = openedState terms state; before = state }

@@ -5,6 +5,6 @@ pub mod Renumbering
 pub mod Refused
 pub mod Agreement
 pub mod Reached
-pub mod Listing
 pub mod Telling
 pub mod MembersLater
+pub mod private

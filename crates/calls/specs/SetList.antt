@@ -2,8 +2,10 @@
 use Prim.Native.Nat.{ℕ, _+_}
 use mathlib.Core.Bool.{cond}
 use mathlib.Core.List.{List, [], _∷_}
-use lib.Dec.{ltb}
+use lib.Dec.{ltb, eqb}
 use lib.ListN.{length}
+use mathlib.Core.Path.{_≡_}
+use mathlib.Core.Logic.{_⊎_}
 use Rattle.theory.specs.Keeper.{Answer}
 use Rattle.theory.specs.Keeper.Verdict.{grant, deny}
 use Rattle.theory.specs.Keeper.Answer.{decided, done, refused as refusedAnswer}
@@ -74,3 +76,22 @@ left terms state scratch rs =
     cond (hasPassed (listChecks terms state scratch))
     (singly terms state scratch rs)
     (record { records = rs; grants = 0; state = state; scratch = scratch })
+
+-- ---- what is said of its answers
+
+-- What an answer adds to the count of grants.
+unfoldable pub gainOf : ℕ → ℕ
+gainOf number = cond (eqb number 1) 1 0
+
+-- How many of the records have the answer 1.
+unfoldable pub ones : List Record → ℕ
+ones [] = 0
+ones (r ∷ rs) = gainOf (r .answer) + ones rs
+
+-- Deny, grant, or refused by 9.
+abbrev pub Plain : ℕ → Type 0
+Plain k = (k ≡ 0) ⊎ ((k ≡ 1) ⊎ (k ≡ 9))
+
+-- What stands for a record past the end of a list.
+abbrev pub blank : Record
+blank = record { event = 0; from = 0; to = 0; answer = 0 }

@@ -9,10 +9,10 @@ use Rattle.sets.proofs.Finite.{and-left, and-right, and-both, bool-iff}
 use Rattle.theory.specs.Formula.{Entry, Operand, firstOperand, secondOperand, thirdOperand}
 use Rattle.theory.specs.Formula.Operand.{unused, variable, binder, label, entry, count}
 use Rattle.theory.specs.Terms.{Terms, labels}
-use Rattle.theory.specs.Fit.{operandFits}
-use Rattle.theory.specs.Classes.{sameOperand, sameEntry}
-use Rattle.theory.proofs.Good.{GoodEntry, fits-variable, fits-binder, fits-label, fits-entry, fits-count}
-use Rattle.classes.specs.Keys.{normal, packed, keyOf}
+use Rattle.theory.specs.Fit.{operandFits, GoodEntry}
+use Rattle.theory.specs.private.Classes.{sameOperand, sameEntry}
+use Rattle.theory.proofs.Good.{fits-variable, fits-binder, fits-label, fits-entry, fits-count}
+use Rattle.classes.specs.private.Keys.{normal, packed, keyOf}
 
 -- the test of an operand is that of what it counts for
 operand-same : (k : Operand) (c d : ℕ → ℕ) (x y : ℕ) → sameOperand k c d x y ≡ eqb (normal k c x) (normal k d y)

@@ -14,15 +14,15 @@ use Rattle.sets.proofs.Finite.{last-or-below}
 use Rattle.theory.specs.Formula.{lowest, same}
 use Rattle.theory.specs.Limits.{maxEntries}
 use Rattle.theory.specs.Terms.{Terms, labels, formula, firstSame}
-use Rattle.theory.specs.Classes.{sameEntry, Classed}
-use Rattle.theory.proofs.Good.{Good}
+use Rattle.theory.specs.private.Classes.{sameEntry, Classed}
+use Rattle.theory.specs.Fit.{Good}
 use Rattle.theory.proofs.Lowest.{lowest-le, lowest-cong}
 use Rattle.theory.proofs.SameEntry.{new-class, old-class}
 use Rattle.memory.specs.Layout.{termsOf}
 use Rattle.memory.specs.Checks.{goodMemory}
 use Rattle.memory.proofs.Accepted.{good}
-use Rattle.classes.specs.Keys.{keyOf}
-use Rattle.classes.specs.Filled.{counted, found, keyBy, ownFilled, filled, classesOf}
+use Rattle.classes.specs.private.Keys.{keyOf}
+use Rattle.classes.specs.private.Filled.{counted, found, keyBy, ownFilled, filled, classesOf}
 use Rattle.classes.proofs.Comparing.{key-cong, key-same}
 
 -- ---- a turn of each loop

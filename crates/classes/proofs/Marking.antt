@@ -13,8 +13,8 @@ use Rattle.sets.specs.Sets.{bit}
 use Rattle.sets.proofs.Finite.{last-or-below, true-or-false}
 use Rattle.theory.specs.Formula.{lowest}
 use Rattle.theory.proofs.Lowest.{lowest-none}
-use Rattle.classes.specs.Keys.{bucket, marked, Marked}
-use Rattle.classes.specs.Filled.{found}
+use Rattle.classes.specs.private.Keys.{bucket, marked, Marked}
+use Rattle.classes.specs.private.Filled.{found}
 
 or-true : (x : Bool) → x || true ≡ true
 or-true true = refl

@@ -11,9 +11,9 @@ ghost use lib.ListN.{length, getD, set};
 ghost use Rattle.sets.specs.Sets.{bit};
 ghost use Rattle.theory.specs.Limits.{maxEntries};
 ghost use Rattle.memory.specs.Layout.{termsOf};
-ghost use Rattle.memory.specs.Operands.{kindOf};
-ghost use Rattle.classes.specs.Keys.{normal, bucket, marked, Marked};
-ghost use Rattle.classes.specs.Filled.{counted, found, keyBy, ownFilled, filled, classesOf};
+ghost use Rattle.memory.specs.private.Operands.{kindOf};
+ghost use Rattle.classes.specs.private.Keys.{normal, bucket, marked, Marked};
+ghost use Rattle.classes.specs.private.Filled.{counted, found, keyBy, ownFilled, filled, classesOf};
 
 // Words of marks, and a prime below the number of their bits.
 const MARKS: usize = 64;

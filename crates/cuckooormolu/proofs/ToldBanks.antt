@@ -13,7 +13,7 @@ use Rattle.memory.specs.Outcome.{shortBanks, goodBanks, banksCheck, banksOpen, 
 use Rattle.calls.specs.declared.Record.{Record}
 use Rattle.banking.specs.Banking.{bankAnswer}
 use Rattle.banking.specs.BankList.{bankSingly, bankListChecks, bankListed}
-use Rattle.banking.proofs.Answers.{each-answer}
+use Rattle.banking.proofs.BankAnswers.{each-answer}
 use Rattle.file.specs.Reading as file
 use Rattle.file.specs.Reading.{reading}
 use Rattle.reader.specs.OldForm.{beginsStored, oldReading}

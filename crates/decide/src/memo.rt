@@ -25,9 +25,9 @@ ghost use Rattle.memory.specs.Layout.{blockWords, termsWords, termsOf};
 ghost use Rattle.memory.specs.Checks.{goodMemory};
 ghost use Rattle.theory.specs.Formula.{Formula, node, firstOperand, secondOperand, thirdOperand, isPast, columns};
 ghost use Rattle.theory.specs.Formula.Operand.{variable, entry};
-ghost use Rattle.deciding.specs.Rows.{assigned, Has};
+ghost use Rattle.deciding.specs.private.Rows.{assigned, Has};
 ghost use Rattle.memory.specs.Plan.{planColumns, Planned};
-ghost use Rattle.deciding.specs.Memo.{reads, slotWords, slotOf, byteOf, valueOf, haveOf, readsOf, columnOf, knows, Under, Memo, Apart, Fresh, Missing, Put, Shown, Stored};
+ghost use Rattle.deciding.specs.private.Memo.{reads, slotWords, slotOf, byteOf, valueOf, haveOf, readsOf, columnOf, knows, Under, Memo, Apart, Fresh, Missing, Put, Shown, Stored};
 
 // The words of a memo with a slot for each entry.
 pub const WORDS: usize = SLOT * ENTRIES;

@@ -9,7 +9,7 @@ ghost use lib.ListN.{length, getD};
 ghost use Rattle.sets.specs.Sets.{bit};
 ghost use Rattle.theory.specs.Limits.{maxTables, pairMembers};
 ghost use Rattle.memory.specs.Layout.{blockWords};
-ghost use Rattle.deciding.specs.Rows.{tableWords, Rows, pairCell, openColumn, AddedRows};
+ghost use Rattle.deciding.specs.private.Rows.{tableWords, Rows, pairCell, openColumn, AddedRows};
 
 // The words of a member.
 const WORDS: usize = 4;

@@ -12,8 +12,8 @@ ghost use mathlib.Core.Path.{_≡_};
 ghost use Prim.Native.Nat.{_+_, _<_};
 ghost use Rattle.theory.specs.Meaning.{assign};
 ghost use Rattle.memory.specs.Layout.{termsOf};
-ghost use Rattle.deciding.specs.Rows.{nowAt, Ready};
-ghost use Rattle.deciding.specs.Memo.{Memo};
+ghost use Rattle.deciding.specs.private.Rows.{nowAt, Ready};
+ghost use Rattle.deciding.specs.private.Memo.{Memo};
 
 // Whether entry holds now at u, with variable 0 standing for v and every other one for member 0.
 pub(crate) fn holds_at(

@@ -18,8 +18,8 @@ ghost use Rattle.theory.specs.Terms.{formula};
 ghost use Rattle.theory.specs.Limits.{variables, pairMembers};
 ghost use Rattle.memory.specs.Plan.{planFirst, planLast};
 ghost use Rattle.memory.specs.Layout.{blockWords, termsOf};
-ghost use Rattle.deciding.specs.Rows.{Ready, Table, operandBits, nextPrev, nextSince};
-ghost use Rattle.deciding.specs.Memo.{Memo, Grown};
+ghost use Rattle.deciding.specs.private.Rows.{Ready, Table, operandBits, nextPrev, nextSince};
+ghost use Rattle.deciding.specs.private.Memo.{Memo, Grown};
 
 // Leaves the next table of a prev entry with one column.
 fn prev_rows(

@@ -15,16 +15,16 @@ use Rattle.theory.specs.Formula.{columns}
 use Rattle.theory.specs.Terms.{Terms, Effect, formula}
 use Rattle.theory.specs.Moment.{Event}
 use Rattle.theory.specs.Tables.{State}
-use Rattle.theory.proofs.Good.{Good}
+use Rattle.theory.specs.Fit.{Good}
 use Rattle.memory.specs.Plan.{planTable}
 use Rattle.memory.specs.Layout.{relationWords, ownWords, stateWords, relationAt, eventWord, termsOf, wordsOf}
 use Rattle.memory.proofs.Words.{length-words}
-use Rattle.deciding.specs.Rows.{Ready, Table, nextPrev, nextSince}
-use Rattle.deciding.specs.Memo.{Memo, MemoOf}
-use Rattle.deciding.specs.Moving.{known, HasState, Movable, Becomes, put, prevAt, effectOf, affected, evented, sinceAt}
-use Rattle.deciding.proofs.Seen.{relationsOf, pastOf}
+use Rattle.deciding.specs.private.Rows.{Ready, Table, nextPrev, nextSince}
+use Rattle.deciding.specs.private.Memo.{Memo, MemoOf}
+use Rattle.deciding.specs.private.Moving.{known, HasState, Movable, Becomes, put, prevAt, effectOf, affected, evented, sinceAt}
+use Rattle.deciding.proofs.SameDecision.{relationsOf, pastOf}
 use Rattle.deciding.proofs.Stored.{event-stored}
-use Rattle.deciding.proofs.Moves.{readied, prev-turned, since-turned, end-member, effect-made}
+use Rattle.deciding.proofs.MomentSteps.{readied, prev-turned, since-turned, end-member, effect-made}
 
 set-add : (r o : List ℕ) (k v : ℕ) → set (r ++ o) (length r + k) v ≡ r ++ set o k v
 set-add [] o k v = ap (λ i. set o i v) (zero-add k)

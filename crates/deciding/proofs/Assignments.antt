@@ -14,7 +14,7 @@ use Rattle.sets.proofs.Finite.{and-both, true-or-false}
 use Rattle.theory.specs.Meaning.{Assignment, assign, alone}
 use Rattle.theory.specs.Tables.{recalled}
 use Rattle.memory.specs.Plan.{planTable, planFirst, planLast, planColumns}
-use Rattle.deciding.specs.Rows.{tableBit, assigned, opened, openUnder, remembered, openColumn, pairCell, Rows, Vars}
+use Rattle.deciding.specs.private.Rows.{tableBit, assigned, opened, openUnder, remembered, openColumn, pairCell, Rows, Vars}
 use Rattle.deciding.proofs.Loops.{zeros, rows-map}
 
 pub assigned-set : (vars : List ℕ) (x m y : ℕ) → x < length vars → assigned (set vars x m) y ≡ assign (assigned vars) x m y

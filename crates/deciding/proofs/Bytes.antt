@@ -4,7 +4,7 @@ use native.Mathlib.Omega.{arith}
 use native.Mathlib.Nat.{lt-of-lt-of-le}
 use mathlib.Core.Path.{_≡_, sym, ap, _∙_, subst}
 use lib.Pow.{pow-add, pow-mono, pow-pos, shr-shr, high}
-use Rattle.deciding.specs.Memo.{byteOf}
+use Rattle.deciding.specs.private.Memo.{byteOf}
 
 byte-here : (w v : ℕ) → v < 256 → byteOf (w * 256 + v) 0 ≡ v
 byte-here w v l = omega arith

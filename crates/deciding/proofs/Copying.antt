@@ -16,9 +16,9 @@ use Rattle.sets.specs.Sets.{bit}
 use Rattle.sets.proofs.Finite.{true-or-false, not-both, is-false, and-left, and-both, or-left, or-right, or-cases}
 use Rattle.sets.proofs.Bits.{bit-zero, bit-and, bit-or, bit-without}
 use Rattle.theory.specs.Meaning.{Assignment}
-use Rattle.deciding.specs.Moving.{put}
-use Rattle.deciding.specs.Rows.{Has}
-use Rattle.deciding.specs.Memo.{slotOf, byteOf, valueOf, haveOf, readsOf, columnOf, knows, Under, asks, shows, Apart, Missing, Put, Shown, Stored}
+use Rattle.deciding.specs.private.Moving.{put}
+use Rattle.deciding.specs.private.Rows.{Has}
+use Rattle.deciding.specs.private.Memo.{slotOf, byteOf, valueOf, haveOf, readsOf, columnOf, knows, Under, asks, shows, Apart, Missing, Put, Shown, Stored}
 use Rattle.deciding.proofs.Loops.{Going, Turn, Done, going, going-on, done-all, done-more}
 use Rattle.deciding.proofs.Stored.{put-in, put-other, put-length, put-back}
 

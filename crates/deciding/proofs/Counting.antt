@@ -13,7 +13,7 @@ use borrow.Author.Tests.{lt-ltb, le-ltb, ltb-true, ltb-false, eqb-true, eqb-fals
 use Rattle.sets.specs.Sets.{bit}
 use Rattle.sets.proofs.Finite.{and-implied, and-under, below-suc, true-or-false}
 use Rattle.sets.proofs.Bits.{bit-zero, bit-and, bit-or, bit-below}
-use Rattle.deciding.specs.Rows.{tableBit, Has, inRow, Added, kept}
+use Rattle.deciding.specs.private.Rows.{tableBit, Has, inRow, Added, kept}
 use Rattle.deciding.proofs.Loops.{zeros}
 
 -- ---- the words v, stored from the front; a is the next one

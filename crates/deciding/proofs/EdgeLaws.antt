@@ -13,7 +13,7 @@ use borrow.Author.Tests.{lt-ltb, le-ltb, ltb-true, eqb-true, eqb-false, eq-eqb, 
 use Rattle.sets.specs.Sets.{anyBelow, countBelow, bit}
 use Rattle.sets.proofs.Finite.{and-left, and-right, and-both, and-under, is-false, not-both, any-elim, any-cong, count-cong, true-or-false}
 use Rattle.sets.proofs.Bits.{bit-zero, bit-and}
-use Rattle.deciding.specs.Rows.{fired, edge, Rows, Has, inRow, behind, scattered, Senders}
+use Rattle.deciding.specs.private.Rows.{fired, edge, Rows, Has, inRow, behind, scattered, Senders}
 use Rattle.deciding.proofs.Counting.{swept-in, single-is, only-is}
 
 -- ---- the event's row

@@ -14,9 +14,9 @@ use Rattle.sets.specs.Sets.{anyBelow, bit}
 use Rattle.sets.proofs.Finite.{bool-iff, and-left, and-right, and-both, or-left, or-right, or-cases, is-false, not-both}
 use Rattle.sets.proofs.Finite.{any-intro, any-elim, true-or-false}
 use Rattle.sets.proofs.Bits.{bit-zero, bit-or}
-pub use Rattle.sets.proofs.Going.{Done, Going, going, Turn, turn, least-small, least-wanted, rest-less, done-all, going-on, done-more}
+pub use Rattle.sets.proofs.MemberLoop.{Done, Going, going, Turn, turn, least-small, least-wanted, rest-less, done-all, going-on, done-more}
 pub use Rattle.sets.proofs.Tally.{zeros}
-use Rattle.deciding.specs.Rows.{Rows, inRow, Only, Added}
+use Rattle.deciding.specs.private.Rows.{Rows, inRow, Only, Added}
 
 -- ---- rows
 pub zero-rows : {r : List ℕ} → r ≡ replicate 64 0 → (a b : ℕ) → inRow r a b ≡ false

@@ -14,11 +14,11 @@ use Rattle.sets.proofs.Finite.{count-cong, count-some, count-none, count-wider}
 use Rattle.theory.specs.Meaning.{Assignment}
 use Rattle.theory.specs.Terms.{Terms}
 use Rattle.memory.specs.Layout.{termsOf}
-use Rattle.deciding.specs.Rows.{edge, pastEvent, opened, nowAt, cell, Rows, Has}
-use Rattle.deciding.specs.Rows.{inRow, Only, ahead, behind, gathered, scattered, Senders}
+use Rattle.deciding.specs.private.Rows.{edge, pastEvent, opened, nowAt, cell, Rows, Has}
+use Rattle.deciding.specs.private.Rows.{inRow, Only, ahead, behind, gathered, scattered, Senders}
 use Rattle.deciding.proofs.Loops.{zero-rows, zero-long}
 use Rattle.deciding.proofs.Unfolded.{now-out, now-into, now-many}
-use Rattle.deciding.proofs.Sites.{Site, member-short, terms-good, entry-good, op-is, inside, ahead-inside, want-below, c-some}
+use Rattle.deciding.proofs.AtEntry.{Site, member-short, terms-good, entry-good, op-is, inside, ahead-inside, want-below, c-some}
 use Rattle.deciding.proofs.Operators.{sure, operand-row}
 
 module _ {terms plan rel past : List ℕ} {g : Assignment} {x i want o a b r all : ℕ} (s : Site terms plan rel past g x i want o a b r all) where

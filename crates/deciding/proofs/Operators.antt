@@ -16,13 +16,13 @@ use Rattle.theory.specs.Tables.{recalled}
 use Rattle.theory.specs.Terms.{Terms, formula}
 use Rattle.memory.specs.Layout.{termsOf}
 use Rattle.memory.specs.Plan.{planTable, planColumns}
-use Rattle.deciding.specs.Rows.{tableBit, assigned, opened, openUnder, nowAt, cell, Rows, Has, Asked}
-use Rattle.deciding.specs.Rows.{inRow, Added, ahead, Recalled, remembered}
-use Rattle.theory.proofs.Spelled.{number-lt}
+use Rattle.deciding.specs.private.Rows.{tableBit, assigned, opened, openUnder, nowAt, cell, Rows, Has, Asked}
+use Rattle.deciding.specs.private.Rows.{inRow, Added, ahead, Recalled, remembered}
+use Rattle.theory.proofs.Unfolding.{number-lt}
 use Rattle.deciding.proofs.Loops.{rows-map}
 use Rattle.deciding.proofs.Assignments.{opened-same, opened-other, opened-bind, opened-zeros}
 use Rattle.deciding.proofs.Unfolded.{now-top, now-var, now-neg, now-or, now-past, now-bind, now-at, now-reach}
-use Rattle.deciding.proofs.Sites.{Site, member-short, terms-good, entry-good, op-is, want-below, a-variable, a-binder, var-below, operand-reached}
+use Rattle.deciding.proofs.AtEntry.{Site, member-short, terms-good, entry-good, op-is, want-below, a-variable, a-binder, var-below, operand-reached}
 
 not-under : (w h : Bool) → (w && not (w && h)) ≡ (w && not h)
 not-under true h = refl

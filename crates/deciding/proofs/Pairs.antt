@@ -15,7 +15,7 @@ use Rattle.sets.proofs.Bits.{bit-zero, bit-mask, bit-and}
 use Rattle.theory.specs.Meaning.{Assignment, assign, alone}
 use Rattle.theory.specs.Columns.{memberAt, standingAt, insidePair}
 use Rattle.theory.specs.Terms.{Terms}
-use Rattle.deciding.specs.Rows.{tableBit, assigned, opened, nowAt, cell, Rows, Table, operandBits, pairCell, addedAt, AddedRows, Has}
+use Rattle.deciding.specs.private.Rows.{tableBit, assigned, opened, nowAt, cell, Rows, Table, operandBits, pairCell, addedAt, AddedRows, Has}
 use Rattle.deciding.proofs.Loops.{zeros}
 
 -- ---- rows put into a table

@@ -12,17 +12,17 @@ use Rattle.theory.specs.Terms.{Terms, tables}
 use Rattle.theory.specs.Moment.{first}
 use Rattle.theory.specs.Tables.{State}
 use Rattle.theory.specs.Limits.{scratchWords}
-use Rattle.theory.proofs.Good.{Good}
+use Rattle.theory.specs.Fit.{Good}
 use Rattle.memory.specs.Layout.{stateWords, relationWords, ownWords, blockWords, joined, relationAt, tableAt, tableRow, tableColumns, termsOf, stateOf, wordsOf}
 use Rattle.memory.specs.Checks.{goodRelations, goodState}
 use Rattle.memory.proofs.Front.{state-front, good-front}
 use Rattle.memory.proofs.Row.{table-row-none}
 use Rattle.memory.proofs.Words.{words-by, relation-words}
-use Rattle.deciding.specs.Rows.{tableWords}
-use Rattle.deciding.specs.Moving.{HasState, Becomes, put}
-use Rattle.deciding.specs.Starting.{Revising, Begun}
-use Rattle.deciding.proofs.Seen.{relationsOf, pastOf}
-use Rattle.deciding.proofs.Moves.{held}
+use Rattle.deciding.specs.private.Rows.{tableWords}
+use Rattle.deciding.specs.private.Moving.{HasState, Becomes, put}
+use Rattle.deciding.specs.private.Starting.{Revising, Begun}
+use Rattle.deciding.proofs.SameDecision.{relationsOf, pastOf}
+use Rattle.deciding.proofs.MomentSteps.{held}
 use Rattle.deciding.proofs.Apart.{put-behind, past-long}
 use Rattle.deciding.proofs.Starting.{begun-none}
 

@@ -17,8 +17,8 @@ use Rattle.theory.specs.Formula.Operand.{variable, entry}
 use Rattle.theory.specs.Formula.Formula.{top, var}
 use Rattle.theory.specs.Terms.{Terms, formula}
 use Rattle.memory.specs.Plan.{planFirst, planLast, planColumns}
-use Rattle.deciding.specs.Memo.{isOne, reads, slotOf, haveOf, readsOf, Memo, Apart, Fresh}
-use Rattle.theory.proofs.Spelled.{below-spelled}
+use Rattle.deciding.specs.private.Memo.{isOne, reads, slotOf, haveOf, readsOf, Memo, Apart, Fresh}
+use Rattle.theory.proofs.Unfolding.{below-spelled}
 use Rattle.memory.proofs.FreeSets.{Free}
 use Rattle.deciding.proofs.Remembering.{empty-slot}
 

@@ -18,8 +18,8 @@ use Rattle.theory.specs.Meaning.{Graph, Assignment, assign, alone}
 use Rattle.theory.specs.Terms.{Terms, formula}
 use Rattle.theory.specs.Tables.{Tables, recalled, holdsNow}
 use Rattle.theory.proofs.Places.{In, place-cong}
-use Rattle.deciding.specs.Rows.{opened, nowAt, cell, Rows, Vars}
-use Rattle.deciding.specs.Memo.{isOne, reads, slotOf, haveOf, readsOf, Under, Slot, Memo, Grown, Apart, Fresh, Missing, Stored, columnOf, knows, asks, shows}
+use Rattle.deciding.specs.private.Rows.{opened, nowAt, cell, Rows, Vars}
+use Rattle.deciding.specs.private.Memo.{isOne, reads, slotOf, haveOf, readsOf, Under, Slot, Memo, Grown, Apart, Fresh, Missing, Stored, columnOf, knows, asks, shows}
 
 -- ---- the variables that are read are all that counts
 pub one-in : (cs : List ℕ) (x : ℕ) → In x cs → isOne cs x ≡ true

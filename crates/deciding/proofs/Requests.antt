@@ -14,11 +14,12 @@ use Rattle.theory.specs.Formula.Operand.{entry}
 use Rattle.theory.specs.Meaning.{Assignment, assign}
 use Rattle.theory.specs.Columns.{columnsFit, inside}
 use Rattle.theory.specs.Terms.{Terms, formula}
+use Rattle.theory.specs.Fit.{Good}
 use Rattle.memory.specs.Layout.{termsOf}
 use Rattle.memory.specs.Plan.{planTable, planFirst, planLast, planColumns}
-use Rattle.deciding.specs.Rows.{tableBit, assigned, opened, nowAt, cell, Rows, Ready, Asked, Table, operandBits, nextPrev, nextSince, Has, inRow, Added, kept}
-use Rattle.theory.proofs.Spelled.{number-lt}
-use Rattle.theory.proofs.Good.{Good, first-lower, second-lower}
+use Rattle.deciding.specs.private.Rows.{tableBit, assigned, opened, nowAt, cell, Rows, Ready, Asked, Table, operandBits, nextPrev, nextSince, Has, inRow, Added, kept}
+use Rattle.theory.proofs.Unfolding.{number-lt}
+use Rattle.theory.proofs.Good.{first-lower, second-lower}
 use Rattle.memory.proofs.Accepted.{good}
 use Rattle.deciding.proofs.Loops.{zeros}
 use Rattle.deciding.proofs.Assignments.{vars-zeros, vars-assign, opened-zeros, one-columns, two-columns}

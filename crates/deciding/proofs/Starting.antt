@@ -18,28 +18,28 @@ use Rattle.theory.specs.Terms.{Terms, formula, tables, sameSize}
 use Rattle.theory.specs.Moment.{Event, graph}
 use Rattle.theory.specs.Moment.Event.{none as eventless, happened, tried}
 use Rattle.theory.specs.Tables.{Tables, State, store, operandNow, sinceBits, sinceStep, named, taken, startBits, startStep, startTables, revised}
+use Rattle.theory.specs.Fit.{Good}
 use Rattle.memory.specs.Layout.{stateWords, relationWords, relationAt, tableAt, eventAt, row, tableRow, tableColumns, termsOf, stateOf, wordsOf}
 use Rattle.memory.specs.Plan.{planTable}
-use Rattle.deciding.specs.Rows.{Table, tableWords}
-use Rattle.deciding.specs.Moving.{known, HasState, Movable, Becomes, put, tabled, sinceAt}
-use Rattle.deciding.specs.Memo.{MemoOf, Fresh}
-use Rattle.deciding.specs.Starting.{Revising, startBelow, Begun}
-use Rattle.theory.proofs.Spelled.{number-lt}
-use Rattle.theory.proofs.Good.{Good}
+use Rattle.deciding.specs.private.Rows.{Table, tableWords}
+use Rattle.deciding.specs.private.Moving.{known, HasState, Movable, Becomes, put, tabled, sinceAt}
+use Rattle.deciding.specs.private.Memo.{MemoOf, Fresh}
+use Rattle.deciding.specs.private.Starting.{Revising, startBelow, Begun}
+use Rattle.theory.proofs.Unfolding.{number-lt}
 use Rattle.theory.proofs.Renumbered.{columns-bare, past-same}
 use Rattle.theory.proofs.Past.{past-is}
 use Rattle.theory.proofs.Places.{inside-word}
-use Rattle.theory.proofs.Now.{SameAt}
+use Rattle.theory.proofs.MeaningNow.{SameAt}
 use Rattle.theory.proofs.Size.{same-members, same-relations, same-events}
-use Rattle.theory.proofs.Taken.{first-has}
+use Rattle.theory.proofs.CarriedOver.{first-has}
 use Rattle.theory.proofs.Revised.{start-untouched, start-since}
 use Rattle.memory.proofs.Accepted.{good}
 use Rattle.memory.proofs.Row.{bit-table, table-row-cong, table-row-none}
 use Rattle.memory.proofs.Words.{columns-fitting, words-by}
-use Rattle.deciding.proofs.Seen.{has-long, has-relation, has-table, has-event}
+use Rattle.deciding.proofs.SameDecision.{has-long, has-relation, has-table, has-event}
 use Rattle.deciding.proofs.Stored.{table-stored, has-rest}
-use Rattle.deciding.proofs.Moves.{held}
-use Rattle.deciding.proofs.Steps.{memo-step-all}
+use Rattle.deciding.proofs.MomentSteps.{held}
+use Rattle.deciding.proofs.MemoInSweep.{memo-step-all}
 
 -- ---- sizes
 

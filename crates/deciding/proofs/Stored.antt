@@ -22,13 +22,13 @@ use Rattle.memory.specs.Layout.{stateWords, relationAt, tableAt, eventAt, event
 use Rattle.theory.specs.Terms.{tables}
 use Rattle.memory.specs.Checks.{goodRelations}
 use Rattle.theory.specs.Tables.{State, store}
-use Rattle.deciding.specs.Rows.{Table}
-use Rattle.deciding.specs.Moving.{known, HasState, put, tabled, edged, evented}
-use Rattle.theory.proofs.Good.{Good}
-use Rattle.theory.proofs.Now.{SameAt}
+use Rattle.theory.specs.Fit.{Good}
+use Rattle.deciding.specs.private.Rows.{Table}
+use Rattle.deciding.specs.private.Moving.{known, HasState, put, tabled, edged, evented}
+use Rattle.theory.proofs.MeaningNow.{SameAt}
 use Rattle.memory.proofs.Row.{bit-row, bit-table, table-row-cong, table-row-none}
 use Rattle.memory.proofs.Words.{length-words, words-by, relation-words}
-use Rattle.deciding.proofs.Seen.{has-long, has-relation, has-table, has-event}
+use Rattle.deciding.proofs.SameDecision.{has-long, has-relation, has-table, has-event}
 
 -- words with the same bits are the same
 below-pow : (n : ℕ) → n < 2 ^ n

@@ -12,8 +12,9 @@ use Rattle.theory.specs.Formula.{Formula, node, number, isPast, columns}
 use Rattle.theory.specs.Meaning.{Graph, Assignment, assign, alone}
 use Rattle.theory.specs.Terms.{Terms, formula}
 use Rattle.theory.specs.Tables.{recalled, holdsNow}
-use Rattle.deciding.specs.Rows.{edge, tableBit, pastEvent, nowAt}
-use Rattle.theory.proofs.Good.{GoodEntry, formula-at}
+use Rattle.theory.specs.Fit.{GoodEntry}
+use Rattle.deciding.specs.private.Rows.{edge, tableBit, pastEvent, nowAt}
+use Rattle.theory.proofs.Good.{formula-at}
 
 module _ (T : Terms) (rel past : List ℕ) (g : Assignment) (i m : ℕ) (e : GoodEntry T i) where
   abbrev G : Graph

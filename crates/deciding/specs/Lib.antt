@@ -1,4 +1,1 @@
-pub mod Rows
-pub mod Memo
-pub mod Moving
-pub mod Starting
+pub mod private

@@ -13,7 +13,7 @@ ghost use mathlib.Core.Path.{_≡_};
 ghost use Prim.Native.Nat.{_+_, _<_, _≤_};
 ghost use Rattle.theory.specs.Limits.{maxEntries};
 ghost use Rattle.memory.specs.Layout.{termsOf};
-ghost use Rattle.memory.specs.Operands.{kindOf};
+ghost use Rattle.memory.specs.private.Operands.{kindOf};
 ghost use Rattle.effort.specs.Effort.{smaller, most, cut, times, setOf, setsOf, isOne, rowsOf, callsOf, askedOf, more, moreIf, isEntry, moreOf, policies, rowsAt, callsAfter, askedAfter, total, brief, effort};
 
 // The most that is counted: 2 to the power of 31, a number of any machine.

@@ -7,7 +7,7 @@ use native.Mathlib.Nat.{add-zero, add-suc, suc-add}
 use native.Mathlib.Numerals.{add-one}
 use lib.ListN.{length, getD, take, set, length-append}
 use lib.Seq.{sets, length-sets, set-out, take-suc, take-all}
-use Rattle.fields.specs.Put.{Put}
+use Rattle.fields.specs.private.Put.{Put}
 
 pub sets-append : (o : List ℕ) (i : ℕ) (bs cs : List ℕ) → sets o i (bs ++ cs) ≡ sets (sets o i bs) (i + length bs) cs
 sets-append o i [] cs = rw (add-zero i) refl

@@ -1,3 +1,3 @@
 pub mod Split
 pub mod Number
-pub mod Put
+pub mod private

@@ -6,7 +6,7 @@ ghost use mathlib.Core.List.{[], _∷_};
 ghost use Prim.Native.Nat.{_+_, _^_, _<_, _≤_};
 ghost use lib.ListN.{length};
 ghost use Rattle.fields.specs.Number.{digits};
-ghost use Rattle.fields.specs.Put.{PutIf};
+ghost use Rattle.fields.specs.private.Put.{PutIf};
 
 // The places that bytes and digits are put below.
 const BYTES_BELOW: usize = 4611686018427387904;

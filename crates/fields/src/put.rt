@@ -3,7 +3,7 @@ ghost use mathlib.Core.List.{[], _∷_};
 ghost use Prim.Native.Nat.{_+_, _^_, _<_};
 ghost use lib.ListN.{length};
 ghost use Rattle.fields.specs.Number.{digits};
-ghost use Rattle.fields.specs.Put.{Put};
+ghost use Rattle.fields.specs.private.Put.{Put};
 
 // Puts b at a place, if the output reaches so far. The next place.
 pub(crate) fn put(out: &mut [u8], at: usize, b: u8) -> usize

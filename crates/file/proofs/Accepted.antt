@@ -11,16 +11,16 @@ use borrow.Author.Tests.{eqb-true, lt-ltb}
 use Rattle.theory.specs.Terms.{Terms, tables}
 use Rattle.theory.specs.Moment.{Event}
 use Rattle.theory.specs.Formula.{isPast}
-use Rattle.theory.specs.Fit.{every, entryTests}
-use Rattle.theory.proofs.Good.{Good, GoodEntry, implies}
+use Rattle.theory.specs.Fit.{every, entryTests, Good, GoodEntry}
+use Rattle.theory.proofs.Good.{implies}
 use Rattle.fields.specs.Split.{Lines, lines}
 use Rattle.file.specs.File.{File, nothing}
 use Rattle.file.specs.Reading.{complete, readOn, partlyAt, reading}
 use Rattle.file.specs.Reading.Reading.{accepted}
-use Rattle.file.proofs.Taken.{Accepting, accepting, reading-read, reading-level}
-use Rattle.file.proofs.Level.{Level, level-from, level-to}
+use Rattle.file.proofs.Derivation.{Accepting, accepting, reading-read, reading-level}
+use Rattle.file.proofs.LevelWords.{Level, level-from, level-to}
 use Rattle.file.proofs.Fit.{noEntry, PoliciesFit, Inside, InsideTables, EventFits}
-use Rattle.file.proofs.Going.{Going, going-first, going-on, complete-phase, complete-policies}
+use Rattle.file.proofs.Invariant.{Going, going-first, going-on, complete-phase, complete-policies}
 
 -- Nothing is said beyond the last entry and the last event, and an event has at most 4 effects.
 pub record Tidy (T : Terms) : Type 0 where

@@ -10,14 +10,14 @@ use Rattle.theory.specs.Formula.{columns}
 use Rattle.theory.proofs.Past.{past-entry}
 use Rattle.file.specs.File.{hasTwo, pairTable}
 use mathlib.Core.List.{List, [], _∷_, _++_}
-use Rattle.theory.specs.Terms.{Terms, formula, tables, pastEntry}
+use Rattle.theory.specs.Terms.{Terms, formula, tables, pastEntry, Alike}
 use Rattle.theory.specs.Moment.{Relations}
 use Rattle.theory.specs.Tables.{State}
-use Rattle.theory.proofs.Like.{Alike, met, met-is, same-number, same-formula, same-past}
+use Rattle.theory.proofs.AlikeTerms.{met, met-is, same-number, same-formula, same-past}
 use Rattle.file.specs.Writing.{listed, effectLines, bitAt, allLines, eventEdgeLine, storedLines, printedAll, written, stored}
 use Rattle.file.specs.declared.line.Line.{Line}
 use Rattle.file.specs.declared.line.Line.the-variants.{Members, Labels, Entry, Policy, Edge, Form, TableBit, PairBit, Mark}
-use Rattle.file.proofs.Listed.{listed-agree}
+use Rattle.file.proofs.LinesAppended.{listed-agree}
 
 module _ (T U : Terms) (a : Alike T U) where
   lines-met : (R : Relations) → allLines T R ≡ allLines (met T U) R

@@ -15,13 +15,13 @@ use Rattle.theory.specs.Formula.Operand.{unused, variable, binder, label, entry
 use Rattle.theory.specs.Terms.{Effect, Terms, formula, tables, pastEntry}
 use Rattle.theory.specs.Moment.{Event}
 use Rattle.theory.specs.Columns.{columnsFit, inside, pairWord, pairBit}
-use Rattle.theory.specs.Fit.{operandFits, onlyFree, reachFits}
-use Rattle.theory.proofs.Good.{Within, fits-entry}
-use Rattle.theory.proofs.Good.Within.{more}
+use Rattle.theory.specs.Fit.{operandFits, onlyFree, reachFits, Within}
+use Rattle.theory.proofs.Good.{fits-entry}
+use Rattle.theory.specs.Fit.Within.{more}
 use Rattle.file.specs.Line.{hasThird}
 use Rattle.file.specs.File.{update, withBit, hasTwo, eventNamed, eventSaid}
 use Rattle.file.specs.Reading.{inRange, isLower}
-use Rattle.theory.proofs.Like.{number-agree, spelled-agree}
+use Rattle.theory.proofs.AlikeTerms.{number-agree, spelled-agree}
 use Rattle.file.proofs.Update.{update-same, update-other, update-cases}
 
 -- ---- entries

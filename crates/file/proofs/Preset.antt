@@ -8,7 +8,6 @@ use Rattle.sets.specs.Sets.{allBelow}
 use Rattle.theory.specs.Formula.{node, number, below, spelled, free, those}
 use Rattle.theory.specs.Fit.{every, onlyFree, closed, reachFits}
 use Rattle.theory.specs.Cases.{preset, own}
-use Rattle.theory.proofs.Like.{Alike}
 use Rattle.fields.specs.Split.{split, lines, alike}
 use Rattle.fields.specs.Number.{isDigit, allDigits, isNumber, valueFrom, valueOf}
 use Rattle.file.specs.Words.{operatorWords, kindWords, indexFrom, operatorOf, kindOf}
@@ -16,14 +15,8 @@ use Rattle.file.specs.Line.{singleLine, labelsLine, shortEntryLine, entr
 use Rattle.file.specs.Line.{lineOf, parsed}
 use Rattle.file.specs.File.{nothing, after}
 use Rattle.file.specs.Reading.{inRange, isLower, tests, tried, readOn, partlyAt, levelled, reading}
-use Rattle.file.specs.Reading.Reading.{accepted}
 use Rattle.file.specs.Said.{records}
-use Rattle.file.specs.Preset.{presetText, takenIn, presetFile}
-
-pub record ReadsPreset : Type 0 where
-  pub read : reading presetText ≡ accepted presetFile
-  pub terms : Alike (presetFile .terms) preset
-  pub edges : (k a b : ℕ) → presetFile .edges k a b ≡ own k a b
+use Rattle.file.specs.Preset.{presetText, takenIn, presetFile, ReadsPreset}
 
 -- Computed by the checker.
 pub preset-read : ReadsPreset

@@ -18,7 +18,7 @@ use Rattle.file.specs.Reading.Reading.{accepted, refused}
 use Rattle.file.specs.declared.line.Line.{Line}
 use Rattle.file.specs.declared.line.Line.the-variants.{Members, Labels, Entry, Policy, Effect, Edge, Form, TableBit, PairBit, EventEdge, Mark, Malformed}
 use Rattle.file.specs.Refused.{Passed, Fails, Lowest, Refused, FirstPartly, RefusedText, numbersRise}
-use Rattle.file.proofs.Taken.{tried-passed}
+use Rattle.file.proofs.Derivation.{tried-passed}
 use Rattle.file.specs.Refused.Passed.{none, pass}
 use Rattle.file.specs.Refused.Fails.{this, other}
 use Rattle.file.specs.Refused.Refused.{go-on, faulty, cut-off, ended}

@@ -16,7 +16,7 @@ use Rattle.theory.proofs.Places.{inside-word, inside-bit}
 use Rattle.theory.specs.Moment.{Relations, Event, first}
 use Rattle.theory.specs.Moment.Event.{happened, tried}
 use Rattle.theory.specs.Tables.{Tables, State}
-use Rattle.theory.proofs.Good.{Good}
+use Rattle.theory.specs.Fit.{Good}
 use Rattle.file.specs.File.{File, nothing, hasTwo, pairTable, withTableBit, eventNamed, eventSaid, after}
 use Rattle.file.specs.Reading.{tests, complete, rises, reading}
 use Rattle.file.specs.Reading.Reading.{accepted}
@@ -26,14 +26,14 @@ use Rattle.file.specs.declared.line.Line.the-variants.{Form, TableBit, P
 use Rattle.file.specs.Refused.{Passed}
 use Rattle.file.specs.Refused.Passed.{none, pass}
 use Rattle.file.proofs.Printed.{Ranged}
-use Rattle.file.proofs.Taken.{Reached, reached-so, reached-then, reached-one, reached-none}
-use Rattle.file.proofs.Level.{Level, level-empty, read-printed}
+use Rattle.file.proofs.Derivation.{Reached, reached-so, reached-then, reached-one, reached-none}
+use Rattle.file.proofs.LevelWords.{Level, level-empty, read-printed}
 use Rattle.file.proofs.Fit.{code, Inside, InsideTables, EventFits, place-one, place-two, two-few}
-use Rattle.file.proofs.Going.{Going, going-first, going, complete-is}
+use Rattle.file.proofs.Invariant.{Going, going-first, going, complete-is}
 use Rattle.file.proofs.Accepted.{Tidy}
-use Rattle.file.proofs.Effected.{settled-complete}
-use Rattle.file.proofs.Rising.{Adds, Kind, Below, Bounded, code-rises, code-rises-pair, bits-read, all-read}
-use Rattle.file.proofs.Edged.{Edged, lines-read}
+use Rattle.file.proofs.ReadEffects.{settled-complete}
+use Rattle.file.proofs.ReadBits.{Adds, Kind, Below, Bounded, code-rises, code-rises-pair, bits-read, all-read}
+use Rattle.file.proofs.ReadEdges.{Edged, lines-read}
 
 -- What the old form says of a state: its relations, with no bit of a table and no event edge.
 abbrev pub plainState : Relations → State

@@ -16,8 +16,8 @@ use Rattle.file.specs.File.{File, stateSaid, nothing, after}
 use Rattle.file.specs.Reading.{tests, readOn, reading}
 use Rattle.file.specs.Reading.Reading.{accepted}
 use Rattle.file.specs.Said.{records}
-use Rattle.file.specs.Writing.{allLines, storedLines, printedAll, written, stored}
-use Rattle.file.specs.Normal.{normalField, normalLine, normalLines, normalText, plainFields, plainLines, isPlain}
+use Rattle.file.specs.Writing.{allLines, storedLines, printedAll, written, stored, textSaid}
+use Rattle.file.specs.Normal.{normalField, normalLine, normalLines, normalText, plainFields, plainLines, isPlain, Unpadded}
 use Rattle.file.specs.declared.line.Line.{Line}
 use Rattle.fields.specs.Number.{isNumber, valueOf, digits, padded}
 use Rattle.fields.proofs.Split.{join-split, unlines-lines}
@@ -25,11 +25,11 @@ use Rattle.fields.proofs.Digits.{digits-valueOf, digits-number, digits-unpadded
 use Rattle.fields.proofs.Numeral.{value-small}
 use Rattle.file.proofs.Plain.{linesOf, lines-printed}
 use Rattle.file.proofs.Printed.{split-ranged}
-use Rattle.file.proofs.Taken.{tried-accepted, passed-formed, reading-read, reading-accepting}
-use Rattle.file.proofs.Going.{going-first, going-on}
+use Rattle.file.proofs.Derivation.{tried-accepted, passed-formed, reading-read, reading-accepting}
+use Rattle.file.proofs.Invariant.{going-first, going-on}
 use Rattle.file.proofs.Accepted.{accepted-good, accepted-level}
 use Rattle.file.proofs.Reread.{reread, reread-stored}
-use Rattle.file.proofs.Grown.{linesSaid, lines-more, first-none, all-said}
+use Rattle.file.proofs.LinesSoFar.{linesSaid, lines-more, first-none, all-said}
 
 -- ---- an accepted text printed anew
 
@@ -100,24 +100,11 @@ lines-normal f n (line l r) g e =
 
 -- ---- the theorems
 
--- The text of what a file says, in its own form.
-abbrev pub textSaid : File → List ℕ
-textSaid f = cond (f .stored) (stored (f .terms) (stateSaid f)) (written (f .terms) (f .edges))
-
 text-lines : (b : Bool) (T : Terms) (S : State)
     → cond b (stored T S) (written T (S .now .edge)) ≡ printedAll (cond b (storedLines T S) (allLines T (S .now .edge)))
 unfolding stored written
 text-lines true T S = refl
 text-lines false T S = refl
-
--- What reading the normal form of a text gives, where reading the text gave f: the same form, terms and state.
-pub record Unpadded (text : List ℕ) (f g : File) : Type 0 where
-  pub accepts : reading (normalText text) ≡ accepted g
-  pub form : g .stored ≡ f .stored
-  pub terms : g .terms ≡ f .terms
-  pub edges : g .edges ≡ f .edges
-  pub table : g .table ≡ f .table
-  pub last : g .last ≡ f .last
 
 module _ (text : List ℕ) (f : File) (e : reading text ≡ accepted f) where
   -- the lines of an accepted text are the lines of what it says

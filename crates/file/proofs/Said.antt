@@ -16,17 +16,17 @@ use Rattle.fields.specs.Split.{lines}
 use Rattle.file.specs.File.{File, nothing, update, after}
 use Rattle.file.specs.Reading.{tests, reading}
 use Rattle.file.specs.Reading.Reading.{accepted}
-use Rattle.file.specs.Said.{records, membersSaid, relationsSaid, eventsSaid, entriesSaid, policiesSaid, effectsSaid, keptSaid, edgesSaid, tablesSaid, lastSaid, storedSaid, termsSaid}
+use Rattle.file.specs.Said.{records, membersSaid, relationsSaid, eventsSaid, entriesSaid, policiesSaid, effectsSaid, keptSaid, termsSaid, SaidBy}
 use Rattle.file.specs.declared.line.Line.{Line}
 use Rattle.file.proofs.Printed.{Ranged}
 use Rattle.file.proofs.Printed.Ranged.{members, labels, entry, policy, effect, edge, form, bit, pair, event, mark}
 use Rattle.file.specs.Refused.{Passed}
-use Rattle.file.proofs.Taken.{passed-at, Taken, reading-accepting}
-use Rattle.file.proofs.Taken.Taken.{none, one}
+use Rattle.file.proofs.Derivation.{passed-at, Taken, reading-accepting}
+use Rattle.file.proofs.Derivation.Taken.{none, one}
 use Rattle.file.proofs.Update.{update-other}
 use Rattle.file.proofs.Fit.{noEntry}
 use Rattle.file.proofs.SaidState.{beside-said}
-use Rattle.file.proofs.Going.{Going, going-first, going-on, entry-phase, policy-phase, complete-phase}
+use Rattle.file.proofs.Invariant.{Going, going-first, going-on, entry-phase, policy-phase, complete-phase}
 
 -- ---- the first n from g, the others from a list
 
@@ -195,14 +195,6 @@ plus-last f z g =
       effects = λ j. append-nil (f .terms .effects j) t;
       kept = λ j. or-false (f .terms .kept j) t;
     })
-
--- What the lines say is what the file says.
-pub record SaidBy (ls : List Line) (f : File) : Type 0 where
-  pub terms : termsSaid ls ≡ f .terms
-  pub edges : (k a b : ℕ) → edgesSaid ls k a b ≡ f .edges k a b
-  pub bits : (t a b : ℕ) → tablesSaid ls t a b ≡ f .table t a b
-  pub last : lastSaid ls ≡ f .last
-  pub form : storedSaid ls ≡ f .stored
 
 -- an accepted text is read as what its lines say
 pub said : (text : List ℕ) (f : File) → reading text ≡ accepted f → SaidBy (records (lines text)) f

@@ -18,9 +18,9 @@ use Rattle.file.specs.declared.line.Line.{Line}
 use Rattle.file.proofs.Printed.{Ranged}
 use Rattle.file.proofs.Printed.Ranged.{members, labels, entry, policy, effect, edge, form, bit, pair, event, mark}
 use Rattle.file.specs.Refused.{Passed}
-use Rattle.file.proofs.Taken.{passed-at, Taken}
-use Rattle.file.proofs.Taken.Taken.{none, one}
-use Rattle.file.proofs.Going.{Going, entry-phase, policy-phase}
+use Rattle.file.proofs.Derivation.{passed-at, Taken}
+use Rattle.file.proofs.Derivation.Taken.{none, one}
+use Rattle.file.proofs.Invariant.{Going, entry-phase, policy-phase}
 
 -- All that a file says beside its terms.
 pub record Beside : Type 0 where

@@ -2,9 +2,13 @@
 use Prim.Native.Nat.{ℕ}
 use mathlib.Core.Bool.{Bool, true, cond, not, _&&_}
 use mathlib.Core.List.{List, [], _∷_, map}
+use mathlib.Core.Path.{_≡_}
 use Rattle.fields.specs.Split.{Lines, split, join, lines, unlines}
 use Rattle.fields.specs.Split.Lines.{done, cut, line}
 use Rattle.fields.specs.Number.{isNumber, padded, normal}
+use Rattle.file.specs.File.{File}
+use Rattle.file.specs.Reading.{reading}
+use Rattle.file.specs.Reading.Reading.{accepted}
 
 -- A field with a number in its normal form; any other field as it is.
 abbrev pub normalField : List ℕ → List ℕ
@@ -33,3 +37,12 @@ plainLines (line l r) = plainFields (split 9 l) && plainLines r
 
 unfoldable pub isPlain : List ℕ → Bool
 isPlain text = plainLines (lines text)
+
+-- What reading the normal form of a text gives, where reading the text gave f: the same form, terms and state.
+pub record Unpadded (text : List ℕ) (f g : File) : Type 0 where
+  pub accepts : reading (normalText text) ≡ accepted g
+  pub form : g .stored ≡ f .stored
+  pub terms : g .terms ≡ f .terms
+  pub edges : g .edges ≡ f .edges
+  pub table : g .table ≡ f .table
+  pub last : g .last ≡ f .last

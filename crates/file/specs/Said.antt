@@ -4,6 +4,7 @@ use mathlib.Core.Bool.{Bool, true, false, cond, _&&_, _||_}
 use mathlib.Core.List.{List, [], _∷_}
 use lib.Dec.{eqb}
 use lib.ListN.{length, getD}
+use mathlib.Core.Path.{_≡_}
 use Rattle.theory.specs.Formula as formulas
 use Rattle.theory.specs.Columns.{pairWord, pairBit}
 use Rattle.theory.specs.Terms as terms
@@ -14,7 +15,7 @@ use Rattle.theory.specs.Tables.{Tables}
 use Rattle.fields.specs.Split.{Lines, split}
 use Rattle.fields.specs.Split.Lines.{done, cut, line}
 use Rattle.file.specs.Line.{parsed}
-use Rattle.file.specs.File.{eventSaid}
+use Rattle.file.specs.File.{eventSaid, File}
 use Rattle.file.specs.declared.line.Line.{Line}
 use Rattle.file.specs.declared.line.Line.the-variants.{Members, Labels, Entry, Policy, Effect, Edge, Form, TableBit, PairBit, EventEdge, Mark, Malformed}
 
@@ -241,3 +242,11 @@ termsSaid ls = record {
   effects = λ j. effectsSaid j ls;
   kept = keptSaid ls;
 }
+
+-- What the lines say is what the file says.
+pub record SaidBy (ls : List Line) (f : File) : Type 0 where
+  pub terms : termsSaid ls ≡ f .terms
+  pub edges : (k a b : ℕ) → edgesSaid ls k a b ≡ f .edges k a b
+  pub bits : (t a b : ℕ) → tablesSaid ls t a b ≡ f .table t a b
+  pub last : lastSaid ls ≡ f .last
+  pub form : storedSaid ls ≡ f .stored

@@ -10,7 +10,7 @@ use Rattle.theory.specs.Moment.Event.{none, happened, tried}
 use Rattle.theory.specs.Tables.{State}
 use Rattle.theory.specs.Limits.{maxEvents}
 use Rattle.file.specs.Line.{printed}
-use Rattle.file.specs.File.{pairTable}
+use Rattle.file.specs.File.{pairTable, File, stateSaid}
 use Rattle.file.specs.declared.line.Line.{Line}
 use Rattle.file.specs.declared.line.Line.the-variants.{Members, Labels, Entry, Policy, Effect, Edge, Form, TableBit, PairBit, EventEdge, Mark}
 
@@ -71,3 +71,7 @@ written T R = printedAll (allLines T R)
 
 unfoldable pub stored : Terms → State → List ℕ
 stored T S = printedAll (storedLines T S)
+
+-- The text of what a file says, in its own form.
+abbrev pub textSaid : File → List ℕ
+textSaid f = cond (f .stored) (stored (f .terms) (stateSaid f)) (written (f .terms) (f .edges))

@@ -13,7 +13,7 @@ use theory::operators::TOP;
 use theory::operators::VAR;
 ghost use mathlib.Core.Path.{_≡_};
 ghost use Rattle.theory.specs.Formula.{firstOperand, secondOperand, thirdOperand};
-ghost use Rattle.memory.specs.Operands.{kindOf};
+ghost use Rattle.memory.specs.private.Operands.{kindOf};
 
 // Not used, a variable, a variable to bind, a label, an entry, a number of members.
 pub enum Kind {

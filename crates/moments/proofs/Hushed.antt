@@ -6,9 +6,9 @@ use mathlib.Core.List.{List}
 use Rattle.theory.specs.Terms.{Terms}
 use Rattle.theory.specs.Moment.Event.{none}
 use Rattle.theory.specs.Tables.{State, made, advance}
-use Rattle.deciding.specs.Moving.{Becomes, prevMoved, sinceMoved, allAffected, occurring, evented, entered}
+use Rattle.deciding.specs.private.Moving.{Becomes, prevMoved, sinceMoved, allAffected, occurring, evented, entered}
 use Rattle.banking.specs.Banks.{quiet}
-use Rattle.banking.specs.Beside.{hushed}
+use Rattle.banking.specs.private.Beside.{hushed}
 
 -- the effects, if the request is granted
 abbrev pub affectedIf : (granted : Bool) → (j u v : ℕ) → Terms → State → State

@@ -1,1 +1,1 @@
-pub mod Moments
+pub mod private

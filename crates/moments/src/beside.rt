@@ -9,10 +9,10 @@ ghost use Rattle.theory.specs.Tables.{named, decideNow, opening, made, advance}
 ghost use Rattle.memory.specs.Layout.{termsWords, relationWords, ownWords, blockWords, joined, termsOf, stateOf, wordsOf};
 ghost use Rattle.memory.specs.Checks.{goodMemory, goodState, goodRelations};
 ghost use Rattle.memory.specs.Plan.{Planned};
-ghost use Rattle.deciding.specs.Moving.{Movable, Becomes, entered, sinceMoved};
+ghost use Rattle.deciding.specs.private.Moving.{Movable, Becomes, entered, sinceMoved};
 ghost use Rattle.banking.specs.Banks.{quiet};
-ghost use Rattle.banking.specs.Beside.{hushed};
-ghost use Rattle.moments.specs.Moments.{Moved};
+ghost use Rattle.banking.specs.private.Beside.{hushed};
+ghost use Rattle.moments.specs.private.Moments.{Moved};
 use crate::apart;
 use crate::effects;
 use decide::memo;

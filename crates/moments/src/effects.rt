@@ -10,7 +10,7 @@ ghost use Rattle.theory.specs.Limits.{maxMembers, maxEvents, maxEffects};
 ghost use Rattle.memory.specs.Layout.{stateWords, relationWords, ownWords, triedFrom, effectAt, termsOf};
 ghost use Rattle.memory.specs.Checks.{goodMemory};
 ghost use Rattle.theory.specs.Tables.{named};
-ghost use Rattle.deciding.specs.Moving.{Becomes, effectOf, affected, allAffected, occurring, evented, entered};
+ghost use Rattle.deciding.specs.private.Moving.{Becomes, effectOf, affected, allAffected, occurring, evented, entered};
 use memory::layout;
 use memory::limits::EFFECTS;
 

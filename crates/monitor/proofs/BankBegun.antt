@@ -17,10 +17,10 @@ use Rattle.memory.specs.Outcome.Outcome.{passed, failed}
 use Rattle.memory.specs.Plan.{Planned}
 use Rattle.memory.proofs.BankOutcomes.{banks-long}
 use Rattle.memory.proofs.Words.{length-words}
-use Rattle.deciding.specs.Starting.{Revising}
+use Rattle.deciding.specs.private.Starting.{Revising}
 use Rattle.banking.specs.Banking.{ownOpened, begunWords, relationsRevised, ownRevised}
-use Rattle.banking.proofs.Joined.{joined-long}
-use Rattle.banking.proofs.Opened.{banks-opened, own-opened}
+use Rattle.banking.proofs.JoinedState.{joined-long}
+use Rattle.banking.proofs.BankOpening.{banks-opened, own-opened}
 
 -- ---- opening
 

@@ -8,14 +8,13 @@ use lib.ListN.{length, getD, set}
 use Rattle.theory.specs.Keeper.{Answer}
 use Rattle.memory.specs.Outcome.{Outcome, hasPassed}
 use Rattle.calls.specs.Monitor.{granted}
-use Rattle.calls.specs.SetList.{listingOf, numberOf, filled, listing}
-use Rattle.calls.specs.Listing.{turnsOf, gainOf}
+use Rattle.calls.specs.SetList.{listingOf, numberOf, filled, listing, gainOf, blank}
+use Rattle.calls.specs.private.Listing.{turnsOf}
 use Rattle.calls.specs.declared.Record.{Record}
 use Rattle.calls.specs.declared.Listed.{Listed}
-use Rattle.calls.proofs.Singly.{blank}
 use Rattle.banking.specs.Banking.{bankAnswer, relationsAfter, ownAfter, otherAfter, clearedAfter}
 use Rattle.banking.specs.BankList.{BankRun, bankSingly, bankListChecks, bankListed, bankLeft}
-use Rattle.banking.proofs.Answers.{each-answer}
+use Rattle.banking.proofs.BankAnswers.{each-answer}
 use Rattle.monitor.proofs.Records.{put-answer}
 use Rattle.monitor.proofs.Listing as loop
 use Rattle.monitor.proofs.Listing.{Ran, each}

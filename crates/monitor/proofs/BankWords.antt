@@ -10,8 +10,8 @@ use Rattle.memory.specs.Layout.{relationWords, ownWords, stateWords, joined}
 use Rattle.memory.proofs.Words.{length-words}
 use Rattle.calls.specs.Monitor.{granted}
 use Rattle.banking.specs.Banking.{bankAnswer, bankMoves, relationsAfter, ownAfter, otherAfter}
-use Rattle.banking.proofs.Answers as answers
-use Rattle.moments.specs.Moments.{Moved}
+use Rattle.banking.proofs.BankAnswers as answers
+use Rattle.moments.specs.private.Moments.{Moved}
 
 module _ (r o w : List ℕ) (e : joined r o ≡ w) (l : length w ≡ stateWords) where
   front-long : length (take relationWords r) ≡ relationWords

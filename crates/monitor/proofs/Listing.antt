@@ -12,12 +12,11 @@ use Rattle.theory.specs.Keeper.{Answer}
 use Rattle.memory.specs.Outcome.{Outcome, hasPassed}
 use Rattle.memory.specs.Outcome.Outcome.{passed, failed}
 use Rattle.calls.specs.Monitor.{granted}
-use Rattle.calls.specs.SetList.{numberOf, filled, listing}
+use Rattle.calls.specs.SetList.{numberOf, filled, listing, gainOf, blank}
 use Rattle.calls.specs.SetList.Listing.{counted}
-use Rattle.calls.specs.Listing.{turnsOf, gainOf}
+use Rattle.calls.specs.private.Listing.{turnsOf}
 use Rattle.calls.specs.declared.Record.{Record}
 use Rattle.monitor.proofs.Records.{put-answer}
-use Rattle.calls.proofs.Singly.{blank}
 
 -- ---- one element between two lists
 

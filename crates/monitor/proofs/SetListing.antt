@@ -8,9 +8,9 @@ use Rattle.theory.specs.Keeper.{Answer}
 use Rattle.memory.specs.Outcome.{Outcome, outcomeOf, hasPassed}
 use Rattle.memory.specs.Outcome.Outcome.{passed, failed}
 use Rattle.calls.specs.Monitor.{answer, granted, stateAfter, scratchAfter}
-use Rattle.calls.specs.SetList.{listingOf, filled, Run, singly, listing, listed, left}
-use Rattle.calls.specs.Listing.{Passed, turnsOf, gainOf}
-use Rattle.monitor.specs.Inspecting.{Seen}
+use Rattle.calls.specs.SetList.{listingOf, filled, Run, singly, listing, listed, left, gainOf, blank}
+use Rattle.calls.specs.private.Listing.{Passed, turnsOf}
+use Rattle.monitor.specs.private.Inspecting.{Seen}
 use Rattle.calls.specs.declared.Record.{Record}
 use Rattle.calls.specs.declared.Listed.{Listed}
 use Rattle.monitor.specs.declared.set_list.Inspected.{Inspected}
@@ -18,7 +18,7 @@ use Rattle.monitor.proofs.Records.{put-answer}
 use Rattle.monitor.proofs.Listing as loop
 use Rattle.monitor.proofs.Listing.{Ran, each, turns-passed}
 use Rattle.calls.proofs.ListChecks.{list-ready}
-use Rattle.calls.proofs.Singly.{blank, one-granted, AsRequest, after-passed}
+use Rattle.calls.proofs.OneByOne.{one-granted, AsRequest, after-passed}
 
 -- state and scratch
 abbrev pub Mem : Type 0

@@ -9,7 +9,7 @@ ghost use Rattle.memory.specs.Outcome.{outcomeOf, banksOpen, banksRevise};
 ghost use Rattle.memory.specs.Plan.{Planned};
 ghost use Rattle.calls.specs.Monitor.{answerOf, isDecided};
 ghost use Rattle.banking.specs.Banking.{bankAnswer, relationsAfter, ownAfter, otherAfter, clearedAfter, ownOpened, begunWords, relationsRevised, ownRevised};
-ghost use Rattle.deciding.specs.Starting.{Revising, Taken};
+ghost use Rattle.deciding.specs.private.Starting.{Revising, Taken};
 use crate::passed::is_grant;
 use crate::passed::is_moving;
 use crate::passed::is_named;

@@ -12,7 +12,7 @@ ghost use Rattle.memory.specs.Outcome.{outcomeOf, hasPassed};
 ghost use Rattle.memory.specs.Plan.{Planned};
 ghost use Rattle.calls.specs.Monitor.{answerOf, answer, granted, moves, stateAfter, scratchAfter};
 ghost use Rattle.calls.specs.SetList.{listChecks};
-ghost use Rattle.calls.specs.Listing.{Passed};
+ghost use Rattle.calls.specs.private.Listing.{Passed};
 use calls::Answer;
 use calls::Verdict;
 use memory::Outcome;

@@ -8,9 +8,9 @@ ghost use Rattle.memory.specs.Layout.{relationWords, ownWords, blockWords, term
 ghost use Rattle.memory.specs.Outcome.{outcomeOf, revises};
 ghost use Rattle.memory.specs.Plan.{planTable};
 ghost use Rattle.calls.specs.Revising.{revisedState};
-ghost use Rattle.deciding.specs.Memo.{MemoOf, Fresh};
-ghost use Rattle.deciding.specs.Moving.{put};
-ghost use Rattle.deciding.specs.Starting.{Revising, Begun, Taken};
+ghost use Rattle.deciding.specs.private.Memo.{MemoOf, Fresh};
+ghost use Rattle.deciding.specs.private.Moving.{put};
+ghost use Rattle.deciding.specs.private.Starting.{Revising, Begun, Taken};
 use decide::memo;
 use decide::memo_choice;
 use memory::Outcome;

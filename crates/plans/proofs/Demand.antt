@@ -8,11 +8,11 @@ use Rattle.theory.specs.Keeper.{Book, keepSteps}
 use Rattle.memory.specs.Layout.{termsOf}
 use Rattle.memory.specs.Outcome.{opens}
 use Rattle.memory.specs.Outcome.Outcome.{passed}
-use Rattle.calls.specs.Agreement.{LentStep, fedSteps, Lent, serveSteps}
+use Rattle.calls.specs.Agreement.{LentStep, fedSteps, Lent, serveSteps, openedBook, opened}
 use Rattle.plans.specs.Game.{keeperRules}
 use Rattle.plans.specs.Plans.{ruling}
 use Rattle.memory.proofs.Accepted.{good}
-use Rattle.calls.proofs.Demand.{Playing, keeper-good, run, openedBook, opened, opened-playing}
+use Rattle.calls.proofs.Demand.{Playing, keeper-good, run, opened-playing}
 use Rattle.plans.proofs.Rivals.{ruled-kept}
 use Rattle.plans.proofs.RuledAlike.{rules-alike}
 

@@ -18,9 +18,9 @@ use Rattle.theory.specs.Limits.{scratchWords}
 use Rattle.memory.specs.Layout.{stateWords, termsOf}
 use Rattle.plans.specs.Game.{wins, movesFrom, moves, gameWords}
 use Rattle.plans.specs.Plans.{stepped, reachedIn, accepted}
-use Rattle.plans.specs.Playing.{standing, Spared, Placed, Playable, offered, replied, winsFrom, outlasts}
+use Rattle.plans.specs.private.Playing.{standing, Spared, Placed, Playable, offered, replied, winsFrom, outlasts}
 use Rattle.theory.proofs.Good.{implied, implies}
-use Rattle.calls.proofs.Singly.{after-long}
+use Rattle.calls.proofs.OneByOne.{after-long}
 use Rattle.deciding.proofs.Stored.{copied, put-back}
 
 -- ---- states that stand in words

@@ -13,7 +13,7 @@ use Rattle.sets.specs.Sets.{allBelow}
 use Rattle.sets.proofs.Finite.{and-left, and-right, and-both, all-true, all-out, all-cong}
 use Rattle.theory.specs.Meaning.{Starts}
 use Rattle.theory.specs.Terms.{Terms, formula}
-use Rattle.theory.specs.Fit.{every, onlyFree}
+use Rattle.theory.specs.Fit.{every, onlyFree, Good}
 use Rattle.theory.specs.Limits.{scratchWords}
 use Rattle.theory.specs.Moment.{Moment}
 use Rattle.theory.specs.Keeper.{Book, target, keeperHolds}
@@ -25,12 +25,12 @@ use Rattle.plans.specs.Game.{Move, whatever, wins, Reply, hasReply, repl
 use Rattle.plans.specs.Plans.{stepped, reachedIn, accepted, ruling}
 use Rattle.plans.specs.Game.Reply.{pass, asks}
 use Rattle.plans.specs.Game.Ruling.{accept, reject, refuse}
-use Rattle.theory.proofs.Good.{Good, every-at}
-use Rattle.theory.proofs.Kept.{Kept, entry-kept}
+use Rattle.theory.proofs.Good.{every-at}
+use Rattle.theory.proofs.RunInvariant.{Kept, entry-kept}
 use Rattle.memory.proofs.Front.{state-front, good-front}
 use Rattle.memory.proofs.Outcomes.{Checked}
-use Rattle.calls.proofs.Held.{Held}
-use Rattle.calls.proofs.InStep.{step}
+use Rattle.calls.proofs.MemoryInvariant.{Held}
+use Rattle.calls.proofs.OneCall.{step}
 use Rattle.calls.proofs.Telling.{told-holds}
 
 -- ---- the game is the sentence

@@ -9,16 +9,15 @@ use borrow.Author.Tests.{ltb-true}
 use Rattle.sets.proofs.Finite.{and-left, and-right, and-under, all-cong}
 use Rattle.theory.specs.Formula.{Formula}
 use Rattle.theory.specs.Meaning.{Starts, holds}
-use Rattle.theory.specs.Terms.{Terms}
-use Rattle.theory.specs.Fit.{every, onlyFree}
+use Rattle.theory.specs.Terms.{Terms, Alike}
+use Rattle.theory.specs.Fit.{every, onlyFree, Good}
 use Rattle.theory.specs.Limits.{scratchWords}
 use Rattle.theory.specs.Moment.{Moment}
 use Rattle.theory.specs.Keeper.{Book, Call, Answer, recordOf, last, target, keeperHolds, keepAll}
 use Rattle.memory.specs.Outcome.{askable}
 use Rattle.plans.specs.Game.{Move, wins, movesOf, Ruling, gameTests, knownTests, gameWords, keeperStep, keeperAccepts, keeperRules}
 use Rattle.plans.specs.Game.Ruling.{accept, reject, refuse}
-use Rattle.theory.proofs.Good.{Good}
-use Rattle.theory.proofs.Like.{Alike, met, met-is, same-formula, keepAll-alike}
+use Rattle.theory.proofs.AlikeTerms.{met, met-is, same-formula, keepAll-alike}
 use Rattle.plans.proofs.Rulings.{game-parts}
 use Rattle.plans.proofs.Rivals.{wins-same}
 

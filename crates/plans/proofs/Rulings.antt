@@ -18,8 +18,8 @@ use Rattle.memory.specs.Outcome.Outcome.{passed, failed}
 use Rattle.plans.specs.Game.{Ruling, moves, gameTests, knownTests, gameWords}
 use Rattle.plans.specs.Plans.{accepted, ruling, scratchAfterRuling}
 use Rattle.plans.specs.Game.Ruling.{accept, reject, refuse}
-use Rattle.plans.specs.Playing.{Playable}
-use Rattle.theory.proofs.Spelled.{or-cases}
+use Rattle.plans.specs.private.Playing.{Playable}
+use Rattle.theory.proofs.Unfolding.{or-cases}
 use Rattle.theory.proofs.Good.{every-at}
 use Rattle.memory.proofs.Outcomes.{Checked}
 use Rattle.deciding.proofs.Stored.{put-back}

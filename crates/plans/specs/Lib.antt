@@ -1,4 +1,4 @@
 pub mod Game
 pub mod Plans
-pub mod Playing
 pub mod Refused
+pub mod private

@@ -15,7 +15,7 @@ ghost use Rattle.memory.specs.Layout.{stateWords, termsOf};
 ghost use Rattle.calls.specs.Telling.{tellingOf, affirms};
 ghost use Rattle.plans.specs.Game.{gameWords};
 ghost use Rattle.plans.specs.Plans.{stepped, reachedIn, accepted};
-ghost use Rattle.plans.specs.Playing.{standing, Spared, Placed, Playable, offered, replied, outlasts};
+ghost use Rattle.plans.specs.private.Playing.{standing, Spared, Placed, Playable, offered, replied, outlasts};
 
 // The words that a game is lent: three states, and the scratch of a request.
 pub(crate) const GAME: usize = 3 * STATE + SCRATCH;

@@ -16,31 +16,31 @@ use Rattle.theory.specs.Formula.{Formula, Operand, node, number, below, spelled
 use Rattle.theory.specs.Formula as formulas
 use Rattle.theory.specs.Formula.Operand.{variable, entry}
 use Rattle.theory.specs.Terms.{formula}
-use Rattle.theory.specs.Terms.{tables, pastEntry}
+use Rattle.theory.specs.Terms.{tables, pastEntry, Alike}
 use Rattle.theory.specs.Fit.{_⇒_, reachFits}
 use Rattle.theory.specs.Columns.{columnsFit}
 use Rattle.memory.specs.Plan.{Masked, setFits, reachSets}
-use Rattle.theory.proofs.Spelled.{below-spelled, small-below, small-node}
+use Rattle.theory.proofs.Unfolding.{below-spelled, small-below, small-node}
 use Rattle.theory.proofs.Good.{fits-variable}
 use Rattle.memory.proofs.FreeSets.{fit-set, target-set, reach-set}
 use Rattle.file.specs.File.{File, update, withEntry, pairTable}
 use Rattle.file.specs.Reading.{inRange, isLower, complete, tests}
-use Rattle.reader.specs.Stepping.{slot}
-use Rattle.reader.specs.Testing.{isPair, contextTests, FreeIn, reachIn}
+use Rattle.reader.specs.private.Stepping.{slot}
+use Rattle.reader.specs.private.Testing.{isPair, contextTests, FreeIn, reachIn}
 use Rattle.reader.specs.Memory.{memoryOf}
 use Rattle.memory.specs.Layout.{termsOf}
 use Rattle.file.specs.declared.line.Line.{Line}
 use Rattle.file.specs.declared.line.Line.the-variants.{Members, Labels, Entry, Policy, Effect, Edge, Form, TableBit, PairBit, EventEdge, Mark, Malformed}
 use Rattle.reader.specs.declared.step.Context.{Context}
-use Rattle.theory.proofs.Like.{Alike, number-agree, below-agree, spelled-agree}
+use Rattle.theory.proofs.AlikeTerms.{number-agree, below-agree, spelled-agree}
 use Rattle.file.proofs.Update.{update-same, update-other}
 use Rattle.file.proofs.Fit.{operand-fits}
-use Rattle.file.proofs.Going.{Going}
+use Rattle.file.proofs.Invariant.{Going}
 use Rattle.file.proofs.Accepted.{going-good}
 use Rattle.reader.proofs.TermsMemory.{memory-alike}
 use Rattle.reader.proofs.PairTables.{pair-same}
 use Rattle.file.proofs.Printed.Ranged.{members, event}
-use Rattle.reader.proofs.Tried.{Same, same-all, same-test}
+use Rattle.reader.proofs.FirstFailing.{Same, same-all, same-test}
 
 -- The counters of what has been said.
 abbrev pub contextOf : File → Context

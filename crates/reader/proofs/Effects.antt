@@ -10,9 +10,9 @@ use borrow.Author.Tests.{eqb-true, eqb-false, eq-eqb, ltb-true, lt-ltb}
 use Rattle.sets.proofs.Finite.{and-left, and-right}
 use Rattle.theory.specs.Terms.{Effect}
 use Rattle.memory.specs.Layout.{effectsFrom}
-use Rattle.theory.specs.Fit.{_⇒_}
+use Rattle.theory.specs.Fit.{_⇒_, Within, more}
 use Rattle.memory.specs.Checks.{effectFits}
-use Rattle.theory.proofs.Good.{Within, more, implied}
+use Rattle.theory.proofs.Good.{implied}
 use Rattle.reader.specs.Memory.{effectWord}
 
 -- The three words from a word on are those of effect number i.

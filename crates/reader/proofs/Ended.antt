@@ -17,8 +17,8 @@ use Rattle.file.specs.Reading.Reading.{accepted, refused}
 use Rattle.reader.specs.Memory.{memoryOf}
 use Rattle.reader.specs.Read.{Filling, fillingOf, filling, fillGives, readTerms, readWords}
 use Rattle.reader.specs.Read.Filling.{old, stored, unfilled}
-use Rattle.reader.specs.Storing.{allRead, Holds, Reads}
-use Rattle.reader.specs.Partly.{Found}
+use Rattle.reader.specs.private.Storing.{allRead, Holds, Reads}
+use Rattle.reader.specs.private.Partly.{Found}
 use Rattle.reader.specs.declared.Filled.{Filled}
 use Rattle.reader.specs.declared.Filled.the-variants.{Old, Stored, Refused}
 use Rattle.reader.proofs.Filled.{the-type}

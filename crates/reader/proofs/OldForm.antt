@@ -20,8 +20,8 @@ use Rattle.file.specs.Reading.{tests, reading}
 use Rattle.file.specs.Reading.Reading.{accepted, refused}
 use Rattle.file.specs.declared.line.Line.{Line}
 use Rattle.file.proofs.Printed.Ranged.{members, labels, entry, policy, effect, edge, form, bit, pair, event, mark}
-use Rattle.file.proofs.Taken.{passed-at, Taken, reading-accepting}
-use Rattle.file.proofs.Taken.Taken.{none, one}
+use Rattle.file.proofs.Derivation.{passed-at, Taken, reading-accepting}
+use Rattle.file.proofs.Derivation.Taken.{none, one}
 use Rattle.file.proofs.Said.{said}
 use Rattle.reader.specs.Read.{Filling, filling, fillGives, readTerms, readWords}
 use Rattle.reader.specs.Read.Filling.{old, stored, unfilled}

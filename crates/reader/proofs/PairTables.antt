@@ -12,10 +12,11 @@ use Rattle.sets.specs.Sets.{bit}
 use Rattle.sets.proofs.Finite.{true-or-false, and-left}
 use Rattle.theory.specs.Formula.{Formula, free, columns}
 use Rattle.theory.specs.Columns.{columnsFit}
-use Rattle.theory.specs.Terms.{Terms, formula, tables, pastEntry}
+use Rattle.theory.specs.Terms.{Terms, formula, tables, pastEntry, Alike}
+use Rattle.theory.specs.Fit.{Good}
 use Rattle.theory.proofs.FreeColumns.{columns-none, columns-single, columns-pair}
-use Rattle.theory.proofs.Good.{Good, small}
-use Rattle.theory.proofs.Like.{Alike, met-is, same-past}
+use Rattle.theory.proofs.Good.{small}
+use Rattle.theory.proofs.AlikeTerms.{met-is, same-past}
 use Rattle.theory.proofs.Past.{past-entry}
 use Rattle.memory.specs.Plan.{Masked, restOf}
 use Rattle.memory.proofs.FreeSets.{fit-set}

@@ -22,19 +22,19 @@ use Rattle.memory.specs.Plan.{Masked}
 use Rattle.file.specs.File.{File, withEntry, eventNamed, eventSaid, after}
 use Rattle.file.specs.Reading.{inRange, isLower, tests}
 use Rattle.reader.specs.Memory.{memoryOf}
-use Rattle.reader.specs.Stepping.{Ranges, stepped}
-use Rattle.reader.specs.Testing.{LastSet, FreeIn}
-use Rattle.reader.specs.Storing.{storedTerms, storedState, storedSets}
+use Rattle.reader.specs.private.Stepping.{Ranges, stepped}
+use Rattle.reader.specs.private.Testing.{LastSet, FreeIn}
+use Rattle.reader.specs.private.Storing.{storedTerms, storedState, storedSets}
 use Rattle.file.specs.declared.line.Line.{Line}
 use Rattle.file.specs.declared.line.Line.the-variants.{Entry, Policy, Effect, Edge, TableBit, PairBit, Mark}
 use Rattle.file.specs.Refused.{Passed}
-use Rattle.file.proofs.Taken.{passed-at}
+use Rattle.file.proofs.Derivation.{passed-at}
 use Rattle.file.proofs.Update.{update-same}
-use Rattle.file.proofs.Going.{Going, entry-phase, policy-phase, complete-phase}
+use Rattle.file.proofs.Invariant.{Going, entry-phase, policy-phase, complete-phase}
 use Rattle.file.proofs.Printed.{Ranged}
 use Rattle.file.proofs.Printed.Ranged.{members, labels, entry as entryLine, policy, effect, edge, form, bit as tableBit, pair, event, mark}
-use Rattle.reader.proofs.Stored.{members-stored, labels-stored, entry-stored, policy-stored, effect-stored, mark-stored}
-use Rattle.reader.proofs.Bits.{together, bitsMemory, bitsOf, edge-stored, table-stored, event-stored}
+use Rattle.reader.proofs.StoredTerms.{members-stored, labels-stored, entry-stored, policy-stored, effect-stored, mark-stored}
+use Rattle.reader.proofs.StateBits.{together, bitsMemory, bitsOf, edge-stored, table-stored, event-stored}
 use Rattle.reader.proofs.Counters.{contextOf, tables-new, slot-is, masked-new}
 
 operand-low : (k : Operand) (r n v : ℕ) → r < 256 → n < 256 → inRange k r v ≡ true → isLower k n v ≡ true → v < 256

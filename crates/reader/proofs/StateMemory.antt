@@ -14,20 +14,20 @@ use Rattle.sets.proofs.Finite.{bool-iff, not-both, and-left, and-right, or-case
 use Rattle.sets.proofs.Bits.{bit-zero, bit-mask}
 use Rattle.sets.proofs.Pack.{bit-pack}
 use Rattle.theory.specs.Formula.{Formula, number, isPast, free, columns}
-use Rattle.theory.specs.Terms.{Terms, formula, tables, pastEntry}
+use Rattle.theory.specs.Terms.{Terms, formula, tables, pastEntry, Alike}
 use Rattle.theory.specs.Moment.{Event}
 use Rattle.theory.specs.Tables.{State}
-use Rattle.theory.specs.Fit.{_⇒_, every, closed}
-use Rattle.theory.proofs.Spelled.{number-lt}
+use Rattle.theory.specs.Fit.{_⇒_, every, closed, Good}
+use Rattle.theory.proofs.Unfolding.{number-lt}
 use Rattle.theory.proofs.Past.{past-entry, past-is}
-use Rattle.theory.proofs.Good.{Good, implied, implies, every-at, every-in}
-use Rattle.theory.proofs.Like.{Alike, met, met-is, same-number, same-formula, same-past}
+use Rattle.theory.proofs.Good.{implied, implies, every-at, every-in}
+use Rattle.theory.proofs.AlikeTerms.{met, met-is, same-number, same-formula, same-past}
 use Rattle.memory.specs.Layout.{termsWords, stateWords, tableAt, eventAt, termsOf, stateOf, wordsOf, tableColumns}
-use Rattle.memory.specs.Checks.{fits, tableFits, level, goodEvent, goodRelations, stateTests, goodState}
+use Rattle.memory.specs.Checks.{fits, tableFits, level, goodEvent, goodRelations, stateTests, goodState, EventInside, Inside as InsideMoment}
 use Rattle.memory.specs.Outcome.{checks, opens}
 use Rattle.memory.specs.Outcome.Outcome.{passed}
 use Rattle.memory.proofs.Row.{fits-row, table-fits-row, level-row}
-use Rattle.memory.proofs.Inside.{EventInside, Inside as InsideMoment, good-event}
+use Rattle.memory.proofs.Inside.{good-event}
 use Rattle.memory.proofs.Front.{state-front, good-front}
 use Rattle.memory.proofs.Words.{length-words, word-relation, word-of-table, word-event, now-back}
 use Rattle.memory.proofs.Outcomes.{check-passed, open-passed}
@@ -37,7 +37,7 @@ use Rattle.file.specs.Reading.Reading.{accepted}
 use Rattle.file.proofs.Fit.{InsideTables, EventFits}
 use Rattle.theory.proofs.Places.{closed-columns}
 use Rattle.theory.specs.Columns as places
-use Rattle.file.proofs.Level.{Level, level-entry}
+use Rattle.file.proofs.LevelWords.{Level, level-entry}
 use Rattle.file.proofs.Accepted.{Accepted, accepted-good, accepted-level}
 use Rattle.reader.specs.Memory.{memoryOf}
 use Rattle.reader.proofs.TermsMemory.{length-memory, memory-alike, memory-good}

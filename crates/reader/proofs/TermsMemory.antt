@@ -12,15 +12,15 @@ use Rattle.sets.proofs.Finite.{all-true}
 use Rattle.theory.specs.Formula.{Entry, isPast}
 use Rattle.theory.specs.Terms.{Terms}
 use Rattle.memory.specs.Layout.{termsWords, entryAt, policyAt, effectAt, markAt, effectsFrom, termsOf}
-use Rattle.theory.specs.Terms.{tables}
-use Rattle.theory.specs.Fit.{_⇒_, every, entryTests, policyTests}
+use Rattle.theory.specs.Terms.{tables, Alike}
+use Rattle.theory.specs.Fit.{_⇒_, every, entryTests, policyTests, Good, GoodEntry}
 use Rattle.memory.specs.Checks.{blank, effectFits, effectsTests, goodMemory}
-use Rattle.theory.proofs.Good.{Good, GoodEntry, implies}
+use Rattle.theory.proofs.Good.{implies}
 use Rattle.memory.proofs.Row.{length-tabulate, getD-tabulate}
 use Rattle.reader.specs.Memory.{entryWord, effectWord, termsWord, memoryOf}
 use Rattle.file.proofs.Fit.{noEntry}
 use Rattle.file.proofs.Accepted.{Tidy}
-use Rattle.theory.proofs.Like.{Alike, good-alike}
+use Rattle.theory.proofs.AlikeTerms.{good-alike}
 use Rattle.reader.proofs.Effects.{Triple, effects-read, effect-fits, effects-front}
 
 pub length-memory : (T : Terms) → length (memoryOf T) ≡ termsWords

@@ -5,7 +5,7 @@ use memory::plan::free_of;
 use memory::plan::reach_fits;
 use memory::plan::set_at;
 ghost use mathlib.Core.Path.{_≡_};
-ghost use Rattle.reader.specs.Testing.{tableSet, LastSet, FreeIn, reachIn};
+ghost use Rattle.reader.specs.private.Testing.{tableSet, LastSet, FreeIn, reachIn};
 
 // The free variables of the entry of table t. Where the line before was a T line of the same table, they are `last`, at hand.
 fn table_set(phase: usize, table: usize, last: u64, terms: &[u16], masks: &[u64], t: usize) -> u64

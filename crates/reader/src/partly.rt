@@ -16,7 +16,7 @@ use sets::mask;
 ghost use mathlib.Core.Path.{_≡_};
 ghost use Rattle.theory.specs.Terms.{pastEntry};
 ghost use Rattle.memory.specs.Layout.{termsOf};
-ghost use Rattle.reader.specs.Partly.{tableWord, partlyIn, Found};
+ghost use Rattle.reader.specs.private.Partly.{tableWord, partlyIn, Found};
 
 // Past-time entry number t; 0 where there is none.
 pub(crate) fn past_entry(terms: &[u16], t: usize) -> usize

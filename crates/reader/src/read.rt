@@ -24,7 +24,7 @@ ghost use lib.ListN.{length, drop, replicate};
 ghost use Rattle.memory.specs.Layout.{termsWords, stateWords};
 ghost use Rattle.reader.specs.Read.{fillingOf, fillGives, readTerms, readWords};
 ghost use Rattle.reader.specs.OldForm.{beginsStored, oldFillGives, oldTerms, oldRelations};
-ghost use Rattle.reader.specs.Storing.{Reads};
+ghost use Rattle.reader.specs.private.Storing.{Reads};
 
 // Reads the lines into words that are 0: the terms, the state, and the sets of free variables on the way.
 // A refusal has the first faulty line and in it the lowest number; what the words are then is not said.

@@ -21,11 +21,11 @@ ghost use Prim.Native.Nat.{_+_, _*_};
 ghost use lib.Dec.{ltb};
 ghost use Rattle.theory.specs.Formula.{isPast};
 ghost use Rattle.theory.specs.Columns.{pairFirst};
-ghost use Rattle.memory.specs.Operands.{kindOf};
+ghost use Rattle.memory.specs.private.Operands.{kindOf};
 ghost use Rattle.theory.specs.Fit.{_⇒_};
 ghost use Rattle.file.specs.File.{eventNamed};
 ghost use Rattle.file.specs.Reading.{test, inRange, isLower};
-ghost use Rattle.reader.specs.Testing.{refusedBy, numberFrom, rising, risingPair, isPair, contextTests};
+ghost use Rattle.reader.specs.private.Testing.{refusedBy, numberFrom, rising, risingPair, isPair, contextTests};
 ghost use Rattle.file.specs.declared.line.Line.the-variants.{Members, Labels, Entry, Policy, Effect, Edge, Form, TableBit, PairBit, EventEdge, Mark};
 
 // k, the number of the first test that failed; where none has, number if this one fails, else 0.

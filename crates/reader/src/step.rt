@@ -3,7 +3,7 @@ use file::line::Line;
 use memory::plan::is_past;
 ghost use mathlib.Core.Path.{_≡_};
 ghost use Prim.Native.Nat.{_<_};
-ghost use Rattle.reader.specs.Stepping.{begun, isComplete, slot, Ranges, stepped};
+ghost use Rattle.reader.specs.private.Stepping.{begun, isComplete, slot, Ranges, stepped};
 
 // What the lines so far have said, in numbers: tables counts the prev and since entries, marks is one past the last event marked as kept,
 // effects counts those of event, and relation, from and to are the last edge or bit of a table.

@@ -17,8 +17,8 @@ ghost use mathlib.Core.Path.{_≡_};
 ghost use Prim.Native.Nat.{_+_, _*_, _<_};
 ghost use lib.ListN.{length, set};
 ghost use Rattle.memory.specs.Layout.{termsWords, stateWords, entryAt, policyAt, effectAt, markAt, relationAt, tableAt, eventAt, eventUnit, fromUnit};
-ghost use Rattle.reader.specs.Stepping.{Ranges};
-ghost use Rattle.reader.specs.Storing.{three, four, withBitAt, storedTerms, storedState, storedSets};
+ghost use Rattle.reader.specs.private.Stepping.{Ranges};
+ghost use Rattle.reader.specs.private.Storing.{three, four, withBitAt, storedTerms, storedState, storedSets};
 
 // The units of the event word, as numbers.
 const FROM_UNIT: usize = layout::FROM_UNIT as usize;

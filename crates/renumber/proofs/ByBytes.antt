@@ -11,9 +11,9 @@ use borrow.Rule.Slice.PartMut.{putMid}
 use Rattle.sets.specs.Sets.{bit}
 use Rattle.sets.proofs.Finite.{last-or-below}
 use Rattle.sets.proofs.Bits.{bit-or, bit-zero}
-use Rattle.deciding.specs.Moving.{put}
+use Rattle.deciding.specs.private.Moving.{put}
 use Rattle.deciding.proofs.Stored.{put-in, put-other, put-length, put-back}
-use Rattle.renumber.specs.Spread.{spread, ByteOf, Bytes}
+use Rattle.renumber.specs.private.Spread.{spread, ByteOf, Bytes}
 use Rattle.renumber.proofs.Spreading.{spread-zero, spread-byte, spread-half, spread-low, spread-cong}
 
 -- ---- filling

@@ -17,17 +17,17 @@ use Rattle.sets.proofs.Bits.{bit-zero}
 use Rattle.theory.specs.Formula.{number, isPast, columns}
 use Rattle.theory.specs.Columns.{columnsFit, inside, wordUnder, bitUnder}
 use Rattle.theory.specs.Terms.{Terms, formula}
+use Rattle.theory.specs.Fit.{Good}
+use Rattle.theory.specs.MembersRenumbered.{Renumbering}
 use Rattle.memory.specs.Layout.{tableAt, eventAt, tableColumns}
 use Rattle.memory.specs.Plan.{planTable, planFirst, planLast, planColumns, Planned}
-use Rattle.theory.proofs.Good.{Good}
 use Rattle.theory.proofs.Past.{past-is}
 use Rattle.theory.proofs.MembersPlaces.{PairInside, pair-inside, pair-word-back, pair-bit-back, under-inside, under-back}
-use Rattle.theory.proofs.MembersRenumbered.{Renumbering}
-use Rattle.deciding.specs.Moving.{put}
+use Rattle.deciding.specs.private.Moving.{put}
 use Rattle.deciding.proofs.Stored.{put-in, put-other, put-after, put-length, put-back}
-use Rattle.renumber.specs.Spread.{spread}
+use Rattle.renumber.specs.private.Spread.{spread}
 use Rattle.renumber.proofs.Spreading.{spread-cong}
-use Rattle.renumber.specs.PairRows.{Few, goesTo, Gone, isTwo, Tabled}
+use Rattle.renumber.specs.private.PairRows.{Few, goesTo, Gone, isTwo, Tabled}
 
 any-more : (n : ℕ) (f : ℕ → Bool) → anyBelow (n + 1) f ≡ (f n || anyBelow n f)
 unfolding anyBelow

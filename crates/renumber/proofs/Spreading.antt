@@ -15,7 +15,7 @@ use borrow.Author.Tests.{eqb-true, eq-eqb, ltb-true, ltb-false, lt-ltb}
 use Rattle.sets.specs.Sets.{anyBelow, bit}
 use Rattle.sets.proofs.Finite.{bool-iff, true-or-false, and-left, and-right, and-both, and-true, or-left, or-right, or-cases, any-intro, any-elim, any-cong, last-or-below, not-both}
 use Rattle.sets.proofs.Bits.{bit-and, bit-or, bit-set, bit-zero, bit-half, bit-mask}
-use Rattle.renumber.specs.Spread.{spread, Doubled, ByteOf}
+use Rattle.renumber.specs.private.Spread.{spread, Doubled, ByteOf}
 
 any-false : (n : ℕ) (p : ℕ → Bool) → ((k : ℕ) → k < n → p k ≡ false) → anyBelow n p ≡ false
 any-false n p h = ⊎-elim

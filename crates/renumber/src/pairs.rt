@@ -15,8 +15,8 @@ ghost use Rattle.theory.specs.NewNumbers.{newNumber};
 ghost use Rattle.memory.specs.Layout.{stateWords, blockWords, termsOf};
 ghost use Rattle.memory.specs.Checks.{goodMemory};
 ghost use Rattle.memory.specs.Plan.{Planned};
-ghost use Rattle.renumber.specs.Spread.{Bytes};
-ghost use Rattle.renumber.specs.PairRows.{Few, Gone, Tabled};
+ghost use Rattle.renumber.specs.private.Spread.{Bytes};
+ghost use Rattle.renumber.specs.private.PairRows.{Few, Gone, Tabled};
 
 // The words of a member, and the rows of a word.
 const WORDS: usize = 4;

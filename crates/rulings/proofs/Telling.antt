@@ -10,7 +10,7 @@ use borrow.Author.Tests.{le-ltb, ltb-true}
 use Rattle.sets.proofs.Finite.{and-left, and-right, and-under}
 use Rattle.theory.specs.Formula.{Formula}
 use Rattle.theory.specs.Meaning.{Starts, holds as isTrue}
-use Rattle.theory.specs.Terms.{Terms, formula}
+use Rattle.theory.specs.Terms.{Terms, formula, Alike}
 use Rattle.theory.specs.Fit.{onlyFree}
 use Rattle.theory.specs.Moment.{Moment}
 use Rattle.theory.specs.Keeper.{Book, recordOf, last, target, keeperHolds}
@@ -20,8 +20,8 @@ use Rattle.calls.specs.Agreement.{Lent}
 use Rattle.calls.specs.Telling.{Telling, paired, holdsAt, tells}
 use Rattle.calls.specs.Telling.Telling.{holds, fails, refused}
 use Rattle.rulings.specs.Telling.{keeperTells}
-use Rattle.theory.proofs.Like.{Alike, met, met-is, same-formula}
-use Rattle.theory.proofs.Kept.{entry-kept}
+use Rattle.theory.proofs.AlikeTerms.{met, met-is, same-formula}
+use Rattle.theory.proofs.RunInvariant.{entry-kept}
 use Rattle.memory.proofs.Accepted.{good}
 use Rattle.calls.proofs.Demand.{Playing}
 

@@ -7,12 +7,12 @@ use lib.Dec.{eqb}
 use Rattle.theory.specs.Formula.{Formula, Entry, number, below}
 use Rattle.theory.specs.Meaning.{Graph, alone}
 use Rattle.theory.specs.Columns.{standing, member}
-use Rattle.theory.specs.Terms.{Terms, formula}
+use Rattle.theory.specs.Terms.{Terms, formula, Alike}
 use Rattle.theory.specs.Moment.{Moment, graph, affectAll}
 use Rattle.theory.specs.Moment.Event.{happened}
 use Rattle.theory.specs.Tables.{Tables, holdsNow, store, prevStep, prevTables, sinceTables, State, decideNow, made, advance}
-use Rattle.theory.proofs.Good.{Good}
-use Rattle.theory.proofs.Like.{Alike, met, met-is, below-agree, same-number, same-formula, since-met}
+use Rattle.theory.specs.Fit.{Good}
+use Rattle.theory.proofs.AlikeTerms.{met, met-is, below-agree, same-number, same-formula, since-met}
 
 module _ (T U : Terms) (a : Alike T U) (good : Good T) where
   abbrev W : Terms

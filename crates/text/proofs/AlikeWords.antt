@@ -10,7 +10,7 @@ use Rattle.sets.proofs.Finite.{and-under}
 use Rattle.theory.specs.Formula.{columns}
 use Rattle.theory.specs.Meaning.{Starts, holds}
 use Rattle.theory.specs.Columns.{inside, wordUnder, bitUnder, standing, member}
-use Rattle.theory.specs.Terms.{Terms, formula, tables, pastEntry}
+use Rattle.theory.specs.Terms.{Terms, formula, tables, pastEntry, Alike}
 use Rattle.theory.specs.Moment.{Relations, Event, Moment, graph, first}
 use Rattle.theory.specs.Moment.Event.{none, happened, tried}
 use Rattle.theory.specs.Keeper.{recordOf, last, keeperHolds}
@@ -18,9 +18,9 @@ use Rattle.theory.specs.Tables.{State, opening}
 use Rattle.theory.specs.NewNumbers.{oldNumber}
 use Rattle.theory.specs.MembersRenumbered.{stateBy}
 use Rattle.theory.proofs.Past.{past-entry}
-use Rattle.theory.proofs.Like.{Alike, met, met-is, same-number, same-formula, same-past, since-met}
+use Rattle.theory.proofs.AlikeTerms.{met, met-is, same-number, same-formula, same-past, since-met}
 use Rattle.memory.specs.Layout.{stateWords, relationWords, eventAt, eventWord, row, tableRow, tableColumns, wordAt, tabulate, wordsOf}
-use Rattle.memory.proofs.Inside.{EventInside, Inside}
+use Rattle.memory.specs.Checks.{EventInside, Inside}
 use Rattle.calls.specs.Agreement.{Agrees}
 
 module _ (T U : Terms) (a : Alike T U) where

@@ -9,21 +9,20 @@ use lib.Dec.{ltb}
 use lib.ListN.{length, take, drop, length-append}
 use lib.Seq.{take-at}
 use borrow.Author.Tests.{lt-ltb, le-ltb, ltb-false}
-use Rattle.theory.specs.Terms.{Terms}
+use Rattle.theory.specs.Terms.{Terms, Alike}
 use Rattle.theory.specs.Moment.{Relations, Moment}
 use Rattle.theory.specs.Tables.{opening}
-use Rattle.theory.proofs.Like.{Alike}
 use Rattle.memory.specs.Layout.{termsWords, stateWords, relationWords, ownWords, joined, termsOf, stateOf, wordsOf}
 use Rattle.memory.specs.Checks.{goodMemory, goodRelations}
 use Rattle.memory.specs.Outcome.{Outcome, banksOpen}
 use Rattle.memory.specs.Outcome.Outcome.{passed, failed}
 use Rattle.memory.proofs.Accepted.{good}
 use Rattle.memory.proofs.Words.{length-words, now-back}
-use Rattle.calls.proofs.Level.{relations-good}
+use Rattle.calls.proofs.LayoutKept.{relations-good}
 use Rattle.calls.proofs.Demand.{or-false-right}
 use Rattle.banking.specs.Banking.{ownOpened}
-use Rattle.banking.proofs.Joined.{edges-joined, good-joined, part-long, front-long}
-use Rattle.banking.proofs.Opened.{own-opened}
+use Rattle.banking.proofs.JoinedState.{edges-joined, good-joined, part-long, front-long}
+use Rattle.banking.proofs.BankOpening.{own-opened}
 use Rattle.file.specs.File.{File, stateSaid}
 use Rattle.file.specs.Reading.{Reading, reading}
 use Rattle.file.specs.Reading.Reading.{accepted, refused}

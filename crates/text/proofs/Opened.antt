@@ -20,7 +20,7 @@ use Rattle.reader.specs.Read.Filling.{old, stored, unfilled}
 use Rattle.text.specs.Text.{beginning, filledState, readState}
 use Rattle.reader.proofs.StateMemory.{filled, placed, filled-alike, placed-edges, placed-further, passes}
 use Rattle.text.proofs.AlikeWords.{words-alike}
-use Rattle.text.proofs.Yields.{read-terms, read-state}
+use Rattle.text.proofs.AcceptedMemory.{read-terms, read-state}
 
 module _ (text : List ℕ) (f : File) (e : reading text ≡ accepted f) (terms state : List ℕ) (long : stateWords ≤ length state) where
   -- The memory opens, whatever it held, and what opening leaves is the state of moment 0.

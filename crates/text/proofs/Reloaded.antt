@@ -12,10 +12,9 @@ use Rattle.sets.specs.Sets.{bit}
 use Rattle.theory.specs.Terms.{Terms, tables}
 use Rattle.theory.specs.Columns as places
 use Rattle.theory.specs.Tables.{State, opening}
-use Rattle.theory.proofs.Good.{Good}
+use Rattle.theory.specs.Fit.{Good}
 use Rattle.memory.specs.Layout.{termsWords, stateWords, tableAt, tableColumns, termsOf, stateOf, wordsOf}
-use Rattle.memory.specs.Checks.{goodMemory, goodState}
-use Rattle.memory.proofs.Inside.{Inside as InsideMoment}
+use Rattle.memory.specs.Checks.{goodMemory, goodState, Inside as InsideMoment}
 use Rattle.memory.proofs.Accepted.{good}
 use Rattle.memory.proofs.Front.{state-front}
 use Rattle.memory.proofs.Words.{length-words, word-table, now-back, table-back, canonical}
@@ -34,8 +33,8 @@ use Rattle.writer.specs.Write.{storedText}
 use Rattle.text.specs.Text.{beginning, readState}
 use Rattle.text.proofs.AlikeWords.{state-alike}
 use Rattle.text.proofs.Storable.{storable, storable-alike}
-use Rattle.text.proofs.Tidied.{tidied, tidied-alike, tidied-good, tidied-tidy, tidied-words}
-use Rattle.text.proofs.Yields.{read-terms, read-state}
+use Rattle.text.proofs.TidyTerms.{tidied, tidied-alike, tidied-good, tidied-tidy, tidied-words}
+use Rattle.text.proofs.AcceptedMemory.{read-terms, read-state}
 
 -- The words of a state that keeps the layout are the named words of its memory.
 pub named-words : (T : Terms) → T .members < 65 → (w : List ℕ) → stateWords ≤ length w → goodState T w ≡ true → wordsOf T (stateOf w) ≡ take stateWords w

@@ -22,9 +22,9 @@ use Rattle.writer.specs.Write.{writtenText, isFresh, ifFresh, writeGives, oldWr
 use Rattle.writer.specs.Write.Writing.{bytes}
 use Rattle.text.specs.Recorded.{loaded, after, Recorded}
 use Rattle.text.specs.Recorded.Recorded.{old, written}
-use Rattle.text.proofs.Yields.{reread-fresh}
+use Rattle.text.proofs.AcceptedMemory.{reread-fresh}
 use Rattle.text.proofs.Reloaded.{reloaded, reread-stored-memory}
-use Rattle.text.proofs.Loaded.{text-stored, loaded-twins}
+use Rattle.text.proofs.LoadedBook.{text-stored, loaded-twins}
 use Rattle.text.proofs.Demand.{playing, never-stopped}
 
 -- ---- the old form

@@ -2,8 +2,8 @@
 -- text byte by byte.
 use Prim.Native.Nat.{ℕ, _≤_, _<_}
 use native.Mathlib.Omega.{arith}
-use mathlib.Core.Path.{_≡_, refl, sym, ap, subst, _∙_}
-use mathlib.Core.Bool.{Bool, true, false, cond}
+use mathlib.Core.Path.{_≡_, sym, ap, subst, _∙_}
+use mathlib.Core.Bool.{true, false, cond}
 use mathlib.Core.List.{List, _++_}
 use lib.ListN.{length, getD, drop, List·getD-append}
 use borrow.Author.Tests.{eq-eqb, le-ltb}
@@ -12,7 +12,6 @@ use Rattle.theory.specs.Terms.{Terms}
 use Rattle.theory.specs.Moment.{Relations}
 use Rattle.theory.specs.Tables.{State, opening}
 use Rattle.memory.specs.Layout.{termsWords, stateWords, termsOf, stateOf, wordAt, wordsOf}
-use Rattle.memory.specs.Outcome.{checks}
 use Rattle.memory.specs.Outcome.Outcome.{passed}
 use Rattle.memory.proofs.Row.{getD-tabulate}
 use Rattle.memory.proofs.Words.{length-words}
@@ -26,20 +25,13 @@ use Rattle.file.proofs.Rewritten.{rewritten, normal-plain, normal-accepted}
 use Rattle.reader.specs.Memory.{memoryOf}
 use Rattle.reader.proofs.StateMemory.{filled-alike, checked}
 use Rattle.reader.specs.Read.{readGives, readTerms}
-use Rattle.writer.specs.Write.{Writing, writtenText, isFresh, writeGives, oldWriteGives, oldWriteLeaves, storedText, storeGives, storeLeaves}
+use Rattle.writer.specs.Write.{writtenText, isFresh, writeGives, oldWriteGives, oldWriteLeaves, storedText, storeGives, storeLeaves}
 use Rattle.writer.specs.Write.Writing.{bytes}
 use Rattle.writer.proofs.OldForm.{write-fresh}
-use Rattle.text.specs.Text.{beginning, readState}
-use Rattle.text.proofs.Begun.{read-opened, begun-like, same-opened, edges-back, begun-checked}
+use Rattle.text.specs.Text.{beginning, readState, Back}
+use Rattle.text.proofs.MomentZero.{read-opened, begun-like, same-opened, edges-back, begun-checked}
 use Rattle.text.proofs.Reloaded.{placed-state}
-use Rattle.text.proofs.Yields.{read-terms, read-state}
-
--- What reading gives, and what writing over what it left gives and leaves: the text t, of which out has room for all.
-abbrev Back : (gives : List ℕ → List ℕ → List ℕ → Writing) → (leaves : List ℕ → List ℕ → List ℕ → List ℕ) → (text terms state out t : List ℕ) → Type 0
-Back gives leaves text terms state out t =
-    (readGives text terms state ≡ passed)
-    × (gives (readTerms text terms state) (readState text terms state) out ≡ bytes (length t))
-    × (leaves (readTerms text terms state) (readState text terms state) out ≡ t ++ drop (length t) out)
+use Rattle.text.proofs.AcceptedMemory.{read-terms, read-state}
 
 module _ (text : List ℕ) (f : File) (e : reading text ≡ accepted f) (terms state : List ℕ) (tl : termsWords ≤ length terms) (sl : stateWords ≤ length state) where
   read-done : readGives text terms state ≡ passed

@@ -14,18 +14,18 @@ use Rattle.sets.proofs.Bits.{bit-zero, bit-below, bit-mask}
 use Rattle.theory.specs.Formula.{Formula, number, isPast, columns}
 use Rattle.theory.specs.Columns.{insidePair}
 use Rattle.theory.specs.Columns as places
-use Rattle.theory.specs.Terms.{Terms, formula, tables, pastEntry}
+use Rattle.theory.specs.Terms.{Terms, formula, tables, pastEntry, Alike}
 use Rattle.theory.specs.Moment.{Event}
 use Rattle.theory.specs.Moment.Event.{none as noEvent, happened as granted, tried as denied}
-use Rattle.theory.specs.Fit.{_⇒_, closed}
+use Rattle.theory.specs.Fit.{_⇒_, closed, Good}
 use Rattle.theory.specs.Tables.{State}
-use Rattle.theory.proofs.Good.{Good, every-at}
+use Rattle.theory.proofs.Good.{every-at}
 use Rattle.theory.proofs.Past.{PastEntry, past-entry}
-use Rattle.theory.proofs.Like.{Alike, met, met-is, same-number}
+use Rattle.theory.proofs.AlikeTerms.{met, met-is, same-number}
 use Rattle.memory.specs.Layout.{tableAt, tableColumns, stateOf}
-use Rattle.memory.specs.Checks.{tableFits, level, stateTests, goodState}
+use Rattle.memory.specs.Checks.{tableFits, level, stateTests, goodState, EventInside}
 use Rattle.memory.proofs.Row.{fits-inside}
-use Rattle.memory.proofs.Inside.{EventInside, state-inside}
+use Rattle.memory.proofs.Inside.{state-inside}
 use Rattle.file.proofs.Fit.{Inside, EventFits}
 use Rattle.file.proofs.Fit.EventFits.{none, happened, tried}
 use Rattle.file.proofs.Reread.{Storable}

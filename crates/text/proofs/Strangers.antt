@@ -8,7 +8,7 @@ use Rattle.theory.specs.Terms.{Terms}
 use Rattle.theory.specs.Moment.{first}
 use Rattle.theory.specs.Keeper.{Call, Answer, Book, Step, keepSteps, keeper}
 use Rattle.theory.specs.Strangers.{Circle, WithoutReach, Separate, SeparateFirst, AgreeWithin, Inside, Paired}
-use Rattle.theory.proofs.Good.{Good}
+use Rattle.theory.specs.Fit.{Good}
 use Rattle.theory.proofs.Strangers.{strangers, strangers-first}
 use Rattle.memory.specs.Layout.{termsWords, stateWords}
 use Rattle.calls.specs.Agreement.{LentStep, fedSteps, KeepsTerms, fedCalls, serveSteps}

@@ -9,7 +9,7 @@ use Rattle.theory.specs.Terms.{Terms}
 use Rattle.theory.specs.Moment.{Relations, Moment, first}
 use Rattle.theory.specs.Keeper.{Call, Answer, Book, Step, keep, keepAll, keepSteps, keeper}
 use Rattle.theory.specs.Strangers.{Circle, WithoutReach, Separate, AgreeWithin, Inside, Paired}
-use Rattle.theory.proofs.Good.{Good}
+use Rattle.theory.specs.Fit.{Good}
 use Rattle.theory.proofs.Strangers.{strangers}
 use Rattle.memory.specs.Layout.{termsWords, stateWords}
 use Rattle.calls.specs.Agreement.{LentStep, KeepsTerms, fedSteps, fedCalls, serveSteps}

@@ -9,23 +9,22 @@ use lib.Dec.{ltb}
 use lib.ListN.{length, getD, take}
 use borrow.Author.Tests.{le-ltb}
 use Rattle.theory.specs.Meaning.{Starts}
-use Rattle.theory.specs.Terms.{Terms}
+use Rattle.theory.specs.Terms.{Terms, Alike}
 use Rattle.theory.specs.Moment.{Relations, Moment}
 use Rattle.theory.specs.Keeper.{Answer}
-use Rattle.theory.proofs.Good.{Good}
-use Rattle.theory.proofs.Like.{Alike}
+use Rattle.theory.specs.Fit.{Good}
 use Rattle.memory.specs.Layout.{termsWords, relationWords, ownWords, joined, termsOf, wordsOf}
 use Rattle.memory.specs.Outcome.{banksOpen}
 use Rattle.memory.specs.Outcome.Outcome.{passed, failed}
 use Rattle.memory.proofs.Words.{length-words}
-use Rattle.calls.proofs.Held.{Held}
+use Rattle.calls.proofs.MemoryInvariant.{Held}
 use Rattle.calls.proofs.Demand.{or-false-right}
 use Rattle.banking.specs.Banks.{Bank, BankStep, firstBooks, keepBankSteps, Placed, OfBank}
 use Rattle.banking.specs.Banks.Bank.{left, right}
 use Rattle.banking.specs.BankRefused.{LongBanks}
 use Rattle.banking.specs.BankRuns.{Lent, LentBankStep, fedBankSteps, BanksInUse, serveBankSteps, openedBanks, openedInUse, BanksAgree}
 use Rattle.banking.proofs.Lengths.{long-banks}
-use Rattle.banking.proofs.Joined.{joined-long, nothing-further, part-further, front-long}
+use Rattle.banking.proofs.JoinedState.{joined-long, nothing-further, part-further, front-long}
 use Rattle.banking.proofs.Playing.{BanksPlaying, opened-playing, banks-agree}
 use Rattle.banking.proofs.Isolated.{isolated}
 use Rattle.banking.proofs.Demand.{run-banks}

@@ -1,33 +1,15 @@
 -- Where each entry starts at moment 0, as from an old file on while the terms are not revised, a formula means what the table of docs/SCOPE.md, Meaning, says of the whole record.
 use Prim.Native.Nat.{ℕ, suc, _-_}
 use native.Mathlib.Omega.{arith}
-use mathlib.Core.Path.{_≡_, refl, ap, ap₂, _∙_}
-use mathlib.Core.Bool.{Bool, true, false, cond, not, _&&_, _||_}
-use lib.Dec.{eqb, ltb, leb}
+use mathlib.Core.Path.{_≡_, refl, ap, ap₂}
+use mathlib.Core.Bool.{false, not, _&&_, _||_}
+use lib.Dec.{ltb, leb}
 use borrow.Author.Tests.{le-leb}
-use Rattle.sets.specs.Sets.{anyBelow, allBelow, countBelow}
 use Rattle.sets.proofs.Finite.{any-cong, all-cong, count-cong}
 use Rattle.theory.specs.Formula.{Formula}
 use Rattle.theory.specs.Formula.Formula.{top, var, neg, or, out, into, prev, since, bind, at, reach, many}
-use Rattle.theory.specs.Meaning.{Record, Assignment, assign, alone, fromFirst, holds}
+use Rattle.theory.specs.Meaning.{Record, Assignment, assign, alone, fromFirst, holds, holdsThroughout}
 use Rattle.theory.proofs.Record.{prev-start, since-start}
-
--- The table without starts, line by line.
-module _ (members : ℕ) (γ : Record) where
-  unfoldable pub holdsThroughout : Formula → (i : ℕ) → Assignment → (m : ℕ) → Bool
-  holdsThroughout top i g m = true
-  holdsThroughout (var x) i g m = eqb m (g x)
-  holdsThroughout (neg f) i g m = not (holdsThroughout f i g m)
-  holdsThroughout (or f h) i g m = holdsThroughout f i g m || holdsThroughout h i g m
-  holdsThroughout (out l f) i g m = anyBelow members (λ m'. γ i l m m' && holdsThroughout f i g m')
-  holdsThroughout (into l f) i g m = anyBelow members (λ m'. γ i l m' m && holdsThroughout f i g m')
-  holdsThroughout (prev t f) i g m = ltb 0 i && holdsThroughout f (i - 1) g m
-  holdsThroughout (since t f h) i g m =
-      anyBelow (suc i) (λ j. holdsThroughout h j g m && allBelow i (λ k. leb (suc k) j || holdsThroughout f (suc k) g m))
-  holdsThroughout (bind x f) i g m = holdsThroughout f i (assign g x m) m
-  holdsThroughout (at x f) i g m = holdsThroughout f i g (g x)
-  holdsThroughout (reach x f h) i g m = anyBelow members (λ m'. holdsThroughout f i (alone x m') m && holdsThroughout h i g m')
-  holdsThroughout (many l f k) i g m = leb k (countBelow members (λ m'. γ i l m m' && holdsThroughout f i g m'))
 
 module _ (N : ℕ) (γ : Record) where
   pub from-first : (f : Formula) (i : ℕ) (g : Assignment) (m : ℕ) → holds N fromFirst γ f i g m ≡ holdsThroughout N γ f i g m

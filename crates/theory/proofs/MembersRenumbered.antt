@@ -17,23 +17,17 @@ use Rattle.theory.specs.Moment.{Relations, Event, Moment, eventEdge, gra
 use Rattle.theory.specs.Moment.Event.{none, happened, tried}
 use Rattle.theory.specs.Keeper.{Call, Answer, recordOf, last, lastMoment, keeperHolds, target, judge, keep, keepAll}
 use Rattle.theory.specs.Tables.{State, made}
-use Rattle.theory.proofs.Spelled.{EachReach}
-use Rattle.theory.proofs.Good.{Good, column-free}
-use Rattle.theory.proofs.Judged.{unnamed, granted, answered, counted, madeBy, judged, named}
-use Rattle.theory.proofs.Kept.{Kept}
+use Rattle.theory.proofs.Unfolding.{EachReach}
+use Rattle.theory.proofs.Good.{column-free}
+use Rattle.theory.proofs.CallByTests.{unnamed, granted, answered, counted, madeBy, judged, named}
+use Rattle.theory.proofs.RunInvariant.{Kept}
 use Rattle.theory.proofs.Past.{past-is}
 use Rattle.theory.proofs.MembersPlaces.{under-inside, under-member, under-standing}
 use Rattle.theory.specs.NewNumbers.{renumberEvent, renumberMoment}
-use Rattle.theory.specs.MembersRenumbered.{renumberState, renumberCall}
+use Rattle.theory.specs.MembersRenumbered.{renumberState, renumberCall, Renumbering}
+use Rattle.theory.specs.Fit.{Good}
 use Rattle.theory.proofs.Permuted.{Permutes, any-permuted, count-permuted}
 use Rattle.theory.proofs.Regular.{Only, policy-target, regular}
-
--- p gives the new numbers of the members below N, q the old ones. What is no member keeps its number, so that both are total.
-pub record Renumbering (N : ℕ) (p q : ℕ → ℕ) : Type 0 where
-  pub new : (m : ℕ) → m < N → p m < N
-  pub old : (m : ℕ) → m < N → q m < N
-  pub back : (m : ℕ) → q (p m) ≡ m
-  pub forth : (m : ℕ) → p (q m) ≡ m
 
 pub undoing : {N : ℕ} {p q : ℕ → ℕ} → Renumbering N p q → Renumbering N q p
 undoing r = record { new = r .old; old = r .new; back = r .forth; forth = r .back }

@@ -15,9 +15,10 @@ use Rattle.theory.specs.Terms.{Terms, Effect, formula}
 use Rattle.theory.specs.Moment.{Relations, Moment, graph, affect, affectAll, first}
 use Rattle.theory.specs.Keeper.{Call, Answer, recordOf, last, lastMoment, target, keeperHolds, judge}
 use Rattle.theory.specs.Strangers.{Circle, WithoutReach, Separate, AgreeWithin, Enough, Outside, SameWithin, BothOutside}
-use Rattle.theory.proofs.Spelled.{reach-spelled}
-use Rattle.theory.proofs.Good.{Good, small, only-out}
-use Rattle.theory.proofs.Judged.{unnamed, named, granted, answered, counted, madeBy, judged, makes-counted, judge-lent}
+use Rattle.theory.specs.Fit.{Good}
+use Rattle.theory.proofs.Unfolding.{reach-spelled}
+use Rattle.theory.proofs.Good.{small, only-out}
+use Rattle.theory.proofs.CallByTests.{unnamed, named, granted, answered, counted, madeBy, judged, makes-counted, judge-lent}
 use Rattle.theory.proofs.Within.{In, Twin, holds-within}
 use Rattle.theory.proofs.Separate.{made-edge}
 

@@ -9,9 +9,9 @@ use Rattle.sets.proofs.Finite.{and-left, and-right}
 use Rattle.theory.specs.Formula.{Formula, Entry, node, number, below, free}
 use Rattle.theory.specs.Formula.Formula.{top}
 use Rattle.theory.specs.Terms.{Terms, formula}
-use Rattle.theory.specs.Fit.{onlyFree, reachFits}
-use Rattle.theory.proofs.Spelled.{EachReach, below-spelled, reach-spelled}
-use Rattle.theory.proofs.Good.{Good, small, only-out, second-lower}
+use Rattle.theory.specs.Fit.{onlyFree, reachFits, Good}
+use Rattle.theory.proofs.Unfolding.{EachReach, below-spelled, reach-spelled}
+use Rattle.theory.proofs.Good.{small, only-out, second-lower}
 
 -- x is the only variable free in f
 abbrev pub Only : ℕ → Formula → Type 0

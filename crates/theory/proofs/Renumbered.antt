@@ -11,7 +11,7 @@ use Rattle.sets.proofs.Finite.{any-cong, count-cong, all-cong}
 use Rattle.theory.specs.Formula.{Formula, Formula-discrete, Entry, node, number, below, spelled, isPast, renumbered, bare, same, free, those, orTarget, columns}
 use Rattle.theory.specs.Formula.Formula.{top, var, neg, or, out, into, prev, since, bind, at, reach, many}
 use Rattle.theory.specs.Meaning.{Record, Starts, Assignment, assign, holds}
-use Rattle.theory.proofs.Spelled.{tableOf}
+use Rattle.theory.proofs.Unfolding.{tableOf}
 
 -- ---- the same fully spelled-out formula
 

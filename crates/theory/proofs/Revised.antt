@@ -17,15 +17,16 @@ use Rattle.theory.specs.Terms.{Terms, formula, pastEntry, firstSame}
 use Rattle.theory.specs.Moment.{Moment, eventEdge, graph, first}
 use Rattle.theory.specs.Keeper.{Book, recordOf, last, lastMoment, revisedStart, revisedBook}
 use Rattle.theory.specs.Tables.{Tables, store, operandNow, sinceBits, State, taken, startBits, startStep, startTables, revised}
-use Rattle.theory.proofs.Spelled.{Visible, tableOf, or-cases, number-le, number-lt, spelled-prev, spelled-since, table-spelled, visible-below}
-use Rattle.theory.proofs.Good.{Good, column-free}
+use Rattle.theory.specs.Fit.{Good}
+use Rattle.theory.proofs.Unfolding.{Visible, tableOf, or-cases, number-le, number-lt, spelled-prev, spelled-since, table-spelled, visible-below}
+use Rattle.theory.proofs.Good.{column-free}
 use Rattle.theory.proofs.Record.{prev-start, since-start}
 use Rattle.theory.proofs.Places.{inside-among, inside-member}
-use Rattle.theory.proofs.Now.{Same, SameAt, Right, now-holds}
+use Rattle.theory.proofs.MeaningNow.{Same, SameAt, Right, now-holds}
 use Rattle.theory.proofs.Sweeps.{stored, untouched, meant}
 use Rattle.theory.proofs.Renumbered.{columns-bare, past-same}
-use Rattle.theory.proofs.Kept.{Together, Kept}
-use Rattle.theory.proofs.Taken.{first-cong, first-has, startOf, start-new, taken-meaning}
+use Rattle.theory.proofs.RunInvariant.{Together, Kept}
+use Rattle.theory.proofs.CarriedOver.{first-cong, first-has, startOf, start-new, taken-meaning}
 
 module _ (T : Terms) (S : State) (U : Terms) where
   pub start-untouched : (n : ℕ) (X : Tables) (t : ℕ) → number (U .entry) n ≤ t → (a b : ℕ) → startTables T S U n X t a b ≡ X t a b

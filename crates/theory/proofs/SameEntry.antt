@@ -11,11 +11,12 @@ use Rattle.theory.specs.Formula.{Formula, Entry, Operand, node, firstOpe
 use Rattle.theory.specs.Formula.Formula.{top, var, neg, or, out, into, prev, since, bind, at, reach, many}
 use Rattle.theory.specs.Formula.Operand.{unused, variable, binder, label, entry, count}
 use Rattle.theory.specs.Terms.{Terms, formula, firstSame}
-use Rattle.theory.specs.Classes.{sameOperand, sameEntry}
-use Rattle.theory.proofs.Good.{GoodEntry, formula-node, first-lower, second-lower, third-lower}
+use Rattle.theory.specs.private.Classes.{sameOperand, sameEntry}
+use Rattle.theory.specs.Fit.{GoodEntry}
+use Rattle.theory.proofs.Good.{formula-node, first-lower, second-lower, third-lower}
 use Rattle.theory.proofs.Lowest.{lowest-first, lowest-cong, lowest-more}
 use Rattle.theory.proofs.Renumbered.{same-bare, bare-same}
-use Rattle.theory.proofs.Taken.{first-cong, first-has, first-le}
+use Rattle.theory.proofs.CarriedOver.{first-cong, first-has, first-le}
 
 -- ---- what can be read off a formula
 

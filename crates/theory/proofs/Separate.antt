@@ -12,7 +12,7 @@ use Rattle.theory.specs.Terms.{Terms, Effect}
 use Rattle.theory.specs.Moment.{Relations, Moment, eventEdge, graph, affect, affectAll, first}
 use Rattle.theory.specs.Keeper.{Call, Answer, recordOf, last, lastMoment, judge, keep, keepAll, keeper}
 use Rattle.theory.specs.Strangers.{Circle, Separate, SeparateFirst, OneSided}
-use Rattle.theory.proofs.Judged.{granted, counted, madeBy, judged}
+use Rattle.theory.proofs.CallByTests.{granted, counted, madeBy, judged}
 
 module _ (T : Terms) (S : Circle) where
   -- ---- the edges of a moment that a call from u to v makes

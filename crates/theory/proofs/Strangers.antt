@@ -10,7 +10,7 @@ use Rattle.theory.specs.Terms.{Terms}
 use Rattle.theory.specs.Moment.{Relations, Moment, first}
 use Rattle.theory.specs.Keeper.{Call, Answer, judge, keep, keepAll, keeper}
 use Rattle.theory.specs.Strangers.{Circle, WithoutReach, Separate, SeparateFirst, AgreeWithin, Inside, SameWithin, BothOutside, Paired}
-use Rattle.theory.proofs.Good.{Good}
+use Rattle.theory.specs.Fit.{Good}
 use Rattle.theory.proofs.Separate.{separate-keep, separate-start, separate-began}
 use Rattle.theory.proofs.Parallel.{Parallel, agree-first, parallel-append, parallel-outside, parallel-inside}
 use Rattle.theory.proofs.Parallel.Parallel.{done, more}

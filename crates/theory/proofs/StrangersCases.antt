@@ -15,11 +15,11 @@ use Rattle.theory.specs.Meaning.{holds}
 use Rattle.theory.specs.Terms.{Terms, formula}
 use Rattle.theory.specs.Moment.{Relations, affectAll}
 use Rattle.theory.specs.Keeper.{Call, judge, keep, keepAll, keeper}
-use Rattle.theory.specs.Fit.{every, operandFits, onlyFree, reachFits, entryTests}
+use Rattle.theory.specs.Fit.{every, operandFits, onlyFree, reachFits, entryTests, Good}
 use Rattle.theory.specs.Cases.{line, reaching, requests, looks, yes, no, own, adds, small, keeping}
 use Rattle.theory.specs.Strangers.{Circle, WithoutReach, SeparateFirst, AgreeWithin}
-use Rattle.theory.proofs.Good.{Good, good-entry}
-use Rattle.theory.proofs.Good.Within.{none, more}
+use Rattle.theory.proofs.Good.{good-entry}
+use Rattle.theory.specs.Fit.Within.{none, more}
 use Rattle.theory.proofs.Strangers.{strangers-first}
 
 -- The circle is 0 and 2, whom 0 owns at first; 1 is the stranger.

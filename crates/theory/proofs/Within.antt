@@ -9,7 +9,7 @@ use Rattle.theory.specs.Formula.{Formula, free}
 use Rattle.theory.specs.Formula.Formula.{top, var, neg, or, out, into, prev, since, bind, at, reach, many}
 use Rattle.theory.specs.Meaning.{Record, Starts, Assignment, assign, holds}
 use Rattle.theory.specs.Strangers.{Circle}
-use Rattle.theory.proofs.Spelled.{EachReach}
+use Rattle.theory.proofs.Unfolding.{EachReach}
 
 -- a formula without reach
 abbrev pub Reachless : Formula → Type 0

@@ -1,6 +1,7 @@
 -- Members renumbered: what becomes of states and calls.
-use Prim.Native.Nat.{ℕ}
+use Prim.Native.Nat.{ℕ, _<_}
 use mathlib.Core.List.{List}
+use mathlib.Core.Path.{_≡_}
 use Rattle.theory.specs.Formula.{columns}
 use Rattle.theory.specs.Columns.{wordUnder, bitUnder}
 use Rattle.theory.specs.Terms.{Terms, formula, pastEntry}
@@ -25,3 +26,10 @@ module _ (p q : ℕ → ℕ) where
 -- By the list of new numbers.
 abbrev pub stateBy : Terms → (numbers : List ℕ) → State → State
 stateBy T p = renumberState (newNumber p) (oldNumber (T .members) p) T
+
+-- p gives the new numbers of the members below N, q the old ones. What is no member keeps its number, so that both are total.
+pub record Renumbering (N : ℕ) (p q : ℕ → ℕ) : Type 0 where
+  pub new : (m : ℕ) → m < N → p m < N
+  pub old : (m : ℕ) → m < N → q m < N
+  pub back : (m : ℕ) → q (p m) ≡ m
+  pub forth : (m : ℕ) → p (q m) ≡ m

@@ -19,7 +19,7 @@ use Rattle.memory.specs.Outcome.{Outcome, checks}
 use Rattle.memory.specs.Outcome.Outcome.{passed, failed}
 use Rattle.memory.proofs.Accepted.{good}
 use Rattle.memory.proofs.Outcomes.{passed-checked}
-use Rattle.fields.specs.Put.{Put}
+use Rattle.fields.specs.private.Put.{Put}
 use Rattle.writer.specs.Write.{Writing, fitted, filledOut}
 use Rattle.writer.specs.Write.Writing.{bytes, unwritten}
 

@@ -1,7 +1,7 @@
 pub mod Placed
 pub mod Paired
-pub mod Listing
+pub mod PutLines
 pub mod Fitting
 pub mod Sized
-pub mod Started
+pub mod FreshStart
 pub mod OldForm

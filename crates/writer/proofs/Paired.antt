@@ -12,9 +12,9 @@ use Rattle.sets.proofs.Bits.{bit-zero}
 use Rattle.sets.proofs.Finite.{bool-iff}
 use Rattle.theory.specs.Formula.{number, isPast, columns}
 use Rattle.theory.specs.Terms.{Terms, formula, tables, pastEntry}
-use Rattle.theory.proofs.Good.{Good}
+use Rattle.theory.specs.Fit.{Good}
 use Rattle.theory.proofs.Past.{past-is}
-use Rattle.theory.proofs.Spelled.{number-lt}
+use Rattle.theory.proofs.Unfolding.{number-lt}
 use Rattle.memory.specs.Plan.{planTable, planFirst, planLast, planColumns, Planned}
 use Rattle.memory.proofs.StateTests.{number-past, number-other}
 use Rattle.file.specs.File.{hasTwo}

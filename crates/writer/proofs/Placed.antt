@@ -6,7 +6,7 @@ use native.Mathlib.Omega.{arith}
 use lib.ListN.{length, getD, List·getD-eq-default}
 use Rattle.fields.specs.Split.{join}
 use Rattle.file.specs.Words.{operatorWords, actionWords, directionWords, kindWords}
-use Rattle.fields.specs.Put.{Put}
+use Rattle.fields.specs.private.Put.{Put}
 use Rattle.fields.proofs.Output.{put-none, put-then}
 
 -- ---- words are short

@@ -1,2 +1,2 @@
-pub mod Kinds
 pub mod Write
+pub mod private

@@ -11,10 +11,10 @@ use sets::has;
 ghost use Prim.Native.Nat.{_+_, _*_, _^_, _<_, _≤_};
 ghost use lib.ListN.{length};
 ghost use Rattle.memory.specs.Layout.{relationWords, eventAt, stateOf};
-ghost use Rattle.fields.specs.Put.{Put};
+ghost use Rattle.fields.specs.private.Put.{Put};
 ghost use Rattle.file.specs.Writing.{printedAll};
 ghost use Rattle.theory.specs.Terms.{Terms};
-ghost use Rattle.writer.specs.Kinds.{Paired, edgeLines, tableLines, bitOf, rowOf, rowsOf};
+ghost use Rattle.writer.specs.private.Kinds.{Paired, edgeLines, tableLines, bitOf, rowOf, rowsOf};
 
 // The words of all tables.
 const TABLE_WORDS: usize = EVENT_AT - TABLES_AT;

@@ -11,7 +11,7 @@ ghost use Rattle.sets.specs.Sets.{bit};
 ghost use Rattle.memory.specs.Layout.{termsOf, termsWords};
 ghost use Rattle.memory.specs.Checks.{goodMemory};
 ghost use Rattle.memory.specs.Plan.{planTable, planFirst, planLast, Planned};
-ghost use Rattle.writer.specs.Kinds.{Paired};
+ghost use Rattle.writer.specs.private.Kinds.{Paired};
 
 // The set with the table of a word of the plan, if that has two columns.
 fn with_pair(pairs: u64, p: usize) -> u64

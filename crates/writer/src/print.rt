@@ -13,7 +13,7 @@ ghost use Prim.Native.Nat.{_+_, _^_, _<_, _≤_};
 ghost use lib.ListN.{getD};
 ghost use Rattle.fields.specs.Split.{join};
 ghost use Rattle.fields.specs.Number.{digits};
-ghost use Rattle.fields.specs.Put.{Put};
+ghost use Rattle.fields.specs.private.Put.{Put};
 ghost use Rattle.file.specs.Words.{operatorWords, actionWords, directionWords, kindWords};
 ghost use Rattle.file.specs.Line.{printed};
 ghost use Rattle.file.specs.declared.line.Line.the-variants.{Entry, Effect};

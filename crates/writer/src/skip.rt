@@ -8,9 +8,9 @@ ghost use Prim.Native.Nat.{_+_, _*_, _^_, _<_, _≤_};
 ghost use lib.ListN.{length};
 ghost use Rattle.memory.specs.Layout.{eventAt};
 ghost use Rattle.fields.specs.Number.{digits};
-ghost use Rattle.fields.specs.Put.{Put};
+ghost use Rattle.fields.specs.private.Put.{Put};
 ghost use Rattle.file.specs.Writing.{printedAll};
-ghost use Rattle.writer.specs.Kinds.{bitOf, rowOf, Skipped};
+ghost use Rattle.writer.specs.private.Kinds.{bitOf, rowOf, Skipped};
 
 // How many digits a number below 100 has.
 fn width(n: usize) -> usize

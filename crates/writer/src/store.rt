@@ -18,9 +18,9 @@ ghost use Rattle.theory.specs.Limits.{maxEvents};
 ghost use Rattle.memory.specs.Layout.{termsOf, stateWords, eventAt, eventUnit, eventOf};
 ghost use Rattle.memory.specs.Outcome.{checks};
 ghost use Rattle.memory.specs.Outcome.Outcome.{passed};
-ghost use Rattle.fields.specs.Put.{Put};
+ghost use Rattle.fields.specs.private.Put.{Put};
 ghost use Rattle.file.specs.Writing.{eventEdgeLine, printedAll};
-ghost use Rattle.writer.specs.Kinds.{Paired};
+ghost use Rattle.writer.specs.private.Kinds.{Paired};
 ghost use Rattle.writer.specs.Write.{storedText, writingOf, storeSizeGives, storeGives, storeLeaves};
 
 // The number of the form, which its S line names.

@@ -25,7 +25,7 @@ use theory::operators::VAR;
 ghost use mathlib.Core.List.{[], _∷_};
 ghost use Prim.Native.Nat.{_^_, _<_};
 ghost use lib.ListN.{getD};
-ghost use Rattle.fields.specs.Put.{Put};
+ghost use Rattle.fields.specs.private.Put.{Put};
 ghost use Rattle.file.specs.Words.{operatorWords, actionWords, directionWords, kindWords};
 
 // Puts the word of operator op; nothing for what is no operator.

@@ -34,10 +34,10 @@ ghost use lib.ListN.{length};
 ghost use Rattle.memory.specs.Layout.{relationWords, termsOf};
 ghost use Rattle.memory.specs.Outcome.{checks};
 ghost use Rattle.memory.specs.Outcome.Outcome.{passed};
-ghost use Rattle.fields.specs.Put.{Put};
+ghost use Rattle.fields.specs.private.Put.{Put};
 ghost use Rattle.writer.specs.Write.{writtenText, writingOf, oldSizeGives, oldWriteGives, oldWriteLeaves};
 ghost use Rattle.file.specs.Writing.{markLine, printedAll};
-ghost use Rattle.writer.specs.Kinds.{frontLines, entryOf, entryLines, policyOf, policyLines, markLines, effectsOf, eventLines, tripleOf};
+ghost use Rattle.writer.specs.private.Kinds.{frontLines, entryOf, entryLines, policyOf, policyLines, markLines, effectsOf, eventLines, tripleOf};
 
 // Puts the F line of entry n.
 fn put_entry_of(terms: &[u16], out: &mut [u8], at: usize, n: usize) -> usize

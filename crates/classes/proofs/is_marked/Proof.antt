@@ -1,5 +1,5 @@
 use borrow.Author.Needs.{needs}
-use Rattle.classes.specs.Keys.{marked}
+use Rattle.classes.specs.private.Keys.{marked}
 use Rattle.classes.proofs.is_marked.Statement.{statement}
 use Rattle.classes.proofs.is_marked.Tie as tie
 

@@ -5,7 +5,7 @@ use mathlib.Core.Path.{_≡_, ap, ap₂, _∙_}
 use lib.ListN.{getD}
 use Rattle.theory.specs.Formula.{Entry, Operand, firstOperand, secondOperand, thirdOperand}
 use Rattle.memory.specs.Layout.{termsOf}
-use Rattle.classes.specs.Keys.{normal, packed, keyOf}
+use Rattle.classes.specs.private.Keys.{normal, packed, keyOf}
 use Rattle.classes.proofs.key_of.Statement.{statement}
 use Rattle.classes.proofs.key_of.Tie as tie
 

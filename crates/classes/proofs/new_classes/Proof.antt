@@ -6,7 +6,7 @@ use mathlib.Core.Path.{_≡_, refl, sym, _∙_, subst}
 use lib.ListN.{length, set, length-set}
 use Rattle.theory.specs.Limits.{maxEntries}
 use Rattle.memory.specs.Layout.{termsOf}
-use Rattle.classes.specs.Filled.{filled}
+use Rattle.classes.specs.private.Filled.{filled}
 use Rattle.classes.proofs.Filling.{turn}
 use Rattle.classes.proofs.new_classes.Statement.{statement}
 use Rattle.classes.proofs.new_classes.Tie as tie

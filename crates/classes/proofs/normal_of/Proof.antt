@@ -1,6 +1,6 @@
 use borrow.Author.Needs.{needs}
 use native.Mathlib.Omega.{arith}
-use Rattle.classes.specs.Keys.{normal}
+use Rattle.classes.specs.private.Keys.{normal}
 use Rattle.classes.proofs.normal_of.Statement.{statement}
 use Rattle.classes.proofs.normal_of.Tie as tie
 

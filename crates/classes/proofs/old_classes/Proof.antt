@@ -6,8 +6,8 @@ use mathlib.Core.Path.{_≡_, refl, sym, _∙_, subst}
 use lib.ListN.{length, set, length-set}
 use Rattle.theory.specs.Limits.{maxEntries}
 use Rattle.memory.specs.Layout.{termsOf}
-use Rattle.classes.specs.Keys.{Marked}
-use Rattle.classes.specs.Filled.{ownFilled}
+use Rattle.classes.specs.private.Keys.{Marked}
+use Rattle.classes.specs.private.Filled.{ownFilled}
 use Rattle.classes.proofs.Marking.{marked-more}
 use Rattle.classes.proofs.Filling.{own-turn}
 use Rattle.classes.proofs.old_classes.Statement.{statement}

@@ -5,7 +5,7 @@ use Prim.Native.Nat.{ℕ, _-_, _≤_}
 use mathlib.Core.Path.{_≡_, _∙_, ap}
 use Rattle.memory.specs.Layout.{termsOf}
 use Rattle.effort.specs.Effort.{policies}
-use Rattle.effort.proofs.Counting.{one-policy}
+use Rattle.effort.proofs.CutSums.{one-policy}
 use Rattle.effort.proofs.add_policies.Statement.{statement}
 use Rattle.effort.proofs.add_policies.Tie as tie
 

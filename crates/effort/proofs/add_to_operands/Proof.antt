@@ -1,6 +1,6 @@
 use borrow.Author.Needs.{needs}
 use Rattle.memory.specs.Layout.{termsOf}
-use Rattle.effort.proofs.Counting.{to-operands}
+use Rattle.effort.proofs.CutSums.{to-operands}
 use Rattle.effort.proofs.add_to_operands.Statement.{statement}
 use Rattle.effort.proofs.add_to_operands.Tie as tie
 

@@ -5,7 +5,7 @@ use mathlib.Core.Path.{_≡_, _∙_, sym}
 use mathlib.Core.Bool.{true, false}
 use Rattle.theory.specs.Formula.{isPast}
 use Rattle.effort.specs.Effort.{askedOf}
-use Rattle.effort.proofs.Counting.{square-less}
+use Rattle.effort.proofs.CutSums.{square-less}
 use Rattle.effort.proofs.asked_of.Statement.{statement}
 use Rattle.effort.proofs.asked_of.Tie as tie
 

@@ -2,7 +2,7 @@ use borrow.Author.Needs.{needs}
 use native.Mathlib.Omega.{arith}
 use mathlib.Core.Path.{refl}
 use Rattle.effort.specs.Effort.{setsOf}
-use Rattle.effort.proofs.Counting.{square-less, too-many, so-few, more-than-few}
+use Rattle.effort.proofs.CutSums.{square-less, too-many, so-few, more-than-few}
 use Rattle.effort.proofs.effort.Statement.{statement}
 use Rattle.effort.proofs.effort.Tie as tie
 

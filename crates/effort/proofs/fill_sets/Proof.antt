@@ -6,7 +6,7 @@ use mathlib.Core.Path.{_≡_, _∙_, ap}
 use lib.ListN.{getD}
 use Rattle.memory.specs.Layout.{termsOf}
 use Rattle.effort.specs.Effort.{setsOf}
-use Rattle.effort.proofs.Counting.{one-set}
+use Rattle.effort.proofs.CutSums.{one-set}
 use Rattle.effort.proofs.fill_sets.Statement.{statement}
 use Rattle.effort.proofs.fill_sets.Tie as tie
 

@@ -2,7 +2,7 @@ use borrow.Author.Needs.{needs}
 use native.Mathlib.Omega.{arith}
 use Prim.Native.Nat.{_+_}
 use Rattle.effort.specs.Effort.{most}
-use Rattle.effort.proofs.Counting.{second-smaller}
+use Rattle.effort.proofs.CutSums.{second-smaller}
 use Rattle.effort.proofs.plus.Statement.{statement}
 use Rattle.effort.proofs.plus.Tie as tie
 

@@ -5,7 +5,7 @@ use mathlib.Core.Path.{_≡_, _∙_, sym}
 use mathlib.Core.Bool.{true, false}
 use lib.Dec.{eqb}
 use Rattle.theory.specs.Formula.{isPast}
-use Rattle.effort.proofs.Counting.{set-is}
+use Rattle.effort.proofs.CutSums.{set-is}
 use Rattle.effort.proofs.set_of.Statement.{statement}
 use Rattle.effort.proofs.set_of.Tie as tie
 

@@ -1,4 +1,4 @@
-use Rattle.effort.proofs.Counting.{second-smaller, first-smaller}
+use Rattle.effort.proofs.CutSums.{second-smaller, first-smaller}
 use Rattle.effort.proofs.smaller.Statement.{statement}
 use Rattle.effort.proofs.smaller.Tie as tie
 

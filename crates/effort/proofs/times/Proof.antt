@@ -3,7 +3,7 @@ use native.Mathlib.Omega.{arith}
 use Prim.Native.Nat.{_≤_}
 use mathlib.Core.Path.{sym, subst}
 use Rattle.effort.specs.Effort.{most}
-use Rattle.effort.proofs.Counting.{cut-le, product-fits}
+use Rattle.effort.proofs.CutSums.{cut-le, product-fits}
 use Rattle.effort.proofs.times.Statement.{statement}
 use Rattle.effort.proofs.times.Tie as tie
 

@@ -5,7 +5,7 @@ use Prim.Native.Nat.{ℕ, _+_, _-_, _≤_}
 use mathlib.Core.Path.{_≡_, refl, ap}
 use Rattle.memory.specs.Layout.{termsOf}
 use Rattle.effort.specs.Effort.{policies, after}
-use Rattle.effort.proofs.Counting.{counted, no-turn, one-turn, all-turns}
+use Rattle.effort.proofs.CutSums.{counted, no-turn, one-turn, all-turns}
 use Rattle.effort.proofs.total.Statement.{statement}
 use Rattle.effort.proofs.total.Tie as tie
 

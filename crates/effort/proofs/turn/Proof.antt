@@ -1,6 +1,6 @@
 use borrow.Author.Needs.{needs}
 use Rattle.memory.specs.Layout.{termsOf}
-use Rattle.effort.proofs.Counting.{turned}
+use Rattle.effort.proofs.CutSums.{turned}
 use Rattle.effort.proofs.turn.Statement.{statement}
 use Rattle.effort.proofs.turn.Tie as tie
 

@@ -1,7 +1,7 @@
 use borrow.Author.Needs.{needs}
 use mathlib.Core.Path.{sym, ap, _∙_}
 use Rattle.memory.specs.Outcome.{outcomeOf, hasPassed}
-use Rattle.calls.specs.Listing.{Passed}
+use Rattle.calls.specs.private.Listing.{Passed}
 use Rattle.calls.proofs.ListChecks.{list-ready, refused-alike}
 use Rattle.monitor.proofs.look.Statement.{statement}
 use Rattle.monitor.proofs.look.Tie as tie

@@ -3,7 +3,7 @@ use borrow.Author.Needs.{needs}
 use native.Mathlib.Omega.{arith}
 use Prim.Native.Nat.{_-_, _≤_}
 use mathlib.Core.Path.{_≡_, subst}
-use Rattle.renumber.specs.Spread.{Doubled}
+use Rattle.renumber.specs.private.Spread.{Doubled}
 use Rattle.renumber.proofs.Spreading as spreading
 use Rattle.renumber.proofs.double.Statement.{statement}
 use Rattle.renumber.proofs.double.Tie as tie

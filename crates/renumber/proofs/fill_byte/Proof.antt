@@ -8,7 +8,7 @@ use mathlib.Core.Path.{_≡_, ap, subst, _∙_}
 use lib.ListN.{length, length-set}
 use lib.Pow.{pow-mono}
 use Rattle.theory.specs.NewNumbers.{newNumber}
-use Rattle.renumber.specs.Spread.{ByteOf}
+use Rattle.renumber.specs.private.Spread.{ByteOf}
 use Rattle.renumber.proofs.Spreading as spreading
 use Rattle.renumber.proofs.fill_byte.Statement.{statement}
 use Rattle.renumber.proofs.fill_byte.Tie as tie

@@ -4,7 +4,7 @@ use Prim.Native.Nat.{ℕ, _-_, _+_, _%_, _≤_}
 use mathlib.Core.Path.{_≡_, ap, subst}
 use Rattle.memory.specs.Layout.{eventAt}
 use Rattle.theory.specs.NewNumbers.{newNumber}
-use Rattle.renumber.specs.Spread.{Placed}
+use Rattle.renumber.specs.private.Spread.{Placed}
 use Rattle.renumber.proofs.Placing as placing
 use Rattle.renumber.proofs.move_rows.Statement.{statement}
 use Rattle.renumber.proofs.move_rows.Tie as tie

@@ -14,12 +14,12 @@ use Rattle.sets.proofs.Finite.{or-left, or-right, or-cases, is-false}
 use Rattle.theory.specs.Formula.{isPast}
 use Rattle.theory.specs.Meaning.{Assignment}
 use Rattle.memory.specs.Layout.{termsOf}
-use Rattle.deciding.specs.Rows.{assigned, cell, ahead, behind}
-use Rattle.deciding.specs.Memo.{Grown}
+use Rattle.deciding.specs.private.Rows.{assigned, cell, ahead, behind}
+use Rattle.deciding.specs.private.Memo.{Grown}
 use Rattle.memory.proofs.Accepted.{good}
 use Rattle.deciding.proofs.Loops as loops
 use Rattle.deciding.proofs.Counting as counting
-use Rattle.deciding.proofs.Sites as sites
+use Rattle.deciding.proofs.AtEntry as sites
 use Rattle.deciding.proofs.Operators as ops
 use Rattle.deciding.proofs.Neighbours as near
 use Rattle.deciding.proofs.Remembering as rem

@@ -2,7 +2,7 @@ use borrow.Author.Needs.{needs}
 use Prim.Native.Nat.{ℕ}
 use mathlib.Core.Path.{ap, _∙_}
 use lib.ListN.{getD}
-use Rattle.deciding.specs.Rows.{labelled}
+use Rattle.deciding.specs.private.Rows.{labelled}
 use Rattle.decide.proofs.decide.event_of.Statement.{statement}
 use Rattle.decide.proofs.decide.event_of.Tie as tie
 

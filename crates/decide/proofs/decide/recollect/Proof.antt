@@ -12,7 +12,7 @@ use Rattle.theory.specs.Columns.{columnsFit}
 use Rattle.theory.specs.Meaning.{Assignment}
 use Rattle.memory.specs.Plan.{planTable, planFirst, planLast, planColumns}
 use Rattle.memory.proofs.StateTests.{two-few}
-use Rattle.deciding.specs.Rows.{Recalled}
+use Rattle.deciding.specs.private.Rows.{Recalled}
 use Rattle.decide.proofs.decide.recollect.Statement.{statement}
 use Rattle.decide.proofs.decide.recollect.Tie as tie
 

@@ -4,7 +4,7 @@ use Prim.Native.Nat.{ℕ}
 use mathlib.Core.Path.{_≡_, sym, ap, subst, _∙_}
 use mathlib.Core.Bool.{_&&_}
 use Rattle.sets.specs.Sets.{bit}
-use Rattle.deciding.specs.Rows.{tableBit, Rows, assigned}
+use Rattle.deciding.specs.private.Rows.{tableBit, Rows, assigned}
 use Rattle.deciding.proofs.Assignments as assignments
 use Rattle.decide.proofs.decide.recollect_one.Statement.{statement}
 use Rattle.decide.proofs.decide.recollect_one.Tie as tie

@@ -1,7 +1,7 @@
 use borrow.Author.Needs.{needs}
 use native.Mathlib.Omega.{arith}
 use mathlib.Core.Path.{ap, _∙_}
-use Rattle.deciding.specs.Rows.{assigned}
+use Rattle.deciding.specs.private.Rows.{assigned}
 use Rattle.deciding.proofs.Assignments as assignments
 use Rattle.decide.proofs.decide.recollect_pair.Statement.{statement}
 use Rattle.decide.proofs.decide.recollect_pair.Tie as tie

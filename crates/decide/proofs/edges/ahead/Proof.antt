@@ -1,6 +1,6 @@
 use native.Mathlib.Omega.{arith}
 use lib.ListN.{set}
-use Rattle.deciding.specs.Rows.{edge}
+use Rattle.deciding.specs.private.Rows.{edge}
 use Rattle.deciding.proofs.Loops as loops
 use Rattle.decide.proofs.edges.ahead.Statement.{statement}
 use Rattle.decide.proofs.edges.ahead.Tie as tie

@@ -4,7 +4,7 @@ use Prim.Native.Nat.{_-_, _*_}
 use mathlib.Core.Path.{sym, ap}
 use mathlib.Core.Bool.{Bool, cond}
 use borrow.Author.Tests.{lt-ltb, le-ltb}
-use Rattle.deciding.specs.Rows.{labelled}
+use Rattle.deciding.specs.private.Rows.{labelled}
 use Rattle.decide.proofs.edges.labelled.Statement.{statement}
 use Rattle.decide.proofs.edges.labelled.Tie as tie
 

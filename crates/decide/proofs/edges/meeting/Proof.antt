@@ -4,7 +4,7 @@ use native.Mathlib.Omega.{arith}
 use mathlib.Core.Bool.{_&&_}
 use lib.ListN.{set}
 use Rattle.sets.specs.Sets.{anyBelow, bit}
-use Rattle.deciding.specs.Rows.{inRow}
+use Rattle.deciding.specs.private.Rows.{inRow}
 use Rattle.deciding.proofs.Counting as counting
 use Rattle.decide.proofs.edges.meeting.Statement.{statement}
 use Rattle.decide.proofs.edges.meeting.Tie as tie

@@ -9,7 +9,7 @@ use lib.Seq.{getD-set-same, getD-set-other}
 use borrow.Author.Needs.{needs}
 use borrow.Author.Tests.{ltb-true, ltb-false}
 use Rattle.sets.proofs.Finite.{true-or-false}
-use Rattle.deciding.specs.Memo.{byteOf, valueOf, haveOf, readsOf, columnOf}
+use Rattle.deciding.specs.private.Memo.{byteOf, valueOf, haveOf, readsOf, columnOf}
 use Rattle.decide.proofs.memo.claim.Statement.{statement}
 use Rattle.decide.proofs.memo.claim.Tie as tie
 

@@ -8,8 +8,8 @@ use Rattle.sets.proofs.Finite.{not-both, and-implied, and-both, and-left, and-r
 use lib.Dec.{eqb, ltb}
 use lib.ListN.{getD}
 use Rattle.sets.specs.Sets.{bit}
-use Rattle.deciding.specs.Rows.{assigned}
-use Rattle.deciding.specs.Memo.{valueOf}
+use Rattle.deciding.specs.private.Rows.{assigned}
+use Rattle.deciding.specs.private.Memo.{valueOf}
 use Rattle.deciding.proofs.Loops as loops
 use Rattle.deciding.proofs.Copying as copy
 use native.Mathlib.Omega.{arith}

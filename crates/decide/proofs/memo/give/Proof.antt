@@ -2,7 +2,7 @@ use borrow.Author.Needs.{needs}
 use native.Mathlib.Omega.{arith}
 use mathlib.Core.Path.{_≡_, refl, sym, ap, _∙_, subst}
 use mathlib.Core.Bool.{Bool, true, false, cond, _&&_}
-use Rattle.deciding.specs.Memo.{haveOf, readsOf}
+use Rattle.deciding.specs.private.Memo.{haveOf, readsOf}
 use Rattle.deciding.proofs.Copying as copy
 use Rattle.decide.proofs.memo.give.Statement.{statement}
 use Rattle.decide.proofs.memo.give.Tie as tie

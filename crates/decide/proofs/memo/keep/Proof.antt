@@ -2,8 +2,8 @@ use borrow.Author.Needs.{needs}
 use native.Mathlib.Omega.{arith}
 use mathlib.Core.Path.{refl}
 use Rattle.sets.proofs.Finite.{not-both}
-use Rattle.deciding.specs.Rows.{assigned}
-use Rattle.deciding.specs.Memo.{Stored}
+use Rattle.deciding.specs.private.Rows.{assigned}
+use Rattle.deciding.specs.private.Memo.{Stored}
 use Rattle.deciding.proofs.Copying as copy
 use Rattle.decide.proofs.memo.keep.Statement.{statement}
 use Rattle.decide.proofs.memo.keep.Tie as tie

@@ -5,7 +5,7 @@ use lib.Bits.{bitAnd, bitXor}
 use lib.Dec.{eqb, ltb}
 use lib.ListN.{getD}
 use Rattle.sets.specs.Sets.{bit}
-use Rattle.deciding.specs.Rows.{assigned}
+use Rattle.deciding.specs.private.Rows.{assigned}
 use Rattle.deciding.proofs.Copying as copy
 use native.Mathlib.Omega.{arith}
 use borrow.Author.Needs.{needs}

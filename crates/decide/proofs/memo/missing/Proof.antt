@@ -3,8 +3,8 @@ use native.Mathlib.Omega.{arith}
 use mathlib.Core.Path.{_≡_, refl, sym, ap, _∙_, subst}
 use mathlib.Core.Bool.{Bool, true, false, cond, _&&_}
 use Rattle.sets.proofs.Finite.{not-both}
-use Rattle.deciding.specs.Rows.{assigned}
-use Rattle.deciding.specs.Memo.{Missing, Stored}
+use Rattle.deciding.specs.private.Rows.{assigned}
+use Rattle.deciding.specs.private.Memo.{Missing, Stored}
 use Rattle.deciding.proofs.Copying as copy
 use Rattle.decide.proofs.memo.missing.Statement.{statement}
 use Rattle.decide.proofs.memo.missing.Tie as tie

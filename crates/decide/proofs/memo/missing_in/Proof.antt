@@ -7,7 +7,7 @@ use mathlib.Core.Bool.{Bool, true, false, cond, not, _&&_, true≢false}
 use lib.Dec.{eqb, ltb}
 use lib.ListN.{getD}
 use Rattle.sets.proofs.Finite.{not-both}
-use Rattle.deciding.specs.Rows.{assigned}
+use Rattle.deciding.specs.private.Rows.{assigned}
 use Rattle.deciding.proofs.Copying as copy
 use Rattle.decide.proofs.memo.missing_in.Statement.{statement}
 use Rattle.decide.proofs.memo.missing_in.Tie as tie

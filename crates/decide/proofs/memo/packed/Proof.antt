@@ -1,7 +1,7 @@
 use native.Mathlib.Omega.{arith}
 use Prim.Native.Nat.{_+_}
 use borrow.Author.Needs.{needs}
-use Rattle.deciding.specs.Rows.{assigned}
+use Rattle.deciding.specs.private.Rows.{assigned}
 use Rattle.deciding.proofs.Bytes as bytes
 use Rattle.decide.proofs.memo.packed.Statement.{statement}
 use Rattle.decide.proofs.memo.packed.Tie as tie

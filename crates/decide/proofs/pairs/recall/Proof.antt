@@ -3,7 +3,7 @@ use native.Mathlib.Omega.{arith}
 use mathlib.Core.Path.{_≡_, refl}
 use mathlib.Core.Bool.{_&&_}
 use Rattle.sets.specs.Sets.{bit}
-use Rattle.deciding.specs.Rows.{pairCell}
+use Rattle.deciding.specs.private.Rows.{pairCell}
 use Rattle.deciding.proofs.Loops as loops
 use Rattle.deciding.proofs.Pairs as pairs
 use Rattle.decide.proofs.pairs.recall.Statement.{statement}

@@ -1,7 +1,7 @@
 -- `settle` meets its contract: it calls itself on operands, and the measure is the number of the entry.
 use borrow.Author.Needs.{needs}
 use native.Mathlib.Omega.{arith}
-use Rattle.deciding.proofs.Settled as settled
+use Rattle.deciding.proofs.SettlingNotOr as settled
 use Rattle.deciding.proofs.Remembering as rem
 use Prim.Native.Nat.{ℕ, _<_}
 use borrow.Fn.Kinds.{In, Out}

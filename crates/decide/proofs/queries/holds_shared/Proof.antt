@@ -5,7 +5,7 @@ use mathlib.Core.Path.{_≡_, refl, sym, ap, _∙_, subst}
 use mathlib.Core.Bool.{Bool, true, false, cond, _&&_}
 use Rattle.memory.specs.Layout.{termsOf}
 use Rattle.deciding.proofs.Remembering as rem
-use Rattle.deciding.proofs.Sites as sites
+use Rattle.deciding.proofs.AtEntry as sites
 use Rattle.deciding.proofs.Requests as requests
 use Rattle.deciding.proofs.Counting as counting
 use Rattle.decide.proofs.queries.holds_shared.Statement.{statement}

@@ -9,7 +9,7 @@ use borrow.Author.Tests.{lt-ltb}
 use Rattle.sets.specs.Sets.{bit, countBelow}
 use Rattle.sets.proofs.Finite.{and-implied, count-some}
 use Rattle.sets.proofs.Bits.{bit-below}
-use Rattle.deciding.specs.Rows.{inRow, ahead}
+use Rattle.deciding.specs.private.Rows.{inRow, ahead}
 use Rattle.decide.proofs.rows.common.Statement.{statement}
 use Rattle.decide.proofs.rows.common.Tie as tie
 

@@ -4,7 +4,7 @@ use mathlib.Core.Path.{ap, _∙_}
 use mathlib.Core.Bool.{Bool, _&&_}
 use lib.ListN.{getD}
 use Rattle.sets.proofs.Finite.{any-cong}
-use Rattle.deciding.specs.Rows.{inRow, ahead}
+use Rattle.deciding.specs.private.Rows.{inRow, ahead}
 use Rattle.deciding.proofs.Loops as loops
 use Rattle.decide.proofs.rows.follow.Statement.{statement}
 use Rattle.decide.proofs.rows.follow.Tie as tie

@@ -5,7 +5,7 @@ use mathlib.Core.Path.{_∙_, ap}
 use mathlib.Core.Bool.{_&&_}
 use lib.Dec.{ltb, leb}
 use lib.ListN.{replicate}
-use Rattle.deciding.specs.Rows.{edge, inRow, gathered}
+use Rattle.deciding.specs.private.Rows.{edge, inRow, gathered}
 use Rattle.deciding.proofs.Loops as loops
 use Rattle.deciding.proofs.EdgeLaws as edges
 use Rattle.decide.proofs.rows.gather.Statement.{statement}

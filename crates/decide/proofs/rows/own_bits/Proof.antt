@@ -2,7 +2,7 @@ use borrow.Author.Needs.{needs}
 use Prim.Native.Nat.{_-_}
 use native.Mathlib.Omega.{arith}
 use lib.ListN.{set}
-use Rattle.deciding.specs.Rows.{inRow}
+use Rattle.deciding.specs.private.Rows.{inRow}
 use Rattle.deciding.proofs.Counting as counting
 use Rattle.decide.proofs.rows.own_bits.Statement.{statement}
 use Rattle.decide.proofs.rows.own_bits.Tie as tie

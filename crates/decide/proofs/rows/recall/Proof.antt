@@ -3,7 +3,7 @@ use native.Mathlib.Omega.{arith}
 use mathlib.Core.Bool.{_&&_}
 use Rattle.sets.specs.Sets.{bit}
 use Rattle.sets.proofs.Bits.{bit-and}
-use Rattle.deciding.specs.Rows.{tableBit}
+use Rattle.deciding.specs.private.Rows.{tableBit}
 use Rattle.deciding.proofs.Loops as loops
 use Rattle.decide.proofs.rows.recall.Statement.{statement}
 use Rattle.decide.proofs.rows.recall.Tie as tie

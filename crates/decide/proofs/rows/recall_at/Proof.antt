@@ -4,7 +4,7 @@ use native.Mathlib.Omega.{arith}
 use mathlib.Core.Path.{ap, _∙_}
 use mathlib.Core.Bool.{Bool, cond, _&&_}
 use Rattle.sets.specs.Sets.{bit}
-use Rattle.deciding.specs.Rows.{tableBit}
+use Rattle.deciding.specs.private.Rows.{tableBit}
 use Rattle.deciding.proofs.Loops as loops
 use Rattle.deciding.proofs.Counting as counting
 use Rattle.decide.proofs.rows.recall_at.Statement.{statement}

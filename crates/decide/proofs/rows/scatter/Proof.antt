@@ -3,7 +3,7 @@ use native.Mathlib.Omega.{arith}
 use mathlib.Core.Bool.{_&&_}
 use lib.ListN.{getD}
 use Rattle.sets.specs.Sets.{bit}
-use Rattle.deciding.specs.Rows.{edge, inRow}
+use Rattle.deciding.specs.private.Rows.{edge, inRow}
 use Rattle.deciding.proofs.Loops as loops
 use Rattle.deciding.proofs.EdgeLaws as edges
 use Rattle.decide.proofs.rows.scatter.Statement.{statement}

@@ -1,7 +1,7 @@
 use native.Mathlib.Omega.{arith}
 use mathlib.Core.Path.{refl}
 use lib.ListN.{set}
-use Rattle.deciding.specs.Rows.{inRow}
+use Rattle.deciding.specs.private.Rows.{inRow}
 use Rattle.deciding.proofs.Loops as loops
 use Rattle.decide.proofs.rows.together.Statement.{statement}
 use Rattle.decide.proofs.rows.together.Tie as tie

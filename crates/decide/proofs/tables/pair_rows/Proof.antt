@@ -6,12 +6,12 @@ use mathlib.Core.List.{List, [], _∷_}
 use lib.ListN.{length, getD}
 use borrow.Author.Tests.{eqb-false, ltb-true}
 use Rattle.memory.specs.Layout.{termsOf}
-use Rattle.deciding.specs.Rows.{operandBits}
-use Rattle.deciding.specs.Memo.{Grown}
+use Rattle.deciding.specs.private.Rows.{operandBits}
+use Rattle.deciding.specs.private.Memo.{Grown}
 use Rattle.deciding.proofs.Loops as loops
 use Rattle.deciding.proofs.Pairs as pairs
 use Rattle.deciding.proofs.Remembering as rem
-use Rattle.deciding.proofs.Sites as sites
+use Rattle.deciding.proofs.AtEntry as sites
 use Rattle.deciding.proofs.Assignments as assignments
 use Rattle.memory.proofs.Accepted.{good}
 use Rattle.decide.proofs.tables.pair_rows.Statement.{statement}

@@ -7,7 +7,7 @@ use lib.Dec.{eqb}
 use Rattle.memory.specs.Plan.{planFirst, planLast}
 use Rattle.memory.specs.Layout.{termsOf}
 use Rattle.deciding.proofs.Remembering as rem
-use Rattle.deciding.proofs.Sites as sites
+use Rattle.deciding.proofs.AtEntry as sites
 use Rattle.deciding.proofs.Requests as requests
 use Rattle.deciding.proofs.Counting as counting
 use Rattle.memory.proofs.Accepted.{good}

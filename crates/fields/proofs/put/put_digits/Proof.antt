@@ -8,7 +8,7 @@ use lib.ListN.{length-set, length-drop, set, length, drop}
 use lib.Seq.{take-all}
 use borrow.Author.Needs.{needs}
 use Rattle.fields.specs.Number.{digits, digitsIn}
-use Rattle.fields.specs.Put.{Put}
+use Rattle.fields.specs.private.Put.{Put}
 use Rattle.fields.proofs.Digits.{digits-deep, digits-rest, digits-down, digits-last}
 use Rattle.fields.proofs.put.put_digits.Statement.{statement}
 use Rattle.fields.proofs.put.put_digits.Tie as tie

@@ -2,7 +2,7 @@
 use native.Mathlib.Omega.{arith}
 use mathlib.Core.Path.{subst}
 use borrow.Author.Needs.{needs}
-use Rattle.fields.specs.Put.{Put}
+use Rattle.fields.specs.private.Put.{Put}
 use Rattle.fields.proofs.Digits.{digits-single, digits-double}
 use Rattle.fields.proofs.Output.{put-then}
 use Rattle.fields.proofs.put.put_number.Statement.{statement}

@@ -4,7 +4,7 @@ use mathlib.Core.Path.{_≡_}
 use native.Mathlib.Omega.{arith}
 use lib.ListN.{length, take}
 use borrow.Author.Needs.{needs}
-use Rattle.fields.specs.Put.{Put}
+use Rattle.fields.specs.private.Put.{Put}
 use Rattle.fields.proofs.Output.{put-none, put-more, put-whole, put-long}
 use Rattle.fields.proofs.put.put_word.Statement.{statement}
 use Rattle.fields.proofs.put.put_word.Tie as tie

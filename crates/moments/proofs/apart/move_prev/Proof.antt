@@ -7,8 +7,8 @@ use mathlib.Core.Path.{_≡_, refl, sym, _∙_}
 use mathlib.Core.List.{_++_}
 use lib.ListN.{length}
 use Rattle.memory.specs.Layout.{termsOf}
-use Rattle.deciding.specs.Memo.{MemoOf}
-use Rattle.deciding.proofs.Moves as moves
+use Rattle.deciding.specs.private.Memo.{MemoOf}
+use Rattle.deciding.proofs.MomentSteps as moves
 use Rattle.deciding.proofs.Remembering as rem
 use Rattle.moments.proofs.apart.move_prev.Statement.{statement}
 use Rattle.moments.proofs.apart.move_prev.Tie as tie

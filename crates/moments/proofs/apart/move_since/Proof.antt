@@ -7,10 +7,10 @@ use mathlib.Core.Path.{_≡_, refl, sym, _∙_}
 use mathlib.Core.List.{_++_}
 use lib.ListN.{length}
 use Rattle.memory.specs.Layout.{termsOf}
-use Rattle.deciding.specs.Moving.{Becomes, sinceBelow}
-use Rattle.deciding.specs.Memo.{MemoOf, Fresh}
-use Rattle.deciding.proofs.Moves as moves
-use Rattle.deciding.proofs.Steps as steps
+use Rattle.deciding.specs.private.Moving.{Becomes, sinceBelow}
+use Rattle.deciding.specs.private.Memo.{MemoOf, Fresh}
+use Rattle.deciding.proofs.MomentSteps as moves
+use Rattle.deciding.proofs.MemoInSweep as steps
 use Rattle.moments.proofs.apart.move_since.Statement.{statement}
 use Rattle.moments.proofs.apart.move_since.Tie as tie
 

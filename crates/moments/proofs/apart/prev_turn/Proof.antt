@@ -6,8 +6,8 @@ use lib.Dec.{eqb}
 use Rattle.memory.specs.Layout.{termsOf}
 use Rattle.theory.specs.Moment.{graph}
 use Rattle.theory.specs.Tables.{prevBits}
-use Rattle.deciding.proofs.Moves as moves
-use Rattle.deciding.proofs.Steps as steps
+use Rattle.deciding.proofs.MomentSteps as moves
+use Rattle.deciding.proofs.MemoInSweep as steps
 use Rattle.deciding.proofs.Apart as parts
 use Rattle.moments.proofs.apart.prev_turn.Statement.{statement}
 use Rattle.moments.proofs.apart.prev_turn.Tie as tie

@@ -6,7 +6,7 @@ use Prim.Native.Nat.{ℕ}
 use lib.ListN.{length}
 use Rattle.theory.specs.Moment.Event.{none}
 use Rattle.memory.proofs.Accepted.{good}
-use Rattle.deciding.specs.Moving.{Becomes}
+use Rattle.deciding.specs.private.Moving.{Becomes}
 use Rattle.deciding.proofs.Apart.{event-apart}
 use Rattle.moments.proofs.Hushed.{affectedIf, made-effects, no-effects, entered-by, hushed-by}
 use Rattle.moments.proofs.beside.enter.Statement.{statement}

@@ -10,7 +10,7 @@ use Rattle.theory.specs.Moment.{first}
 use Rattle.theory.specs.Tables.{opening}
 use Rattle.memory.specs.Layout.{relationWords, ownWords, termsOf, stateOf, wordsOf}
 use native.Mathlib.Omega.{arith}
-use Rattle.deciding.specs.Moving.{HasState, Movable, Becomes, sinceMoved}
+use Rattle.deciding.specs.private.Moving.{HasState, Movable, Becomes, sinceMoved}
 use Rattle.deciding.proofs.Parts as parts
 use Rattle.moments.proofs.beside.first_moment.Statement.{statement}
 use Rattle.moments.proofs.beside.first_moment.Tie as tie

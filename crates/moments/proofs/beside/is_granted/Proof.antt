@@ -6,12 +6,12 @@ use lib.Seq.{length-take-le}
 use Rattle.theory.specs.Meaning.{assign}
 use Rattle.memory.specs.Layout.{relationWords, ownWords, joined, termsOf}
 use Rattle.memory.proofs.Accepted.{good}
-use Rattle.deciding.specs.Moving.{Movable}
-use Rattle.deciding.specs.Rows.{nowAt}
+use Rattle.deciding.specs.private.Moving.{Movable}
+use Rattle.deciding.specs.private.Rows.{nowAt}
 use Rattle.deciding.proofs.Apart as apart
-use Rattle.deciding.proofs.Moves as moves
+use Rattle.deciding.proofs.MomentSteps as moves
 use Rattle.deciding.proofs.Parts as parts
-use Rattle.deciding.proofs.Seen.{Named, all-named}
+use Rattle.deciding.proofs.SameDecision.{Named, all-named}
 use Rattle.moments.proofs.beside.is_granted.Statement.{statement}
 use Rattle.moments.proofs.beside.is_granted.Tie as tie
 

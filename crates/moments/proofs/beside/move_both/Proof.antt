@@ -2,8 +2,8 @@ use mathlib.Core.Path.{_≡_, _∙_}
 use mathlib.Core.List.{_++_}
 use lib.ListN.{length}
 use Rattle.memory.specs.Layout.{relationWords, ownWords, blockWords}
-use Rattle.deciding.specs.Moving.{Movable}
-use Rattle.deciding.proofs.Moves as moves
+use Rattle.deciding.specs.private.Moving.{Movable}
+use Rattle.deciding.proofs.MomentSteps as moves
 use Rattle.moments.proofs.Hushed.{stepped-quietly}
 use Rattle.moments.proofs.beside.move_both.Statement.{statement}
 use Rattle.moments.proofs.beside.move_both.Tie as tie

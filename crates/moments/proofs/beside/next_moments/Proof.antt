@@ -7,7 +7,7 @@ use borrow.Rule.Slice.PartMut.{same-len-mid}
 use Rattle.theory.specs.Limits.{scratchWords}
 use Rattle.memory.specs.Layout.{relationWords, ownWords, joined}
 use Rattle.memory.proofs.Accepted.{good}
-use Rattle.deciding.proofs.Moves.{movable}
+use Rattle.deciding.proofs.MomentSteps.{movable}
 use Rattle.deciding.proofs.Parts as parts
 use Rattle.deciding.proofs.Stored.{cleared-front}
 use Rattle.moments.proofs.beside.next_moments.Statement.{statement}

@@ -11,8 +11,8 @@ use lib.ListN.{length}
 use lib.Seq.{length-take-le}
 use Rattle.theory.specs.Terms.{Terms}
 use Rattle.theory.specs.Tables.{State}
-use Rattle.deciding.specs.Moving.{Becomes, allAffected, evented, occurring}
-use Rattle.deciding.proofs.Moves.{entered-granted, entered-denied}
+use Rattle.deciding.specs.private.Moving.{Becomes, allAffected, evented, occurring}
+use Rattle.deciding.proofs.MomentSteps.{entered-granted, entered-denied}
 use Rattle.deciding.proofs.Apart.{past-long, becomes-front, becomes-behind}
 use Rattle.moments.proofs.effects.enter.Statement.{statement}
 use Rattle.moments.proofs.effects.enter.Tie as tie

@@ -1,7 +1,7 @@
 -- `effects::make_effect` meets its contract. Assumes nothing.
 use Prim.Native.Nat.{_+_, _*_, _<_}
 use Rattle.memory.proofs.Accepted.{good}
-use Rattle.deciding.proofs.Moves.{end-member}
+use Rattle.deciding.proofs.MomentSteps.{end-member}
 use Rattle.deciding.proofs.Apart.{effect-apart}
 use Rattle.memory.specs.Layout.{termsOf}
 use borrow.Author.Needs.{needs}

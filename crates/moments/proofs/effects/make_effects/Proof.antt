@@ -2,8 +2,8 @@
 -- The loop's invariant: the effects before number i are made, whatever own words stand behind.
 use Prim.Native.Nat.{ℕ, _-_, _≤_}
 use Rattle.memory.proofs.Accepted.{good}
-use Rattle.deciding.proofs.Moves.{Effecting, effecting, effect-relation, effect-more, four-made, fewer-made}
-use Rattle.deciding.proofs.Seen.{Named, all-named}
+use Rattle.deciding.proofs.MomentSteps.{Effecting, effecting, effect-relation, effect-more, four-made, fewer-made}
+use Rattle.deciding.proofs.SameDecision.{Named, all-named}
 use Rattle.memory.specs.Layout.{termsOf, effectAt}
 use borrow.Author.Needs.{needs}
 use borrow.Author.Tests.{eqb-true, eqb-false, not-true, not-false}

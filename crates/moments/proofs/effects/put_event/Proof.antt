@@ -5,9 +5,9 @@ use mathlib.Core.Bool.{Bool, true, false, cond}
 use mathlib.Core.List.{_++_}
 use lib.ListN.{set}
 use Rattle.memory.proofs.Accepted.{good}
-use Rattle.deciding.specs.Moving.{known, occurring, Becomes, evented}
+use Rattle.deciding.specs.private.Moving.{known, occurring, Becomes, evented}
 use Rattle.theory.specs.Tables.{named}
-use Rattle.deciding.proofs.Seen.{Named, all-named}
+use Rattle.deciding.proofs.SameDecision.{Named, all-named}
 use Rattle.deciding.proofs.Apart.{event-apart}
 use Rattle.theory.specs.Terms.{Terms}
 use Rattle.memory.specs.Layout.{termsOf, eventWord}

@@ -3,7 +3,7 @@ use mathlib.Core.Path.{ap, _∙_}
 use Rattle.memory.specs.Layout.{termsOf, stateOf}
 use Rattle.calls.specs.Telling.{holdsAt}
 use Rattle.memory.proofs.Accepted.{good}
-use Rattle.deciding.proofs.Seen.{Named, all-named}
+use Rattle.deciding.proofs.SameDecision.{Named, all-named}
 use Rattle.moments.proofs.moment.is_granted.Statement.{statement}
 use Rattle.moments.proofs.moment.is_granted.Tie as tie
 

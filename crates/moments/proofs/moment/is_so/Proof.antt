@@ -1,7 +1,7 @@
 use borrow.Author.Needs.{needs}
 use mathlib.Core.Path.{_∙_}
 use Rattle.memory.specs.Layout.{termsOf}
-use Rattle.deciding.proofs.Moves as moves
+use Rattle.deciding.proofs.MomentSteps as moves
 use Rattle.memory.proofs.Accepted.{good}
 use Rattle.moments.proofs.moment.is_so.Statement.{statement}
 use Rattle.moments.proofs.moment.is_so.Tie as tie

@@ -1,7 +1,7 @@
 -- `moment::move_all` meets its contract: the prev tables, the moment itself, the since tables.
 use borrow.Author.Needs.{needs}
 use mathlib.Core.Path.{_∙_}
-use Rattle.deciding.proofs.Moves as moves
+use Rattle.deciding.proofs.MomentSteps as moves
 use Rattle.moments.proofs.moment.move_all.Statement.{statement}
 use Rattle.moments.proofs.moment.move_all.Tie as tie
 

@@ -6,8 +6,8 @@ use Prim.Native.Nat.{_-_, _≤_}
 use mathlib.Core.Path.{_≡_, refl, sym, _∙_}
 use lib.ListN.{length}
 use Rattle.memory.specs.Layout.{termsOf}
-use Rattle.deciding.specs.Memo.{MemoOf}
-use Rattle.deciding.proofs.Moves as moves
+use Rattle.deciding.specs.private.Memo.{MemoOf}
+use Rattle.deciding.proofs.MomentSteps as moves
 use Rattle.deciding.proofs.Remembering as rem
 use Rattle.moments.proofs.moment.move_prev.Statement.{statement}
 use Rattle.moments.proofs.moment.move_prev.Tie as tie

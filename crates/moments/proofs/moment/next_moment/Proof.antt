@@ -1,5 +1,5 @@
 -- `moment::next_moment` meets its contract. Assumes nothing.
-use Rattle.deciding.proofs.Moves.{held, movable}
+use Rattle.deciding.proofs.MomentSteps.{held, movable}
 use Rattle.memory.proofs.Accepted.{good}
 use Rattle.deciding.proofs.Stored.{cleared-front}
 use Rattle.memory.specs.Layout.{termsOf, stateOf, stateWords}

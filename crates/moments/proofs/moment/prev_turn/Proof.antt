@@ -9,8 +9,8 @@ use Rattle.memory.specs.Layout.{termsOf}
 use Rattle.memory.specs.Plan.{planTable}
 use Rattle.theory.specs.Moment.{graph}
 use Rattle.theory.specs.Tables.{prevBits}
-use Rattle.deciding.proofs.Moves as moves
-use Rattle.deciding.proofs.Steps as steps
+use Rattle.deciding.proofs.MomentSteps as moves
+use Rattle.deciding.proofs.MemoInSweep as steps
 use Rattle.deciding.proofs.Apart as parts
 use Rattle.moments.proofs.moment.prev_turn.Statement.{statement}
 use Rattle.moments.proofs.moment.prev_turn.Tie as tie

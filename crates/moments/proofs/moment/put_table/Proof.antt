@@ -2,7 +2,7 @@
 use Prim.Native.Nat.{ℕ, _+_, _*_}
 use Rattle.memory.specs.Plan.{planTable}
 use Rattle.deciding.proofs.Stored.{put-back}
-use Rattle.deciding.specs.Moving.{put}
+use Rattle.deciding.specs.private.Moving.{put}
 use borrow.Author.Needs.{needs}
 use mathlib.Core.Path.{ap, _∙_}
 use native.Mathlib.Omega.{arith}

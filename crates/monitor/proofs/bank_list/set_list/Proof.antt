@@ -54,8 +54,8 @@ use Rattle.memory.specs.Outcome.{Outcome as Checks, outcomeOf}
 use Rattle.memory.specs.declared.Outcome.{Outcome}
 use Rattle.calls.specs.declared.Record.{Record}
 use Rattle.calls.specs.declared.Listed.{Listed}
-use Rattle.calls.specs.SetList.{listingOf, listing}
-use Rattle.calls.specs.Listing.{turnsOf, gainOf}
+use Rattle.calls.specs.SetList.{listingOf, listing, gainOf, blank}
+use Rattle.calls.specs.private.Listing.{turnsOf}
 use Rattle.banking.specs.BankList.{bankListChecks}
 use Rattle.calls.proofs.Record as rec
 use Rattle.calls.proofs.Record.Laws as rec′
@@ -63,7 +63,6 @@ use Rattle.calls.proofs.Listed as S
 use Rattle.calls.proofs.Listed.Laws as S′
 use Rattle.memory.proofs.Outcome as O
 use Rattle.memory.proofs.Outcome.Laws as O′
-use Rattle.calls.proofs.Singly.{blank}
 use Rattle.monitor.proofs.Records.{R, val as val-of, vals, tells, scaled, at-place, put-answer, with-answer}
 use Rattle.monitor.proofs.Leases.{Lease, ref, val, Names, Tokens, Holds, Long, Rooms, Toks, Owns, Lent, Kept, Lasts, again, kept-again, shared, kept-shared, lends-all, lend-again, gives-all, lend-shared, shared-back-all, holds-all, held-all}
 use Rattle.monitor.proofs.Locals as locals

@@ -3,7 +3,7 @@ use borrow.Author.Tests.{not-true, not-false}
 use mathlib.Core.Path.{sym, ap, _∙_}
 use mathlib.Core.Bool.{true, false, false≢true}
 use Rattle.memory.specs.Outcome.{outcomeOf, hasPassed}
-use Rattle.banking.proofs.Answers as answers
+use Rattle.banking.proofs.BankAnswers as answers
 use Rattle.monitor.proofs.banks.judge.Statement.{statement}
 use Rattle.monitor.proofs.banks.judge.Tie as tie
 

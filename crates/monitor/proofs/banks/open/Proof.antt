@@ -2,7 +2,7 @@ use borrow.Author.Needs.{needs}
 use mathlib.Core.Path.{_≡_, sym, ap, _∙_}
 use Rattle.memory.specs.Outcome.{outcomeOf, hasPassed, banksOpen}
 use Rattle.memory.specs.Outcome.Outcome.{passed}
-use Rattle.banking.proofs.Opened.{BanksOpened, banks-opened, own-unopened}
+use Rattle.banking.proofs.BankOpening.{BanksOpened, banks-opened, own-unopened}
 use Rattle.monitor.proofs.BankBegun as begun
 use Rattle.monitor.proofs.banks.open.Statement.{statement}
 use Rattle.monitor.proofs.banks.open.Tie as tie

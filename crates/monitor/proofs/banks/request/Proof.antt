@@ -5,7 +5,7 @@ use Rattle.memory.specs.Layout.{termsOf}
 use Rattle.calls.specs.Monitor.{isDecided, moves, granted, answerOf}
 use Rattle.calls.proofs.Answers.{moves-decided}
 use Rattle.banking.specs.Banking.{bankAnswer}
-use Rattle.banking.proofs.Answers as answers
+use Rattle.banking.proofs.BankAnswers as answers
 use Rattle.monitor.proofs.BankWords.{moved-after}
 use Rattle.monitor.proofs.banks.request.Statement.{statement}
 use Rattle.monitor.proofs.banks.request.Tie as tie

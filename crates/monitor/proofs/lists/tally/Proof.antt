@@ -2,8 +2,8 @@ use borrow.Author.Needs.{needs}
 use borrow.Author.Tests.{eq-eqb, ne-eqb}
 use native.Mathlib.Nat.{add-zero}
 use mathlib.Core.Path.{sym}
-use Rattle.calls.specs.Listing.{gainOf}
 use Rattle.monitor.proofs.lists.tally.Statement.{statement}
+use Rattle.calls.specs.SetList.{gainOf}
 use Rattle.monitor.proofs.lists.tally.Tie as tie
 
 add-result : tie.Need-add-result

@@ -1,5 +1,5 @@
 use borrow.Author.Needs.{needs}
-use Rattle.calls.specs.Listing.{turnsOf}
+use Rattle.calls.specs.private.Listing.{turnsOf}
 use Rattle.monitor.proofs.lists.turns.Statement.{statement}
 use Rattle.monitor.proofs.lists.turns.Tie as tie
 

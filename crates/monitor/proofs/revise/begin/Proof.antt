@@ -4,7 +4,7 @@ use Prim.Native.Nat.{ℕ}
 use mathlib.Core.Path.{_≡_, ap, _∙_}
 use lib.ListN.{length, replicate, length-set, length-replicate}
 use Rattle.memory.specs.Layout.{ownWords}
-use Rattle.deciding.specs.Rows.{tableWords}
+use Rattle.deciding.specs.private.Rows.{tableWords}
 use Rattle.deciding.proofs.Parts as parts
 use Rattle.deciding.proofs.Starting as starting
 use Rattle.monitor.proofs.revise.begin.Statement.{statement}

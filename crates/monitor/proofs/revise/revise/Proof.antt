@@ -17,9 +17,9 @@ use Rattle.memory.proofs.Accepted.{good}
 use Rattle.memory.proofs.Outcomes.{Revisable, passed-revisable}
 use Rattle.calls.proofs.Answers as answers
 use Rattle.classes.proofs.Filling.{classed}
-use Rattle.deciding.specs.Starting.{Revising}
+use Rattle.deciding.specs.private.Starting.{Revising}
 use Rattle.deciding.proofs.Apart.{past-long}
-use Rattle.deciding.proofs.Seen.{relationsOf, pastOf}
+use Rattle.deciding.proofs.SameDecision.{relationsOf, pastOf}
 use Rattle.deciding.proofs.Parts as parts
 use Rattle.monitor.proofs.revise.revise.Statement.{statement}
 use Rattle.monitor.proofs.revise.revise.Tie as tie

@@ -6,9 +6,9 @@ use mathlib.Core.Path.{_≡_, refl, sym, subst, _∙_}
 use mathlib.Core.List.{[], _++_}
 use lib.ListN.{length}
 use Rattle.memory.specs.Layout.{termsOf}
-use Rattle.deciding.specs.Memo.{MemoOf, Fresh}
-use Rattle.deciding.specs.Starting.{Begun}
-use Rattle.deciding.proofs.Steps as steps
+use Rattle.deciding.specs.private.Memo.{MemoOf, Fresh}
+use Rattle.deciding.specs.private.Starting.{Begun}
+use Rattle.deciding.proofs.MemoInSweep as steps
 use Rattle.monitor.proofs.revise.start_tables.Statement.{statement}
 use Rattle.monitor.proofs.revise.start_tables.Tie as tie
 

@@ -9,9 +9,9 @@ use Rattle.theory.specs.Formula.{isPast}
 use Rattle.theory.specs.Terms.{formula, firstSame}
 use Rattle.memory.specs.Layout.{relationWords, ownWords, termsOf}
 use Rattle.memory.specs.Plan.{planTable}
-use Rattle.deciding.specs.Moving.{put}
-use Rattle.deciding.specs.Starting.{Revising, Begun}
-use Rattle.deciding.proofs.Moves as moves
+use Rattle.deciding.specs.private.Moving.{put}
+use Rattle.deciding.specs.private.Starting.{Revising, Begun}
+use Rattle.deciding.proofs.MomentSteps as moves
 use Rattle.deciding.proofs.Parts as parts
 use Rattle.deciding.proofs.Starting as starting
 use Rattle.monitor.proofs.revise.start_turn.Statement.{statement}

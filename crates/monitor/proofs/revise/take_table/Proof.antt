@@ -4,7 +4,7 @@ use native.Mathlib.Omega.{arith}
 use mathlib.Core.Path.{_≡_, ap, _∙_}
 use lib.ListN.{getD, take, drop}
 use Rattle.memory.specs.Plan.{planTable}
-use Rattle.deciding.specs.Moving.{put}
+use Rattle.deciding.specs.private.Moving.{put}
 use Rattle.monitor.proofs.revise.take_table.Statement.{statement}
 use Rattle.monitor.proofs.revise.take_table.Tie as tie
 

@@ -54,9 +54,9 @@ use Rattle.memory.specs.Outcome.{outcomeOf}
 use Rattle.calls.specs.declared.Record.{Record}
 use Rattle.calls.specs.declared.Listed.{Listed}
 use Rattle.monitor.specs.declared.set_list.Inspected.{Inspected}
-use Rattle.calls.specs.SetList.{listingOf, listing}
-use Rattle.calls.specs.Listing.{Passed, turnsOf, gainOf}
-use Rattle.monitor.specs.Inspecting.{Seen}
+use Rattle.calls.specs.SetList.{listingOf, listing, gainOf, blank}
+use Rattle.calls.specs.private.Listing.{Passed, turnsOf}
+use Rattle.monitor.specs.private.Inspecting.{Seen}
 use Rattle.calls.proofs.Record as T
 use Rattle.calls.proofs.Record.Laws as T′
 use Rattle.calls.proofs.Listed as S
@@ -64,7 +64,6 @@ use Rattle.calls.proofs.Listed.Laws as S′
 use Rattle.monitor.proofs.set_list.Inspected as I
 use Rattle.monitor.proofs.set_list.Inspected.Laws as I′
 use Rattle.monitor.proofs.Records.{R, val, vals, tells, scaled, at-place, put-answer, with-answer}
-use Rattle.calls.proofs.Singly.{blank}
 use Rattle.monitor.proofs.LentAgain.{LentAgain, takes-slice, gives-slice}
 use Rattle.monitor.proofs.Listing.{next-fits, count-below, turns-within}
 use Rattle.monitor.proofs.SetListing.{Facts, begins, asks, Said, turn, ends as ended-facts}

@@ -3,7 +3,7 @@ use Prim.Native.Nat.{_<_, _^_}
 use mathlib.Core.Path.{sym, ap, _∙_, subst}
 use Rattle.theory.specs.Keeper.{Answer}
 use Rattle.calls.specs.SetList.{numberOf}
-use Rattle.calls.proofs.Singly.{number-small}
+use Rattle.calls.proofs.OneByOne.{number-small}
 use Rattle.monitor.proofs.set_list.step.Statement.{statement}
 use Rattle.monitor.proofs.set_list.step.Tie as tie
 

@@ -12,7 +12,7 @@ use borrow.Fn.PlainCycle.{Measures, is, falls, and}
 use Rattle.sets.specs.Sets.{allBelow}
 use Rattle.sets.proofs.Finite.{all-none, not-both}
 use Rattle.memory.specs.Layout.{stateWords, termsOf}
-use Rattle.plans.specs.Playing.{standing, Spared, offered, winsFrom}
+use Rattle.plans.specs.private.Playing.{standing, Spared, offered, winsFrom}
 use Rattle.theory.proofs.Good.{implies}
 use Rattle.plans.proofs.Plays.{spared-none, no-moves, offer, offers-more, offer-fails, all-offers, turn-room, replied-room, tried-room, turn-is, turn-spared}
 use Rattle.plans.proofs.game.always.Reads as always

@@ -1,5 +1,5 @@
 use Rattle.plans.proofs.Plays.{part-stands}
-use Rattle.plans.specs.Playing.{standing, Placed}
+use Rattle.plans.specs.private.Playing.{standing, Placed}
 use Rattle.plans.specs.Plans.{stepped}
 use Rattle.calls.specs.Telling.{affirms, tells}
 use Prim.Native.Nat.{_+_, _*_}

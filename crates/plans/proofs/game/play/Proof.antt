@@ -1,7 +1,7 @@
 use Rattle.plans.proofs.Plays.{placed-part, game-cleared, played}
 use Rattle.memory.specs.Layout.{stateWords}
 use Rattle.plans.specs.Game.{gameWords}
-use Rattle.plans.specs.Playing.{standing, Placed}
+use Rattle.plans.specs.private.Playing.{standing, Placed}
 use borrow.Rule.Slice.PartMut.{putMid}
 use Prim.Native.Nat.{ℕ}
 use native.Mathlib.Omega.{arith}

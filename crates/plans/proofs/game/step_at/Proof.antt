@@ -1,5 +1,5 @@
 use Rattle.plans.proofs.Plays.{stand-long, part-stands, placed-part, stepped-long}
-use Rattle.plans.specs.Playing.{standing}
+use Rattle.plans.specs.private.Playing.{standing}
 use Rattle.plans.specs.Plans.{stepped}
 use native.Mathlib.Omega.{arith}
 use mathlib.Core.Path.{ap, _∙_}

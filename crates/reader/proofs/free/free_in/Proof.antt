@@ -4,7 +4,7 @@ use mathlib.Core.List.{List, [], _∷_}
 use denote.Enum.Declared.{tagOf}
 use types.Run.{OneOf, miss}
 use Rattle.memory.proofs.FreeSets.{free-entry}
-use Rattle.reader.specs.Testing.{FreeIn}
+use Rattle.reader.specs.private.Testing.{FreeIn}
 use Rattle.file.specs.declared.line.Line.{Line}
 use Rattle.file.specs.declared.line.Line.the-variants.{Members, Labels, Entry, Policy, Effect, Edge, Form, TableBit, PairBit, EventEdge, Mark, Malformed}
 use Rattle.file.proofs.line.Line.{the-type}

@@ -4,7 +4,7 @@ use lib.Dec.{eqb}
 use borrow.Author.Needs.{needs}
 use borrow.Author.Tests.{eqb-true}
 use Rattle.sets.proofs.Finite.{and-left, and-right}
-use Rattle.reader.specs.Testing.{tableSet}
+use Rattle.reader.specs.private.Testing.{tableSet}
 use Rattle.reader.proofs.free.table_set.Statement.{statement}
 use Rattle.reader.proofs.free.table_set.Tie as tie
 

@@ -8,7 +8,7 @@ use lib.ListN.{length}
 use lib.Seq.{length-take-le}
 use borrow.Author.Needs.{needs}
 use Rattle.fields.proofs.Split.{rest-shorter}
-use Rattle.reader.proofs.Looking.{Looking, Look, looking-first, looking-done, looking-cut, looking-here, looking-next}
+use Rattle.reader.proofs.PartlyFilled.{Looking, Look, looking-first, looking-done, looking-cut, looking-here, looking-next}
 use Rattle.reader.proofs.partly.find_partly.Statement.{statement}
 use Rattle.reader.proofs.partly.find_partly.Tie as tie
 

@@ -2,7 +2,7 @@
 use mathlib.Core.Path.{sym, ap, _∙_}
 use Rattle.memory.specs.Outcome.{outcomeOf}
 use borrow.Author.Needs.{needs}
-use Rattle.reader.proofs.Looking.{found-none}
+use Rattle.reader.proofs.PartlyFilled.{found-none}
 use Rattle.reader.proofs.partly.partly_at.Statement.{statement}
 use Rattle.reader.proofs.partly.partly_at.Tie as tie
 

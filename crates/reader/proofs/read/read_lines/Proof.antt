@@ -7,10 +7,10 @@ use borrow.Author.Tests.{not-true, not-false}
 use lib.ListN.{length}
 use lib.Seq.{length-take-le}
 use Rattle.fields.proofs.Split.{rest-shorter}
-use Rattle.reader.specs.Testing.{LastSet}
+use Rattle.reader.specs.private.Testing.{LastSet}
 use Rattle.reader.proofs.TermsMemory.{length-memory}
-use Rattle.reader.proofs.Bits.{length-bits}
-use Rattle.reader.proofs.Turns.{Along, Turn, along-first, along-done, along-short, along-cut, few-tables, turn-refused, turn-ranges, turn-next, turn-last}
+use Rattle.reader.proofs.StateBits.{length-bits}
+use Rattle.reader.proofs.LineLoop.{Along, Turn, along-first, along-done, along-short, along-cut, few-tables, turn-refused, turn-ranges, turn-next, turn-last}
 use Rattle.reader.proofs.read.read_lines.Statement.{statement}
 use Rattle.reader.proofs.read.read_lines.Tie as tie
 

@@ -1,6 +1,6 @@
 -- `reader::refusal::first` meets its contract: the branches go by the tests that the contract names.
 use borrow.Author.Tests.{eq-eqb, ne-eqb}
-use Rattle.reader.specs.Testing.{refusedBy}
+use Rattle.reader.specs.private.Testing.{refusedBy}
 use Rattle.reader.proofs.refusal.first.Statement.{statement}
 use Rattle.reader.proofs.refusal.first.Tie as tie
 

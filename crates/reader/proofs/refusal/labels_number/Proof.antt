@@ -1,5 +1,5 @@
 -- `reader::refusal::labels_number` meets its contract: the tests are taken one after the other.
-use Rattle.reader.specs.Testing.{numberFrom, contextTests}
+use Rattle.reader.specs.private.Testing.{numberFrom, contextTests}
 use lib.Dec.{leb·suc-suc}
 use Rattle.theory.specs.Limits.{maxRelations, maxEvents}
 use borrow.Author.Needs.{needs}

@@ -1,5 +1,5 @@
 -- `reader::refusal::number_of` meets its contract, kind by kind.
-use Rattle.reader.specs.Testing.{refusedBy, numberFrom, contextTests}
+use Rattle.reader.specs.private.Testing.{refusedBy, numberFrom, contextTests}
 use borrow.Author.Needs.{needs}
 use Rattle.reader.proofs.refusal.number_of.Statement.{statement}
 use Rattle.reader.proofs.refusal.number_of.Tie as tie

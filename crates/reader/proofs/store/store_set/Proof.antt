@@ -1,8 +1,8 @@
 -- `reader::store::store_set` meets its contract, kind by kind.
 use mathlib.Core.Path.{_≡_, refl, subst}
 use native.Mathlib.Omega.{arith}
-use Rattle.reader.specs.Stepping.{Ranges}
-use Rattle.reader.specs.Storing.{storedSets}
+use Rattle.reader.specs.private.Stepping.{Ranges}
+use Rattle.reader.specs.private.Storing.{storedSets}
 use Prim.Native.Nat.{ℕ}
 use mathlib.Core.List.{List, [], _∷_}
 use denote.Enum.Declared.{tagOf}

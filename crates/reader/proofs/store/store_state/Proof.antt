@@ -1,7 +1,7 @@
 -- `reader::store::store_state` meets its contract, kind by kind.
 use mathlib.Core.Path.{_≡_, refl, subst}
-use Rattle.reader.specs.Stepping.{Ranges}
-use Rattle.reader.specs.Storing.{storedState}
+use Rattle.reader.specs.private.Stepping.{Ranges}
+use Rattle.reader.specs.private.Storing.{storedState}
 use Prim.Native.Nat.{ℕ}
 use mathlib.Core.List.{List, [], _∷_}
 use denote.Enum.Declared.{tagOf}

@@ -6,7 +6,7 @@ use mathlib.Core.Logic.{⊎-elim}
 use mathlib.Core.List.{List}
 use lib.ListN.{getD}
 use Rattle.theory.specs.NewNumbers.{newNumber}
-use Rattle.renumber.specs.PairRows.{Gone}
+use Rattle.renumber.specs.private.PairRows.{Gone}
 use Rattle.renumber.proofs.PairRows as rows
 use Rattle.renumber.proofs.pairs.move_table.Statement.{statement}
 use Rattle.renumber.proofs.pairs.move_table.Tie as tie

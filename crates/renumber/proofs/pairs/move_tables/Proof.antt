@@ -10,13 +10,13 @@ use Rattle.sets.proofs.Finite.{and-left, and-right}
 use Rattle.theory.specs.Formula.{number, isPast}
 use Rattle.theory.specs.Terms.{Terms}
 use Rattle.theory.specs.NewNumbers.{newNumber}
-use Rattle.theory.proofs.Good.{Good}
-use Rattle.theory.proofs.Spelled.{number-lt}
+use Rattle.theory.specs.Fit.{Good}
+use Rattle.theory.proofs.Unfolding.{number-lt}
 use Rattle.memory.specs.Layout.{termsOf, tableColumns}
 use Rattle.memory.specs.Plan.{planTable}
 use Rattle.memory.proofs.Accepted.{good}
 use Rattle.memory.proofs.StateTests.{number-past, number-other}
-use Rattle.renumber.specs.PairRows.{isTwo, Tabled}
+use Rattle.renumber.specs.private.PairRows.{isTwo, Tabled}
 use Rattle.renumber.proofs.PairRows as rows
 use Rattle.renumber.proofs.pairs.move_tables.Statement.{statement}
 use Rattle.renumber.proofs.pairs.move_tables.Tie as tie

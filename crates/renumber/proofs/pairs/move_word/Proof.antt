@@ -8,7 +8,7 @@ use lib.ListN.{getD}
 use Rattle.sets.specs.Sets.{bit}
 use Rattle.sets.proofs.Shifts.{in-quarter}
 use Rattle.theory.specs.NewNumbers.{newNumber}
-use Rattle.renumber.specs.PairRows.{Gone}
+use Rattle.renumber.specs.private.PairRows.{Gone}
 use Rattle.renumber.proofs.PairRows as rows
 use Rattle.renumber.proofs.pairs.move_word.Statement.{statement}
 use Rattle.renumber.proofs.pairs.move_word.Tie as tie

@@ -11,7 +11,7 @@ use borrow.Author.Tests.{lt-leb}
 use Rattle.sets.specs.Sets.{bit, countBelow}
 use Rattle.sets.proofs.Bits.{bit-zero}
 use Rattle.sets.proofs.Finite.{count-le, count-cong}
-use Rattle.sets.proofs.Going as going
+use Rattle.sets.proofs.MemberLoop as going
 use Rattle.sets.proofs.Tally as tally
 use Rattle.sets.proofs.planes.shared.Statement.{statement}
 use Rattle.sets.proofs.planes.shared.Tie as tie

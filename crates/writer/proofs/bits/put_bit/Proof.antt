@@ -5,7 +5,7 @@ use mathlib.Core.Bool.{true, false}
 use borrow.Author.Needs.{needs}
 use borrow.Author.Tests.{not-true, not-false}
 use Rattle.file.specs.Line.{fieldsOf}
-use Rattle.writer.proofs.Listing.{put-bit-there, put-bit-none, put-one-said, put-two-said}
+use Rattle.writer.proofs.PutLines.{put-bit-there, put-bit-none, put-one-said, put-two-said}
 use Rattle.writer.proofs.bits.put_bit.Statement.{statement}
 use Rattle.writer.proofs.bits.put_bit.Tie as tie
 

@@ -2,9 +2,9 @@
 use Prim.Native.Nat.{_-_}
 use native.Mathlib.Omega.{arith}
 use borrow.Author.Needs.{needs}
-use Rattle.writer.specs.Kinds.{bitOf}
+use Rattle.writer.specs.private.Kinds.{bitOf}
 use Rattle.fields.proofs.Output.{put-long}
-use Rattle.writer.proofs.Listing.{Running, running-start, running-more, running-end}
+use Rattle.writer.proofs.PutLines.{Running, running-start, running-more, running-end}
 use Rattle.writer.proofs.bits.put_bits.Statement.{statement}
 use Rattle.writer.proofs.bits.put_bits.Tie as tie
 

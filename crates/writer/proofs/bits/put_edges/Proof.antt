@@ -1,6 +1,6 @@
 -- `writer::bits::put_edges` meets its contract: the bits of the words are the edges of all relations.
 use borrow.Author.Needs.{needs}
-use Rattle.writer.proofs.Listing.{put-all-edges}
+use Rattle.writer.proofs.PutLines.{put-all-edges}
 use Rattle.writer.proofs.bits.put_edges.Statement.{statement}
 use Rattle.writer.proofs.bits.put_edges.Tie as tie
 

@@ -1,7 +1,7 @@
 -- `writer::bits::put_row` meets its contract: a word that is 0 has no bits, and past the end nothing is stored.
 use native.Mathlib.Omega.{arith}
 use borrow.Author.Needs.{needs}
-use Rattle.writer.proofs.Listing.{put-row-none, put-skipped}
+use Rattle.writer.proofs.PutLines.{put-row-none, put-skipped}
 use Rattle.writer.proofs.bits.put_row.Statement.{statement}
 use Rattle.writer.proofs.bits.put_row.Tie as tie
 

@@ -2,9 +2,9 @@
 use Prim.Native.Nat.{_+_, _-_, _*_}
 use lib.ListN.{getD}
 use borrow.Author.Needs.{needs}
-use Rattle.writer.specs.Kinds.{rowOf}
+use Rattle.writer.specs.private.Kinds.{rowOf}
 use Rattle.fields.proofs.Output.{put-long}
-use Rattle.writer.proofs.Listing.{Running, running-start, running-more, running-end}
+use Rattle.writer.proofs.PutLines.{Running, running-start, running-more, running-end}
 use Rattle.writer.proofs.bits.put_rows.Statement.{statement}
 use Rattle.writer.proofs.bits.put_rows.Tie as tie
 

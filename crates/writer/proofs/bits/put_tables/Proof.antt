@@ -1,6 +1,6 @@
 -- `writer::bits::put_tables` meets its contract: the bits of the words are the bits of all tables.
 use borrow.Author.Needs.{needs}
-use Rattle.writer.proofs.Listing.{put-all-tables}
+use Rattle.writer.proofs.PutLines.{put-all-tables}
 use Rattle.writer.proofs.bits.put_tables.Statement.{statement}
 use Rattle.writer.proofs.bits.put_tables.Tie as tie
 

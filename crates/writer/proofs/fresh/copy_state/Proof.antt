@@ -6,7 +6,7 @@ use native.Mathlib.Omega.{arith}
 use borrow.Author.Needs.{needs}
 use lib.ListN.{length, getD, set, take, length-set, drop-of-length-le}
 use Rattle.memory.specs.Layout.{stateWords}
-use Rattle.writer.proofs.Started.{copiedTo, copied-more}
+use Rattle.writer.proofs.FreshStart.{copiedTo, copied-more}
 use Rattle.writer.proofs.fresh.copy_state.Statement.{statement}
 use Rattle.writer.proofs.fresh.copy_state.Tie as tie
 

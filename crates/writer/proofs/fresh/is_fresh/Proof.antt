@@ -4,7 +4,7 @@ use Rattle.memory.proofs.Outcomes.{passed-checked}
 use native.Mathlib.Omega.{arith}
 use borrow.Author.Needs.{needs}
 use Rattle.calls.specs.Monitor.{openedState}
-use Rattle.writer.proofs.Started.{copy-long, opened-long, fresh-is}
+use Rattle.writer.proofs.FreshStart.{copy-long, opened-long, fresh-is}
 use Rattle.writer.proofs.fresh.is_fresh.Statement.{statement}
 use Rattle.writer.proofs.fresh.is_fresh.Tie as tie
 

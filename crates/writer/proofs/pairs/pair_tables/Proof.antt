@@ -4,8 +4,8 @@ use native.Mathlib.Omega.{arith}
 use mathlib.Core.Logic.{⊎-elim}
 use mathlib.Core.Path.{_≡_, sym, ap, _∙_}
 use Rattle.theory.specs.Formula.{isPast}
+use Rattle.theory.specs.Fit.{Good}
 use Rattle.memory.specs.Layout.{termsOf}
-use Rattle.theory.proofs.Good.{Good}
 use Rattle.memory.proofs.Accepted.{good}
 use Rattle.writer.proofs.Paired.{PairedSo, so-none, so-other, so-past}
 use Rattle.writer.proofs.pairs.pair_tables.Statement.{statement}

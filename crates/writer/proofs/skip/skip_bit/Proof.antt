@@ -9,7 +9,7 @@ use borrow.Author.Needs.{needs}
 use borrow.Author.Tests.{not-true, not-false}
 use Rattle.file.specs.Words.{kindWords}
 use Rattle.file.specs.Line.{fieldsOf}
-use Rattle.writer.proofs.Listing.{put-bit-there, put-bit-none, put-one-said, put-two-said}
+use Rattle.writer.proofs.PutLines.{put-bit-there, put-bit-none, put-one-said, put-two-said}
 use Rattle.writer.proofs.skip.skip_bit.Statement.{statement}
 use Rattle.writer.proofs.skip.skip_bit.Tie as tie
 

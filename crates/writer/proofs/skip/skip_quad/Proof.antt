@@ -1,7 +1,7 @@
 -- `writer::skip::skip_quad` meets its contract: a letter, four numbers, and a byte after each.
 use native.Mathlib.Omega.{arith}
 use borrow.Author.Needs.{needs}
-use Rattle.writer.proofs.Listing.{skip-four}
+use Rattle.writer.proofs.PutLines.{skip-four}
 use Rattle.writer.proofs.skip.skip_quad.Statement.{statement}
 use Rattle.writer.proofs.skip.skip_quad.Tie as tie
 

@@ -3,8 +3,8 @@ use Prim.Native.Nat.{_-_}
 use mathlib.Core.List.{[]}
 use native.Mathlib.Omega.{arith}
 use borrow.Author.Needs.{needs}
-use Rattle.writer.specs.Kinds.{bitOf}
-use Rattle.writer.proofs.Listing.{Running, running-start, running-more, running-end}
+use Rattle.writer.specs.private.Kinds.{bitOf}
+use Rattle.writer.proofs.PutLines.{Running, running-start, running-more, running-end}
 use Rattle.writer.proofs.skip.skip_row.Statement.{statement}
 use Rattle.writer.proofs.skip.skip_row.Tie as tie
 

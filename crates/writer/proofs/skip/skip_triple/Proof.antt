@@ -1,7 +1,7 @@
 -- `writer::skip::skip_triple` meets its contract: a letter, three numbers, and a byte after each.
 use native.Mathlib.Omega.{arith}
 use borrow.Author.Needs.{needs}
-use Rattle.writer.proofs.Listing.{skip-three}
+use Rattle.writer.proofs.PutLines.{skip-three}
 use Rattle.writer.proofs.skip.skip_triple.Statement.{statement}
 use Rattle.writer.proofs.skip.skip_triple.Tie as tie
 

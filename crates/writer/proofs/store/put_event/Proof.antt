@@ -2,7 +2,7 @@
 use native.Mathlib.Omega.{arith}
 use borrow.Author.Needs.{needs}
 use Rattle.file.specs.Line.{fieldsOf}
-use Rattle.writer.proofs.Listing.{put-event-none, put-event-there}
+use Rattle.writer.proofs.PutLines.{put-event-none, put-event-there}
 use Rattle.writer.proofs.store.put_event.Statement.{statement}
 use Rattle.writer.proofs.store.put_event.Tie as tie
 

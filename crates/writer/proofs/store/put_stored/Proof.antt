@@ -6,7 +6,7 @@ use Rattle.file.specs.Line.{fieldsOf}
 use Rattle.file.specs.Writing.{storedLines, stored, written}
 use Rattle.file.specs.declared.line.Line.the-variants.{Form}
 use Rattle.writer.specs.Write.{writtenText, storedText}
-use Rattle.writer.proofs.Listing.{put-line, put-lines}
+use Rattle.writer.proofs.PutLines.{put-line, put-lines}
 use Rattle.writer.proofs.store.put_stored.Statement.{statement}
 use Rattle.writer.proofs.store.put_stored.Tie as tie
 

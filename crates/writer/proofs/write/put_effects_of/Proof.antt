@@ -5,7 +5,7 @@ use native.Mathlib.Omega.{arith}
 use borrow.Author.Needs.{needs}
 use Rattle.memory.specs.Layout.{effectAt, termsOf}
 use Rattle.fields.proofs.Output.{put-long}
-use Rattle.writer.proofs.Listing.{Going, going-start, going-more, going-end, slots, slots-none, slots-stop, slots-more}
+use Rattle.writer.proofs.PutLines.{Going, going-start, going-more, going-end, slots, slots-none, slots-stop, slots-more}
 use Rattle.writer.proofs.write.put_effects_of.Statement.{statement}
 use Rattle.writer.proofs.write.put_effects_of.Tie as tie
 

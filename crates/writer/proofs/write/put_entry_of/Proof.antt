@@ -1,6 +1,6 @@
 -- `writer::write::put_entry_of` meets its contract: the four words are those of the entry.
 use borrow.Author.Needs.{needs}
-use Rattle.writer.proofs.Listing.{put-line}
+use Rattle.writer.proofs.PutLines.{put-line}
 use Rattle.writer.proofs.write.put_entry_of.Statement.{statement}
 use Rattle.writer.proofs.write.put_entry_of.Tie as tie
 

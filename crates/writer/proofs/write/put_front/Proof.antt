@@ -4,7 +4,7 @@ use borrow.Author.Needs.{needs}
 use Rattle.memory.specs.Layout.{termsOf}
 use Rattle.file.specs.Line.{fieldsOf}
 use Rattle.file.specs.declared.line.Line.the-variants.{Members, Labels}
-use Rattle.writer.proofs.Listing.{put-line, put-lines}
+use Rattle.writer.proofs.PutLines.{put-line, put-lines}
 use Rattle.writer.proofs.write.put_front.Statement.{statement}
 use Rattle.writer.proofs.write.put_front.Tie as tie
 

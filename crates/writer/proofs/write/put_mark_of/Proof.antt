@@ -4,7 +4,7 @@ use borrow.Author.Needs.{needs}
 use borrow.Author.Tests.{not-true, not-false}
 use Rattle.memory.specs.Layout.{termsOf}
 use Rattle.file.specs.Line.{fieldsOf}
-use Rattle.writer.proofs.Listing.{put-mark-there, put-mark-none}
+use Rattle.writer.proofs.PutLines.{put-mark-there, put-mark-none}
 use Rattle.writer.proofs.write.put_mark_of.Statement.{statement}
 use Rattle.writer.proofs.write.put_mark_of.Tie as tie
 

@@ -4,7 +4,7 @@ use borrow.Author.Needs.{needs}
 use Rattle.memory.specs.Layout.{termsOf}
 use Rattle.file.specs.Writing.{markLine}
 use Rattle.fields.proofs.Output.{put-long}
-use Rattle.writer.proofs.Listing.{Running, running-start, running-more, running-end}
+use Rattle.writer.proofs.PutLines.{Running, running-start, running-more, running-end}
 use Rattle.writer.proofs.write.put_marks.Statement.{statement}
 use Rattle.writer.proofs.write.put_marks.Tie as tie
 

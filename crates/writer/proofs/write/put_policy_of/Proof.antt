@@ -2,7 +2,7 @@
 use borrow.Author.Needs.{needs}
 use Rattle.file.specs.Line.{fieldsOf}
 use Rattle.file.specs.declared.line.Line.the-variants.{Policy}
-use Rattle.writer.proofs.Listing.{put-line}
+use Rattle.writer.proofs.PutLines.{put-line}
 use Rattle.writer.proofs.write.put_policy_of.Statement.{statement}
 use Rattle.writer.proofs.write.put_policy_of.Tie as tie
 

@@ -1,6 +1,6 @@
 -- `writer::write::put_slot` meets its contract: the three words are action, relation and direction.
 use borrow.Author.Needs.{needs}
-use Rattle.writer.proofs.Listing.{put-line}
+use Rattle.writer.proofs.PutLines.{put-line}
 use Rattle.writer.proofs.write.put_slot.Statement.{statement}
 use Rattle.writer.proofs.write.put_slot.Tie as tie
 

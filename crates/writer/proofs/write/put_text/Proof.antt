@@ -2,7 +2,7 @@
 use borrow.Author.Needs.{needs}
 use Rattle.writer.specs.Write.{writtenText}
 use Rattle.file.specs.Writing.{allLines, written}
-use Rattle.writer.proofs.Listing.{put-lines}
+use Rattle.writer.proofs.PutLines.{put-lines}
 use Rattle.writer.proofs.write.put_text.Statement.{statement}
 use Rattle.writer.proofs.write.put_text.Tie as tie
 
