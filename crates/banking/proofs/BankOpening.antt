@@ -34,7 +34,7 @@ use Rattle.banking.proofs.JoinedState.{joined-long, joined-kept, edges-
 use Rattle.banking.proofs.OneBankCall.{Stands}
 
 module _ (terms relations own other : List ℕ) where
-  -- what a pass says
+  -- What a pass says.
   pub record BanksOpened : Type 0 where
     pub terms-long : termsWords ≤ length terms
     pub banks-long : LongBanks relations own other
@@ -60,7 +60,7 @@ module _ (terms relations own other : List ℕ) where
         relations-good = s;
       }
 
-  -- what is left of a bank's own words
+  -- What is left of a bank's own words.
   pub own-unopened : (n l : ℕ) → failed n l ≡ banksOpen terms relations own other → (x : List ℕ) → x ≡ ownOpened terms relations own other x
   unfolding ownOpened
   own-unopened n l e x = rw (sym e)
@@ -75,7 +75,7 @@ module _ (terms relations own other : List ℕ) where
     abbrev R : Relations
     R = stateOf relations .now .edge
 
-    -- the words of moment 0 of the relations
+    -- The words of moment 0 of the relations.
     abbrev A : List ℕ
     A = wordsOf T (opening T R)
 
@@ -92,7 +92,7 @@ module _ (terms relations own other : List ℕ) where
       edges : stateOf m .now .edge ≡ R
       edges = edges-joined relations x (o .banks-long .relations-long)
 
-      pub state-opened : openedState terms m ≡ A
+      state-opened : openedState terms m ≡ A
       state-opened =
           sym (open-done terms m (sym state-opens)) ∙ words-alone (wordsOf T (opening T (stateOf m .now .edge))) m size
           ∙ ap (λ (Q : Relations). wordsOf T (opening T Q)) edges
@@ -108,17 +108,17 @@ module _ (terms relations own other : List ℕ) where
           ∙ joined-kept A relations (drop ownWords x) (length-words T (opening T R))
           (relations-words T relations (o .banks-long .relations-long) (o .relations-good) (opening T R) refl)
 
-      pub held-first : Held T fromFirst (good terms (o .terms-good)) m (joined relations (ownOpened terms relations own other x)) (first R ∷ [])
+      held-first : Held T fromFirst (good terms (o .terms-good)) m (joined relations (ownOpened terms relations own other x)) (first R ∷ [])
       held-first =
           rw (joined-opened, sym state-opened, sym edges) (opened-held terms m (good terms (o .terms-good)) (opened-says terms m state-opens) state-opens)
 
       own-size : length (drop relationWords A) ≡ ownWords
       own-size = back-long A (length-words T (opening T R))
 
-      pub own-kept-long : length (ownOpened terms relations own other x) ≡ length x
+      own-kept-long : length (ownOpened terms relations own other x) ≡ length x
       own-kept-long = ap length own-opened ∙ part-long (drop relationWords A) x ownWords own-size l
 
-      pub own-kept-further : drop ownWords (ownOpened terms relations own other x) ≡ drop ownWords x
+      own-kept-further : drop ownWords (ownOpened terms relations own other x) ≡ drop ownWords x
       own-kept-further = ap (drop ownWords) own-opened ∙ part-further (drop relationWords A) x ownWords own-size
 
 -- The memory of moment 0 stands by the keeper's first records.

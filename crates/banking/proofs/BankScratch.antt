@@ -19,7 +19,7 @@ use Rattle.calls.specs.declared.Record.{Record}
 use Rattle.banking.specs.Banks.{quiet, other}
 use Rattle.banking.specs.Banking.{bankAnswer, relationsAfter, ownAfter, otherAfter, clearedAfter}
 use Rattle.banking.specs.BankList.{BankRun, bankSingly, bankListChecks, bankListed, bankLeft}
-use Rattle.banking.specs.BankRuns.{Lent, lentTo, LentBankStep, BanksInUse, withLent, givesIn, leavesIn, listsIn, listedIn, leftBy, revisesIn, inUse, serveBankSteps}
+use Rattle.banking.specs.BankRuns.{lentTo, LentBankStep, BanksInUse, withLent, givesIn, leavesIn, listsIn, listedIn, leftBy, revisesIn, inUse, serveBankSteps}
 use Rattle.banking.specs.BankScratch.{Enough, bankCall, SameBankSteps}
 use Rattle.banking.specs.BankScratch.SameBankSteps.{none, calls, setLists, newTerms}
 use Rattle.banking.proofs.Moved.{cleared-long}

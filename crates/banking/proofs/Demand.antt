@@ -20,14 +20,14 @@ use Rattle.banking.proofs.PlayingRevised.{play-revise}
 use Rattle.banking.proofs.PlayingList.{play-list}
 use Rattle.banking.proofs.Isolated.{isolated}
 
--- the keeper of two lists of steps, one after the other
+-- The keeper of two lists of steps, one after the other.
 steps-on : (B : Books) (xs ys : List BankStep) →
     keepBankSteps B (xs ++ ys) ≡ (keepBankSteps B xs .0 ++ keepBankSteps (keepBankSteps B xs .1) ys .0, keepBankSteps (keepBankSteps B xs .1) ys .1)
 unfolding keepBankSteps
 steps-on B [] ys = refl
 steps-on B (x ∷ xs) ys = ap (λ (k : List Answer × Books). (keepBankStep B x .0 ∷ k .0, k .1)) (steps-on (keepBankStep B x .1) xs ys)
 
--- a list of steps: one induction
+-- A list of steps: one induction.
 pub run-banks : (ss : List LentBankStep) (B : Books) (P : BanksInUse) → BanksPlaying B P →
     (serveBankSteps P ss .0 ≡ keepBankSteps B (fedBankSteps ss) .0) × BanksPlaying (keepBankSteps B (fedBankSteps ss) .1) (serveBankSteps P ss .1)
 unfolding serveBankSteps keepBankSteps fedBankSteps

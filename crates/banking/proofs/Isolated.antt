@@ -23,7 +23,7 @@ seen-called b d e Ms = rw e (seen-own b Ms)
 seen-quiet : (b d : Bank) → d ≡ other b → (Ms : List Moment) → asSeen b d Ms ≡ map quiet Ms
 seen-quiet b d e Ms = rw e (seen-beside b Ms)
 
--- without their event edges, matching moments are the same
+-- Without their event edges, matching moments are the same.
 quiet-same : (Ms Ns : List Moment) → Matching Ms Ns → map quiet Ms ≡ map quiet Ns
 quiet-same [] [] m = refl
 quiet-same [] (N ∷ Ns) m = absurd m
@@ -33,7 +33,7 @@ quiet-same (M ∷ Ms) (N ∷ Ns) m =
     (fun-ext (λ k. fun-ext (λ x. fun-ext (λ y. m .0 k x y)))) (quiet-same Ms Ns (m .1))
 
 module _ (b : Bank) where
-  -- the same call goes by the bank's book
+  -- The same call goes by the bank's book.
   own-judged : (B B' : Books) → bookOf B b ≡ bookOf B' b → (c d : BankCall) → SameCall b c d →
       judgeBank (B .terms) (B .start) (B .moments) c ≡ judgeBank (B' .terms) (B' .start) (B' .moments) d
   own-judged B B' e c d s =
@@ -60,7 +60,7 @@ module _ (b : Bank) where
   call-answered B B' e c d (inl s) own = ap (λ (r : Answer × List Moment). r .0) (own-judged B B' e c d s)
   call-answered B B' e c d (inr o) own = absurd (not-own b (sym own ∙ o .bank-left))
 
-  -- what new terms make of a bank's book, by that book alone
+  -- What new terms make of a bank's book, by that book alone.
   abbrev revisedOne : BankOffer → Book → Answer × Book
   revisedOne o K =
       cond (shortOffer o) (refused 6 0, K)

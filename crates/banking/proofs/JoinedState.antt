@@ -22,8 +22,8 @@ pub joined-long : (relations own : List ℕ) → relationWords ≤ length relati
 joined-long relations own r o =
     length-append (take relationWords relations) (take ownWords own) ∙ ap₂ _+_ (length-take-le relationWords relations r) (length-take-le ownWords own o)
 
--- the words of a state, apart and joined again, where further words stand behind each part; and where the relations
--- stay
+-- The words of a state, apart and joined again, where further words stand behind each part; and where the relations
+-- stay.
 pub joined-back : (w x y u : List ℕ) → length w ≡ stateWords → take relationWords x ≡ take relationWords w →
     joined (take relationWords x ++ y) (drop relationWords w ++ u) ≡ w
 joined-back w x y u long e =
@@ -36,7 +36,7 @@ pub joined-kept : (w r u : List ℕ) → length w ≡ stateWords → take relati
 joined-kept w r u long e =
     ap₂ _++_ e (take-at (drop relationWords w) u ownWords (length-drop relationWords w ∙ omega arith)) ∙ take-append-drop relationWords w
 
--- the words of the relations go by the edges alone
+-- The words of the relations go by the edges alone.
 pub relations-alike : (T : Terms) (S S' : State) → S .now .edge ≡ S' .now .edge → take relationWords (wordsOf T S) ≡ take relationWords (wordsOf T S')
 unfolding wordsOf wordAt
 relations-alike T S S' e =
@@ -59,7 +59,7 @@ nothing-further m l = drop-of-length-le m {i = stateWords} (omega arith)
 pub words-alone : (w m : List ℕ) → length m ≡ stateWords → w ++ drop stateWords m ≡ w
 words-alone w m l = ap (λ (x : List ℕ). w ++ x) (nothing-further m l) ∙ append-nil w
 
--- a part replaced before further words: its length and what is behind
+-- A part replaced before further words: its length and what is behind.
 pub part-long : (x l : List ℕ) (n : ℕ) → length x ≡ n → n ≤ length l → length (x ++ drop n l) ≡ length l
 part-long x l n e h = length-append x (drop n l) ∙ omega (arith, e, length-drop n l)
 
@@ -89,7 +89,7 @@ unfolding goodRelations
 good-joined T r o l =
     all-cong 16 (λ k kl. all-cong 64 (λ a al. ap (fits (T .members) (ltb k (T .relations)) a) (word-joined r o l (relationAt k a) (omega arith))))
 
--- relations that keep the layout are the words of a state that has them
+-- Relations that keep the layout are the words of a state that has them.
 pub relations-words : (T : Terms) (r : List ℕ) → relationWords ≤ length r → goodRelations T r ≡ true → (S : State) → S .now .edge ≡ stateOf r .now .edge →
     take relationWords r ≡ take relationWords (wordsOf T S)
 relations-words T r l g S e =

@@ -127,7 +127,7 @@ run =
 unfoldable pub answers : List Answer
 answers = yes ∷ yes ∷ yes ∷ yes ∷ done ∷ no ∷ no ∷ yes ∷ yes ∷ refused 9 0 ∷ no ∷ []
 
--- the steps that the keeper is fed, where such new terms are accepted or are not
+-- The steps that the keeper is fed, where such new terms are accepted or are not.
 abbrev fedAsks : Bank → (j u v : ℕ) → BankStep
 fedAsks b j u v = call (record { bank = b; call = requests j u v; otherScratch = scratchWords })
 

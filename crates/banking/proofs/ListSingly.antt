@@ -36,8 +36,8 @@ module _ (terms relations own other scratch spare : List ℕ) where
   unfolding bankListChecks
   list-checked l k = rw (le-ltb (length scratch) scratchWords l, le-ltb (length spare) scratchWords k)
 
-  -- a pass says that both scratches are long enough, and that terms and both banks pass
-  pub list-passed : bankListChecks terms relations own other scratch spare ≡ passed →
+  -- A pass says that both scratches are long enough, and that terms and both banks pass.
+  list-passed : bankListChecks terms relations own other scratch spare ≡ passed →
       (scratchWords ≤ length scratch) × (scratchWords ≤ length spare) × BanksChecked terms relations own other
   unfolding bankListChecks
   list-passed e = go (ltb (length scratch) scratchWords) refl (ltb (length spare) scratchWords) refl (sym e)
@@ -74,13 +74,13 @@ module _ (terms relations own other scratch spare : List ℕ) where
   -- ---- what the numbers tell
 
   module _ (j u v : ℕ) where
-    -- a number of 1 is a grant
+    -- A number of 1 is a grant.
     one-granted : gainOf (numberOf (bankAnswer terms relations own other scratch spare j u v)) ≡ cond (granted (bankAnswer terms relations own other scratch spare j u v)) 1 0
     unfolding gainOf
     one-granted =
         each-answer terms relations own other scratch spare j u v (λ a. _≡_ {A = ℕ} (cond (eqb (numberOf a) 1) 1 0) (cond (granted a) 1 0)) refl refl refl refl refl refl
 
-    -- a number tells its answer
+    -- A number tells its answer.
     pub answer-back : answerIn (numberOf (bankAnswer terms relations own other scratch spare j u v)) ≡ bankAnswer terms relations own other scratch spare j u v
     answer-back = each-answer terms relations own other scratch spare j u v (λ a. answerIn (numberOf a) ≡ a) refl refl refl refl refl refl
 

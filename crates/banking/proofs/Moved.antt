@@ -27,7 +27,7 @@ use Rattle.banking.specs.Banking.{bankAnswer, bankMoves, movedOwn, moved
 use Rattle.banking.proofs.JoinedState.{joined-back, relations-alike, edges-joined, part-long, part-further, front-long, back-long}
 use Rattle.banking.proofs.BankAnswers.{BanksChecked, Decided, decided-says, relations-kept, own-kept, other-kept, lent-kept, relations-moved, own-moved, other-moved, lent-cleared}
 
--- a moment without its event edge goes by the relations alone
+-- A moment without its event edge goes by the relations alone.
 quiet-made : (T : Terms) (g : Bool) (j u v : ℕ) (M N : Moment) → M .edge ≡ N .edge → quiet (made T M g j u v) ≡ quiet (made T N g j u v)
 quiet-made T true j u v M N e = ap (λ (R : Relations). record { edge = affectAll u v (T .effects j) R; event = none }) e
 quiet-made T false j u v M N e = ap (λ (R : Relations). record { edge = R; event = none }) e
@@ -42,7 +42,7 @@ module _ (terms relations own other scratch spare : List ℕ) (j u v : ℕ) wher
   abbrev O : State
   O = stateOf (joined relations other)
 
-  -- the moment that it makes
+  -- The moment that it makes.
   abbrev pub momentMade : Moment
   momentMade = made T (S .now) (granted (bankAnswer terms relations own other scratch spare j u v)) j u v
 
@@ -88,8 +88,8 @@ module _ (terms relations own other scratch spare : List ℕ) (j u v : ℕ) wher
         let l = says .checked .long-banks .relations-long in
         edges-joined relations other l ∙ sym (edges-joined relations own l)
 
-    -- in the other bank it is the same moment without its event edge
-    pub hushed-made : hushedMade ≡ quiet momentMade
+    -- In the other bank it is the same moment without its event edge.
+    hushed-made : hushedMade ≡ quiet momentMade
     hushed-made = quiet-made T (granted (bankAnswer terms relations own other scratch spare j u v)) j u v (O .now) (S .now) same-edges
 
     pub moved-other : B ≡ wordsOf T (advance T O (quiet momentMade))
@@ -101,7 +101,7 @@ module _ (terms relations own other scratch spare : List ℕ) (j u v : ℕ) wher
         relations-alike T (advance T S momentMade) (advance T O (quiet momentMade)) refl
         ∙ ap (λ (w : List ℕ). take relationWords w) (sym moved-other)
 
-    -- each bank's state
+    -- Each bank's state.
     pub joined-own : joined relations' own' ≡ A
     joined-own = ap₂ joined relations-is own-is ∙ joined-back A A (drop relationWords relations) (drop ownWords own) size-A refl
 

@@ -72,7 +72,7 @@ module _ (terms : List ℕ) (long-terms : termsWords ≤ length terms) (fine : G
     abbrev base : Bank → List ℕ
     base d = joined (W₀ .relations) (W₀ .own d)
 
-    -- each bank's state holds what its record says; the memory was lent long enough, and nothing behind it is touched
+    -- Each bank's state holds what its record says; the memory was lent long enough, and nothing behind it is touched.
     pub record Stands (W : Lent) (L : Records) : Type 0 where
       pub bank : (d : Bank) → Held T (s₀ d) fine (base d) (joined (W .relations) (W .own d)) (L d)
       pub lent : relationWords ≤ length (W₀ .relations)
@@ -86,7 +86,7 @@ module _ (terms : List ℕ) (long-terms : termsWords ≤ length terms) (fine : G
       pub relations-now : relationWords ≤ length (W .relations)
       relations-now = omega (arith, h .lent, h .long)
 
-      pub own-now : (d : Bank) → ownWords ≤ length (W .own d)
+      own-now : (d : Bank) → ownWords ≤ length (W .own d)
       own-now d = omega (arith, h .own-lent d, h .own-long d)
 
       pub long-now : (b : Bank) → LongBanks (W .relations) (W .own b) (W .own (other b))
@@ -120,7 +120,7 @@ module _ (terms : List ℕ) (long-terms : termsWords ≤ length terms) (fine : G
       base-size : (d : Bank) → length (base d) ≡ stateWords
       base-size d = joined-long (W₀ .relations) (W₀ .own d) (h .lent) (h .own-lent d)
 
-      -- the answer over the bank's state alone
+      -- The answer over the bank's state alone.
       abbrev single : Answer
       single = answer terms (m b) (c .call .scratch) j u v
 
@@ -152,7 +152,7 @@ module _ (terms : List ℕ) (long-terms : termsWords ≤ length terms) (fine : G
           (ownAfter terms (W .relations) own beside (c .call .scratch) (c .otherScratch) j u v)
           (otherAfter terms (W .relations) own beside (c .call .scratch) (c .otherScratch) j u v)
 
-      -- lengths and further words, whatever it makes
+      -- Lengths and further words, whatever it makes.
       stands-after : (K : Records) → ((d : Bank) → Held T (s₀ d) fine (base d) (joined (after .relations) (after .own d)) (K d)) → Stands after K
       stands-after K held = record {
         bank = held;
@@ -173,7 +173,7 @@ module _ (terms : List ℕ) (long-terms : termsWords ≤ length terms) (fine : G
       abbrev moving : Bool
       moving = not (c .call .look) && moves (T .kept j) (givesIn terms W c)
 
-      -- each bank's state is as before
+      -- Each bank's state is as before.
       unmoved : moves (T .kept j) (givesIn terms W c) ≡ false → (d : Bank) → joined (after .relations) (after .own d) ≡ m d
       unmoved e d =
           ap₂ joined (sym (relations-kept terms (W .relations) own beside (c .call .scratch) (c .otherScratch) j u v e))
@@ -250,7 +250,7 @@ module _ (terms : List ℕ) (long-terms : termsWords ≤ length terms) (fine : G
           inside : Inside T M
           inside = made-within terms (W .relations) own beside (c .call .scratch) (c .otherScratch) j u v moves-given
 
-          -- a state that is moved on to a moment holds it
+          -- A state that is moved on to a moment holds it.
           held-on : (d : Bank) (N : Moment) → Inside T N → Held T (s₀ d) fine (base d) (wordsOf T (advance T (stateOf (m d)) N)) (L d ++ (N ∷ []))
           unfolding advance
           held-on d N i =
@@ -287,7 +287,7 @@ module _ (terms : List ℕ) (long-terms : termsWords ≤ length terms) (fine : G
         by-moving true z = onward z
         by-moving false z = quietly z
 
-      -- the keeper's answer, and the invariant again
+      -- The keeper's answer, and the invariant again.
       pub bank-step : InStep
       bank-step = go (ltb (length (c .otherScratch)) scratchWords) refl
         where

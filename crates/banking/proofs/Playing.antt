@@ -29,7 +29,7 @@ use Rattle.banking.proofs.JoinedState.{joined-long}
 use Rattle.banking.proofs.OneBankCall.{Stands, bank-step}
 use Rattle.banking.proofs.BankOpening.{banks-opened, first-stands}
 
--- what a call makes goes by what the terms say
+-- What a call makes goes by what the terms say.
 judge-alike : (T U : Terms) → Alike T U → Good T → (s : Starts) (Ms : List Moment) (c : Call) → judge T s Ms c ≡ judge U s Ms c
 unfolding keep
 judge-alike T U l g s Ms c =

@@ -29,7 +29,7 @@ use Rattle.banking.proofs.BothBanks.{of-own, of-other, of-both, seen-no
 use Rattle.banking.proofs.OneBankCall.{long-now}
 use Rattle.banking.proofs.Playing.{BanksPlaying, play-once}
 
--- with too little of either scratch the keeper refuses each request
+-- With too little of either scratch the keeper refuses each request.
 module _ (b : Bank) (n k : ℕ) where
   abbrev fedRecords : List Record → List BankStep
   fedRecords rs = map (λ r. call (fedBankRecord b n k r)) rs
@@ -56,7 +56,7 @@ module _ (b : Bank) (n k : ℕ) where
       (fun-ext (λ d. ap (λ (Ms : List Moment). B .moments d ++ Ms) (seen-none d b) ∙ append-nil (B .moments d)))
       ∙ ap (λ (x : List Answer × Books). (refused 6 0 ∷ x .0, x .1)) (keep-short e B rs)
 
-  -- the records one after another, over n and k words of scratch
+  -- The records one after another, over n and k words of scratch.
   module _ (ln : scratchWords ≤ n) (lk : scratchWords ≤ k) (P : BanksInUse) where
     module _ (B : Books) (relations own beside scratch spare : List ℕ) (en : length scratch ≡ n) (ek : length spare ≡ k)
         (p : BanksPlaying B (withLent P (lentTo b relations own beside))) (r : Record)
@@ -96,7 +96,7 @@ module _ (b : Bank) (n k : ℕ) where
         (cleared-long (P .terms) relations own beside scratch spare (r .event) (r .from) (r .to) spare (omega (arith, lk, ek)) ∙ ek) (now .1) in
         (ap₂ _∷_ (answer-back (P .terms) relations own beside scratch spare (r .event) (r .from) (r .to) ∙ now .0) (later .0), later .1)
 
--- a set list: refused as a whole where a scratch is too short, else its records one after another
+-- A set list: refused as a whole where a scratch is too short, else its records one after another.
 module _ (B : Books) (P : BanksInUse) (p : BanksPlaying B P) (b : Bank) (scratch spare : List ℕ) (rs : List Record) where
   abbrev W : Lent
   W = P .lent
@@ -104,7 +104,7 @@ module _ (B : Books) (P : BanksInUse) (p : BanksPlaying B P) (b : Bank) (scratch
   abbrev checks : Outcome
   checks = bankListChecks (P .terms) (W .relations) (W .own b) (W .own (other b)) scratch spare
 
-  -- the same memory, by the bank that is called
+  -- The same memory, by the bank that is called.
   same-lent : lentTo b (W .relations) (W .own b) (W .own (other b)) ≡ W
   same-lent = ap (λ (f : Bank → List ℕ). record { relations = W .relations; own = f }) (fun-ext (of-both b (W .own)))
 

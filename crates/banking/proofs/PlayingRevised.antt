@@ -41,22 +41,13 @@ use Rattle.banking.proofs.Playing.{BanksPlaying}
 -- ---- what new terms leave, in any memory
 
 module _ (old relations own other new relations' own' other' : List ℕ) where
-  module _ (n l : ℕ) (e : failed n l ≡ banksRevise old relations own other new relations' own' other') where
-    pub relations-unrevised : relations' ≡ relationsRevised old relations own other new relations' own' other'
-    unfolding relationsRevised
-    relations-unrevised = rw (sym e)
-
-    pub own-unrevised : (x lent : List ℕ) → lent ≡ ownRevised old relations own other new relations' own' other' x lent
-    unfolding ownRevised
-    own-unrevised x lent = rw (sym e)
-
   module _ (e : passed ≡ banksRevise old relations own other new relations' own' other') where
-    pub relations-revised : take relationWords (begunWords old relations own new) ++ drop relationWords relations'
+    relations-revised : take relationWords (begunWords old relations own new) ++ drop relationWords relations'
         ≡ relationsRevised old relations own other new relations' own' other'
     unfolding relationsRevised
     relations-revised = rw (sym e)
 
-    pub own-revised : (x lent : List ℕ) →
+    own-revised : (x lent : List ℕ) →
         drop relationWords (begunWords old relations x new) ++ drop ownWords lent ≡ ownRevised old relations own other new relations' own' other' x lent
     unfolding ownRevised
     own-revised x lent = rw (sym e)
@@ -99,11 +90,11 @@ module _ (B : Books) (P : BanksInUse) (p : BanksPlaying B P) (new : List ℕ) (X
   abbrev Played : Type 0
   Played = (outcomeIn (revisesIn P new X) ≡ K .0) × BanksPlaying (K .1) (inUse P new X)
 
-  -- refused: all is as before
+  -- Refused: all is as before.
   stays : (n l : ℕ) → revisesIn P new X ≡ failed n l → K ≡ (refused n l, B) → Played
   stays n l e k = rw (e, k) (refl, p)
 
-  -- done: the new terms and the second memory are in use
+  -- Done: the new terms and the second memory are in use.
   module _ (e : revisesIn P new X ≡ passed) (k : K ≡ (done, revisedBooks B Z)) (s : short ≡ false) (g : goodMemory new ≡ true) (z : sameSize (B .terms) Z ≡ true) where
     same : sameSize U Z ≡ true
     same = sym (size-alike (B .terms) U (p .like) Z) ∙ z

@@ -28,7 +28,7 @@ use Rattle.banking.proofs.Lengths.{long-banks, not-short, why-short, is
 use Rattle.banking.proofs.BankAnswers.{BanksChecked, unnamed, judged}
 use Rattle.banking.proofs.ListSingly.{refused-alike}
 
--- of two tests, one of which fails the lengths
+-- Of two tests, one of which fails the lengths.
 six : (p q : Bool) (x : Outcome) → (p || q) ≡ true → cond p (failed 6 0) (cond q (failed 6 0) x) ≡ failed 6 0
 six true q x e = refl
 six false true x e = refl
@@ -40,7 +40,7 @@ module _ (terms relations own other scratch spare : List ℕ) where
   abbrev checks : Outcome
   checks = bankListChecks terms relations own other scratch spare
 
-  -- what the checks say of the memory
+  -- What the checks say of the memory.
   abbrev Told : Outcome → Type 0
   Told passed = Fits terms relations own other scratch spare
   Told (failed n l) = (l ≡ 0) × ListRefusal terms relations own other scratch spare n
@@ -92,7 +92,7 @@ module _ (terms relations own other scratch spare : List ℕ) where
   unfolding bankListChecks banksCheck
   short-is e = six (ltb (length scratch) scratchWords || ltb (length spare) scratchWords) (ltb (length terms) termsWords || shortBanks relations own other) by-good e
 
-  pub list-because : (n : ℕ) → ListRefusal terms relations own other scratch spare n → checks ≡ failed n 0
+  list-because : (n : ℕ) → ListRefusal terms relations own other scratch spare n → checks ≡ failed n 0
   list-because n (short-terms h) = short-is (or-right (ltb (length scratch) scratchWords || ltb (length spare) scratchWords) _ (or-left _ (shortBanks relations own other) (lt-ltb (length terms) termsWords h)))
   list-because n (short-banks h) = short-is (or-right (ltb (length scratch) scratchWords || ltb (length spare) scratchWords) _ (or-right (ltb (length terms) termsWords) _ (is-short relations own other h)))
   list-because n (short-scratch h) = short-is (or-left _ (ltb (length terms) termsWords || shortBanks relations own other) (or-left _ (ltb (length spare) scratchWords) (lt-ltb (length scratch) scratchWords h)))
@@ -101,7 +101,7 @@ module _ (terms relations own other scratch spare : List ℕ) where
   list-because n (bad-own L g s) = long-is L ∙ rw (g, s)
   list-because n (bad-other L g t) = long-is L ∙ rw (g, t) (rw (and-false (goodState (termsOf terms) (joined relations own))))
 
-  -- what a set list's result says
+  -- What a set list's result says.
   abbrev Heard : Listing → Type 0
   Heard (counted n) = Unit {0}
   Heard (refusedList n l) = (l ≡ 0) × ListRefusal terms relations own other scratch spare n
@@ -144,7 +144,7 @@ module _ (terms relations own other scratch spare : List ℕ) where
       good-other = f .other-good;
     }
 
-    -- what an answer says of the memory
+    -- What an answer says of the memory.
     abbrev Said : Answer → Type 0
     Said (decided d) = Unit {0}
     Said done = Unit {0}

@@ -57,7 +57,7 @@ module _ (terms relations own other scratch spare : List ℕ) (j u v : ℕ) wher
   unfoldable pub otherAfter : List ℕ
   otherAfter = cond bankMoves (drop relationWords movedOther ++ drop ownWords other) other
 
-  -- of either scratch
+  -- Of either scratch.
   unfoldable pub clearedAfter : List ℕ → List ℕ
   clearedAfter lent = cond bankMoves (replicate scratchWords 0 ++ drop scratchWords lent) lent
 

@@ -1,4 +1,5 @@
--- The ways through what a call gives and an opening gives: one law for each, and what a verdict and an opening say of the memory.
+-- The ways through what a call gives and an opening gives: one law for each, and what a verdict
+-- and an opening say of the memory.
 use Prim.Native.Nat.{ℕ, _≤_, _<_}
 use mathlib.Core.Path.{_≡_, refl, sym, ap, _∙_}
 use mathlib.Core.Bool.{Bool, true, false, cond, not, _||_, true≢false}

@@ -50,7 +50,8 @@ module _ (terms : List ℕ) where
       (omega (arith, l, after-scratch terms state scratch (r .event) (r .from) (r .to) l)) rs i (omega (arith, b))
 
 module _ (terms state scratch : List ℕ) (rs : List Record) where
-  -- Where the checks pass, a set list leaves what single requests one after another leave, counts their grants, which are the answers 1, and no record gets 6, 7 or 8.
+  -- Where the checks pass, a set list leaves what single requests one after another leave, counts their grants, which
+  -- are the answers 1, and no record gets 6, 7 or 8.
   pub as-single-requests : listChecks terms state scratch ≡ passed →
       (left terms state scratch rs ≡ singly terms state scratch rs)
       × (listed terms state scratch rs ≡ counted (ones (left terms state scratch rs .records)))
@@ -60,7 +61,8 @@ module _ (terms state scratch : List ℕ) (rs : List Record) where
       let p = list-passed terms state scratch (sym e) in
       rw e (refl, ap counted (counts-ones terms state scratch rs), plain-answers terms state scratch (p .1) (p .0) rs)
 
-  -- Where a check fails, the list is refused by its number and line, all memory is as lent, and every single request would be refused alike.
+  -- Where a check fails, the list is refused by its number and line, all memory is as lent, and every single
+  -- request would be refused alike.
   pub refused-whole : (n l : ℕ) → listChecks terms state scratch ≡ failed n l →
       (listed terms state scratch rs ≡ refusedList n l)
       × (left terms state scratch rs ≡ record { records = rs; grants = 0; state = state; scratch = scratch })

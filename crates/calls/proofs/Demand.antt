@@ -1,4 +1,5 @@
--- Demand 3: over any list of calls, set lists, new terms and new numbers the monitor answers as the keeper of the whole record does, and its memory agrees with the keeper's list.
+-- Demand 3: over any list of calls, set lists, new terms and new numbers the monitor answers as the keeper of the whole
+-- record does, and its memory agrees with the keeper's list.
 use Prim.Native.Nat.{ℕ, _≤_, _<_}
 use native.Mathlib.Omega.{arith}
 use mathlib.Core.Path.{_≡_, refl, sym, ap, ap₂, _∙_, subst}
@@ -57,15 +58,15 @@ pub or-false-right : (a b : Bool) → (a || b) ≡ false → b ≡ false
 or-false-right false b e = e
 or-false-right true b e = absurd (true≢false e)
 
--- the keeper of two lists of calls, one after the other
+-- The keeper of two lists of calls, one after the other.
 pub calls-on : (T : Terms) (s : Starts) (Ms : List Moment) (xs ys : List Call) →
     keepAll T s Ms (xs ++ ys) ≡ (keepAll T s Ms xs .0 ++ keepAll T s (keepAll T s Ms xs .1) ys .0, keepAll T s (keepAll T s Ms xs .1) ys .1)
 unfolding keepAll
 calls-on T s Ms [] ys = refl
 calls-on T s Ms (x ∷ xs) ys = ap (λ (k : List Answer × List Moment). (keep T s Ms x .0 ∷ k .0, k .1)) (calls-on T s (keep T s Ms x .1) xs ys)
 
--- the keeper of two lists of steps, of which the first is calls
-pub keep-on : (B : Book) (cs : List Call) (xs : List Step) →
+-- The keeper of two lists of steps, of which the first is calls.
+keep-on : (B : Book) (cs : List Call) (xs : List Step) →
     keepSteps B (map call cs ++ xs)
     ≡ (
       keepAll (B .terms) (B .start) (B .moments) cs .0 ++ keepSteps (withMoments B (keepAll (B .terms) (B .start) (B .moments) cs .1)) xs .0,
@@ -86,7 +87,7 @@ keep-calls B (c ∷ cs) =
     ap (λ (k : List Answer × Book). (keep (B .terms) (B .start) (B .moments) c .0 ∷ k .0, k .1))
     (keep-calls (withMoments B (keep (B .terms) (B .start) (B .moments) c .1)) cs)
 
--- with too little scratch the keeper refuses each request
+-- With too little scratch the keeper refuses each request.
 keep-short : (T : Terms) (s : Starts) (Ms : List Moment) (n : ℕ) → ltb n scratchWords ≡ true → (rs : List Record) →
     keepAll T s Ms (map (fedRecord n) rs) ≡ (map (λ (r : Record). refused 6 0) rs, Ms)
 unfolding keepAll keep judge
@@ -102,7 +103,7 @@ module _ (terms : List ℕ) (long-terms : termsWords ≤ length terms) (fine : G
     abbrev T : Terms
     T = termsOf terms
 
-    -- the records of a set list, one after another, over n words of scratch
+    -- The records of a set list, one after another, over n words of scratch.
     run-records : (rs : List Record) (n : ℕ) (m scratch : List ℕ) (Ms : List Moment) → scratchWords ≤ n → length scratch ≡ n → Held T s fine m₀ m Ms →
         (map (λ (r : Record). answerIn (r .answer)) (singly terms m scratch rs .records) ≡ keepAll T s Ms (map (fedRecord n) rs) .0)
         × Held T s fine m₀ (singly terms m scratch rs .state) (keepAll T s Ms (map (fedRecord n) rs) .1)
@@ -117,7 +118,7 @@ module _ (terms : List ℕ) (long-terms : termsWords ≤ length terms) (fine : G
         (after-scratch terms m scratch (r .event) (r .from) (r .to) (omega (arith, l, e)) ∙ e) (now .1) in
         (ap₂ _∷_ (answer-back terms m scratch (r .event) (r .from) (r .to) ∙ now .0) (later .0), later .1)
 
-    -- a set list: refused as a whole where the scratch is too short, else its records one after another
+    -- A set list: refused as a whole where the scratch is too short, else its records one after another.
     run-list : (scratch : List ℕ) (rs : List Record) (m : List ℕ) (Ms : List Moment) → Held T s fine m₀ m Ms →
         (answersIn (listed terms m scratch rs) (left terms m scratch rs .records) ≡ keepAll T s Ms (map (fedRecord (length scratch)) rs) .0)
         × Held T s fine m₀ (left terms m scratch rs .state) (keepAll T s Ms (map (fedRecord (length scratch)) rs) .1)
@@ -160,7 +161,7 @@ module _ (B : Book) (L : Lent) (p : Playing B L) where
   pub keeper-good : Good (B .terms)
   keeper-good = good-alike U (B .terms) (alike-sym (p .like)) fine
 
-  -- the same terms, another state and list
+  -- The same terms, another state and list.
   moved-on : (m : List ℕ) (Ms : List Moment) → Held U (B .start) fine (L .before) m Ms → Playing (withMoments B Ms) (withState L m)
   moved-on m Ms h = record { like = p .like; long = p .long; good-memory = p .good-memory; room = p .room; held = h }
 
@@ -189,7 +190,7 @@ module _ (B : Book) (L : Lent) (p : Playing B L) where
             (subst (λ (k : List Answer × List Moment). Held U (B .start) fine (L .before) (left (L .terms) (L .state) scratch rs .state) (k .1)) (sym same) (now .1)),
       )
 
-  -- new terms
+  -- New terms.
   module _ (new second : List ℕ) where
     abbrev Z : Terms
     Z = termsOf new
@@ -218,11 +219,11 @@ module _ (B : Book) (L : Lent) (p : Playing B L) where
     abbrev Played : Type 0
     Played = (outcomeIn (revises (L .terms) (L .state) new second) ≡ K .0) × Playing (K .1) (inUse L new second)
 
-    -- refused: all is as before
+    -- Refused: all is as before.
     stays : (n l : ℕ) → revises (L .terms) (L .state) new second ≡ failed n l → K ≡ (refused n l, B) → Played
     stays n l e k = rw (e, k) (refl, p)
 
-    -- done: the new terms and the second state are in use
+    -- Done: the new terms and the second state are in use.
     module _ (e : revises (L .terms) (L .state) new second ≡ passed) (k : K ≡ (done, revisedBook B Z)) (s : short ≡ false) (g : goodMemory new ≡ true)
         (z : sameSize (B .terms) Z ≡ true)
       where
@@ -278,7 +279,7 @@ module _ (B : Book) (L : Lent) (p : Playing B L) where
         by-length false s true g false z = stays 13 0 (revises-is ∙ rw (s, g, z)) (keeps-is ∙ rw (s, g, z))
         by-length false s true g true z = begins (revises-is ∙ rw (s, g, z)) (keeps-is ∙ rw (s, g, z)) s g z
 
-  -- new numbers
+  -- New numbers.
   module _ (numbers second : List ℕ) where
     abbrev N : ℕ
     N = B .terms .members
@@ -301,11 +302,11 @@ module _ (B : Book) (L : Lent) (p : Playing B L) where
     abbrev Numbered : Type 0
     Numbered = (outcomeIn (renumbering (L .terms) (L .state) numbers second) ≡ J .0) × Playing (J .1) (inUseBy L numbers second)
 
-    -- refused: all is as before
+    -- Refused: all is as before.
     numbers-stay : (n l : ℕ) → failed n l ≡ renumbering (L .terms) (L .state) numbers second → J ≡ (refused n l, B) → Numbered
     numbers-stay n l e k = rw (sym e, k) (refl, p)
 
-    -- done: the second state holds what the renumbered list says
+    -- Done: the second state holds what the renumbered list says.
     module _ (ls : stateWords ≤ length second) (k : J ≡ (done, renumberedBook B numbers)) (ok : renumbers N numbers ≡ true) where
       members-same : N ≡ U .members
       members-same = p .like .members
@@ -344,7 +345,7 @@ module _ (B : Book) (L : Lent) (p : Playing B L) where
             (numbers-kept ∙ rw (s, z))
         by-second false s true z = numbers-begin (ltb-false (length second) stateWords s) (numbers-kept ∙ rw (s, z)) z
 
--- a list of steps: one induction
+-- A list of steps: one induction.
 pub run : (ss : List LentStep) (B : Book) (L : Lent) → Playing B L →
     (serveSteps L ss .0 ≡ keepSteps B (fedSteps ss) .0) × Playing (keepSteps B (fedSteps ss) .1) (serveSteps L ss .1)
 unfolding serveSteps keepSteps fedSteps
@@ -413,9 +414,11 @@ opened-playing terms state e =
       held = opened-held terms state (good terms (o .terms-good)) o e;
     }
 
--- Demand 3, with set lists, new terms and new numbers. For all memory that opens, and all lists of steps over it, requests, looks, set lists, new terms and new numbers, with any numbers, any scratch and
--- any further memory: the answers are the keeper's of the same steps, the terms in use are alike the keeper's, and the state in use agrees with the keeper's list, each past-time entry judged from
--- its own start. The keeper begins with the relations that stood there.
+-- Demand 3, with set lists, new terms and new numbers. For all memory that opens, and all lists of steps over
+-- it, requests, looks, set lists, new terms and new numbers, with any numbers, any scratch and any further
+-- memory: the answers are the keeper's of the same steps, the terms in use are alike the keeper's, and the state
+-- in use agrees with the keeper's list, each past-time entry judged from its own start. The keeper begins with
+-- the relations that stood there.
 pub demand-3-steps : (terms state : List ℕ) → opens terms state ≡ passed → (ss : List LentStep) →
     let after = serveSteps (opened terms state) ss in
     let kept = keepSteps (openedBook terms state) (fedSteps ss) in
@@ -439,7 +442,7 @@ serve-once L (c ∷ cs) =
     ap (λ (later : List Answer × Lent). (answer (L .terms) (L .state) (c .scratch) (c .event) (c .from) (c .to) ∷ later .0, later .1))
     (serve-once (withState L (leaves (L .terms) (L .state) c)) cs)
 
--- the steps of a list that keeps the terms are calls
+-- The steps of a list that keeps the terms are calls.
 pub fed-kept : (ss : List LentStep) → KeepsTerms ss → fedSteps ss ≡ map call (fedCalls ss)
 unfolding fedSteps fedCalls
 fed-kept [] k = refl

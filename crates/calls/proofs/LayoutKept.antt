@@ -1,4 +1,5 @@
--- A moment keeps the layout, and so do new terms, of any state that keeps it and not of those of a record only: a table without a free variable keeps equal bits in a word.
+-- A moment keeps the layout, and so do new terms, of any state that keeps it and not of those of a record only: a table
+-- without a free variable keeps equal bits in a word.
 use Prim.Native.Nat.{ℕ, zero, suc, _-_, _^_, _≤_, _<_}
 use native.Mathlib.Omega.{arith}
 use mathlib.Core.Path.{_≡_, refl, sym, ap, ap₂, _∙_}
@@ -37,7 +38,7 @@ use Rattle.memory.proofs.Front.{good-front}
 -- ---- the meaning at the present moment: only the free variables count
 
 module _ (N : ℕ) (G : Graph) (X : Tables) where
-  -- where φ has no free variable, the bits of its table's words are equal
+  -- Where φ has no free variable, the bits of its table's words are equal.
   record Even (φ : Formula) : Type 0 where
     pub below-16 : (x : ℕ) → free φ x ≡ true → x < 16
     pub level : ((x : ℕ) → free φ x ≡ true → ⊥) → (a b c : ℕ) → a < N → b < N → c < N → X (tableOf φ) a b ≡ X (tableOf φ) a c
@@ -82,12 +83,12 @@ module _ (N : ℕ) (G : Graph) (X : Tables) where
 
 -- ---- the tables of all past-time entries
 
--- check 8: a table without a free variable has equal bits in a word
+-- Check 8: a table without a free variable has equal bits in a word.
 abbrev pub Level : Terms → Tables → Type 0
 Level T X = (n : ℕ) → n < T .entries → isPast (T .entry n .op) ≡ true → ((x : ℕ) → free (formula T n) x ≡ true → ⊥) →
     (a b c : ℕ) → a < T .members → b < T .members → c < T .members → X (number (T .entry) n) a b ≡ X (number (T .entry) n) a c
 
--- what is free in an operand is free in its entry
+-- What is free in an operand is free in its entry.
 module _ (T : Terms) (n : ℕ) where
   pub free-prev : T .entry n .op ≡ 6 → (x : ℕ) → free (below (T .entry) n (T .entry n .a)) x ≡ true → free (formula T n) x ≡ true
   unfolding free
@@ -106,7 +107,7 @@ module _ (T : Terms) (n : ℕ) where
 pub by-kind : {A : Type 0} (o : ℕ) → isPast o ≡ true → (o ≡ 6 → A) → (o ≡ 7 → A) → A
 by-kind o e six seven = or-cases (eqb o 6) (eqb o 7) e (λ z. six (eqb-true o 6 z)) (λ z. seven (eqb-true o 7 z))
 
--- an entry without a free variable has a table with one column
+-- An entry without a free variable has a table with one column.
 module _ (T : Terms) (n : ℕ) (none : (x : ℕ) → free (formula T n) x ≡ true → ⊥) where
   one-column : columns (formula T n) ≡ 0 ∷ []
   one-column = closed-columns (formula T n) (λ x l. is-false (free (formula T n) x) (none x))
@@ -115,7 +116,7 @@ module _ (T : Terms) (n : ℕ) (none : (x : ℕ) → free (formula T n) x ≡ tr
   one-inside a b al bl = rw one-column (and-both _ _ (lt-ltb a (T .members) al) (lt-ltb b (T .members) bl))
 
 module _ (T : Terms) (fine : Good T) (G : Graph) where
-  -- an operand of an entry without a free variable does not depend on the column
+  -- An operand of an entry without a free variable does not depend on the column.
   operand-level : (X : Tables) → Level T X → (n : ℕ) → n < T .entries → ((x : ℕ) → free (formula T n) x ≡ true → ⊥) →
       (k : ℕ) → ((x : ℕ) → free (below (T .entry) n k) x ≡ true → ⊥) →
       (a b c : ℕ) → a < T .members → b < T .members → c < T .members → operandNow T G n k X a b ≡ operandNow T G n k X a c
@@ -148,7 +149,7 @@ module _ (T : Terms) (fine : Good T) (G : Graph) where
       (ap₂ _&&_ (operand-level X lev n l none (T .entry n .a) (λ x f. none x (free-since-a T n z x f)) a b c al bl cl)
       (lev n l (rw z) none a b c al bl cl))
 
-  -- a table stored, or not
+  -- A table stored, or not.
   store-level : (X : Tables) → Level T X → (n : ℕ) → (D : ℕ → ℕ → Bool) (stores : Bool) → (stores ≡ true → isPast (T .entry n .op) ≡ true) →
       (stores ≡ true → ((x : ℕ) → free (formula T n) x ≡ true → ⊥) → (a b c : ℕ) → a < T .members → b < T .members → c < T .members → D a b ≡ D a c) →
       Level T (cond stores (store (number (T .entry) n) D X) X)
@@ -189,7 +190,7 @@ level-bits N w e b c bl cl =
     (λ z. rw (eqb-true w (2 ^ N - 1) z) (bit-mask N b ∙ lt-ltb b N bl ∙ sym (bit-mask N c ∙ lt-ltb c N cl)))
 
 module _ (T : Terms) (fine : Good T) where
-  -- words that keep the layout have equal bits where they must
+  -- Words that keep the layout have equal bits where they must.
   pub level-good : (w : List ℕ) → goodState T w ≡ true → Level T (stateOf w .table)
   unfolding goodState stateOf closed
   level-good w g n l e no-free a b c al bl cl =
@@ -211,7 +212,7 @@ module _ (T : Terms) (fine : Good T) where
   relations-good S = all-true 16 (λ k kl. all-true 64 (λ a al.
       rw (word-relation T S k a kl al) (fits-row (T .members) (ltb k (T .relations)) (S .now .edge k) a)))
 
-  -- and the words of a state that has them keep the layout
+  -- And the words of a state that has them keep the layout.
   pub words-level : (S : State) → Level T (S .table) → Inside T (S .now) → goodState T (wordsOf T S) ≡ true
   unfolding goodState closed
   words-level S lev i = every-in (stateTests T (wordsOf T S)) test
@@ -289,7 +290,7 @@ module _ (T : Terms) (S : State) (lev : Level T (S .table)) (U : Terms) (fine : 
       store-level U fine G X (start-level n (omega arith)) n (startBits T S U n X) (isPast (U .entry n .op)) (λ z. z)
       (λ z none. start-bits-level X (start-level n (omega arith)) n l z none)
 
--- what is inside T is inside terms of the same size
+-- What is inside T is inside terms of the same size.
 pub inside-size : (T U : Terms) → T .members ≡ U .members → T .relations ≡ U .relations → T .events ≡ U .events → (M : Moment) → Inside T M → Inside U M
 inside-size T U em er ee M i = record {
   edges = λ k a b h. let x = i .edges k a b h in (omega (arith, x .0), omega (arith, x .1), omega (arith, x .2));
@@ -301,7 +302,8 @@ inside-size T U em er ee M i = record {
     at (happened j u v) x = (omega (arith, x .0), omega (arith, x .1), omega (arith, x .2))
     at (tried j u v) x = (omega (arith, x .0), omega (arith, x .1), omega (arith, x .2))
 
--- New terms of the same size begin with a state that keeps their layout, whatever state it was that kept the old terms' layout.
+-- New terms of the same size begin with a state that keeps their layout, whatever state it was
+-- that kept the old terms' layout.
 pub revised-good : (T U : Terms) → Good T → Good U → T .members ≡ U .members → T .relations ≡ U .relations → T .events ≡ U .events →
     (m : List ℕ) → goodState T m ≡ true → (rest : List ℕ) → goodState U (wordsOf U (revised T (stateOf m) U) ++ rest) ≡ true
 unfolding revised

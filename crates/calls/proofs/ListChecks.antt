@@ -9,7 +9,7 @@ use borrow.Author.Tests.{lt-ltb, le-ltb, ltb-true, ltb-false}
 use Rattle.theory.specs.Keeper.Answer.{refused}
 use Rattle.theory.specs.Limits.{scratchWords}
 use Rattle.memory.specs.Layout.{termsOf}
-use Rattle.memory.specs.Outcome.{Outcome, outcomeOf, hasPassed, checks}
+use Rattle.memory.specs.Outcome.{Outcome, hasPassed, checks}
 use Rattle.memory.specs.Outcome.Outcome.{passed, failed}
 use Rattle.memory.specs.Plan.{Planned}
 use Rattle.memory.proofs.Outcomes.{Checked, passed-checked}
@@ -27,7 +27,7 @@ module _ (terms state scratch : List ℕ) where
   unfolding listChecks
   list-checked l = rw (le-ltb (length scratch) scratchWords l)
 
-  -- a pass says that the scratch is long enough, and that terms and state pass
+  -- A pass says that the scratch is long enough, and that terms and state pass.
   pub list-passed : passed ≡ listChecks terms state scratch → (scratchWords ≤ length scratch) × Checked terms state
   unfolding listChecks
   list-passed e = go (ltb (length scratch) scratchWords) refl e
@@ -37,7 +37,7 @@ module _ (terms state scratch : List ℕ) where
       go true s e = absurd (false≢true (sym (ap hasPassed e)))
       go false s e = (ltb-false (length scratch) scratchWords s, passed-checked terms state e)
 
-  -- and with the terms' plan, all that a request asks of the memory
+  -- And with the terms' plan, all that a request asks of the memory.
   pub list-ready : (plan : List ℕ) → passed ≡ listChecks terms state scratch → Planned (termsOf terms) plan → Passed terms plan state scratch
   list-ready plan e planned =
       let p = list-passed e in

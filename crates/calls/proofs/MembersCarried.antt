@@ -1,4 +1,5 @@
--- Members renumbered, of any state that keeps the layout, whether or not it is true of a record: what is decided is the same, and so is the next state.
+-- Members renumbered, of any state that keeps the layout, whether or not it is true of a record: what is decided is the
+-- same, and so is the next state.
 use Prim.Native.Nat.{ℕ, zero, suc, _≤_, _<_}
 use native.Mathlib.Omega.{arith}
 use mathlib.Core.Path.{_≡_, refl, sym, ap, ap₂, subst, _∙_}
@@ -32,8 +33,8 @@ use Rattle.theory.proofs.MembersRenumbered.{permutes, same-both, graph-renumber
 -- ---- the meaning at the present moment
 
 module _ (N : ℕ) (p q : ℕ → ℕ) (r : Renumbering N p q) (G H : Graph) (edge : (l a b : ℕ) → H l a b ≡ G l (q a) (q b)) (X Y : Tables) where
-  -- the table of φ is carried over; where φ has no free variable, its bits in a word are equal
-  pub record Carried (φ : Formula) : Type 0 where
+  -- The table of φ is carried over; where φ has no free variable, its bits in a word are equal.
+  record Carried (φ : Formula) : Type 0 where
     pub fit : columnsFit N (columns φ) ≡ true
     pub below-16 : (x : ℕ) → free φ x ≡ true → x < 16
     pub bits : (i k : ℕ) → inside N (columns φ) i k ≡ true → Y (tableOf φ) i k ≡ X (tableOf φ) (wordUnder (columns φ) q i k) (bitUnder (columns φ) q i k)
@@ -62,7 +63,7 @@ module _ (N : ℕ) (p q : ℕ → ℕ) (r : Renumbering N p q) (G H : Graph) (ed
       (λ n. rw (n .1) (c .level (λ x f. not-both (free φ x) f (n .0 x (c .below-16 x f))) m (q (h 0)) (g 0) ml (r .old (h 0) (wh 0)) (wg 0)))
       (columns-free φ)
 
-  pub now-renumbered : (f : Formula) → EachReach Only f → Visible Carried f → (g h : Assignment) (m : ℕ) → Among N g → Among N h → m < N →
+  now-renumbered : (f : Formula) → EachReach Only f → Visible Carried f → (g h : Assignment) (m : ℕ) → Among N g → Among N h → m < N →
       ((x : ℕ) → free f x ≡ true → h x ≡ p (g x)) → holdsNow N H Y f h (p m) ≡ holdsNow N G X f g m
   unfolding holdsNow free
   now-renumbered top w s g h m wg wh ml v = refl
@@ -97,12 +98,12 @@ module _ (N : ℕ) (p q : ℕ → ℕ) (r : Renumbering N p q) (G H : Graph) (ed
 
 -- ---- the tables of all past-time entries
 
--- Y is X renumbered, at the places of members
+-- Y is X renumbered, at the places of members.
 abbrev pub Carry : Terms → (ℕ → ℕ) → Tables → Tables → Type 0
 Carry T q X Y = (n : ℕ) → n < T .entries → isPast (T .entry n .op) ≡ true → (i k : ℕ) → inside (T .members) (columns (formula T n)) i k ≡ true →
     Y (number (T .entry) n) i k ≡ X (number (T .entry) n) (wordUnder (columns (formula T n)) q i k) (bitUnder (columns (formula T n)) q i k)
 
--- two graphs and tables, the second the first renumbered
+-- Two graphs and tables, the second the first renumbered.
 module _ (T : Terms) (good : Good T) (p q : ℕ → ℕ) (r : Renumbering (T .members) p q) (G H : Graph) (edge : (l a b : ℕ) → H l a b ≡ G l (q a) (q b))
     (X Y : Tables) (carry : Carry T q X Y) (level : Level T X)
   where
@@ -117,7 +118,7 @@ module _ (T : Terms) (good : Good T) (p q : ℕ → ℕ) (r : Renumbering (T .me
       level = rw (table-spelled (T .entry) n e) (level n l e);
     }
 
-    pub policy-carried : (j : ℕ) → j < T .events → (u v : ℕ) → u < N → v < N →
+    policy-carried : (j : ℕ) → j < T .events → (u v : ℕ) → u < N → v < N →
         holdsNow N H Y (formula T (T .policy j)) (target (p v)) (p u) ≡ holdsNow N G X (formula T (T .policy j)) (target v) u
     policy-carried j jl u v ul vl =
         let l : T .policy j < T .entries = good .policy-exists j jl in
@@ -133,7 +134,7 @@ module _ (T : Terms) (good : Good T) (p q : ℕ → ℕ) (r : Renumbering (T .me
         now-renumbered N p q r G H edge X Y (below (T .entry) n k) (regular-below T good n (omega arith) k)
         (visible-below (T .entry) (Carried N p q r G H edge X Y) n (λ j jl e. carried j (omega arith) e) k)
 
-    pub operand-carried : (n : ℕ) → n < T .entries → isPast (T .entry n .op) ≡ true → (j : ℕ) →
+    operand-carried : (n : ℕ) → n < T .entries → isPast (T .entry n .op) ≡ true → (j : ℕ) →
         ((x : ℕ) → free (below (T .entry) n j) x ≡ true → free (formula T n) x ≡ true) → (i k : ℕ) → inside N (columns (formula T n)) i k ≡ true →
         operandNow T H n j Y i k ≡ operandNow T G n j X (wordUnder (columns (formula T n)) q i k) (bitUnder (columns (formula T n)) q i k)
     operand-carried n l e j free-in i k o =
@@ -219,7 +220,7 @@ module _ (T : Terms) (good : Good T) (p q : ℕ → ℕ) (r : Renumbering (T .me
 -- ---- runs
 
 module _ (T : Terms) (good : Good T) (p q : ℕ → ℕ) (r : Renumbering (T .members) p q) where
-  -- S' is S renumbered, at members, and S keeps the layout
+  -- S' is S renumbered, at members, and S keeps the layout.
   pub record Matched (S S' : State) : Type 0 where
     pub now : S' .now ≡ renumberMoment p q (S .now)
     pub tables : Carry T q (S .table) (S' .table)

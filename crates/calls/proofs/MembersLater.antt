@@ -1,4 +1,5 @@
--- Memory and the same memory renumbered: renumbered steps over the second get the answers of the first, whether or not it is true of a record.
+-- Memory and the same memory renumbered: renumbered steps over the second get the answers of the first, whether
+-- or not it is true of a record.
 use Prim.Native.Nat.{ℕ, _≤_, _<_}
 use native.Mathlib.Omega.{arith}
 use mathlib.Core.Path.{_≡_, refl, sym, ap, ap₂, subst, _∙_}
@@ -65,7 +66,7 @@ module _ (T : Terms) (fine : Good T) (p q : ℕ → ℕ) (r : Renumbering (T .me
   named-renumbered : (j u v : ℕ) → named T j (p u) (p v) ≡ named T j u v
   named-renumbered j u v = rw (same-below (T .members) p q r u, same-below (T .members) p q r v)
 
-  -- the words of matched states hold matched states
+  -- The words of matched states hold matched states.
   matched-words : (S S' : State) → Matched T fine p q r S S' → Inside T (S .now) → (rest rest' : List ℕ) → goodState T (wordsOf T S ++ rest) ≡ true →
       Matched T fine p q r (stateOf (wordsOf T S ++ rest)) (stateOf (wordsOf T S' ++ rest'))
   matched-words S S' m i rest rest' g =
@@ -89,7 +90,7 @@ advance-inside : (T : Terms) (S : State) (M : Moment) → Inside T M → Inside 
 unfolding advance
 advance-inside T S M i = i
 
--- memory m, and m' that holds the same renumbered
+-- Memory m, and m' that holds the same renumbered.
 module _ (terms : List ℕ) (long-terms : termsWords ≤ length terms) (good-terms : goodMemory terms ≡ true)
     (numbers : List ℕ) (ok : renumbers (termsOf terms .members) numbers ≡ true)
   where
@@ -128,7 +129,7 @@ module _ (terms : List ℕ) (long-terms : termsWords ≤ length terms) (good-ter
           (ltb-true u (T .members) (and-left (ltb u (T .members)) _ (and-right (ltb j (T .events)) _ n)))
           (ltb-true v (T .members) (and-right (ltb u (T .members)) _ (and-right (ltb j (T .events)) _ n)))
 
-      pub same-answer : answer terms m' scratch j (p u) (p v) ≡ answer terms m scratch j u v
+      same-answer : answer terms m' scratch j (p u) (p v) ≡ answer terms m scratch j u v
       unfolding answer
       same-answer =
           rw (
@@ -144,7 +145,7 @@ module _ (terms : List ℕ) (long-terms : termsWords ≤ length terms) (good-ter
       abbrev move : Moment
       move = made T (stateOf m .now) (granted (answer terms m scratch j u v)) j u v
 
-      pub same-scratch : scratchAfter terms m' scratch j (p u) (p v) ≡ scratchAfter terms m scratch j u v
+      same-scratch : scratchAfter terms m' scratch j (p u) (p v) ≡ scratchAfter terms m scratch j u v
       unfolding scratchAfter
       same-scratch = rw same-answer
 
@@ -176,7 +177,7 @@ module _ (terms : List ℕ) (long-terms : termsWords ≤ length terms) (good-ter
               (advance-inside T (stateOf m) move (move-inside (moves-decided (T .kept j) (answer terms m scratch j u v) e))) (drop stateWords m) (drop stateWords m') g
           go false e g = h .matched
 
-      pub alike-after : Alike (stateAfter terms m scratch j u v) (stateAfter terms m' scratch j (p u) (p v))
+      alike-after : Alike (stateAfter terms m scratch j u v) (stateAfter terms m' scratch j (p u) (p v))
       alike-after = record {
         long = omega (arith, after-long terms m scratch j u v (h .long), h .long);
         long' = omega (arith, after-long terms m' scratch j (p u) (p v) (h .long'), h .long');
@@ -236,11 +237,11 @@ module _ (terms : List ℕ) (long-terms : termsWords ≤ length terms) (good-ter
     alike-leaves true a b c d h k = h
     alike-leaves false a b c d h k = k
 
-    -- the memory in use, with these terms
-    abbrev pub inHand : (m before : List ℕ) → Lent
+    -- The memory in use, with these terms.
+    abbrev inHand : (m before : List ℕ) → Lent
     inHand m before = record { terms = terms; state = m; before = before }
 
-    pub alike-steps : (ss : List LentStep) → KeepsTerms ss → (m m' before before' : List ℕ) → Alike m m' →
+    alike-steps : (ss : List LentStep) → KeepsTerms ss → (m m' before before' : List ℕ) → Alike m m' →
         serveSteps (inHand m' before') (map (stepBy numbers) ss) .0 ≡ serveSteps (inHand m before) ss .0
     unfolding serveSteps
     alike-steps [] k m m' before before' h = refl
@@ -289,8 +290,8 @@ module _ (terms state numbers second : List ℕ) (e : renumbering terms state nu
         (renumbered-matched (termsOf terms) (good terms (known .checked .good-terms)) numbers (known .right) state (known .checked .long-state) (known .checked .good-state));
   }
 
-  -- Renumbering the state and all later requests gives the same answers: of every state that is accepted, true of a record or not, and of every list of requests,
-  -- looks and set lists, with any numbers and any scratch.
+  -- Renumbering the state and all later requests gives the same answers: of every state that is accepted, true of a
+  -- record or not, and of every list of requests, looks and set lists, with any numbers and any scratch.
   pub renumbered-answers : (ss : List LentStep) → KeepsTerms ss → (before before' : List ℕ) →
       serveSteps (record { terms = terms; state = renumberedState terms state numbers second; before = before' }) (map (stepBy numbers) ss) .0
       ≡ serveSteps (record { terms = terms; state = state; before = before }) ss .0

@@ -26,13 +26,13 @@ highest-found (suc n) P e = go (P n) refl e (highest-found n P)
     go true z _ ih = (omega arith, z)
     go false z f ih = let w = ih f in (omega (arith, w .0), w .1)
 
--- at an index of the list the default does not count
+-- At an index of the list the default does not count.
 pub getD-any : (l : List ℕ) (i a b : ℕ) → i < length l → getD l i a ≡ getD l i b
 getD-any [] i a b h = absurd (omega arith)
 getD-any (x ∷ l) zero a b h = refl
 getD-any (x ∷ l) (suc i) a b h = getD-any l i a b (omega arith)
 
--- by cases on whether m is a member
+-- By cases on whether m is a member.
 member-or-not : {A : Type 0} (N m : ℕ) → (m < N → A) → (N ≤ m → A) → A
 member-or-not {A} N m f h = go (ltb m N) refl
   where
@@ -63,7 +63,7 @@ module _ (N : ℕ) (p : List ℕ) (ok : renumbers N p ≡ true) where
   permuted : Permutes N (newNumber p) (oldNumber N p)
   permuted = onto-permutes N (newNumber p) (oldNumber N p) (λ k l. old-member k l .0) (λ k l. old-member k l .1)
 
-  -- check 15 is right
+  -- Check 15 is right.
   pub renumbering : Renumbering N (newNumber p) (oldNumber N p)
   renumbering = record {
     new = permuted .new;
@@ -78,7 +78,7 @@ module _ (N : ℕ) (p : List ℕ) (ok : renumbers N p ≡ true) where
       member-or-not N m (λ l. getD-any (undo N p) m m 0 (omega (arith, length-tabulate N (oldNumber N p))) ∙ getD-tabulate N (oldNumber N p) m l)
       (λ h. List·getD-eq-default (undo N p) m (omega (arith, length-tabulate N (oldNumber N p))) ∙ sym (old-stranger N p ok m h))
 
-  -- the numbers that undo it pass check 15
+  -- The numbers that undo it pass check 15.
   pub undo-renumbers : renumbers N (undo N p) ≡ true
   unfolding renumbers
   undo-renumbers =

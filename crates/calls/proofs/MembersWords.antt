@@ -39,7 +39,7 @@ under : (c : Bool) (x y z : ℕ) → (c ≡ true → x ≡ y) → cond c x z ≡
 under true x y z h = h refl
 under false x y z h = refl
 
-pub words-cong : (T : Terms) → T .members < 65 → (S S' : State) → ((k : ℕ) → Same (T .members) (S .now .edge k) (S' .now .edge k)) →
+words-cong : (T : Terms) → T .members < 65 → (S S' : State) → ((k : ℕ) → Same (T .members) (S .now .edge k) (S' .now .edge k)) →
     ((t : ℕ) → t < tables T → SameAt (T .members) (tableColumns T t) (S .table t) (S' .table t)) → S .now .event ≡ S' .now .event → wordsOf T S ≡ wordsOf T S'
 unfolding wordsOf wordAt
 words-cong T few S S' edges bits event = ap (tabulate stateWords) (fun-ext word)
@@ -119,15 +119,15 @@ module _ (T : Terms) (fine : Good T) (p q : ℕ → ℕ) (r : Renumbering (T .me
 -- ---- on words, from the list of new numbers
 
 module _ (T : Terms) (fine : Good T) (p : List ℕ) (ok : renumbers (T .members) p ≡ true) (w : List ℕ) (long : stateWords ≤ length w) (g : goodState T w ≡ true) where
-  -- the second state keeps the layout
+  -- The second state keeps the layout.
   pub renumbered-good : goodState T (renumberedWords T p w) ≡ true
   renumbered-good = second-good T fine (newNumber p) (oldNumber (T .members) p) (renumbering (T .members) p ok) w g
 
-  -- it matches the first
+  -- It matches the first.
   pub renumbered-matched : Matched T fine (newNumber p) (oldNumber (T .members) p) (renumbering (T .members) p ok) (stateOf w) (stateOf (renumberedWords T p w))
   renumbered-matched = second-matched T fine (newNumber p) (oldNumber (T .members) p) (renumbering (T .members) p ok) w g
 
-  -- undoing it gives the first state back, word for word
+  -- Undoing it gives the first state back, word for word.
   pub renumbered-undone : w ≡ renumberedWords T (undo (T .members) p) (renumberedWords T p w) ++ drop stateWords w
   renumbered-undone =
       canonical T (fine .few-members) w long g

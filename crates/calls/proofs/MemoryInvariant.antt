@@ -1,4 +1,5 @@
--- The invariant of a run on the lent memory: it keeps the layout, and the state that it holds is kept. From it follows what demand 3 asks of the words.
+-- The invariant of a run on the lent memory: it keeps the layout, and the state that it holds is kept. From it follows
+-- what demand 3 asks of the words.
 use Prim.Native.Nat.{ℕ, _≤_, _<_}
 use native.Mathlib.Omega.{arith}
 use mathlib.Core.Path.{_≡_, sym, ap, subst, _∙_}
@@ -46,7 +47,7 @@ module _ (T : Terms) (s : Starts) (fine : Good T) where
     unused = λ t a b h. no-table T fine S t a b h;
   }
 
-  -- a table without a free variable has equal bits in a word
+  -- A table without a free variable has equal bits in a word.
   level-kept : (S : State) (Ms : List Moment) → Kept T s S Ms → Level T (S .table)
   level-kept S Ms kept n l p none a b c al bl cl =
       kept .tables n l p a b (one-inside T n none a b al bl)
@@ -59,14 +60,14 @@ module _ (T : Terms) (s : Starts) (fine : Good T) where
 
   -- ---- the invariant
 
-  -- the memory m, where it was m₀ before the run
+  -- The memory m, where it was m₀ before the run.
   pub record Held (m₀ m : List ℕ) (Ms : List Moment) : Type 0 where
     pub long : length m ≡ length m₀
     pub further : drop stateWords m ≡ drop stateWords m₀
     pub good : goodState T m ≡ true
     pub kept : Kept T s (stateOf m) Ms
 
-  -- the words of a state that is kept, before any memory's further words
+  -- The words of a state that is kept, before any memory's further words.
   pub held-words : (m₀ m : List ℕ) → stateWords ≤ length m₀ → length m ≡ length m₀ → drop stateWords m ≡ drop stateWords m₀ →
       (S : State) (Ms : List Moment) → Kept T s S Ms → Inside T (S .now) → Held m₀ (wordsOf T S ++ drop stateWords m) Ms
   held-words m₀ m long same further S Ms kept i =

@@ -1,4 +1,5 @@
--- Single requests one after another: one more at the end, what is left of memory that has passed the checks, and what the numbers tell.
+-- Single requests one after another: one more at the end, what is left of memory that has passed the
+-- checks, and what the numbers tell.
 use Prim.Native.Nat.{ℕ, _+_, _<_, _≤_, _^_}
 use native.Mathlib.Nat.{zero-add, add-zero, add-assoc}
 use native.Mathlib.Omega.{arith}
@@ -31,7 +32,7 @@ use Rattle.calls.proofs.LayoutKept.{advance-good}
 use Rattle.calls.proofs.Answers.{moves-decided, decided-says}
 
 module _ (t : List ℕ) where
-  -- what one record more makes of a run
+  -- What one record more makes of a run.
   abbrev pub more : Run → Record → Run
   more R z = record {
     records = R .records ++ (filled z (answer t (R .state) (R .scratch) (z .event) (z .from) (z .to)) ∷ []);
@@ -63,7 +64,7 @@ module _ (t : List ℕ) where
       }) (sym (add-assoc (cond (granted a) 1 0) (later .grants) (cond (granted (answer t (later .state) (later .scratch) (z .event) (z .from) (z .to))) 1 0)))
 
   module _ (st sc : List ℕ) (j u v : ℕ) where
-    -- what holds of both verdicts and of the four refusals holds of every answer
+    -- What holds of both verdicts and of the four refusals holds of every answer.
     each-answer : (P : Answer → Type 0) → P (refused 6 0) → P (refused 7 0) → P (refused 8 0) → P (refused 9 0) → P (decided grant) → P (decided deny) →
         P (answer t st sc j u v)
     unfolding answer
@@ -80,7 +81,7 @@ module _ (t : List ℕ) where
         go false true true true true = one
         go false true true true false = nil
 
-    -- a number of 1 is a grant
+    -- A number of 1 is a grant.
     pub one-granted : gainOf (numberOf (answer t st sc j u v)) ≡ cond (granted (answer t st sc j u v)) 1 0
     unfolding gainOf
     one-granted = each-answer (λ a. _≡_ {A = ℕ} (cond (eqb (numberOf a) 1) 1 0) (cond (granted a) 1 0)) refl refl refl refl refl refl
@@ -88,15 +89,15 @@ module _ (t : List ℕ) where
     pub number-small : numberOf (answer t st sc j u v) < 2 ^ 32
     number-small = each-answer (λ a. numberOf a < 2 ^ 32) (lit< tt) (lit< tt) (lit< tt) (lit< tt) (lit< tt) (lit< tt)
 
-    -- a number tells its answer
+    -- A number tells its answer.
     pub answer-back : answerIn (numberOf (answer t st sc j u v)) ≡ answer t st sc j u v
     answer-back = each-answer (λ a. answerIn (numberOf a) ≡ a) refl refl refl refl refl refl
 
-    -- the moment that it makes, if it makes one
+    -- The moment that it makes, if it makes one.
     abbrev moment : Moment
     moment = made (termsOf t) (stateOf st .now) (granted (answer t st sc j u v)) j u v
 
-    -- a request keeps the layout, of every state that keeps it
+    -- A request keeps the layout, of every state that keeps it.
     pub after-good : goodMemory t ≡ true → goodState (termsOf t) st ≡ true → goodState (termsOf t) (stateAfter t st sc j u v) ≡ true
     unfolding stateAfter
     after-good gt gs = go (moves (termsOf t .kept j) (answer t st sc j u v)) refl
@@ -113,7 +114,7 @@ module _ (t : List ℕ) where
             (ltb-true v (T .members) (and-right (ltb u (T .members)) _ (and-right (ltb j (T .events)) _ n)))) (drop stateWords st)
         go false e = gs
 
-    -- and the lengths
+    -- And the lengths.
     pub after-long : stateWords ≤ length st → length (stateAfter t st sc j u v) ≡ length st
     unfolding stateAfter
     after-long l = go (moves (termsOf t .kept j) (answer t st sc j u v))
@@ -134,7 +135,7 @@ module _ (t : List ℕ) where
             length-append z (drop scratchWords sc) ∙ omega (arith, l, length-replicate {A = ℕ} scratchWords 0, length-drop scratchWords sc)
         go false = refl
 
-    -- what a step gives and leaves is what a request does
+    -- What a step gives and leaves is what a request does.
     abbrev pub AsRequest : ℕ → List ℕ → List ℕ → Type 0
     AsRequest k st′ sc′ =
         (k ≡ numberOf (answer t st sc j u v)) × (st′ ≡ stateAfter t st sc j u v) × (sc′ ≡ scratchAfter t st sc j u v)
@@ -143,7 +144,7 @@ module _ (t : List ℕ) where
       checked : Checked t st
       checked = record { long-terms = p .long-terms; long-state = p .long-state; good-terms = p .good-terms; good-state = p .good-state }
 
-    -- so a request leaves memory that has passed the checks as memory that passes them
+    -- So a request leaves memory that has passed the checks as memory that passes them.
     pub after-checked : Checked t st → Checked t (stateAfter t st sc j u v)
     after-checked k = record {
       long-terms = k .long-terms;

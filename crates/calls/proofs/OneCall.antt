@@ -1,4 +1,5 @@
--- One call over memory that holds what the keeper's list says: the answer is the keeper's, and the memory holds what the list then says.
+-- One call over memory that holds what the keeper's list says: the answer is the keeper's, and the memory
+-- holds what the list then says.
 use Prim.Native.Nat.{ℕ, _≤_, _<_}
 use native.Mathlib.Omega.{arith}
 use mathlib.Core.Path.{_≡_, refl, ap, ap₂, _∙_, subst}
@@ -10,7 +11,7 @@ use borrow.Author.Tests.{le-ltb, ltb-true, ltb-false, le-leb, lt-leb}
 use Rattle.sets.proofs.Finite.{and-left, and-right}
 use Rattle.theory.specs.Meaning.{Starts}
 use Rattle.theory.specs.Terms.{Terms}
-use Rattle.theory.specs.Moment.{Moment, next, denied}
+use Rattle.theory.specs.Moment.{Moment}
 use Rattle.theory.specs.Keeper.{Answer, target, lastMoment, keeperHolds, judge, keep}
 use Rattle.theory.specs.Keeper.Verdict.{grant, deny}
 use Rattle.theory.specs.Keeper.Answer.{decided, refused}
@@ -25,7 +26,7 @@ use Rattle.theory.proofs.RunInvariant.{Kept, decide-kept, advance-kept}
 use Rattle.memory.proofs.Inside.{made-inside, state-inside}
 use Rattle.calls.proofs.MemoryInvariant.{Held, held-words}
 
--- the keeper's test of a call is the monitor's
+-- The keeper's test of a call is the monitor's.
 unnamed : (T : Terms) (j u v : ℕ) → (leb (T .events) j || leb (T .members) u || leb (T .members) v) ≡ not (named T j u v)
 unnamed T j u v =
     ap₂ _||_ (ap₂ _||_ (at-least (T .events) j) (at-least (T .members) u)) (at-least (T .members) v)
@@ -43,7 +44,7 @@ unnamed T j u v =
     go true false c = refl
     go false b c = refl
 
--- one call over memory that holds what the keeper's list says
+-- One call over memory that holds what the keeper's list says.
 module _ (terms : List ℕ) (long-terms : termsWords ≤ length terms) (fine : Good (termsOf terms)) (good-terms : goodMemory terms ≡ true)
     (s₀ : Starts) (m₀ m : List ℕ) (long : stateWords ≤ length m₀) (Ms : List Moment) (h : Held (termsOf terms) s₀ fine m₀ m Ms) (c : LentCall)
   where
@@ -69,7 +70,7 @@ module _ (terms : List ℕ) (long-terms : termsWords ≤ length terms) (fine : G
     abbrev holding : Bool
     holding = keeperHolds T s₀ Ms (T .policy (c .event)) (target (c .to)) (c .from)
 
-    -- the moment that a verdict may make, by the keeper and by the monitor
+    -- The moment that a verdict may make, by the keeper and by the monitor.
     abbrev kept : Bool → Moment
     kept g = made T (lastMoment Ms) g (c .event) (c .from) (c .to)
 
@@ -83,7 +84,7 @@ module _ (terms : List ℕ) (long-terms : termsWords ≤ length terms) (fine : G
     unfolding judge
     judge-is = rw (unnamed T (c .event) (c .from) (c .to))
 
-    -- what makes no moment leaves the memory, and so does a look
+    -- What makes no moment leaves the memory, and so does a look.
     stays : (not (c .look) && moves (T .kept (c .event)) given) ≡ false → leaves terms m c ≡ m
     unfolding stateAfter
     stays e = go (c .look) e
@@ -99,7 +100,7 @@ module _ (terms : List ℕ) (long-terms : termsWords ≤ length terms) (fine : G
     abbrev InStep : Type 0
     InStep = (given ≡ keep T s₀ Ms (fed c) .0) × Held T s₀ fine m₀ (leaves terms m c) (keep T s₀ Ms (fed c) .1)
 
-    -- no moment is made
+    -- No moment is made.
     still : (x : Answer) → given ≡ x → judge T s₀ Ms (fed c) ≡ (x, []) → (not (c .look) && moves (T .kept (c .event)) given) ≡ false → InStep
     unfolding keep
     still x e k s = rw (k, stays s, append-nil Ms) (e, h)
@@ -125,7 +126,7 @@ module _ (terms : List ℕ) (long-terms : termsWords ≤ length terms) (fine : G
           (advance-kept T fine s₀ (stateOf m) Ms (h .kept) (now g)))
           (made-inside T fine (stateOf m .now) (state-inside T m (h .good)) g (c .event) (c .from) (c .to) event-known from-known to-known)
 
-      -- the moment of a verdict is made
+      -- The moment of a verdict is made.
       onward : (x : Answer) → given ≡ x → judge T s₀ Ms (fed c) ≡ (x, kept (granted x) ∷ []) → moves (T .kept (c .event)) x ≡ true → c .look ≡ false → InStep
       unfolding keep
       onward x e k g l = rw (k, goes (ap (moves (T .kept (c .event))) e ∙ g) l, ap granted e) (e, moved (granted x))
@@ -161,6 +162,6 @@ module _ (terms : List ℕ) (long-terms : termsWords ≤ length terms) (fine : G
         still (refused 6 0) e (judge-is ∙ rw s) (unmoved e refl)
     by-scratch false s = by-name s known refl
 
-    -- the keeper's answer, and the invariant again
+    -- The keeper's answer, and the invariant again.
     pub step : (given ≡ keep T s₀ Ms (fed c) .0) × Held T s₀ fine m₀ (leaves terms m c) (keep T s₀ Ms (fed c) .1)
     step = by-scratch short refl

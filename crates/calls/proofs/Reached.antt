@@ -1,5 +1,6 @@
--- No `requires` of a private function is empty: terms in which all twelve operators, a prev, a since over a since and effects of both kinds and both
--- directions take part are opened, and requests of theirs are granted, and denied and kept; with no entry used twice, with one that is, and with binds nested so that a memo is taken.
+-- No `requires` of a private function is empty: terms in which all twelve operators, a prev, a since over a since and
+-- effects of both kinds and both directions take part are opened, and requests of theirs are granted, and denied and
+-- kept; with no entry used twice, with one that is, and with binds nested so that a memo is taken.
 use Prim.Native.Nat.{ℕ, _≤_, _<_}
 use native.Mathlib.Omega.{arith}
 use mathlib.Core.Path.{_≡_, refl, sym, ap, _∙_, subst}
@@ -65,7 +66,7 @@ module _ (e : ℕ) (good : goodMemory (manyTerms e) ≡ true)
             ∷ record { look = true; event = 1; from = 0; to = 1; scratch = n }
             ∷ []
 
--- words of 0 are blank
+-- Words of 0 are blank.
 pub zeros-blank : (w : List ℕ) (from n : ℕ) (rest : List ℕ) → drop from w ≡ replicate n 0 ++ rest → blank w from n ≡ true
 unfolding blank
 zeros-blank w from n rest e = all-true n (λ k l.

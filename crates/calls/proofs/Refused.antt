@@ -1,5 +1,5 @@
--- What is returned when nothing is decided (docs/SCOPE.md, Refusals), as far as no text is read: each number is given exactly when
--- its line of the table fits, with line 0, nothing else is ever given, and all memory is left as lent.
+-- What is returned when nothing is decided (docs/SCOPE.md, Refusals), as far as no text is read: each number is given
+-- exactly when its line of the table fits, with line 0, nothing else is ever given, and all memory is left as lent.
 use Prim.Native.Nat.{ℕ, _≤_}
 use mathlib.Core.Path.{_≡_, refl, subst}
 use mathlib.Core.Logic.{_⊎_, inl, inr}
@@ -75,7 +75,7 @@ module _ (terms state scratch : List ℕ) (j u v : ℕ) where
       event-or (inl q) = no-event l g s (ltb-false j (termsOf terms .events) q)
       event-or (inr q) = member-or (not-all (ltb u (termsOf terms .members)) _ q)
 
-  -- what an answer says of the memory
+  -- What an answer says of the memory.
   abbrev Said : Answer → Type 0
   Said (decided d) = Unit {0}
   Said done = Unit {0}
@@ -131,7 +131,7 @@ module _ (terms state scratch : List ℕ) (j u v : ℕ) where
   unmoved n l e = (rw e, rw e)
 
 module _ (terms state : List ℕ) where
-  -- what an opening says of the memory
+  -- What an opening says of the memory.
   pub record Opens : Type 0 where
     pub terms-long : termsWords ≤ length terms
     pub state-long : stateWords ≤ length state
@@ -184,7 +184,8 @@ module _ (terms state : List ℕ) where
   unfolding openedState
   failed-unmoved n l e = rw e
 
--- A look or a request is refused with number n and a line exactly when the line is 0 and a reason for n fits; then all memory is left as lent.
+-- A look or a request is refused with number n and a line exactly when the line is 0 and a reason for n fits;
+-- then all memory is left as lent.
 pub refused-only : (terms state scratch : List ℕ) (j u v n l : ℕ) →
     (answer terms state scratch j u v ≡ refused n l →
     (l ≡ 0) × Refusal terms state scratch j u v n

@@ -19,7 +19,7 @@ use Rattle.calls.specs.Refused.{LongToRenumber, RenumberingRefusal}
 use Rattle.calls.specs.Refused.RenumberingRefusal.{short-terms, short-state, short-second, bad-terms, bad-state, other-length, number-missing}
 use Rattle.calls.proofs.MembersNumbers.{getD-any}
 
--- some number below n fails a test that not each of them passes
+-- Some number below n fails a test that not each of them passes.
 missing : (n : ℕ) (f : ℕ → Bool) → allBelow n f ≡ false → (m : ℕ) × (m < n) × (f m ≡ false)
 unfolding allBelow
 missing zero f e = absurd (true≢false e)
@@ -37,7 +37,7 @@ module _ (terms state numbers second : List ℕ) where
   Told passed = Unit {0}
   Told (failed n l) = (l ≡ 0) × RenumberingRefusal terms state numbers second n
 
-  -- check 15, by the length and by the number that is missing
+  -- Check 15, by the length and by the number that is missing.
   wrong : LongToRenumber terms state second → goodMemory terms ≡ true → goodState (termsOf terms) state ≡ true → renumbers N numbers ≡ false →
       RenumberingRefusal terms state numbers second 15
   unfolding renumbers
@@ -130,7 +130,8 @@ module _ (terms state numbers second : List ℕ) where
   unfolding renumberedState
   unmoved n l e = rw e
 
-  -- New numbers are refused with number n and a line exactly when the line is 0 and a reason for n fits; then the second state is as lent.
+  -- New numbers are refused with number n and a line exactly when the line is 0 and a reason for n fits;
+  -- then the second state is as lent.
   pub renumber-refused-only : (n l : ℕ) →
       (renumbering terms state numbers second ≡ failed n l → (l ≡ 0) × RenumberingRefusal terms state numbers second n × (renumberedState terms state numbers second ≡ second))
       × (RenumberingRefusal terms state numbers second n → renumbering terms state numbers second ≡ failed n 0)

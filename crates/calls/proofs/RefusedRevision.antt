@@ -1,5 +1,5 @@
 -- Each refusal of new terms is given exactly under its condition, and then the second state is as lent.
-use Prim.Native.Nat.{ℕ, _≤_, _<_}
+use Prim.Native.Nat.{ℕ}
 use mathlib.Core.Path.{_≡_, refl, sym, subst}
 use mathlib.Core.List.{List}
 use mathlib.Core.Bool.{Bool, true, false, cond, not, _&&_, _||_}
@@ -73,7 +73,8 @@ module _ (old state new second : List ℕ) where
   unfolding revisedState
   unmoved n l e = rw e
 
-  -- New terms are refused with number n and a line exactly when the line is 0 and a reason for n fits; then the second state is as lent.
+  -- New terms are refused with number n and a line exactly when the line is 0 and a reason for n fits;
+  -- then the second state is as lent.
   pub revision-refused-only : (n l : ℕ) →
       (revises old state new second ≡ failed n l → (l ≡ 0) × RevisionRefusal old state new second n × (revisedState old state new second ≡ second))
       × (RevisionRefusal old state new second n → revises old state new second ≡ failed n 0)

@@ -1,4 +1,5 @@
--- Only whether scratch is long enough counts: with any two scratches that are enough a call, a set list and a whole run give and leave the same.
+-- Only whether scratch is long enough counts: with any two scratches that are enough a call, a set list and a
+-- whole run give and leave the same.
 use Prim.Native.Nat.{ℕ, _+_, _≤_}
 use native.Mathlib.Omega.{arith}
 use mathlib.Core.Path.{_≡_, refl, ap, ap₂, _∙_}
@@ -10,11 +11,10 @@ use Rattle.theory.specs.Keeper.{Answer}
 use Rattle.theory.specs.Limits.{scratchWords}
 use Rattle.theory.specs.Tables.{made, advance}
 use Rattle.memory.specs.Layout.{stateWords, termsOf, stateOf, wordsOf}
-use Rattle.memory.specs.Outcome.{Outcome, hasPassed, checks, revises}
+use Rattle.memory.specs.Outcome.{hasPassed, revises}
 use Rattle.calls.specs.Renumbering.{renumbering}
 use Rattle.calls.specs.Monitor.{answer, granted, moves, stateAfter, scratchAfter}
-use Rattle.calls.specs.Agreement.{LentCall, LentStep, SameSteps, Lent, withState, inUse, inUseBy, leaves, answersIn, outcomeIn, serveSteps}
-use Rattle.calls.specs.Agreement.LentStep.{once, setList, revise, renumber}
+use Rattle.calls.specs.Agreement.{LentStep, SameSteps, Lent, withState, inUse, inUseBy, leaves, answersIn, outcomeIn, serveSteps}
 use Rattle.calls.specs.Agreement.SameSteps.{none, calls, setLists, newTerms, newNumbers}
 use Rattle.calls.specs.SetList.{Run, filled, singly, listChecks, listing, listed, left}
 use Rattle.calls.specs.declared.Record.{Record}
@@ -38,7 +38,7 @@ module _ (terms : List ℕ) where
             state) same,
       )
 
-  -- the same of single requests one after another: records, grants and state
+  -- The same of single requests one after another: records, grants and state.
   abbrev Same : Run → Run → Type 0
   Same x y = (x .records ≡ y .records) × (x .grants ≡ y .grants) × (x .state ≡ y .state)
 
@@ -88,7 +88,8 @@ module _ (terms : List ℕ) where
       go true f p q = q
       go false f p q = p
 
--- Whole runs: two lists of steps that differ only in scratches that are enough give the same answers, and leave the same memory in use, word for word.
+-- Whole runs: two lists of steps that differ only in scratches that are enough give the same answers, and leave the
+-- same memory in use, word for word.
 pub any-scratch : (ss ts : List LentStep) → SameSteps ss ts → (L : Lent) → serveSteps L ss ≡ serveSteps L ts
 unfolding serveSteps
 any-scratch [] [] none L = refl

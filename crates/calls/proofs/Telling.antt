@@ -59,7 +59,7 @@ module _ (terms state : List ℕ) (n u v : ℕ) where
         {d r : Bool} → r ≡ d → r ≡ holdsAt (termsOf terms) (stateOf state) n u v → cond d holds fails ≡ tells terms state n u v
     told p q e = ap (λ (x : Bool). cond x holds fails) (sym q ∙ e) ∙ sym (told-is ∙ rw p)
 
-    -- so it is affirmed exactly where the entry holds
+    -- So it is affirmed exactly where the entry holds.
     pub told-holds : paired (termsOf terms) u v ≡ true →
         affirms (tells terms state n u v) ≡ holdsAt (termsOf terms) (stateOf state) n u v
     told-holds p =

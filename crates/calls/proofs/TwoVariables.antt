@@ -1,5 +1,6 @@
 -- What agreement says of the table of a past-time entry (docs/SCOPE.md, Memory), for no free variable, one, and two.
--- The three are one law over the columns, `table-says`: the bit at the place of a member and an assignment says whether the entry holds there.
+-- The three are one law over the columns, `table-says`: the bit at the place of a member and an assignment says
+-- whether the entry holds there.
 use Prim.Native.Nat.{ℕ, zero, suc, _+_, _-_, _*_, _/_, _%_, _≤_, _<_}
 use native.Mathlib.Omega.{arith}
 use mathlib.Core.Path.{_≡_, refl, sym, ap, ap₂, _∙_}
@@ -30,7 +31,7 @@ use Rattle.calls.proofs.Demand.{run, playing-agrees, opened-playing}
 
 -- ---- the columns, from the free variables
 
--- the first that has p
+-- The first that has p.
 those-first : (p : ℕ → Bool) (n k x : ℕ) → k ≤ x → x < k + n → p x ≡ true → ((j : ℕ) → k ≤ j → j < x → p j ≡ false) →
     those n k p ≡ x ∷ those (k + n - suc x) (suc x) p
 unfolding those
@@ -114,8 +115,8 @@ module _ (T : Terms) (fine : Good T) (s : Starts) (m₀ m : List ℕ) (Ms : List
         bit (getD m (tableAt (number (T .entry) n) a) 0) b ≡ keeperHolds T s Ms n (alone x b) a
     says-of-one x is = one-said x (one-column (formula T n) x (small T fine n l) is)
 
-    -- Two, x and y, the lower-numbered first: bit 16 × (b mod 4) + c of word 4a + b / 4 says whether the entry holds at a with x and y standing for b and c.
-    -- Good terms with such an entry have at most 16 members.
+    -- Two, x and y, the lower-numbered first: bit 16 × (b mod 4) + c of word 4a + b / 4 says whether the entry holds at
+    -- a with x and y standing for b and c. Good terms with such an entry have at most 16 members.
     pub says-of-two : (x y : ℕ) → x < y → ((z : ℕ) → free (formula T n) z ≡ (eqb z x || eqb z y)) →
         (a b c : ℕ) → a < T .members → b < T .members → c < T .members →
         bit (getD m (tableAt (number (T .entry) n) (4 * a + b / 4)) 0) (16 * (b % 4) + c) ≡ keeperHolds T s Ms n (assign (alone y c) x b) a
@@ -125,7 +126,8 @@ module _ (T : Terms) (fine : Good T) (s : Starts) (m₀ m : List ℕ) (Ms : List
         (sym (rw (e, eq-eqb x x refl))) (sym (rw (e, eq-eqb x x refl, ne-eqb y x (λ z. omega arith), eq-eqb y y refl)))
         ∙ table-says (assign (alone y c) x b) a (among-assign (T .members) (alone y c) x b (among-alone (T .members) y c cl) bl) al
 
--- The last of every run: for all memory that opens, and all lists of requests, looks, set lists and new terms over it, with the keeper of `demand-3-steps`.
+-- The last of every run: for all memory that opens, and all lists of requests, looks, set lists and new terms over it,
+-- with the keeper of `demand-3-steps`.
 pub steps-say-of-two : (terms state : List ℕ) → opens terms state ≡ passed → (ss : List LentStep) →
     let T = termsOf (serveSteps (opened terms state) ss .1 .terms) in
     let m = serveSteps (opened terms state) ss .1 .state in

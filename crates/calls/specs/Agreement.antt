@@ -1,4 +1,5 @@
--- What demand 3 asks (docs/SCOPE.md, The keeper): a list of calls, set lists and new terms over lent memory, and the words afterwards.
+-- What demand 3 asks (docs/SCOPE.md, The keeper): a list of calls, set lists and new terms over lent
+-- memory, and the words afterwards.
 use Prim.Native.Nat.{ℕ, _<_, _≤_}
 use mathlib.Core.Path.{_≡_}
 use mathlib.Core.Bool.{Bool, false, cond, _&&_}
@@ -46,7 +47,8 @@ fedAll (c ∷ cs) = fed c ∷ fedAll cs
 abbrev pub leaves : (terms state : List ℕ) → LentCall → List ℕ
 leaves terms state c = cond (c .look) state (stateAfter terms state (c .scratch) (c .event) (c .from) (c .to))
 
--- The calls of a list, each handed terms and state as the last left them: the answers in order, and the state's memory at the end.
+-- The calls of a list, each handed terms and state as the last left them: the answers in order, and
+-- the state's memory at the end.
 unfoldable pub serveAll : (terms state : List ℕ) → List LentCall → List Answer × List ℕ
 serveAll terms state [] = ([], state)
 serveAll terms state (c ∷ cs) =
@@ -55,7 +57,8 @@ serveAll terms state (c ∷ cs) =
 
 -- ---- set lists, new terms and new numbers among the calls
 
--- A step over lent memory: one call; a set list with the scratch that is lent with it; new terms, and new numbers, with the second state that is lent with them.
+-- A step over lent memory: one call; a set list with the scratch that is lent with it; new terms, and new numbers, with
+-- the second state that is lent with them.
 pub data LentStep : Type 0 where
   once : LentCall → LentStep
   setList : (scratch : List ℕ) → List Record → LentStep
@@ -141,7 +144,8 @@ inUseBy L numbers second =
     (record { terms = L .terms; state = renumberedState (L .terms) (L .state) numbers second; before = second })
     L
 
--- The steps of a list, each handed the memory in use as the last left it: the answers in order, and the memory in use at the end.
+-- The steps of a list, each handed the memory in use as the last left it: the answers in order,
+-- and the memory in use at the end.
 unfoldable pub serveSteps : Lent → List LentStep → List Answer × Lent
 serveSteps L [] = ([], L)
 serveSteps L (once c ∷ ss) =
@@ -160,9 +164,10 @@ serveSteps L (renumber numbers second ∷ ss) =
 
 -- ---- the words afterwards
 
--- The state's memory m agrees with the keeper's list, each past-time entry judged from its start, for a and b below 64, k below 16 and t below 32; it is as long as m₀ and has m₀'s further words.
--- Bit b of word a of table t says, over its columns, one or two: word and bit are those of members, there is a past-time entry t, and it holds at the
--- last moment, at the member and with its free variables standing for the members that word and bit say.
+-- The state's memory m agrees with the keeper's list, each past-time entry judged from its start, for a and b below 64,
+-- k below 16 and t below 32; it is as long as m₀ and has m₀'s further words. Bit b of word a of table t says, over its
+-- columns, one or two: word and bit are those of members, there is a past-time entry t, and it holds at the last
+-- moment, at the member and with its free variables standing for the members that word and bit say.
 pub record Agrees (T : Terms) (s : Starts) (m₀ m : List ℕ) (Ms : List Moment) : Type 0 where
   pub edges : (k a b : ℕ) → k < 16 → a < 64 → b < 64 → bit (getD m (relationAt k a) 0) b ≡ lastMoment Ms .edge k a b
   pub tables : (t a b : ℕ) → t < 32 → a < 64 → b < 64 →

@@ -1,10 +1,9 @@
 -- What the public functions give and leave, for every lent memory. `demand-3` holds these against the keeper.
 use Prim.Native.Nat.{ℕ}
-use mathlib.Core.Bool.{Bool, true, false, cond, not, _&&_, _||_}
+use mathlib.Core.Bool.{Bool, true, false, cond, not, _||_}
 use mathlib.Core.List.{List, _++_}
 use lib.Dec.{ltb}
 use lib.ListN.{length, drop, replicate}
-use Rattle.theory.specs.Terms.{Terms}
 use Rattle.theory.specs.Keeper.{Verdict, Answer}
 use Rattle.theory.specs.Keeper.Verdict.{grant, deny}
 use Rattle.theory.specs.Keeper.Answer.{decided, done, refused}
@@ -31,7 +30,8 @@ answerOf (Refused n l) = refused n l
 
 -- ---- look and request
 
--- What a look gives, and a request: lengths of terms, state and scratch (6), terms (7), state (8), request (9), else the verdict.
+-- What a look gives, and a request: lengths of terms, state and scratch (6), terms (7), state (8),
+-- request (9), else the verdict.
 unfoldable pub answer : (terms state scratch : List ℕ) → (j u v : ℕ) → Answer
 answer terms state scratch j u v =
     cond (ltb (length terms) termsWords || (ltb (length state) stateWords || ltb (length scratch) scratchWords)) (refused 6 0)
@@ -59,8 +59,8 @@ moves kept (decided deny) = kept
 moves kept done = false
 moves kept (refused n l) = false
 
--- What a request leaves: one that makes a moment the words of the next state, and 0 in the named words of scratch; anything else all memory as lent.
--- Further words are not touched.
+-- What a request leaves: one that makes a moment the words of the next state, and 0 in the named words of scratch;
+-- anything else all memory as lent. Further words are not touched.
 unfoldable pub stateAfter : (terms state scratch : List ℕ) → (j u v : ℕ) → List ℕ
 stateAfter terms state scratch j u v =
     cond (moves (termsOf terms .kept j) (answer terms state scratch j u v))

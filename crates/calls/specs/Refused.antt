@@ -63,7 +63,8 @@ pub record LongToRenumber (terms state second : List ℕ) : Type 0 where
   pub state-long : stateWords ≤ length state
   pub second-long : stateWords ≤ length second
 
--- Why new numbers are refused with a number: 15 where the list isn't as long as there are members, or lacks some member's number.
+-- Why new numbers are refused with a number: 15 where the list isn't as long as there are members,
+-- or lacks some member's number.
 pub data RenumberingRefusal (terms state numbers second : List ℕ) : (number : ℕ) → Type 0 where
   short-terms : length terms < termsWords → RenumberingRefusal terms state numbers second 6
   short-state : length state < stateWords → RenumberingRefusal terms state numbers second 6

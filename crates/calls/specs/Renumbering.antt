@@ -1,4 +1,5 @@
--- Members renumbered over lent memory (docs/SCOPE.md, Members renumbered): what the call gives, and what it leaves of the second state.
+-- Members renumbered over lent memory (docs/SCOPE.md, Members renumbered): what the call gives, and what
+-- it leaves of the second state.
 use Prim.Native.Nat.{ℕ}
 use mathlib.Core.Bool.{cond, not, _||_}
 use mathlib.Core.List.{List, _++_}
@@ -12,7 +13,8 @@ use Rattle.memory.specs.Checks.{goodMemory, goodState}
 use Rattle.memory.specs.Outcome.{Outcome, hasPassed}
 use Rattle.memory.specs.Outcome.Outcome.{passed, failed}
 
--- What renumbering gives: lengths of terms, state and second state (6), terms (7), state (8), the list of new numbers (15).
+-- What renumbering gives: lengths of terms, state and second state (6), terms (7), state
+-- (8), the list of new numbers (15).
 unfoldable pub renumbering : (terms state numbers second : List ℕ) → Outcome
 renumbering terms state numbers second =
     cond (ltb (length terms) termsWords || (ltb (length state) stateWords || ltb (length second) stateWords)) (failed 6 0)
@@ -25,7 +27,8 @@ renumbering terms state numbers second =
 abbrev pub renumberedWords : Terms → (numbers state : List ℕ) → List ℕ
 renumberedWords T p w = wordsOf T (stateBy T p (stateOf w))
 
--- What it leaves of the second state: its named words, or, where it is refused, all as lent. The first state is not touched.
+-- What it leaves of the second state: its named words, or, where it is refused, all as lent.
+-- The first state is not touched.
 unfoldable pub renumberedState : (terms state numbers second : List ℕ) → List ℕ
 renumberedState terms state numbers second =
     cond (hasPassed (renumbering terms state numbers second))

@@ -1,4 +1,5 @@
--- A set list (docs/SCOPE.md, Set lists): a lent list of request records, answered in order by single requests one after another.
+-- A set list (docs/SCOPE.md, Set lists): a lent list of request records, answered in order by
+-- single requests one after another.
 use Prim.Native.Nat.{ℕ, _+_}
 use mathlib.Core.Bool.{cond}
 use mathlib.Core.List.{List, [], _∷_}

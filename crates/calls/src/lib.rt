@@ -1,4 +1,5 @@
-// What a call answers, a record of a set list, and what is told of an entry. The crate has definitions and laws, and no function.
+// What a call answers, a record of a set list, and what is told of an entry. The crate has
+// definitions and laws, and no function.
 
 // What a decided request carries.
 pub enum Verdict {

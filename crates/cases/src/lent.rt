@@ -124,7 +124,8 @@ pub(crate) fn looking(
     )
 }
 
-// Revises the first t words of old terms and s of state to the first n words of new terms, into the first m of a second state.
+// Revises the first t words of old terms and s of state to the first n words of new terms, into
+// the first m of a second state.
 pub(crate) fn revising(
     old: &[u16],
     t: usize,

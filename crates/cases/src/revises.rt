@@ -1,4 +1,5 @@
-// Cases that read the head and revise it to the terms of a text. A text that is refused leaves memory of zeros, which a revision refuses by 7.
+// Cases that read the head and revise it to the terms of a text. A text that is refused leaves memory of zeros,
+// which a revision refuses by 7.
 use crate::asks::put_term;
 use crate::asks::put_word;
 use crate::columns::call_at;
@@ -91,7 +92,8 @@ fn asks_revised(l: &[u8], head: &[u8]) {
     show_answer(label(l), answer);
 }
 
-// `asks_revised_after` before text after call: a request, the new terms, and two requests under these, of which the second is shown.
+// `asks_revised_after` before text after call: a request, the new terms, and two requests under
+// these, of which the second is shown.
 fn asks_revised_after(l: &[u8], head: &[u8]) {
     let mut old = [0u16; TERMS];
     let mut state = [0u64; STATE];

@@ -1,4 +1,5 @@
-// Cases that read the head and write the memory out again: `writes` and its like in the old form, `stores` and its like in the stored form.
+// Cases that read the head and write the memory out again: `writes` and its like in the old form, `stores`
+// and its like in the stored form.
 use crate::asks::put_term;
 use crate::asks::put_word;
 use crate::columns::call_at;
@@ -118,7 +119,8 @@ fn reading_back(out: &[u8], written: Written, terms: &mut [u16], state: &mut [u6
     }
 }
 
-// `asks_stored` before call: one request, a storing, which is read into other memory, and a request there, which is shown.
+// `asks_stored` before call: one request, a storing, which is read into other memory, and a
+// request there, which is shown.
 fn asks_stored(l: &[u8], head: &[u8]) {
     let mut terms = [0u16; TERMS];
     let mut state = [0u64; STATE];

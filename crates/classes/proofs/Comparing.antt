@@ -1,9 +1,9 @@
 -- Two good entries have the same key exactly if they are the same by the classes of their operands.
-use Prim.Native.Nat.{ℕ, _+_, _*_, _<_, _≤_}
+use Prim.Native.Nat.{ℕ, _+_, _*_, _<_}
 use native.Mathlib.Omega.{arith}
-use mathlib.Core.Path.{_≡_, refl, sym, ap, ap₂, _∙_, subst}
-use mathlib.Core.Bool.{Bool, true, false, _&&_}
-use lib.Dec.{eqb, ltb}
+use mathlib.Core.Path.{_≡_, refl, sym, ap, ap₂, _∙_}
+use mathlib.Core.Bool.{true}
+use lib.Dec.{eqb}
 use borrow.Author.Tests.{eq-eqb, eqb-true}
 use Rattle.sets.proofs.Finite.{and-left, and-right, and-both, bool-iff}
 use Rattle.theory.specs.Formula.{Entry, Operand, firstOperand, secondOperand, thirdOperand}
@@ -14,7 +14,7 @@ use Rattle.theory.specs.private.Classes.{sameOperand, sameEntry}
 use Rattle.theory.proofs.Good.{fits-variable, fits-binder, fits-label, fits-entry, fits-count}
 use Rattle.classes.specs.private.Keys.{normal, packed, keyOf}
 
--- the test of an operand is that of what it counts for
+-- The test of an operand is that of what it counts for.
 operand-same : (k : Operand) (c d : ℕ → ℕ) (x y : ℕ) → sameOperand k c d x y ≡ eqb (normal k c x) (normal k d y)
 unfolding sameOperand normal
 operand-same unused c d x y = refl
@@ -24,7 +24,7 @@ operand-same label c d x y = refl
 operand-same entry c d x y = refl
 operand-same count c d x y = refl
 
--- what an operand counts for is small where it fits and classes are
+-- What an operand counts for is small where it fits and classes are.
 operand-small : (k : Operand) (c : ℕ → ℕ) (l n v : ℕ) → l < 65536 → operandFits k l n v ≡ true → ((x : ℕ) → x < n → c x < 65536) → normal k c v < 65536
 unfolding normal
 operand-small unused c l n v ll f s = omega arith
@@ -34,7 +34,7 @@ operand-small label c l n v ll f s = omega (arith, fits-label l n v label f refl
 operand-small entry c l n v ll f s = s v (fits-entry l n v entry f refl)
 operand-small count c l n v ll f s = omega (arith, fits-count l n v count f refl .1)
 
--- only the classes of lower entries count
+-- Only the classes of lower entries count.
 operand-cong : (k : Operand) (c d : ℕ → ℕ) (l n v : ℕ) → operandFits k l n v ≡ true → ((x : ℕ) → x < n → c x ≡ d x) → normal k c v ≡ normal k d v
 unfolding normal
 operand-cong unused c d l n v f s = refl

@@ -1,4 +1,5 @@
--- The classes that are filled in: a turn of each loop, and for good terms the first old entries with the same fully spelled-out formulas.
+-- The classes that are filled in: a turn of each loop, and for good terms the first old entries with the
+-- same fully spelled-out formulas.
 use Prim.Native.Nat.{ℕ, zero, suc, _+_, _≤_, _<_}
 use native.Mathlib.Omega.{arith}
 use native.Mathlib.Numerals.{add-one}
@@ -9,7 +10,7 @@ use mathlib.Core.Logic.{_⊎_, inl, inr}
 use lib.Dec.{eqb, ltb}
 use lib.ListN.{length, getD, set, replicate, length-set, length-replicate}
 use lib.Seq.{getD-set-same, getD-set-other}
-use borrow.Author.Tests.{lt-ltb, le-ltb, ltb-true, ltb-false, eq-eqb}
+use borrow.Author.Tests.{lt-ltb, le-ltb, ltb-false, eq-eqb}
 use Rattle.sets.proofs.Finite.{last-or-below}
 use Rattle.theory.specs.Formula.{lowest, same}
 use Rattle.theory.specs.Limits.{maxEntries}
@@ -58,14 +59,14 @@ own-lengths T (suc n) w ks =
     let ih = own-lengths T n w ks in
     (length-set (p .0) n (found (p .1) n key) ∙ ih .0, length-set (p .1) n key ∙ ih .1)
 
--- the number of entries, cut off at the most that there may be
+-- The number of entries, cut off at the most that there may be.
 pub counted-many : (terms : List ℕ) → maxEntries < termsOf terms .entries → maxEntries ≡ counted terms
 counted-many terms l = rw (lt-ltb maxEntries (termsOf terms .entries) l)
 
 pub counted-few : (terms : List ℕ) → termsOf terms .entries ≤ maxEntries → termsOf terms .entries ≡ counted terms
 counted-few terms l = rw (le-ltb maxEntries (termsOf terms .entries) l)
 
--- both loops, one after the other
+-- Both loops, one after the other.
 pub all-filled : (old new before : List ℕ) (l n : ℕ) (ks w : List ℕ) → l ≡ counted old → n ≡ counted new →
     ks ≡ ownFilled (termsOf old) l (replicate maxEntries 0) (replicate maxEntries 0) .1 → w ≡ filled (termsOf new) ks l n before → w ≡ classesOf old new before
 unfolding classesOf
@@ -83,7 +84,7 @@ small-class : (T : Terms) → Good T → (U : Terms) (x : ℕ) → firstSame T (
 unfolding firstSame
 small-class T g U x = omega (arith, lowest-le (λ k. same (formula T k) (formula U x)) (T .entries), g .few-entries)
 
--- one class more
+-- One class more.
 classed-more : (T U : Terms) (w : List ℕ) (n c : ℕ) → Classed T U n w → n < length w → c ≡ firstSame T (formula U n) → Classed T U (suc n) (set w n c)
 classed-more T U w n c f l e = record { here = λ k kl. go k (last-or-below k n kl) }
   where
@@ -91,7 +92,7 @@ classed-more T U w n c f l e = record { here = λ k kl. go k (last-or-below k n 
     go k (inl kl) = getD-set-other w n k c 0 (λ z. omega arith) ∙ f .here k kl
     go k (inr z) = rw z (getD-set-same w n c 0 l ∙ e)
 
--- the lowest below n, or n, is that below n + 1 where n passes
+-- The lowest below n, or n, is that below n + 1 where n passes.
 lowest-self : (p : ℕ → Bool) (n : ℕ) → p n ≡ true → lowest (suc n) p ≡ lowest n p
 unfolding lowest
 lowest-self p n e = go (ltb (lowest n p) n) refl
@@ -161,7 +162,8 @@ module _ (T U : Terms) (gt : Good T) (gu : Good U) (ks : List ℕ) (is-key : (j 
 counted-good : (terms : List ℕ) → goodMemory terms ≡ true → counted terms ≡ termsOf terms .entries
 counted-good terms g = sym (counted-few terms (omega (arith, good terms g .few-entries)))
 
--- Of each entry of good new terms, what is filled in is the first entry of good old terms with the same fully spelled-out formula.
+-- Of each entry of good new terms, what is filled in is the first entry of good old terms with the
+-- same fully spelled-out formula.
 pub classed : (old new before w : List ℕ) → goodMemory old ≡ true → goodMemory new ≡ true → length before ≡ maxEntries → w ≡ classesOf old new before →
     Classed (termsOf old) (termsOf new) (termsOf new .entries) w
 unfolding classesOf

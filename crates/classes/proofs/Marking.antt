@@ -1,7 +1,7 @@
 -- A key that is marked stays so, and one that is not marked is none of those that were.
-use Prim.Native.Nat.{ℕ, _+_, _/_, _%_, _<_, _≤_}
+use Prim.Native.Nat.{ℕ, _+_, _/_, _%_, _<_}
 use native.Mathlib.Omega.{arith}
-use mathlib.Core.Path.{_≡_, refl, sym, ap, _∙_, subst}
+use mathlib.Core.Path.{_≡_, refl, sym, ap, _∙_}
 use mathlib.Core.Bool.{Bool, true, false, _&&_, _||_, true≢false}
 use mathlib.Core.List.{List}
 use mathlib.Core.Logic.{_⊎_, inl, inr}
@@ -10,8 +10,7 @@ use lib.ListN.{length, getD, set}
 use lib.Seq.{getD-set-same, getD-set-other}
 use borrow.Author.Tests.{lt-ltb, eq-eqb, eqb-true, eqb-false}
 use Rattle.sets.specs.Sets.{bit}
-use Rattle.sets.proofs.Finite.{last-or-below, true-or-false}
-use Rattle.theory.specs.Formula.{lowest}
+use Rattle.sets.proofs.Finite.{last-or-below}
 use Rattle.theory.proofs.Lowest.{lowest-none}
 use Rattle.classes.specs.private.Keys.{bucket, marked, Marked}
 use Rattle.classes.specs.private.Filled.{found}
@@ -51,7 +50,7 @@ module _ (marks : List ℕ) (key r : ℕ) (long : length marks ≡ 64)
         go false q =
             ap (λ (w : ℕ). bit w (bucket k % 64)) (getD-set-other marks (bucket key / 64) (bucket k / 64) r 0 (eqb-false (bucket k / 64) (bucket key / 64) q)) ∙ e
 
--- one key more, which is marked
+-- One key more, which is marked.
 pub marked-more : (keys marks later : List ℕ) (n key : ℕ) → n < length keys → Marked keys marks n → marked later key ≡ true →
     ((k : ℕ) → marked marks k ≡ true → marked later k ≡ true) → Marked (set keys n key) later (n + 1)
 marked-more keys marks later n key l m e stays = record { here = λ j jl. go j (last-or-below j n (omega arith)) }
@@ -60,7 +59,7 @@ marked-more keys marks later n key l m e stays = record { here = λ j jl. go j (
     go j (inl jl) = ap (marked later) (getD-set-other keys n j key 0 (λ z. omega arith)) ∙ stays (getD keys j 0) (m .here j jl)
     go j (inr z) = ap (λ (i : ℕ). marked later (getD (set keys n key) i 0)) z ∙ ap (marked later) (getD-set-same keys n key 0 l) ∙ e
 
--- a key that is not marked is not among those that are
+-- A key that is not marked is not among those that are.
 pub not-found : (keys marks : List ℕ) (n key : ℕ) → Marked keys marks n → marked marks key ≡ false → n ≡ found keys n key
 not-found keys marks n key m e = sym (lowest-none (λ j. eqb (getD keys j 0) key) n (λ j jl. go j jl (eqb (getD keys j 0) key) refl))
   where

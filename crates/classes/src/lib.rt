@@ -1,5 +1,6 @@
-// Which old entry has the same fully spelled-out formula as a new one (docs/SCOPE.md, New terms). It is found without spelling out, by classes: the class of an entry is the first old entry
-// with its formula, or the number of old entries. An entry's key is its operator and operands in one number, entries among these by their classes.
+// Which old entry has the same fully spelled-out formula as a new one (docs/SCOPE.md, New terms). It is found without
+// spelling out, by classes: the class of an entry is the first old entry with its formula, or the number of old
+// entries. An entry's key is its operator and operands in one number, entries among these by their classes.
 use memory::layout;
 use memory::limits::ENTRIES;
 use memory::operands::Kind;
@@ -7,12 +8,11 @@ use memory::operands::operands_of;
 ghost use mathlib.Core.Path.{_≡_};
 ghost use mathlib.Core.Bool.{true};
 ghost use Prim.Native.Nat.{ℕ, _<_, _≤_, _+_, _%_, _/_};
-ghost use lib.ListN.{length, getD, set};
-ghost use Rattle.sets.specs.Sets.{bit};
+ghost use lib.ListN.{length};
 ghost use Rattle.theory.specs.Limits.{maxEntries};
 ghost use Rattle.memory.specs.Layout.{termsOf};
 ghost use Rattle.memory.specs.private.Operands.{kindOf};
-ghost use Rattle.classes.specs.private.Keys.{normal, bucket, marked, Marked};
+ghost use Rattle.classes.specs.private.Keys.{normal, marked, Marked};
 ghost use Rattle.classes.specs.private.Filled.{counted, found, keyBy, ownFilled, filled, classesOf};
 
 // Words of marks, and a prime below the number of their bits.
@@ -154,7 +154,8 @@ fn new_classes(
     }
 }
 
-// Fills in, for each entry of new, the first entry of old with the same fully spelled-out formula, or the number of entries of old. Words that are no good terms are compared alike.
+// Fills in, for each entry of new, the first entry of old with the same fully spelled-out formula, or the number of
+// entries of old. Words that are no good terms are compared alike.
 pub fn find_classes(old: &[u16], new: &[u16], classes: &mut [u16; ENTRIES])
     ensures { λ _. ⌜ now (classes .exit) ≡ classesOf (now (old .entry)) (now (new .entry)) (now (classes .entry)) ⌝ }
     ensures { λ _. ⌜ length (now (classes .exit)) ≡ maxEntries ⌝ }

@@ -1,5 +1,6 @@
--- No code can be mistaken for another, whatever the functions are lent: the code of a grant is given for a grant only, that of a denial for a denial only, that of
--- a call that is done for such a call only, and every refusal has a number from 1 to 99. So no code is 0.
+-- No code can be mistaken for another, whatever the functions are lent: the code of a grant is given for a grant only,
+-- that of a denial for a denial only, that of a call that is done for such a call only, and every refusal has a number
+-- from 1 to 99. So no code is 0.
 use Prim.Native.Nat.{ℕ, _+_}
 use mathlib.Core.Path.{_≡_, refl}
 use mathlib.Core.List.{List, [], _∷_}

@@ -1,4 +1,4 @@
--- The same of two banks: no code of a call of a bank, or of both, can be mistaken for another.
+-- No code of a call of a bank, or of both banks, can be mistaken for another.
 use Prim.Native.Nat.{ℕ}
 use mathlib.Core.Path.{refl}
 use mathlib.Core.Bool.{not, _&&_, _||_}

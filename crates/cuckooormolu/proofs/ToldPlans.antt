@@ -1,4 +1,4 @@
--- The same of a plan and of an entry: no code can be mistaken for another, and none is that of an answer to a request.
+-- No code for a plan or for an entry can be mistaken for another, and none is that of an answer to a request.
 use Prim.Native.Nat.{ℕ}
 use native.Mathlib.Omega.{arith}
 use mathlib.Core.Path.{_≡_, refl}

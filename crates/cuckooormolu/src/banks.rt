@@ -11,7 +11,8 @@ ghost use Rattle.banking.specs.BankList.{bankListed, bankLeft};
 ghost use Rattle.text.specs.Banks.{banksReadGives, banksReadTerms, banksReadRelations, banksReadOwn};
 ghost use Rattle.cuckooormolu.specs.Codes.{codeOf, outcomeCode, outcomeLine, listingCode, listingCount};
 
-// Reads a terms file of the old form into two banks: DONE, or the number of the refusal, with its line; the line is 0 where there is none.
+// Reads a terms file of the old form into two banks: DONE, or the number of the refusal, with its line; the
+// line is 0 where there is none.
 #[no_mangle]
 pub extern "C" fn cuckooormolu_raw_banks_read(
     text: &[u8],
@@ -76,7 +77,8 @@ pub extern "C" fn cuckooormolu_raw_banks_look(
     ))
 }
 
-// Answers a request of the bank and, where it is granted, or denied and its event is kept, makes the next moment of both banks: GRANTED, DENIED, 6, 7, 8 or 9.
+// Answers a request of the bank and, where it is granted, or denied and its event is kept, makes the next moment of
+// both banks: GRANTED, DENIED, 6, 7, 8 or 9.
 #[no_mangle]
 pub extern "C" fn cuckooormolu_raw_banks_request(
     terms: &[u16],
@@ -109,7 +111,8 @@ pub extern "C" fn cuckooormolu_raw_banks_request(
     ))
 }
 
-// Answers the records of a set list of the bank in order, each as a request of it: DONE with the count of grants, or 6, 7 or 8 with count 0.
+// Answers the records of a set list of the bank in order, each as a request of it: DONE with the count of
+// grants, or 6, 7 or 8 with count 0.
 #[no_mangle]
 pub extern "C" fn cuckooormolu_raw_banks_set_list(
     terms: &[u16],

@@ -1,4 +1,5 @@
-// Rows that are remembered while entries are decided, in a lent memo: a slot for each entry, as far as the memo is long enough.
+// Rows that are remembered while entries are decided, in a lent memo: a slot for each entry, as
+// far as the memo is long enough.
 use deciding::slot::BYTES;
 use deciding::slot::COLUMN;
 use deciding::slot::HAVE;
@@ -21,7 +22,7 @@ ghost use lib.Dec.{eqb, ltb};
 ghost use lib.ListN.{length, getD};
 ghost use Rattle.sets.specs.Sets.{bit};
 ghost use Rattle.theory.specs.Limits.{maxMembers, variables};
-ghost use Rattle.memory.specs.Layout.{blockWords, termsWords, termsOf};
+ghost use Rattle.memory.specs.Layout.{blockWords, termsOf};
 ghost use Rattle.memory.specs.Checks.{goodMemory};
 ghost use Rattle.theory.specs.Formula.{Formula, node, firstOperand, secondOperand, thirdOperand, isPast, columns};
 ghost use Rattle.theory.specs.Formula.Operand.{variable, entry};
@@ -68,7 +69,8 @@ fn packed(vars: &[u8; VARIABLES], k: usize) -> u64
     w
 }
 
-// The least variable, but the column, that the entry reads and that stood for something else; the number of none, if there is no such.
+// The least variable, but the column, that the entry reads and that stood for something else; the
+// number of none, if there is no such.
 fn differing(slot: &[u64], vars: &[u8; VARIABLES]) -> usize
     requires { ⌜ length (now slot) ≡ slotWords ⌝ }
     ensures { λ r. ⌜ (r ≡ variables → Under (now (slot .entry)) (assigned (now (vars .entry)))) ⌝ }
@@ -165,7 +167,8 @@ fn missing_in(slot: &mut [u64], vars: &[u8; VARIABLES], x: usize, want: u64) -> 
     want
 }
 
-// Whether the rows of the entry are kept: there is a slot for it, and it is no leaf (the operators before NOT are leaves).
+// Whether the rows of the entry are kept: there is a slot for it, and it is no leaf (the
+// operators before NOT are leaves).
 pub(crate) fn has_slot(memo: &[u64], op: usize, entry: usize) -> bool
     requires { ⌜ entry < 65536 ⌝ }
     ensures { λ r. ⌜ (r ≡ true → slotWords * entry + slotWords ≤ length (now (memo .entry))) ⌝ }
@@ -269,7 +272,8 @@ fn keep_in(
     show(out, slot, whole, c, all, want ^ (want & need));
 }
 
-// Remembers the rows of need, and leaves the other rows of want as remembered, if the entry's rows are kept. all has the members.
+// Remembers the rows of need, and leaves the other rows of want as remembered, if the entry's rows
+// are kept. all has the members.
 pub(crate) fn keep(
     memo: &mut [u64],
     kept: bool,
@@ -292,7 +296,8 @@ pub(crate) fn keep(
     }
 }
 
-// The variables that an entry reads, from those of its operands; a past-time entry, whose plan word is p, reads its columns.
+// The variables that an entry reads, from those of its operands; a past-time entry, whose
+// plan word is p, reads its columns.
 fn reads_of(op: usize, a: usize, p: usize, f: u64, g: u64, k: u64) -> u64
     ensures { λ r. ⌜ ((t b c x : ℕ) (h : ℕ → Formula) → (firstOperand op ≡ variable → a < maxMembers) → (isPast op ≡ true → planColumns p ≡ columns (node t h op a b c)) → (firstOperand op ≡ entry → reads (h a) x ≡ true → bit f x ≡ true) → (secondOperand op ≡ entry → reads (h b) x ≡ true → bit g x ≡ true) → (thirdOperand op ≡ entry → reads (h c) x ≡ true → bit k x ≡ true) → reads (node t h op a b c) x ≡ true → bit r x ≡ true) ⌝ }
 {

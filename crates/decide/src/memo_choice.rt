@@ -1,4 +1,5 @@
-// Whether a decision, or a sweep over the tables, is brief enough to need no memo. Any answer is right; it is only about time.
+// Whether a decision, or a sweep over the tables, is brief enough to need no memo. Any answer
+// is right; it is only about time.
 use memory::layout;
 use memory::limits::MEMBERS;
 use memory::plan;
@@ -25,8 +26,8 @@ fn cost(bound: bool) -> usize
     if bound { BOUND } else { 1 }
 }
 
-// What is left of so many when an entry is decided without a memo, for one member or for many, under such a bind or not; 0 where it takes
-// more, or where such binds nest. Leaves and past-time entries are read, not worked out.
+// What is left of so many when an entry is decided without a memo, for one member or for many, under such a bind or
+// not; 0 where it takes more, or where such binds nest. Leaves and past-time entries are read, not worked out.
 fn left_after(terms: &[u16], entry: usize, bound: bool, many: bool, left: usize) -> usize
     ensures { λ r. ⌜ r ≤ left ⌝ }
 {

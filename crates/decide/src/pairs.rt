@@ -1,4 +1,5 @@
-// Tables with two columns, of few members: rows read from their words, and rows put into them (crate memory, specs/Layout.antt).
+// Tables with two columns, of few members: rows read from their words, and rows put into them
+// (crate memory, specs/Layout.antt).
 use memory::layout::BLOCK;
 use sets::quarters;
 ghost use mathlib.Core.Path.{_≡_};
@@ -27,8 +28,8 @@ pub(crate) fn open_column(x: usize, first: usize, last: usize) -> usize
     if x == last { 2 } else { 0 }
 }
 
-// What a table says of one member, whose words stand from `at` on, with the columns standing for b and c: the row of those members that the open column may
-// stand for; where none is open, all or none.
+// What a table says of one member, whose words stand from `at` on, with the columns standing for b and c: the row of
+// those members that the open column may stand for; where none is open, all or none.
 fn row_of(past: &[u64], at: usize, b: usize, c: usize, free: usize) -> u64
     requires { ⌜ (at + 4 ≤ length (now past)) × (b < 16) × (c < 16) ⌝ }
     ensures { λ r. ⌜ ((v : ℕ) → v < 16 → bit r v ≡ bit (getD (now (past .entry)) (at + cond (eqb free 1) v b / 4) 0) (16 * (cond (eqb free 1) v b % 4) + cond (eqb free 2) v c)) ⌝ }

@@ -67,8 +67,9 @@ fn holds_shared(
     holds_at(terms, plan, relations, past, &mut memo, entry, u, v)
 }
 
-// The same. An entry that is brief has no memo, and its not and or are settled operand by operand: the second only if the first does not
-// decide. (Since this calls itself, the compiler does not take the memo of `holds_shared` into its frame.)
+// The same. An entry that is brief has no memo, and its not and or are settled operand by operand: the second
+// only if the first does not decide. (Since this calls itself, the compiler does not take the memo of
+// `holds_shared` into its frame.)
 pub fn settle(
     terms: &[u16],
     plan: &[u16],

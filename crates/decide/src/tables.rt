@@ -175,7 +175,8 @@ fn prev_pairs(
     pair_rows(terms, plan, relations, past, memo, x, y, a, out);
 }
 
-// Leaves the next table of a since entry with two columns, from its old one. That of the first operand is worked out in f.
+// Leaves the next table of a since entry with two columns, from its old one. That of the
+// first operand is worked out in f.
 fn since_pairs(
     terms: &[u16],
     plan: &[u16],

@@ -1,5 +1,5 @@
--- A state's memory in two parts, relations r and own words o: what stands in r ++ o, what a store into a part makes of it,
--- and a part of a whole state that was lent and came back.
+-- A state's memory in two parts, relations r and own words o: what stands in r ++ o, what a store into a part makes of
+-- it, and a part of a whole state that was lent and came back.
 use Prim.Native.Nat.{ℕ, _+_, _*_, _<_, _≤_}
 use native.Mathlib.Omega.{arith}
 use native.Mathlib.Nat.{zero-add, suc-add}
@@ -33,24 +33,24 @@ set-add (x ∷ r) o k v = ap (λ i. set (x ∷ (r ++ o)) i v) (suc-add (length r
 -- ---- r ++ o
 
 module _ (r o : List ℕ) (long : length r ≡ relationWords) where
-  pub front : relationsOf (r ++ o) ≡ r
+  front : relationsOf (r ++ o) ≡ r
   front = take-at r o relationWords long
 
-  pub behind : drop relationWords (r ++ o) ≡ o
+  behind : drop relationWords (r ++ o) ≡ o
   behind = drop-at r o relationWords long
 
-  pub own-part : length o ≡ ownWords → pastOf (r ++ o) ≡ o
+  own-part : length o ≡ ownWords → pastOf (r ++ o) ≡ o
   own-part e = ap (take ownWords) behind ∙ take-all ownWords o (omega (arith, e))
 
-  -- what is said of the two parts is said of the parts of the whole
+  -- What is said of the two parts is said of the parts of the whole.
   module _ (own-long : length o ≡ ownWords) (P : List ℕ → List ℕ → Type 0) where
     pub joined-parts : P r o → P (relationsOf (r ++ o)) (pastOf (r ++ o))
     joined-parts h = subst (λ x. P x (pastOf (r ++ o))) (sym front) (subst (λ y. P r y) (sym (own-part own-long)) h)
 
-    pub parts-joined : P (relationsOf (r ++ o)) (pastOf (r ++ o)) → P r o
+    parts-joined : P (relationsOf (r ++ o)) (pastOf (r ++ o)) → P r o
     parts-joined h = subst (λ y. P r y) (own-part own-long) (subst (λ x. P x (pastOf (r ++ o))) front h)
 
-  pub set-behind : (k v : ℕ) → set (r ++ o) (relationWords + k) v ≡ r ++ set o k v
+  set-behind : (k v : ℕ) → set (r ++ o) (relationWords + k) v ≡ r ++ set o k v
   set-behind k v = ap (λ n. set (r ++ o) (n + k) v) (sym long) ∙ set-add r o k v
 
   pub put-behind : (k : ℕ) (vs : List ℕ) → put (relationWords + k) vs (r ++ o) ≡ r ++ put k vs o
@@ -75,7 +75,7 @@ put-front n k vs l h z =
 pub past-long : (m : List ℕ) → stateWords ≤ length m → length (pastOf m) ≡ ownWords
 past-long m long = length-take-le ownWords (drop relationWords m) (simp length-drop (omega (arith, long)))
 
--- rows stored in its own words
+-- Rows stored in its own words.
 pub put-lent : (k : ℕ) (vs m ys : List ℕ) → stateWords ≤ length m → k + length vs ≤ ownWords → ys ≡ put k vs (pastOf m) →
     putMid relationWords ownWords m ys ≡ put (relationWords + k) vs m
 put-lent k vs m ys long h q =
@@ -85,9 +85,9 @@ put-lent k vs m ys long h q =
     ∙ sym (put-behind (take relationWords m) own (length-take-le relationWords m (omega (arith, long))) k vs)
     ∙ ap (put (relationWords + k) vs) (take-append-drop relationWords m)
 
--- the state of memory with no further words is that of the memory with further words
+-- The state of memory with no further words is that of the memory with further words.
 module _ {terms : List ℕ} {f : Terms → State → State} where
-  pub becomes-more : {m m' : List ℕ} (rest : List ℕ) → length m ≡ stateWords → Becomes terms f m m' → Becomes terms f (m ++ rest) (m' ++ rest)
+  becomes-more : {m m' : List ℕ} (rest : List ℕ) → length m ≡ stateWords → Becomes terms f m m' → Becomes terms f (m ++ rest) (m' ++ rest)
   becomes-more {m} {m'} rest long b = record { each = λ S more has. step S more has }
     where
       step : (S : State) (more : List ℕ) → HasState (termsOf terms) S more (m ++ rest) → HasState (termsOf terms) (f (termsOf terms) S) more (m' ++ rest)
@@ -100,7 +100,7 @@ module _ {terms : List ℕ} {f : Terms → State → State} where
           let h : HasState T (f T S) [] m' = b .each S [] (record { words = words ∙ sym (append-nil (wordsOf T S)); event = has .event }) in
           record { words = ap (λ l. l ++ rest) (h .words ∙ append-nil (wordsOf T (f T S))) ∙ ap (λ l. wordsOf T (f T S) ++ l) further; event = h .event }
 
-  -- the relations, and the own words, of the state m were lent
+  -- The relations, and the own words, of the state m were lent.
   pub becomes-front : (m r : List ℕ) → ((own : List ℕ) → Becomes terms f (relationsOf m ++ own) (r ++ own)) → Becomes terms f m (putMid 0 relationWords m r)
   becomes-front m r h =
       subst (λ l. Becomes terms f l (r ++ drop relationWords m)) (take-append-drop relationWords m) (h (drop relationWords m))

@@ -24,7 +24,7 @@ assigned-set vars x m y h =
     (λ e. getD-set-other vars x y m 0 (eqb-false y x e) ∙ sym (ap (λ (t : Bool). cond t m (getD vars y 0)) e))
     (true-or-false (eqb y x))
 
--- every variable stands for a member: where all stand for member 0, and with one set to a member
+-- Every variable stands for a member: where all stand for member 0, and with one set to a member.
 pub vars-zeros : {N : ℕ} → 0 < N → Vars N (assigned (replicate 16 0))
 vars-zeros {N} some = record { low = λ y h. subst (λ (v : ℕ). v < N) (sym (zeros 16 y)) some; high = λ y h. zeros 16 y }
 
@@ -44,7 +44,7 @@ opened-same g x b y e l = ap (λ (t : Bool). cond t b (g y)) (and-both (eqb y x)
 pub opened-other : (g : Assignment) (x b y : ℕ) → (y ≡ x → ⊥) → opened g x b y ≡ g y
 opened-other g x b y n = ap (λ (t : Bool). cond (t && ltb y 16) b (g y)) (ne-eqb y x n)
 
--- the open variable under a binding of y
+-- The open variable under a binding of y.
 pub opened-bind : (g : Assignment) (x y a b : ℕ) → y < 16 → opened (assign g y a) (openUnder y x) b ≡ assign (opened g x b) y a
 opened-bind g x y a b l = fun-ext (λ z. ⊎-elim (λ e. same z e) (λ e. other z e) (true-or-false (eqb y x)))
   where
@@ -76,7 +76,7 @@ opened-bind g x y a b l = fun-ext (λ z. ⊎-elim (λ e. same z e) (λ e. other 
         (λ q. ap (λ (s : Bool). cond (eqb z x && ltb z 16) b (cond s a (g z))) q ∙ sym (ap (λ (s : Bool). cond s a (opened g x b z)) q))
         (true-or-false (eqb z y))
 
--- x stands for v, and every other variable for member 0
+-- x stands for v, and every other variable for member 0.
 pub opened-zeros : (x v : ℕ) → x < 16 → opened (assigned (replicate 16 0)) x v ≡ alone x v
 opened-zeros x v l = fun-ext (λ y. ⊎-elim
     (λ e.
@@ -106,7 +106,7 @@ recalled-other want all p x m past g one h q f = rows-map h (λ a b t.
     ap (λ (k : ℕ). bit all b && tableBit past (planTable p) a k) (f ∙ sym (opened-other g x b (planLast p) q))
     ∙ sym (ap (λ (cs : List ℕ). bit all b && recalled (tableBit past) (planTable p) cs (opened g x b) a) (one-columns p one)))
 
--- what the columns of a table with two stand for, by which one is open
+-- What the columns of a table with two stand for, by which one is open.
 module _ (g : Assignment) (x first last v : ℕ) (fl : first < 16) (ll : last < 16) (apart : first ≡ last → ⊥) where
   open-first : cond (eqb (openColumn x first last) 1) v (g first) ≡ opened g x v first
   open-first = go (eqb x first) refl (eqb x last)

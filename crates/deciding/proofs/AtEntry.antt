@@ -1,7 +1,7 @@
 -- Where `decide` has read its entry: what is known there of the entry's words, and what a call on an operand asks.
-use Prim.Native.Nat.{ℕ, _+_, _<_, _≤_}
+use Prim.Native.Nat.{ℕ, _<_, _≤_}
 use mathlib.Core.Path.{_≡_, refl, sym, ap, _∙_, subst}
-use mathlib.Core.Bool.{Bool, true, false, cond, _&&_}
+use mathlib.Core.Bool.{Bool, true, false, _&&_}
 use mathlib.Core.List.{List}
 use mathlib.Core.Logic.{_⊎_, ⊎-elim}
 use native.Mathlib.Omega.{arith}
@@ -30,7 +30,7 @@ eight-up o l p q r s = omega arith
 none-left : (o : ℕ) → 8 ≤ o → o < 12 → (o ≡ 8 → ⊥) → (o ≡ 9 → ⊥) → (o ≡ 10 → ⊥) → (o ≡ 11 → ⊥) → ⊥
 none-left o l h p q r s = omega arith
 
--- the words of entry i as the locals o, a and b hold them, the number r of relations and the set all of the members
+-- The words of entry i as the locals o, a and b hold them, the number r of relations and the set all of the members.
 pub record Site (terms plan rel past : List ℕ) (g : Assignment) (x i want o a b r all : ℕ) : Type 0 where
   pub ready : Ready terms plan rel past
   pub asked : Asked (termsOf terms) g i want
@@ -50,7 +50,7 @@ module _ {terms plan rel past : List ℕ} (ready : Ready terms plan rel past) wh
   pub members-few : (n : ℕ) → n ≡ termsOf terms .members → n < 65
   members-few n e = let q = good terms (ready .good) .few-members in omega arith
 
-  -- the set of all members
+  -- The set of all members.
   pub mask-is : (s n : ℕ) → Has s (λ m. ltb m 64 && ltb m n) → n ≡ termsOf terms .members → Has s (λ m. ltb m (termsOf terms .members))
   mask-is s n h e m =
       h m ∙ ap (λ (k : ℕ). ltb m 64 && ltb m k) e
@@ -106,7 +106,7 @@ module _ {terms plan rel past : List ℕ} {g : Assignment} {x i want o a b r all
   pub var-below : (y : ℕ) → y < 16 → g y < 64
   var-below y l = member-short (s .ready) (g y) (s .asked .vars .low y l)
 
-  -- an operator is one of the twelve
+  -- An operator is one of the twelve.
   pub no-other : (o ≡ 0 → ⊥) → (o ≡ 1 → ⊥) → isPast o ≡ false → (o ≡ 2 → ⊥) → (o ≡ 3 → ⊥) → (o ≡ 4 → ⊥) → (o ≡ 5 → ⊥) → (o ≡ 8 → ⊥) → (o ≡ 9 → ⊥)
       → (o ≡ 10 → ⊥) → (o ≡ 11 → ⊥) → ⊥
   no-other n0 n1 np n2 n3 n4 n5 n8 n9 n10 n11 =
@@ -138,7 +138,7 @@ module _ {terms plan rel past : List ℕ} {g : Assignment} {x i want o a b r all
   inside k e q j l h t =
       s .ready .inside a j l (a-label k e q) h (subst (λ (y : ℕ). edge y rel (pastEvent T past) a j l ≡ true) (s .r-is) t)
 
-  -- out and many
+  -- out and many.
   pub ahead-lower : (o ≡ 4) ⊎ (o ≡ 11) → b < i
   ahead-lower = ⊎-elim (λ e. b-lower 4 e refl) (λ e. b-lower 11 e refl)
 
@@ -154,7 +154,7 @@ module _ {terms plan rel past : List ℕ} {g : Assignment} {x i want o a b r all
   operand-behind w from e send h = operand b w (b-lower 5 e refl) (λ j t.
       ltb-true j N (sym (s .all-is j) ∙ send .within j (and-left (bit from j) _ (sym (h j) ∙ t))))
 
-  -- under the binding of a, at m alone
+  -- Under the binding of a, at m alone.
   pub operand-bound : (m w : ℕ) (g' : Assignment) → o ≡ 8 → bit want m ≡ true → ((y : ℕ) → g' y ≡ assign g a m y) → Has w (λ k. eqb k m)
       → Asked T g' b w
   operand-bound m w g' e t hg hw = record {
@@ -163,7 +163,7 @@ module _ {terms plan rel past : List ℕ} {g : Assignment} {x i want o a b r all
     vars = vars-assign a m (a-binder e) (s .asked .wanted m t) hg (s .asked .vars);
   }
 
-  -- the first formula of a reach, where every variable stands for member 0
+  -- The first formula of a reach, where every variable stands for member 0.
   pub operand-zeros : o ≡ 10 → Asked T (assigned (replicate 16 0)) b want
   operand-zeros e = record {
     exists = (let p : i < T .entries = s .asked .exists in let l : b < i = b-lower 10 e refl in omega arith);
@@ -171,13 +171,13 @@ module _ {terms plan rel past : List ℕ} {g : Assignment} {x i want o a b r all
     vars = vars-zeros (terms-good .some-member);
   }
 
-  -- the second, at the members that the rows f of the first reach
+  -- The second, at the members that the rows f of the first reach.
   pub operand-reached : (c need : ℕ) (f : List ℕ) → c ≡ T .entry i .c → o ≡ 10 → Has need (ahead (inRow f) want)
       → ((m k : ℕ) → bit want m ≡ true → inRow f m k ≡ true → k < N) → Asked T g c need
   operand-reached c need f z e h inside-row = operand c need (c-lower c 10 z e refl) (λ k t.
       let y : (m : ℕ) × (m < 64) × ((bit want m && inRow f m k) ≡ true) = any-elim 64 (λ m. bit want m && inRow f m k) (sym (h k) ∙ t) in
       inside-row (y .0) k (and-left (bit want (y .0)) _ (y .2)) (and-right (bit want (y .0)) _ (y .2)))
 
--- fewer members of an entry
+-- Fewer members of an entry.
 pub asked-fewer : {T : Terms} {g : Assignment} {i want : ℕ} (need : ℕ) → Asked T g i want → ((a : ℕ) → bit need a ≡ true → bit want a ≡ true) → Asked T g i need
 asked-fewer need h q = record { exists = h .exists; wanted = λ m e. h .wanted m (q m e); vars = h .vars }

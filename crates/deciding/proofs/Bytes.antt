@@ -15,7 +15,7 @@ byte-next w v i l =
     (ap (λ (k : ℕ). (w * 256 + v) / 2 ^ k) (let e : 8 * suc i ≡ 8 + 8 * i = omega arith in e)
     ∙ sym (shr-shr (w * 256 + v) 8 (8 * i)) ∙ ap (λ (n : ℕ). n / 2 ^ (8 * i)) (high w 8 l))
 
--- w has those from i on
+-- w has those from i on.
 pub record Packed (f : ℕ → ℕ) (i w : ℕ) : Type 0 where
   pub few : i ≤ 8
   pub low : w < 2 ^ (8 * (8 - i))

@@ -76,10 +76,10 @@ module _ {ask need : ℕ} {r s₀ : List ℕ} {rest a rest' : ℕ} {s : List ℕ
   to-come : Done need rest a ≡ false
   to-come = ap (λ (x : Bool). bit need a && not x) (t .next .here) ∙ and-false (bit need a)
 
-  pub putting-row : (b : ℕ) → bit (getD s a 0) b ≡ bit (getD s₀ a 0) b
+  putting-row : (b : ℕ) → bit (getD s a 0) b ≡ bit (getD s₀ a 0) b
   putting-row b = f .rows a b (t .next .small) ∙ ap (λ (x : Bool). cond (x && bit ask b) (bit (getD r a 0) b) (bit (getD s₀ a 0) b)) to-come
 
-  pub putting-sure : (b : ℕ) → bit (getD s (69 + a) 0) b ≡ bit (getD s₀ (69 + a) 0) b
+  putting-sure : (b : ℕ) → bit (getD s (69 + a) 0) b ≡ bit (getD s₀ (69 + a) 0) b
   putting-sure b = f .sure a b (t .next .small) ∙ ap (λ (x : Bool). cond x (knows s₀ a b || bit ask b) (bit (getD s₀ (69 + a) 0) b)) to-come
 
   module _ (v w : ℕ) (long : length s₀ ≡ 133) (is : (b : ℕ) → bit v b ≡ cond (bit ask b) (bit (getD r a 0) b) (bit (getD s a 0) b))
@@ -210,12 +210,9 @@ lacked {s} {ask} {want} {rest} {need} f e a w n b q =
 
 -- ---- a slot that is lent
 module _ (k : ℕ) (m : List ℕ) (fits : 133 * k + 133 ≤ length m) where
-  -- what `&memo[at..at + 133]` lends
-  pub slot-long : length (slotOf k m) ≡ 133
+  -- What `&memo[at..at + 133]` lends.
+  slot-long : length (slotOf k m) ≡ 133
   slot-long = length-take-le 133 (drop (133 * k) m) (rw (length-drop (133 * k) m) (omega arith))
-
-  slot-at : (i : ℕ) → i < 133 → getD (slotOf k m) i 0 ≡ getD m (133 * k + i) 0
-  slot-at i l = getD-take 133 (drop (133 * k) m) i 0 l ∙ getD-drop (133 * k) m i 0
 
   module _ (ys : List ℕ) (long : length ys ≡ 133) where
     abbrev m' : List ℕ
@@ -251,7 +248,7 @@ module _ (k : ℕ) (m : List ℕ) (fits : 133 * k + 133 ≤ length m) where
     apart-put : Apart k m m'
     apart-put = record { long = put-long; same = slot-other }
 
-  -- what `&mut memo[at..at + 133]` lends, and what the memo is when it came back as ys
+  -- What `&mut memo[at..at + 133]` lends, and what the memo is when it came back as ys.
   abbrev part : List ℕ
   part = take (133 * k + 133 - 133 * k) (drop (133 * k) m)
 
@@ -277,7 +274,7 @@ module _ (k : ℕ) (m : List ℕ) (fits : 133 * k + 133 ≤ length m) where
 pub apart-same : (k : ℕ) (m : List ℕ) → Apart k m m
 apart-same k m = record { long = refl; same = λ j n. refl }
 
--- what holds of the members that are done, one more of them
+-- What holds of the members that are done, one more of them.
 pub done-with : {w rest a rest' : ℕ} (Q : ℕ → Type 0) → Turn w rest a rest' → ((k : ℕ) → Done w rest k ≡ true → Q k) → Q a → (k : ℕ) → Done w rest' k ≡ true → Q k
 done-with {w} {rest} {a} Q t h q k e =
     ⊎-elim (λ z. subst Q (sym (eqb-true k a z)) q) (λ z. h k z) (or-cases (eqb k a) (Done w rest k) (sym (done-more t k) ∙ e))

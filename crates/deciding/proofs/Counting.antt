@@ -29,7 +29,7 @@ storing v s = record {
   words = λ k. sym (ap (λ (t : Bool). cond t (v k) (getD s k 0)) (le-ltb k 0 (omega arith)));
 }
 
--- the same from n on, where v has the old words before n
+-- The same from n on, where v has the old words before n.
 pub storing-from : (v : ℕ → ℕ) (s : List ℕ) (n : ℕ) → n ≤ 64 → ((k : ℕ) → k < n → v k ≡ getD s k 0) → Storing v s n s
 storing-from v s n l h = record {
   upto = l;
@@ -40,7 +40,7 @@ storing-from v s n l h = record {
       (true-or-false (ltb k n));
 }
 
--- the word that comes next is still the old one
+-- The word that comes next is still the old one.
 pub storing-next : {v : ℕ → ℕ} {s₀ s : List ℕ} {a : ℕ} → Storing v s₀ a s → getD s a 0 ≡ getD s₀ a 0
 storing-next {v} {s₀} {s} {a} f = f .words a ∙ ap (λ (t : Bool). cond t (v a) (getD s₀ a 0)) (le-ltb a a (omega arith))
 
@@ -63,7 +63,7 @@ storing-more {v} {s₀} {s} {a} w f l h e = record {
 pub stored : {v : ℕ → ℕ} {s₀ s : List ℕ} {a : ℕ} → Storing v s₀ a s → 64 ≤ a → (k : ℕ) → k < 64 → getD s k 0 ≡ v k
 stored {v} {s₀} {s} {a} f l k h = f .words k ∙ ap (λ (t : Bool). cond t (v k) (getD s₀ k 0)) (lt-ltb k a (omega arith))
 
-pub storing-all : {v : ℕ → ℕ} {s₀ s : List ℕ} {a : ℕ} → Storing v s₀ a s → 64 ≤ a → length s₀ ≡ 64 → ((k : ℕ) → 64 ≤ k → v k ≡ 0) → (k : ℕ)
+storing-all : {v : ℕ → ℕ} {s₀ s : List ℕ} {a : ℕ} → Storing v s₀ a s → 64 ≤ a → length s₀ ≡ 64 → ((k : ℕ) → 64 ≤ k → v k ≡ 0) → (k : ℕ)
     → getD s k 0 ≡ v k
 storing-all {v} {s₀} {s} {a} f l h z k =
     f .words k
@@ -79,7 +79,7 @@ cleared {s₀} {s} f l h =
     ext-getD 0 s (replicate 64 0) (f .long ∙ h ∙ sym (length-replicate {A = ℕ} 64 0))
     (λ k p. storing-all f l h (λ k q. refl) k ∙ sym (zeros 64 k))
 
--- rows of which those from n on are cleared
+-- Rows of which those from n on are cleared.
 pub cleared-from : (n : ℕ) {s₀ s : List ℕ} {a : ℕ} → n ≤ 64 → Storing (λ k. cond (ltb k n) (getD s₀ k 0) 0) s₀ a s → 64 ≤ a → length s₀ ≡ 64
     → (k b : ℕ) → inRow s k b ≡ (ltb k n && inRow s₀ k b)
 cleared-from n {s₀} {s} m f l h k b =
@@ -90,7 +90,7 @@ cleared-from n {s₀} {s} m f l h k b =
     cut true = refl
     cut false = bit-zero b
 
--- rows that are added to: v is the old word with w
+-- Rows that are added to: v is the old word with w.
 pub added : {s₀ s : List ℕ} {a : ℕ} (w : ℕ → ℕ) → Storing (λ k. bitOr (getD s₀ k 0) (w k)) s₀ a s → 64 ≤ a → length s₀ ≡ 64
     → ((k : ℕ) → 64 ≤ k → w k ≡ 0)
     → Added s₀ (λ k. bit (w k)) s
@@ -98,7 +98,7 @@ added {s₀} {s} {a} w f l h z k b =
     ap (λ (x : ℕ). bit x b) (storing-all f l h (λ j q. ap₂ bitOr (List·getD-eq-default s₀ 0 (omega arith)) (z j q)) k)
     ∙ bit-or (getD s₀ k 0) (w k) b
 
--- rows that are added to what f and table t both have
+-- Rows that are added to what f and table t both have.
 pub added-kept : (f past : List ℕ) (t : ℕ) {s₀ s : List ℕ} {a : ℕ}
     → Storing (λ k. bitOr (getD s₀ k 0) (bitAnd (getD f k 0) (getD past (64 * t + k) 0))) s₀ a s
     → 64 ≤ a → length s₀ ≡ 64 → length f ≡ 64 → Added s₀ (kept f past t) s
@@ -131,19 +131,19 @@ sweeping-more {p} {s} {a} w f l h = record {
 pub sweeping-all : {p : ℕ → Bool} {s a : ℕ} → Sweeping p s a → 64 ≤ a → Has s (λ m. ltb m 64 && p m)
 sweeping-all {p} {s} {a} f l m = f .bits m ∙ ap (λ (n : ℕ). ltb m n && p m) (let x : a ≤ 64 = f .upto in let z : a ≡ 64 = omega arith in z)
 
--- what is swept, cut to a set
+-- What is swept, cut to a set.
 pub swept-in : (set s : ℕ) (p : ℕ → Bool) → set < 2 ^ 64 → Has s (λ m. ltb m 64 && p m) → Has (bitAnd set s) (λ m. bit set m && p m)
 swept-in set s p h e m =
     bit-and set s m ∙ and-under (bit set m) (bit s m) (p m) (λ t. e m ∙ ap (λ (u : Bool). u && p m) (lt-ltb m 64 (bit-below set 64 m h t)))
 
 -- ---- sets of one
 
--- a number below 64 alone
+-- A number below 64 alone.
 pub single-is : (s b : ℕ) → Has s (λ m. ltb m 64 && eqb m b) → b < 64 → Has s (λ m. eqb m b)
 single-is s b h l m =
     h m ∙ and-implied (ltb m 64) (eqb m b) (λ e. lt-ltb m 64 (subst (λ (k : ℕ). k < 64) (sym (eqb-true m b e)) l))
 
--- w where c holds
+-- w where c holds.
 pub only-is : (c : Bool) (w : ℕ) → Has (cond c w 0) (λ b. bit w b && c)
 only-is true w b = sym (and-true (bit w b))
 only-is false w b = bit-zero b ∙ sym (and-false (bit w b))

@@ -46,7 +46,7 @@ pub edge-event : (r : ℕ) (rel : List ℕ) (v l a b : ℕ) → r ≤ l → fire
 unfolding edge
 edge-event r rel v l a b h = rw (le-ltb l r h)
 
--- a label whose event has no edge
+-- A label whose event has no edge.
 pub absent : (r v l : ℕ) → r ≤ l → ((a : ℕ) → Has 0 (fired v (l - r) a)) → (rel : List ℕ) (a b : ℕ) → edge r rel v l a b ≡ false
 absent r v l h none rel a b = sym (edge-event r rel v l a b h) ∙ sym (none a b) ∙ bit-zero b
 
@@ -107,7 +107,7 @@ pub behind-edge : (r : ℕ) (rel : List ℕ) (v l from set : ℕ) → r ≤ l �
 behind-edge r rel v l from set h a =
     ap (λ (t : Bool). bit from a && t) (any-cong 64 (λ b k. ap (λ (t : Bool). t && bit set b) (edge-event r rel v l a b h)))
 
--- the rows of relation l, as a part of all
+-- The rows of relation l, as a part of all.
 part-rows : (rel : List ℕ) (l r v a b : ℕ) → l < r → 64 * l + 64 ≤ length rel → a < 64
     → inRow (take 64 (drop (64 * l) rel)) a b ≡ edge r rel v l a b
 part-rows rel l r v a b h n k = ap (λ (x : ℕ). bit x b) (rw (getD-take, getD-drop)) ∙ edge-relation r rel v l a b h
@@ -130,7 +130,7 @@ gathered-row row e q h = count-cong 64 (λ k l. ap (λ (t : Bool). t && q k) (h 
 pub scattered-row : (want row w : ℕ) (e : ℕ → Bool) → Has row e → (a b : ℕ) → (bit (bitAnd want row) a && bit w b) ≡ ((bit want a && e a) && bit w b)
 scattered-row want row w e h a b = ap (λ (t : Bool). t && bit w b) (bit-and want row a ∙ ap (λ (t : Bool). bit want a && t) (h a))
 
--- what is scattered from the members of from, cut to the rows of want
+-- What is scattered from the members of from, cut to the rows of want.
 pub scattered-rows : (from want : ℕ) (E : ℕ → ℕ → Bool) (f r : List ℕ) → length r ≡ 64
     → ((a b : ℕ) → inRow r a b ≡ anyBelow 64 (λ c. bit from c && ((bit want a && E c a) && inRow f c b))) → Rows want (scattered E from f) r
 scattered-rows from want E f r long h = record {

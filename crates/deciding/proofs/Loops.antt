@@ -1,4 +1,5 @@
--- Loops over the members of a set, least first, and over the numbers below 64: of each shape its start, one turn and its end.
+-- Loops over the members of a set, least first, and over the numbers below 64: of each shape
+-- its start, one turn and its end.
 use Prim.Native.Nat.{ℕ, _^_, _<_}
 use mathlib.Core.Path.{_≡_, refl, sym, ap, ap₂, _∙_, subst, fun-ext}
 use mathlib.Core.Bool.{Bool, true, false, cond, not, _&&_, _||_, and-not-self, or-false, or-comm, true≢false, and-false}
@@ -38,17 +39,17 @@ row-set r a w k b h =
     ∙ sym (ap (λ (t : Bool). cond t (bit w b) (inRow r k b)) e))
     (true-or-false (eqb k a))
 
--- one row, put into empty ones
+-- One row, put into empty ones.
 pub alone : {r : List ℕ} (c w : ℕ) → r ≡ replicate 64 0 → c < 64 → (a b : ℕ) → inRow (set r c w) a b ≡ (eqb a c && bit w b)
 alone {r} c w e h a b =
     row-set r c w a b (subst (λ (n : ℕ). c < n) (sym (zero-long e)) h)
     ∙ ap (cond (eqb a c) (bit w b)) (zero-rows e a b) ∙ cond-none (eqb a c) (bit w b)
 
--- rows that say the same of the members of want
+-- Rows that say the same of the members of want.
 pub rows-map : {want : ℕ} {p q : ℕ → ℕ → Bool} {r : List ℕ} → Rows want p r → ((a b : ℕ) → bit want a ≡ true → p a b ≡ q a b) → Rows want q r
 rows-map f h = record { long = f .long; bits = λ a b w. f .bits a b w ∙ h a b w }
 
--- an empty set has no rows
+-- An empty set has no rows.
 pub no-rows : {want : ℕ} (p : ℕ → ℕ → Bool) {r : List ℕ} → want ≡ 0 → length r ≡ 64 → Rows want p r
 no-rows p e n = record { long = n; bits = λ a b w. absurd (true≢false (sym w ∙ ap (λ (y : ℕ). bit y a) e ∙ bit-zero a)) }
 
@@ -65,7 +66,7 @@ filling {want} p {r} h n = record {
   bits = λ a b. sym (ap (λ (x : Bool). cond x (p a b) (inRow r a b)) (and-not-self (bit want a)));
 }
 
--- from rows that are empty
+-- From rows that are empty.
 pub filling-empty : {want : ℕ} (p : ℕ → ℕ → Bool) {r : List ℕ} → want < 2 ^ 64 → r ≡ replicate 64 0 → Filling want p (replicate 64 0) want r
 filling-empty {want} p {r} h e = subst (λ (z : List ℕ). Filling want p z want r) e (filling p h (zero-long e))
 
@@ -84,7 +85,7 @@ filling-more {want} {p} {rest} {a} {rest'} {r₀} {r} w f t h = record {
       (true-or-false (eqb k a));
 }
 
--- a row that is to come is as it was
+-- A row that is to come is as it was.
 pub filling-next : {want : ℕ} {p : ℕ → ℕ → Bool} {rest a rest' : ℕ} {r₀ r : List ℕ} → Filling want p r₀ rest r → Turn want rest a rest'
     → (b : ℕ) → inRow r a b ≡ inRow r₀ a b
 filling-next {want} {p} {rest} {a} {rest'} {r₀} f t b =

@@ -13,10 +13,9 @@ use Rattle.theory.specs.Formula.{number}
 use Rattle.theory.specs.Meaning.{Assignment}
 use Rattle.theory.specs.Terms.{Terms, formula}
 use Rattle.theory.specs.Moment.{graph}
-use Rattle.memory.specs.Layout.{termsOf}
 use Rattle.theory.specs.Tables.{Tables, State, store}
 use Rattle.theory.specs.Fit.{Good}
-use Rattle.deciding.specs.private.Rows.{opened, nowAt, cell, Vars}
+use Rattle.deciding.specs.private.Rows.{opened, cell, Vars}
 use Rattle.deciding.specs.private.Moving.{HasState, tabled}
 use Rattle.deciding.specs.private.Memo.{slotOf, haveOf, Slot, MemoOf, Above, Fresh, columnOf}
 use Rattle.theory.proofs.Unfolding.{number-lt, table-spelled, visible-spelled}
@@ -25,7 +24,7 @@ use Rattle.theory.proofs.MeaningNow.{SameTable, now-cong}
 use Rattle.deciding.proofs.SameDecision.{relationsOf, pastOf, seen}
 use Rattle.deciding.proofs.Remembering.{empty-slot}
 
--- every variable stands for a member, the open one too
+-- Every variable stands for a member, the open one too.
 opened-among : (N : ℕ) (g : Assignment) (x b : ℕ) → 0 < N → b < N → Vars N g → Among N (opened g x b)
 opened-among N g x b some l v y = go (eqb y x && ltb y 16) (ltb y 16) refl
   where
@@ -37,7 +36,7 @@ opened-among N g x b some l v y = go (eqb y x && ltb y 16) (ltb y 16) refl
     go true d e = l
     go false d e = mine d e
 
--- tables with that of number t stored, or not
+-- Tables with that of number t stored, or not.
 other-table : (t : ℕ) (B : ℕ → ℕ → Bool) (X : Tables) (c : Bool) (s : ℕ) → s < t → (a b : ℕ) → cond c (store t B X) X s a b ≡ X s a b
 other-table t B X true s l a b = ap (λ (c : Bool). cond c (B a b) (X s a b)) (ne-eqb s t (λ e. let z : ⊥ = omega arith in z))
 other-table t B X false s l a b = refl
@@ -71,7 +70,7 @@ module _ (T : Terms) (fine : Good T) {S : State} {rest m m' : List ℕ} (n : ℕ
   pub memo-step : {w : List ℕ} → MemoOf T m n w → MemoOf T m' n w
   memo-step h = record { slot = λ k kl f. slot-step k kl (h .slot k kl f) }
 
-  -- where the slots from n on have no rows
+  -- Where the slots from n on have no rows.
   pub memo-step-all : {w : List ℕ} → MemoOf T m (T .entries) w → Fresh (T .entries) n w → MemoOf T m' (T .entries) w
   memo-step-all {w} h q = record { slot = λ k kl f. go k kl f (ltb k n) refl }
     where

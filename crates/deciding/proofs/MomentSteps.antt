@@ -1,4 +1,5 @@
--- The steps from one moment to the next over the lent memory: each turn of the sweeps and of the effects, and what the loops come to.
+-- The steps from one moment to the next over the lent memory: each turn of the sweeps and of the
+-- effects, and what the loops come to.
 use Prim.Native.Nat.{ℕ, zero, suc, _+_, _-_, _*_, _/_, _%_, _≤_, _<_}
 use native.Mathlib.Omega.{arith}
 use native.Mathlib.Numerals.{add-one}
@@ -32,7 +33,7 @@ use Rattle.memory.proofs.Words.{canonical}
 use Rattle.deciding.proofs.SameDecision.{has-long, ready, relationsOf, pastOf, seen, seen-prev, seen-since, Named}
 use Rattle.deciding.proofs.Stored.{table-stored, edge-stored}
 
--- memory that keeps the layout has the state that it holds
+-- Memory that keeps the layout has the state that it holds.
 known-event : (T : Terms) (w : ℕ) → goodEvent T w ≡ true → known T (eventOf w) ≡ true
 known-event T zero e = refl
 known-event T (suc n) e = go (ltb (n / 4096) 16) e
@@ -77,14 +78,14 @@ module _ {terms plan m : List ℕ} (c : Movable terms plan m) where
   pub moved : {m' : List ℕ} {f : Terms → State → State} → Becomes terms f m m' → Movable terms plan m'
   moved b = has-moved (b .each (c .state) (c .rest) (c .has))
 
--- an entry asked of the two parts
+-- An entry asked of the two parts.
 pub asked : (T : Terms) → Good T → (m : List ℕ) → stateWords ≤ length m → goodState T m ≡ true → (n u v : ℕ) → n < T .entries → u < T .members → v < T .members →
     nowAt T (relationsOf m) (pastOf m) (assign (λ x. 0) 0 v) n u
     ≡ holdsNow (T .members) (graph T (stateOf m .now)) (stateOf m .table) (formula T n) (assign (λ x. 0) 0 v) u
 asked T fine m long g n u v nl ul vl =
     seen T fine (held T (fine .few-members) m long g) (assign (λ x. 0) 0 v) n u nl (among-assign (T .members) (λ x. 0) 0 v (λ x. fine .some-member) vl) ul
 
--- and the policy that a request asks
+-- And the policy that a request asks.
 pub granted : (T : Terms) → Good T → (m : List ℕ) → stateWords ≤ length m → goodState T m ≡ true → (j u v : ℕ) → Named T j u v →
     {i : ℕ} {r : Bool} → i ≡ T .policy j → r ≡ nowAt T (relationsOf m) (pastOf m) (assign (λ x. 0) 0 v) i u → r ≡ decideNow T (stateOf m) j u v
 granted T fine m long g j u v n p h =
@@ -104,7 +105,7 @@ module _ {terms plan m : List ℕ} (c : Movable terms plan m) (n : ℕ) (nl : n 
     there : number (T .entry) n < tables T
     there = number-lt (T .entry) n (T .entries) nl past
 
-    -- its place in a bank's own words
+    -- Its place in a bank's own words.
     pub own-fits : 64 * planTable (getD plan n 0) + 64 ≤ ownWords
     own-fits = rw (c .planned .table n nl past .0) (omega (arith, there, fine c .few-tables))
 
@@ -133,7 +134,7 @@ module _ {terms plan m : List ℕ} (c : Movable terms plan m) (n : ℕ) (nl : n 
 
 -- ---- the sweeps
 
--- the prev tables from entry n up are moved: the sweep below n is what is left of the whole
+-- The prev tables from entry n up are moved: the sweep below n is what is left of the whole.
 pub record Downward (terms : List ℕ) (n : ℕ) (m₀ m : List ℕ) : Type 0 where
   pub each : (S : State) (rest : List ℕ) → HasState (termsOf terms) S rest m₀ → (X : Tables) × HasState (termsOf terms) (tabled S X) rest m
       × (prevTables (termsOf terms) (graph (termsOf terms) (S .now)) n X ≡ prevMoved (termsOf terms) S .table)
@@ -173,7 +174,7 @@ module _ {w m₀ : List ℕ} where
 
 -- ---- the effects
 
--- one effect: r is the word of the edge's member, with the edge added or deleted
+-- One effect: r is the word of the edge's member, with the edge added or deleted.
 pub end-member : (N : ℕ) (c : Bool) {x y : ℕ} → x < N → y < N → cond c x y < N
 end-member N true p q = p
 end-member N false p q = q
@@ -191,13 +192,13 @@ module _ (w : List ℕ) (g : Good (termsOf w)) (at u v : ℕ) (kl : getD w (at +
         (end-member (termsOf w .members) (e .back) vl ul) (end-member (termsOf w .members) (e .back) ul vl) r bits;
   }
 
--- the effects before number i are made, and those from i on are what is left of the whole
+-- The effects before number i are made, and those from i on are what is left of the whole.
 pub record Effecting (w : List ℕ) (j u v i : ℕ) (m₀ m : List ℕ) : Type 0 where
   pub within : Within (termsOf w .relations) (effectsFrom w (effectAt j i) (4 - i))
   pub each : (S : State) (rest : List ℕ) → HasState (termsOf w) S rest m₀ → (R : Relations) × HasState (termsOf w) (edged S R) rest m
       × (affectAll u v (effectsFrom w (effectAt j i) (4 - i)) R ≡ affectAll u v (termsOf w .effects j) (S .now .edge))
 
--- effect number i, where there is one, and those after it
+-- Effect number i, where there is one, and those after it.
 here : (w : List ℕ) (j i : ℕ) → i < 4 → (getD w (effectAt j i) 0 ≡ 0 → ⊥) →
     effectsFrom w (effectAt j i) (4 - i) ≡ effectOf w (effectAt j i) ∷ effectsFrom w (effectAt j (i + 1)) (4 - (i + 1))
 unfolding effectsFrom
@@ -247,7 +248,7 @@ module _ {w : List ℕ} {j u v : ℕ} {m₀ : List ℕ} where
     unfolding effectsFrom
     fewer-made l e = let left : 4 - i ≡ suc (3 - i) = omega arith in all-made (rw (left, e))
 
--- the moment of a grant and of a kept denial
+-- The moment of a grant and of a kept denial.
 pub entered-granted : {terms m m₁ m₂ : List ℕ} {g : Bool} (j u v : ℕ) → g ≡ true → Becomes terms (allAffected j u v) m m₁
     → Becomes terms (evented (happened j u v)) m₁ m₂ → Becomes terms (entered g j u v) m m₂
 entered-granted {terms} {m} {m₁} {m₂} j u v e p q =
@@ -257,51 +258,8 @@ pub entered-denied : {terms m m₁ : List ℕ} {g : Bool} (j u v : ℕ) → g �
     → Becomes terms (entered g j u v) m m₁
 entered-denied {terms} {m} {m₁} j u v e q = subst (λ (c : Bool). Becomes terms (entered c j u v) m m₁) (sym e) (record { each = λ S rest has. q .each S rest has })
 
--- the steps to the next moment
+-- The steps to the next moment.
 pub stepped : {terms m m₁ m₂ m₃ : List ℕ} (g : Bool) (j u v : ℕ) → Becomes terms prevMoved m m₁ → Becomes terms (entered g j u v) m₁ m₂ → Becomes terms sinceMoved m₂ m₃
     → Becomes terms (λ T S. advance T S (made T (S .now) g j u v)) m m₃
 unfolding advance
 stepped {terms} {m} {m₁} {m₂} {m₃} g j u v p q r = record { each = λ S rest has. r .each _ rest (q .each _ rest (p .each S rest has)) }
-
--- the same, or those of moment 0
-pub begun : {terms m m₁ m₂ : List ℕ} (g : Bool) (j u v : ℕ) → ltb j (termsOf terms .events) ≡ true → Becomes terms prevMoved m m₁ → Becomes terms (entered g j u v) m₁ m₂
-    → Becomes terms (λ T S. cond (ltb j (T .events)) (entered g j u v T (prevMoved T S)) S) m m₂
-begun {terms} {m} {m₁} {m₂} g j u v e p q = record {
-  each = λ S rest has.
-      subst (λ (c : Bool). HasState (termsOf terms) (cond c (entered g j u v (termsOf terms) (prevMoved (termsOf terms) S)) S) rest m₂)
-      (sym e) (q .each _ rest (p .each S rest has));
-}
-
-pub not-begun : {terms m : List ℕ} (g : Bool) (j u v : ℕ) → ltb j (termsOf terms .events) ≡ false
-    → Becomes terms (λ T S. cond (ltb j (T .events)) (entered g j u v T (prevMoved T S)) S) m m
-not-begun {terms} {m} g j u v e = record {
-  each = λ S rest has.
-      subst (λ (c : Bool). HasState (termsOf terms) (cond c (entered g j u v (termsOf terms) (prevMoved (termsOf terms) S)) S) rest m)
-      (sym e) has;
-}
-
-pub ended : {terms m m₁ m₂ : List ℕ} (g : Bool) (j u v : ℕ)
-    → Becomes terms (λ T S. cond (ltb j (T .events)) (entered g j u v T (prevMoved T S)) S) m m₁ → Becomes terms sinceMoved m₁ m₂
-    → Becomes terms (λ T S. cond (ltb j (T .events)) (advance T S (made T (S .now) g j u v)) (sinceMoved T S)) m m₂
-unfolding advance
-ended {terms} {m} {m₁} {m₂} g j u v p q = record { each = λ S rest has. go S rest (ltb j (termsOf terms .events)) (q .each _ rest (p .each S rest has)) }
-  where
-    go : (S : State) (rest : List ℕ) (c : Bool)
-        → HasState (termsOf terms) (sinceMoved (termsOf terms) (cond c (entered g j u v (termsOf terms) (prevMoved (termsOf terms) S)) S)) rest m₂
-        → HasState (termsOf terms) (cond c (advance (termsOf terms) S (made (termsOf terms) (S .now) g j u v)) (sinceMoved (termsOf terms) S)) rest m₂
-    go S rest true h = h
-    go S rest false h = h
-
-pub taken : {terms m m' : List ℕ} (g : Bool) (j u v : ℕ) → ltb j (termsOf terms .events) ≡ true
-    → Becomes terms (λ T S. cond (ltb j (T .events)) (advance T S (made T (S .now) g j u v)) (sinceMoved T S)) m m' → Becomes terms (λ T S. advance T S (made T (S .now) g j u v)) m m'
-taken {terms} {m} {m'} g j u v e p = record {
-  each = λ S rest has.
-      subst (λ (c : Bool). HasState (termsOf terms) (cond c (advance (termsOf terms) S (made (termsOf terms) (S .now) g j u v)) (sinceMoved (termsOf terms) S)) rest m') e (p .each S rest has);
-}
-
-pub opened : {terms m m' : List ℕ} (g : Bool) (j u v : ℕ) → ltb j (termsOf terms .events) ≡ false
-    → Becomes terms (λ T S. cond (ltb j (T .events)) (advance T S (made T (S .now) g j u v)) (sinceMoved T S)) m m' → Becomes terms sinceMoved m m'
-opened {terms} {m} {m'} g j u v e p = record {
-  each = λ S rest has.
-      subst (λ (c : Bool). HasState (termsOf terms) (cond c (advance (termsOf terms) S (made (termsOf terms) (S .now) g j u v)) (sinceMoved (termsOf terms) S)) rest m') e (p .each S rest has);
-}

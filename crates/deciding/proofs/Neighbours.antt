@@ -31,7 +31,7 @@ module _ {terms plan rel past : List ℕ} {g : Assignment} {x i want o a b r all
   abbrev Sure : List ℕ → Type 0
   Sure t = Rows want (cell T rel past g x i) t
 
-  -- f holds now at m, with x standing for v
+  -- f holds now at m, with x standing for v.
   abbrev H : ℕ → ℕ → ℕ → Bool
   H f m v = nowAt T rel past (opened g x v) f m
 
@@ -56,7 +56,7 @@ module _ {terms plan rel past : List ℕ} {g : Assignment} {x i want o a b r all
       ∙ ap₂ (λ (y w : ℕ). leb (T .entry i .c) (countBelow N (λ k. edge (T .relations) rel (pastEvent T past) y m k && H w k v))) (sym (s .a-is)) (sym (s .b-is))
       ∙ ap₂ (λ (y w : ℕ). leb w (countBelow N (λ k. edge y rel (pastEvent T past) a m k && H b k v))) (sym (s .r-is)) (sym z)
 
-  -- out asks for one, many for c
+  -- out asks for one, many for c.
   asks : (k c : ℕ) → c ≡ T .entry i .c → k ≡ cond (eqb o 4) 1 c → (o ≡ 4) ⊎ (o ≡ 11) →
       (0 < k) × ((m v : ℕ) → H i m v ≡ leb k (countBelow N (λ j. E m j && H b j v)))
   asks k c z q =
@@ -68,11 +68,11 @@ module _ {terms plan rel past : List ℕ} {g : Assignment} {x i want o a b r all
       (λ e. let same : k ≡ c = q ∙ ap (λ (t : Bool). cond t 1 c) (ne-eqb o 4 (λ u. let none : ⊥ = omega arith in none)) in
       (subst (λ (y : ℕ). 0 < y) (sym same) (c-some s c z e), many-is k (same ∙ z) e))
 
-  -- nobody counted is fewer than asked for
+  -- Nobody counted is fewer than asked for.
   none-counted : (k n : ℕ) {F : ℕ → Bool} → 0 < k → ((j : ℕ) → j < n → F j ≡ false) → leb k (countBelow n F) ≡ false
   none-counted k n some none = ap (leb k) (count-none n none) ∙ lt-leb k 0 some
 
-  -- along a label without an edge
+  -- Along a label without an edge.
   no-row : (m v : ℕ) (F : ℕ → Bool) → H i m v ≡ anyBelow N (λ k. F k && H b k v) → ((k : ℕ) → F k ≡ false) → false ≡ (ltb v N && H i m v)
   no-row m v F e none = sym (is-false _ (λ u.
       let y : (k : ℕ) × (k < N) × ((F k && H b k v) ≡ true) = any-elim N (λ k. F k && H b k v) (sym e ∙ and-right (ltb v N) (H i m v) u) in
@@ -106,7 +106,7 @@ module _ {terms plan rel past : List ℕ} {g : Assignment} {x i want o a b r all
       is : (m v : ℕ) → H i m v ≡ leb k (countBelow N (λ j. E m j && H b j v))
       is = asks k c z q e .1
 
-      -- no label leads from m
+      -- No label leads from m.
       stays : (m v : ℕ) → bit want m ≡ true → bit from m ≡ false → (bit from m && gathered E f k m v) ≡ (ltb v N && H i m v)
       stays m v w none =
           ap (λ (y : Bool). y && gathered E f k m v) none

@@ -1,7 +1,8 @@
--- What each operator's arm of `decide` shows, in plain values: from what its callees give, that the arm's rows are those asked for.
+-- What each operator's arm of `decide` shows, in plain values: from what its callees give, that the
+-- arm's rows are those asked for.
 use Prim.Native.Nat.{ℕ, _<_, _≤_}
 use mathlib.Core.Path.{_≡_, refl, sym, ap, ap₂, _∙_, subst, fun-ext}
-use mathlib.Core.Bool.{Bool, true, false, cond, not, _&&_, _||_, and-true, and-comm, and-self-left, and-or-distrib-left}
+use mathlib.Core.Bool.{Bool, true, false, not, _&&_, _||_, and-true, and-comm, and-self-left, and-or-distrib-left}
 use mathlib.Core.List.{List}
 use native.Mathlib.Omega.{arith}
 use lib.Dec.{eqb, ltb}
@@ -22,7 +23,7 @@ use Rattle.theory.proofs.Unfolding.{number-lt}
 use Rattle.deciding.proofs.Loops.{rows-map}
 use Rattle.deciding.proofs.Assignments.{opened-same, opened-other, opened-bind, opened-zeros}
 use Rattle.deciding.proofs.Unfolded.{now-top, now-var, now-neg, now-or, now-past, now-bind, now-at, now-reach}
-use Rattle.deciding.proofs.AtEntry.{Site, member-short, terms-good, entry-good, op-is, want-below, a-variable, a-binder, var-below, operand-reached}
+use Rattle.deciding.proofs.AtEntry.{Site, member-short, terms-good, entry-good, op-is, want-below, a-variable, a-binder, operand-reached}
 
 not-under : (w h : Bool) → (w && not (w && h)) ≡ (w && not h)
 not-under true h = refl
@@ -38,7 +39,7 @@ module _ {terms plan rel past : List ℕ} {g : Assignment} {x i want o a b r all
   abbrev Sure : List ℕ → Type 0
   Sure t = Rows want (cell T rel past g x i) t
 
-  -- f holds now at m, with x standing for v
+  -- f holds now at m, with x standing for v.
   abbrev H : ℕ → ℕ → ℕ → Bool
   H f m v = nowAt T rel past (opened g x v) f m
 
@@ -90,7 +91,7 @@ module _ {terms plan rel past : List ℕ} {g : Assignment} {x i want o a b r all
       (sym (now-or T rel past (opened g x v) i m (entry-good s) (op-is s 3 e) ∙ ap₂ (λ (y z : ℕ). H y m v || H z m v) (sym (s .a-is))
       (sym (s .b-is)))))
 
-  -- a table
+  -- A table.
   past-op : isPast o ≡ true → isPast (T .entry i .op) ≡ true
   past-op e = ap isPast (sym (s .o-is)) ∙ e
 
@@ -116,7 +117,7 @@ module _ {terms plan rel past : List ℕ} {g : Assignment} {x i want o a b r all
       (ap₂ (λ (j : ℕ) (cs : List ℕ). recalled (tableBit past) j cs (opened g x v) m) (plan-is e .0) (plan-is e .1)
       ∙ sym (now-past T rel past (opened g x v) i m (entry-good s) (past-op e))))
 
-  -- what the loop of bind has in row m
+  -- What the loop of bind has in row m.
   bind-is : o ≡ 8 → (m v : ℕ) → H i m v ≡ nowAt T rel past (assign (opened g x v) a m) b m
   bind-is e m v =
       now-bind T rel past (opened g x v) i m (entry-good s) (op-is s 8 e)
@@ -158,14 +159,14 @@ module _ {terms plan rel past : List ℕ} {g : Assignment} {x i want o a b r all
       ∙ ap₂ (λ (y w : ℕ). anyBelow N (λ k. nowAt T rel past (alone y k) w m && H (T .entry i .c) k v)) (sym (s .a-is)) (sym (s .b-is))
       ∙ ap (λ (w : ℕ). anyBelow N (λ k. nowAt T rel past (alone a k) b m && H w k v)) (sym z)
 
-  -- the rows of the first formula, with its variable open
+  -- The rows of the first formula, with its variable open.
   reach-row : {f : List ℕ} → o ≡ 10 → Rows want (cell T rel past (assigned (replicate 16 0)) a b) f
       → (m k : ℕ) → bit want m ≡ true → inRow f m k ≡ (ltb k N && nowAt T rel past (alone a k) b m)
   unfolding cell
   reach-row e d m k w =
       d .bits m k w ∙ ap (λ (h : Assignment). ltb k N && nowAt T rel past h b m) (opened-zeros a k (a-variable s 10 e refl))
 
-  -- the second is asked for at members
+  -- The second is asked for at members.
   pub reached-asked : (c need : ℕ) {f : List ℕ} → c ≡ T .entry i .c → o ≡ 10 → Rows want (cell T rel past (assigned (replicate 16 0)) a b) f
       → Has need (ahead (inRow f) want) → Asked T g c need
   reached-asked c need {f} z e d h = operand-reached s c need f z e h (λ m k w q. ltb-true k N (and-left (ltb k N) _ (sym (reach-row e d m k w) ∙ q)))

@@ -45,7 +45,7 @@ putting-more {n} {b} {rows} {s₀} {s} {a} w few bl al h t = record {
   bits = λ i k. go i k (eqb i (4 * a + b / 4)) refl;
 }
   where
-    -- the word of a and b
+    -- The word of a and b.
     self : (k : ℕ) → (eqb (k / 16) (b % 4) && bit (getD rows a 0) (k % 16)) ≡ here n b rows s₀ (4 * a + b / 4) k
     self k =
         let q : (4 * a + b / 4) / 4 ≡ a = omega arith in
@@ -60,7 +60,7 @@ putting-more {n} {b} {rows} {s₀} {s} {a} w few bl al h t = record {
         let rest = and-right (eqb (4 * ((4 * a + b / 4) % 4) + k / 16) b) _ e in
         and-both _ _ (eq-eqb (k / 16) (b % 4) (omega arith)) (rw q at (and-right (ltb k 64) (bit (getD rows ((4 * a + b / 4) / 4) 0) (k % 16)) rest)))
 
-    -- no other word of a has b
+    -- No other word of a has b.
     apart : (i k : ℕ) → (i ≡ 4 * a + b / 4 → ⊥) → (ltb (i / 4) a && here n b rows s₀ i k) ≡ (ltb (i / 4) (a + 1) && here n b rows s₀ i k)
     apart i k ne =
         bool-iff _ _
@@ -108,7 +108,7 @@ filled-none N p s l z = record {
       ∙ sym (ap (λ c. insidePair N i k && (c && p i k)) (le-ltb (4 * (i % 4) + k / 16) 0 (omega arith)) ∙ and-false (insidePair N i k));
 }
 
-pub filled-more : (N : ℕ) (p q : ℕ → ℕ → Bool) (b : ℕ) (rows s s' : List ℕ) → N < 17 → b < N → Filled N p b s →
+filled-more : (N : ℕ) (p q : ℕ → ℕ → Bool) (b : ℕ) (rows s s' : List ℕ) → N < 17 → b < N → Filled N p b s →
     ((a c : ℕ) → a < N → bit (getD rows a 0) c ≡ (ltb c N && q a c)) →
     ((a c : ℕ) → a < N → c < N → q a c ≡ p (4 * a + b / 4) (16 * (b % 4) + c)) → AddedRows N b rows s s' → Filled N p (b + 1) s'
 filled-more N p q b rows s s' few bl f r same add = record {
@@ -167,8 +167,8 @@ filled-all N p x y zs s f = record {
 
 -- ---- the rows of an operand with the first column bound to b, and the second open
 
--- the columns then stand for b and c
-pub standing-pair : (x y : ℕ) (zs : List ℕ) (a b c : ℕ) → (x ≡ y → ⊥) → y < 16 → b < 16 → c < 16 →
+-- The columns then stand for b and c.
+standing-pair : (x y : ℕ) (zs : List ℕ) (a b c : ℕ) → (x ≡ y → ⊥) → y < 16 → b < 16 → c < 16 →
     standingAt (x ∷ y ∷ zs) (4 * a + b / 4) (16 * (b % 4) + c) ≡ opened (alone x b) y c
 standing-pair x y zs a b c apart small bl cl = fun-ext (λ z. go z (eqb z x) refl (eqb z y) refl)
   where
@@ -185,10 +185,10 @@ standing-pair x y zs a b c apart small bl cl = fun-ext (λ z. go z (eqb z x) ref
     go z false p true q = second ∙ sym (ap (λ (t : Bool). cond t c 0) (lt-ltb z 16 (let v : z ≡ y = eqb-true z y q in omega arith)))
     go z false p false q = refl
 
-pub member-pair : (x y : ℕ) (zs : List ℕ) (a b : ℕ) → b < 16 → memberAt (x ∷ y ∷ zs) (4 * a + b / 4) ≡ a
+member-pair : (x y : ℕ) (zs : List ℕ) (a b : ℕ) → b < 16 → memberAt (x ∷ y ∷ zs) (4 * a + b / 4) ≡ a
 member-pair x y zs a b bl = omega arith
 
--- g is the assignment in which x alone stands for b
+-- g is the assignment in which x alone stands for b.
 module _ (T : Terms) (rel past : List ℕ) (k x y b : ℕ) (g : Assignment) (few : T .members < 17) (bl : b < T .members) (yl : y < 16) (apart : x ≡ y → ⊥)
     (bound : (z : ℕ) → g z ≡ assign (assigned (replicate 16 0)) x b z) where
   abbrev bits-of : ℕ → ℕ → Bool
@@ -247,7 +247,7 @@ pair-read past t b c free a all r w small h e v =
     place : (d : ℕ) → 64 * t + 4 * a + d ≡ 64 * t + (4 * a + d)
     place d = omega arith
 
--- a row cut to 16 bits
+-- A row cut to 16 bits.
 pub cut-row : (row k : ℕ) → bit (bitAnd row 65535) (k % 16) ≡ bit row (k % 16)
 cut-row row k =
     bit-and row 65535 (k % 16) ∙ ap (λ (c : Bool). bit row (k % 16) && c) (bit-mask 16 (k % 16) ∙ lt-ltb (k % 16) 16 (omega arith)) ∙ and-true (bit row (k % 16))

@@ -1,4 +1,5 @@
--- Relations r and own words o that are lent apart: the parts of one state, of a bank's memory that has further words, of a second state.
+-- Relations r and own words o that are lent apart: the parts of one state, of a bank's memory that has
+-- further words, of a second state.
 use Prim.Native.Nat.{ℕ, _+_, _*_, _≤_, _<_}
 use native.Mathlib.Omega.{arith}
 use mathlib.Core.Path.{_≡_, refl, sym, ap, ap₂, subst, _∙_}
@@ -38,7 +39,7 @@ module _ (r o : List ℕ) (long : length r ≡ relationWords) where
   drop-behind : (k : ℕ) → drop (relationWords + k) (r ++ o) ≡ drop k o
   drop-behind k = ap (λ (n : ℕ). drop (n + k) (r ++ o)) (sym long) ∙ drop-append-add r o k
 
-  -- words for one table are put into other own words
+  -- Words for one table are put into other own words.
   pub table-behind : (second : List ℕ) {second' : List ℕ} (j k : ℕ) → second' ≡ put k (take blockWords (drop j o)) second →
       r ++ second' ≡ put (relationWords + k) (take blockWords (drop (relationWords + j) (r ++ o))) (r ++ second)
   table-behind second j k e =
@@ -74,7 +75,7 @@ module _ (m : List ℕ) (long : stateWords ≤ length m) where
   parts-good T fine g =
       sym (good-front (relationsOf m ++ pastOf m) (drop stateWords m) (omega (arith, parts-long)) T fine) ∙ ap (goodState T) parts-whole ∙ g
 
--- a second state whose relations are copied, and whose own words are filled in
+-- A second state whose relations are copied, and whose own words are filled in.
 pub filled-in : (m second r o : List ℕ) {w : List ℕ} → stateWords ≤ length m → stateWords ≤ length second → length o ≡ ownWords →
     r ≡ take (length (take relationWords second)) m → take relationWords m ++ o ≡ w →
     putMid relationWords ownWords (putMid 0 relationWords second r) o ≡ w ++ drop stateWords second
@@ -94,13 +95,13 @@ pub joined-long : (relations own : List ℕ) → relationWords ≤ length relati
 joined-long relations own lr lo =
     length-append (take relationWords relations) (take ownWords own) ∙ ap₂ _+_ (length-take-le relationWords relations lr) (length-take-le ownWords own lo)
 
--- parts that were lent and came back
+-- Parts that were lent and came back.
 pub joined-back : (relations own r o : List ℕ) → length r ≡ relationWords → length o ≡ ownWords →
     joined (putMid 0 relationWords relations r) (putMid 0 ownWords own o) ≡ r ++ o
 joined-back relations own r o lr lo =
     ap₂ (λ (x y : List ℕ). x ++ y) (take-at r (drop relationWords relations) relationWords lr) (take-at o (drop ownWords own) ownWords lo)
 
--- scratch that is cleared
+-- Scratch that is cleared.
 pub cleared-all : (l zs : List ℕ) → scratchWords ≤ length l → zs ≡ replicate (length (take scratchWords l)) 0 →
     putMid 0 scratchWords l zs ≡ replicate scratchWords 0 ++ drop scratchWords l
 cleared-all l zs h q =
@@ -108,7 +109,7 @@ cleared-all l zs h q =
 
 -- ---- own words that are cleared
 
--- nothing but the event word carries over into them
+-- Nothing but the event word carries over into them.
 pub begun-apart : {old before new plan : List ℕ} (r o : List ℕ) {zs : List ℕ} → Revising old before (r ++ o) new plan → length r ≡ relationWords → zs ≡ replicate ownWords 0 →
     Begun old (r ++ o) new 0 [] (r ++ set zs tableWords (getD o tableWords 0))
 begun-apart r o {zs} rv lr z =
@@ -126,7 +127,7 @@ begun-apart r o {zs} rv lr z =
     size : length second ≡ ownWords
     size = length-set zs tableWords (getD o tableWords 0) ∙ zeros
 
--- the moment before moment 0
+-- The moment before moment 0.
 pub cleared-apart : (T : Terms) (relations : List ℕ) {zs : List ℕ} → relationWords ≤ length relations → goodRelations T relations ≡ true → zs ≡ replicate ownWords 0 →
     HasState T (record { now = first (stateOf relations .now .edge); table = λ t a b. false }) [] (take relationWords relations ++ zs)
 cleared-apart T relations {zs} long g z = record {
@@ -161,7 +162,7 @@ cleared-apart T relations {zs} long g z = record {
     none true t a = table-row-none (T .members) (tableColumns T t) a
     none false t a = refl
 
--- the words of moment 0, before further words that stayed
+-- The words of moment 0, before further words that stayed.
 pub opened-apart : (r own zs o : List ℕ) {w : List ℕ} → length zs ≡ ownWords → length o ≡ ownWords → r ++ o ≡ w →
     r ++ putMid 0 ownWords (putMid 0 ownWords own zs) o ≡ w ++ drop ownWords own
 opened-apart r own zs o {w} lz lo e =

@@ -11,7 +11,7 @@ use lib.Seq.{getD-set-same, getD-set-other}
 use borrow.Author.Count.{below-more}
 use borrow.Author.Tests.{eq-eqb, ne-eqb, eqb-true, lt-ltb}
 use Rattle.sets.specs.Sets.{bit}
-use Rattle.sets.proofs.Finite.{and-left, and-right, and-both, or-left, or-right, or-cases, not-both}
+use Rattle.sets.proofs.Finite.{and-left, and-right, and-both, or-left, or-right, or-cases}
 use Rattle.theory.specs.Formula.{Formula, node, firstOperand, secondOperand, thirdOperand, number, below, spelled, isPast, free, columns}
 use Rattle.theory.specs.Formula.Operand.{variable, entry}
 use Rattle.theory.specs.Formula.Formula.{top, var}
@@ -22,7 +22,7 @@ use Rattle.theory.proofs.Unfolding.{below-spelled}
 use Rattle.memory.proofs.FreeSets.{Free}
 use Rattle.deciding.proofs.Remembering.{empty-slot}
 
--- r has every variable that an entry reads, where f, g and k have those of its operands
+-- r has every variable that an entry reads, where f, g and k have those of its operands.
 abbrev pub Covered : (op a p f g k r : ℕ) → Type 0
 Covered op a p f g k r =
     (t b c x : ℕ) (h : ℕ → Formula) → (firstOperand op ≡ variable → a < 64) → (isPast op ≡ true → planColumns p ≡ columns (node t h op a b c)) →
@@ -30,7 +30,7 @@ Covered op a p f g k r =
     (thirdOperand op ≡ entry → reads (h c) x ≡ true → bit k x ≡ true) →
     reads (node t h op a b c) x ≡ true → bit r x ≡ true
 
--- a past-time entry reads its columns
+-- A past-time entry reads its columns.
 at-six : (t a b c x : ℕ) (h : ℕ → Formula) → reads (node t h 6 a b c) x ≡ true → isOne (columns (node t h 6 a b c)) x ≡ true
 unfolding node reads
 at-six t a b c x h q = q
@@ -51,7 +51,7 @@ unfolding isOne
 one-of x y z true e = or-right (eqb x y) (eqb x z) (sym (or-false (eqb x z)) ∙ e)
 one-of x y z false e = sym (ap (λ (b : Bool). eqb x y || b) (or-false (eqb x z))) ∙ e
 
--- s has the first column alone, and r the last one too
+-- s has the first column alone, and r the last one too.
 pub covered-past : (op a p f g k s r : ℕ) → isPast op ≡ true → ((x : ℕ) → bit s x ≡ ltb x 64 && eqb x (planFirst p)) →
     ((x : ℕ) → bit r x ≡ bit s x || (ltb x 64 && eqb x (planLast p))) → Covered op a p f g k r
 covered-past op a p f g k s r past es e t b c x h v col p' q' s' z =
@@ -65,7 +65,7 @@ covered-past op a p f g k s r past es e t b c x h v col p' q' s' z =
     low : (x y : ℕ) → y < 16 → eqb x y ≡ true → x < 64
     low x y l q = let w : x ≡ y = eqb-true x y q in omega arith
 
--- any other reads what is free in it, where its operands read what is free in theirs
+-- Any other reads what is free in it, where its operands read what is free in theirs.
 reads-free : (op : ℕ) → isPast op ≡ false → (t a b b' c c' x : ℕ) (h h' : ℕ → Formula) → (firstOperand op ≡ entry → reads (h a) x ≡ true → free (h' a) x ≡ true)
     → (secondOperand op ≡ entry → reads (h b) x ≡ true → free (h' b') x ≡ true) → (thirdOperand op ≡ entry → reads (h c) x ≡ true → free (h' c') x ≡ true)
     → reads (node t h op a b c) x ≡ true → free (node t h' op a b' c') x ≡ true
@@ -87,7 +87,7 @@ reads-free (suc (suc (suc (suc (suc (suc (suc (suc (suc (suc zero)))))))))) m t 
 reads-free (suc (suc (suc (suc (suc (suc (suc (suc (suc (suc (suc zero))))))))))) m t a b b' c c' x h h' p s u q = s refl q
 reads-free (suc (suc (suc (suc (suc (suc (suc (suc (suc (suc (suc (suc n)))))))))))) m t a b b' c c' x h h' p s u q = absurd (false≢true q)
 
--- a formula in which x is free exactly when it is in w
+-- A formula in which x is free exactly when it is in w.
 whose : (w x : ℕ) → Bool → Formula
 whose w x true = var x
 whose w x false = top
@@ -97,7 +97,7 @@ unfolding free whose
 whose-free w x true = eq-eqb x x refl
 whose-free w x false = refl
 
--- three such formulas at three numbers from a on
+-- Three such formulas at three numbers from a on.
 operands : (a f g k x : ℕ) → ℕ → Formula
 operands a f g k x n = cond (eqb n a) (whose f x (bit f x)) (cond (eqb n (suc a)) (whose g x (bit g x)) (whose k x (bit k x)))
 
@@ -158,7 +158,7 @@ module _ (T : Terms) (i : ℕ) {sets m m' : List ℕ} (r : ℕ) (few : T .entrie
         (λ q z. ap (λ (w : ℕ). bit w y) (new (fits i q) .1) ∙ mine y z) k l;
   }
 
--- what entry i reads, from the sets of the entries below it
+-- What entry i reads, from the sets of the entries below it.
 pub covers-entry : (T : Terms) (i p f g k r : ℕ) {sets m : List ℕ} → Preparing T i sets m
     → (firstOperand (T .entry i .op) ≡ variable → T .entry i .a < 64) → (isPast (T .entry i .op) ≡ true → planColumns p ≡ columns (formula T i))
     → (firstOperand (T .entry i .op) ≡ entry → T .entry i .a < i) → (secondOperand (T .entry i .op) ≡ entry → T .entry i .b < i)

@@ -1,5 +1,6 @@
--- Laws of remembered rows: what the present meaning reads, what a slot says after it is used, and what deciding leaves of a memo.
-use Prim.Native.Nat.{ℕ, suc, _+_, _*_, _<_, _≤_}
+-- Laws of remembered rows: what the present meaning reads, what a slot says after it is used, and
+-- what deciding leaves of a memo.
+use Prim.Native.Nat.{ℕ, _+_, _*_, _<_, _≤_}
 use native.Mathlib.Omega.{arith}
 use mathlib.Core.Path.{_≡_, refl, sym, ap, ap₂, _∙_, subst}
 use mathlib.Core.Bool.{Bool, true, false, cond, not, _&&_, _||_, true≢false, and-true, and-false}
@@ -22,7 +23,7 @@ use Rattle.deciding.specs.private.Rows.{opened, nowAt, cell, Rows, Vars}
 use Rattle.deciding.specs.private.Memo.{isOne, reads, slotOf, haveOf, readsOf, Under, Slot, Memo, Grown, Apart, Fresh, Missing, Stored, columnOf, knows, asks, shows}
 
 -- ---- the variables that are read are all that counts
-pub one-in : (cs : List ℕ) (x : ℕ) → In x cs → isOne cs x ≡ true
+one-in : (cs : List ℕ) (x : ℕ) → In x cs → isOne cs x ≡ true
 unfolding isOne
 one-in [] x i = absurd i
 one-in (y ∷ ys) x (inl e) = or-left (eqb x y) (isOne ys x) (eq-eqb x y e)
@@ -54,7 +55,7 @@ module _ (N : ℕ) (G : Graph) (X : Tables) where
   now-reads (reach y f k) g g' m h = any-cong N (λ j jl. ap (λ (b : Bool). holdsNow N G X f (alone y j) m && b) (now-reads k g g' j h))
   now-reads (many l f n) g g' m h = ap (leb n) (count-cong N (λ k kl. ap (λ (b : Bool). G l m k && b) (now-reads f g g' k h)))
 
--- what stands for a variable, with another open
+-- What stands for a variable, with another open.
 pick : (b : ℕ) (c d : Bool) {u u' : ℕ} → (d ≡ false → u ≡ u') → (d ≡ true → c ≡ false → u ≡ u') → cond (c && d) b u ≡ cond (c && d) b u'
 pick b true true h k = refl
 pick b true false h k = h refl
@@ -74,8 +75,8 @@ twice : (c n : Bool) → (c && (c && n)) ≡ (c && n)
 twice true n = refl
 twice false n = refl
 
--- every variable, and what is none, stands for a member
-pub stands : {N : ℕ} {g : Assignment} → Vars N g → (z : ℕ) → g z < N
+-- Every variable, and what is none, stands for a member.
+stands : {N : ℕ} {g : Assignment} → Vars N g → (z : ℕ) → g z < N
 stands {N} {g} v z = go (ltb z 16) refl
   where
     go : (c : Bool) → ltb z 16 ≡ c → g z < N
@@ -93,7 +94,7 @@ module _ (T : Terms) (rel past : List ℕ) (few : T .members < 65) where
 
   -- ---- a slot
   module _ {k : ℕ} {s : List ℕ} (h : Slot T rel past k s) where
-    -- with the column open, what it stands for does not count
+    -- With the column open, what it stands for does not count.
     column-as : {g g' : Assignment} → Vars (T .members) g → Vars (T .members) g' → Under s g → Under s g' → (a b : ℕ)
         → cell T rel past g (columnOf s) k a b ≡ cell T rel past g' (columnOf s) k a b
     unfolding cell
@@ -104,7 +105,7 @@ module _ (T : Terms) (rel past : List ℕ) (few : T .members < 65) where
         (λ e. v .high y (ltb-false y 16 e) ∙ sym (v' .high y (ltb-false y 16 e)))
         (λ e n. sym (u y (ltb-true y 16 e) (h .covers y q) n) ∙ u' y (ltb-true y 16 e) (h .covers y q) n)))
 
-    -- what is open, but not read, does not count
+    -- What is open, but not read, does not count.
     closed-cell : (g : Assignment) (x : ℕ) → bit (readsOf s) x ≡ false → (a b : ℕ) → cell T rel past g x k a b ≡ (ltb b (T .members) && nowAt T rel past g k a)
     unfolding cell
     closed-cell g x n a b =
@@ -112,7 +113,7 @@ module _ (T : Terms) (rel past : List ℕ) (few : T .members < 65) where
         (now-as (opened g x b) g k a (λ y q. other (eqb y x) (ltb y 16) b (g y) (is-false (eqb y x) (λ e.
         not-both (bit (readsOf s) x) (subst (λ (z : ℕ). bit (readsOf s) z ≡ true) (eqb-true y x e) (h .covers y q)) n))))
 
-    -- the bit of what the column stands for
+    -- The bit of what the column stands for.
     own-cell : (g : Assignment) → (a : ℕ) → cell T rel past g (columnOf s) k a (g (columnOf s)) ≡ (ltb (g (columnOf s)) (T .members) && nowAt T rel past g k a)
     unfolding cell
     own-cell g a =
@@ -132,7 +133,7 @@ module _ (T : Terms) (rel past : List ℕ) (few : T .members < 65) where
             closed-cell g x e a b ∙ ap (λ (z : ℕ). ltb z (T .members) && nowAt T rel past g k a) is
             ∙ sym (own-cell g a) ∙ ap (λ (z : ℕ). cell T rel past g (columnOf s) k a z) (sym is)
 
-  pub missing-slot : {g : Assignment} {x want need k : ℕ} {s s' : List ℕ} → Slot T rel past k s → Missing g x want need s s' → Slot T rel past k s'
+  missing-slot : {g : Assignment} {x want need k : ℕ} {s s' : List ℕ} → Slot T rel past k s → Missing g x want need s s' → Slot T rel past k s'
   missing-slot {g} {x} {want} {need} {k} {s} {s'} h q = record {
     covers = λ y r. ap (λ (w : ℕ). bit w y) (q .variables) ∙ h .covers y r;
     members = λ a e. h .members a (subst (λ (z : List ℕ). bit (haveOf z) a ≡ true) (q .same a e) e);
@@ -181,10 +182,10 @@ module _ (T : Terms) (rel past : List ℕ) (few : T .members < 65) where
             ∙ h .right g' v' u a b (⊎-elim (λ z. z) (λ z. absurd (not-both (bit need a && bit (q .ask) b) z t))
             (or-cases (knows s a b) (bit need a && bit (q .ask) b) (sym (q .put .known a b (low a l)) ∙ e)))
 
-    pub stored-rows : Rows want (cell T rel past g x k) r'
+    stored-rows : Rows want (cell T rel past g x k) r'
     stored-rows = record { long = q .long; bits = λ a b w. go a b w (bit need a) refl }
       where
-        -- a bit that is known
+        -- A bit that is known.
         had : (a b : ℕ) → bit want a ≡ true → bit need a ≡ false → asks s g x b ≡ true → bit (getD s' a 0) b ≡ cell T rel past g (columnOf s) k a b
         had a b w t e = row-is a b (wanted a w) false (ap (λ (z : Bool). z && bit (q .ask) b) t) ∙ h .right g v under a b (known a w t b e)
 
@@ -234,7 +235,7 @@ module _ {T : Terms} {rel past : List ℕ} where
     above = record { long = h .above .long ∙ f .above .long; same = λ k l. h .above .same k l ∙ f .above .same k l };
   }
 
-  -- what entries below n leave is right below n' too, where nothing else changed
+  -- What entries below n leave is right below n' too, where nothing else changed.
   pub grown-up : {n n' : ℕ} {m m' : List ℕ} → n ≤ n' → Memo T rel past n' m → Grown T rel past n m m' → Grown T rel past n' m m'
   grown-up {n} {n'} {m} {m'} l h q = record {
     memo = record { slot = λ k kl f. go k kl f (ltb k n) refl };
@@ -247,8 +248,8 @@ module _ {T : Terms} {rel past : List ℕ} where
           subst (λ (z : List ℕ). Slot T rel past k z) (sym (q .above .same k (ltb-false k n e)))
           (h .slot k kl (subst (λ (z : ℕ). 133 * k + 133 ≤ z) (q .above .long) f))
 
-  -- one slot changed
-  pub grown-slot : (n : ℕ) {m m' : List ℕ} → Memo T rel past (n + 1) m → Apart n m m'
+  -- One slot changed.
+  grown-slot : (n : ℕ) {m m' : List ℕ} → Memo T rel past (n + 1) m → Apart n m m'
       → (133 * n + 133 ≤ length m → Slot T rel past n (slotOf n m')) → Grown T rel past (n + 1) m m'
   grown-slot n {m} {m'} h q new = record {
     memo = record { slot = λ k kl f. go k kl (subst (λ (z : ℕ). 133 * k + 133 ≤ z) (q .long) f) (eqb k n) refl };
@@ -262,8 +263,8 @@ module _ {T : Terms} {rel past : List ℕ} where
       go k kl f false e =
           subst (λ (z : List ℕ). Slot T rel past k z) (sym (q .same k (eqb-false k n e))) (h .slot k kl f)
 
-  -- an entry whose rows are kept: the slot is made one for g and x, the entry is worked out, and its rows are stored
-  pub decided-kept : {g : Assignment} {x all want need n : ℕ} {m m₁ m₂ m₃ r r' : List ℕ} → T .members < 65 → ((b : ℕ) → bit all b ≡ ltb b (T .members)) → Vars (T .members) g
+  -- An entry whose rows are kept: the slot is made one for g and x, the entry is worked out, and its rows are stored.
+  decided-kept : {g : Assignment} {x all want need n : ℕ} {m m₁ m₂ m₃ r r' : List ℕ} → T .members < 65 → ((b : ℕ) → bit all b ≡ ltb b (T .members)) → Vars (T .members) g
       → ((a : ℕ) → bit want a ≡ true → a < T .members) → 133 * n + 133 ≤ length m → Memo T rel past (n + 1) m
       → Missing g x want need (slotOf n m) (slotOf n m₁) → Apart n m m₁ → Rows need (cell T rel past g x n) r → Grown T rel past n m₁ m₂
       → Stored g x all need want (slotOf n m₂) r (slotOf n m₃) r' → Apart n m₂ m₃
@@ -278,14 +279,14 @@ module _ {T : Terms} {rel past : List ℕ} where
         grown-then g₁ (grown-then g₂ (grown-slot n (g₂ .memo) a₂ (λ f. stored-slot T rel past few x v wanted all-is s₁ (miss .column) (miss .under) (miss .within) (miss .known) d st))),
       )
 
-  -- the slots below n, where that of n is changed
+  -- The slots below n, where that of n is changed.
   pub memo-apart : (n : ℕ) {m m' : List ℕ} → Memo T rel past (n + 1) m → Apart n m m' → Memo T rel past n m'
   memo-apart n {m} {m'} h q = record {
     slot = λ k kl f. subst (λ (z : List ℕ). Slot T rel past k z) (sym (q .same k (λ e. let z : ⊥ = omega arith in z)))
         (h .slot k (omega arith) (subst (λ (z : ℕ). 133 * k + 133 ≤ z) (q .long) f));
   }
 
-  -- an entry is decided, its rows kept or not
+  -- An entry is decided, its rows kept or not.
   module _ {g : Assignment} {x all want need n : ℕ} {m m₁ m₂ m₃ r r' : List ℕ} where
     pub decided : (kept : Bool) → T .members < 65 → ((b : ℕ) → bit all b ≡ ltb b (T .members)) → Vars (T .members) g → ((a : ℕ) → bit want a ≡ true → a < T .members)
         → (kept ≡ true → 133 * n + 133 ≤ length m) → Memo T rel past (n + 1) m

@@ -1,4 +1,5 @@
--- What a request and the tables of past-time entries take from `decide`: every variable but the open one stands for member 0.
+-- What a request and the tables of past-time entries take from `decide`: every variable but
+-- the open one stands for member 0.
 use Prim.Native.Nat.{ℕ, _<_}
 use mathlib.Core.Path.{_≡_, refl, sym, ap, ap₂, _∙_, subst, fun-ext}
 use mathlib.Core.Bool.{Bool, true, false, cond, not, _&&_, _||_, and-assoc}
@@ -24,7 +25,7 @@ use Rattle.memory.proofs.Accepted.{good}
 use Rattle.deciding.proofs.Loops.{zeros}
 use Rattle.deciding.proofs.Assignments.{vars-zeros, vars-assign, opened-zeros, one-columns, two-columns}
 
--- every variable stands for member 0
+-- Every variable stands for member 0.
 abbrev fresh : Assignment
 fresh = assigned (replicate 16 0)
 
@@ -96,7 +97,7 @@ module _ {terms plan rel past : List ℕ} {i o : ℕ} (ready : Ready terms plan 
       let low : T .entry i .b < i = second-lower (terms-good .entry i l) (ap secondOperand op ∙ q) in
       fresh-asked T k all terms-good (omega arith) (λ m t. ltb-true m (T .members) (sym (h m) ∙ t))
 
-  -- with one column
+  -- With one column.
   table-row : (p k k' all : ℕ) {r : List ℕ} → p ≡ getD plan i 0 → not (eqb (planFirst p) (planLast p)) ≡ false → k ≡ k' → Has all (λ m. ltb m (T .members))
       → Rows all (cell T rel past fresh (planLast p) k) r
       → (a b : ℕ) → ltb a (T .members) ≡ true → inRow r a b ≡ (ltb b (T .members) && operandBits T rel past (columns (formula T i)) k' a b)
@@ -107,7 +108,7 @@ module _ {terms plan rel past : List ℕ} {i o : ℕ} (ready : Ready terms plan 
       ∙ ap (λ (j : ℕ). ltb b (T .members) && nowAt T rel past (assign (λ z. 0) (planLast p) b) j a) q
       ∙ sym (ap (λ (cs : List ℕ). ltb b (T .members) && operandBits T rel past cs k' a b) (plan-columns p e ∙ one-columns p one))
 
-  -- the rows from n on are cleared
+  -- The rows from n on are cleared.
   abbrev Cut : ℕ → List ℕ → List ℕ → Type 0
   Cut n r s = (a b : ℕ) → inRow s a b ≡ (ltb a n && inRow r a b)
 
@@ -115,7 +116,7 @@ module _ {terms plan rel past : List ℕ} {i o : ℕ} (ready : Ready terms plan 
       → inRow s a b ≡ (ltb a (T .members) && y)
   cut-row n r s a b y e c h = c a b ∙ ap (λ (m : ℕ). ltb a m && inRow r a b) e ∙ and-under (ltb a (T .members)) (inRow r a b) y h
 
-  -- a word and a bit are those of members
+  -- A word and a bit are those of members.
   one-inside : (p a b : ℕ) (y : Bool) → p ≡ getD plan i 0 → not (eqb (planFirst p) (planLast p)) ≡ false →
       (ltb a (T .members) && (ltb b (T .members) && y)) ≡ (inside (T .members) (columns (formula T i)) a b && y)
   one-inside p a b y e one =
@@ -153,7 +154,7 @@ module _ {terms plan rel past : List ℕ} {i o : ℕ} (ready : Ready terms plan 
         ∙ one-inside p a b _ e one;
   }
 
-  -- with two columns
+  -- With two columns.
   module _ (p : ℕ) (e : p ≡ getD plan i 0) (two : not (eqb (planFirst p) (planLast p)) ≡ true) where
     abbrev pair : List ℕ
     pair = planFirst p ∷ planLast p ∷ []
@@ -166,7 +167,7 @@ module _ {terms plan rel past : List ℕ} {i o : ℕ} (ready : Ready terms plan 
         ltb-true (T .members) 17
         (sym (ap (columnsFit (T .members)) pair-is) ∙ terms-good .entry i l .columns-fit entry-past)
 
-    -- the table of an operand
+    -- The table of an operand.
     pair-table : (k k' : ℕ) {s : List ℕ} → k ≡ k' → Table (T .members) pair (operandBits T rel past pair k) s
         → Table (T .members) (columns (formula T i)) (operandBits T rel past (columns (formula T i)) k') s
     pair-table k k' {s} q h = record {

@@ -55,7 +55,7 @@ module _ {T : Terms} {S : State} {rest m : List ℕ} (has : HasState T S rest m)
   pub has-event : getD m eventAt 0 ≡ eventWord (S .now .event)
   has-event = has-word eventAt (omega arith) ∙ word-event T S
 
-  -- the same words in the two parts
+  -- The same words in the two parts.
   part-relation : (k a : ℕ) → k < 16 → a < 64 → getD (relationsOf m) (64 * k + a) 0 ≡ getD (wordsOf T S) (relationAt k a) 0
   part-relation k a kl al = getD-take 1024 m (64 * k + a) 0 (omega arith) ∙ has-word (relationAt k a) (omega arith)
 
@@ -72,7 +72,7 @@ module _ {T : Terms} {S : State} {rest m : List ℕ} (has : HasState T S rest m)
 eqb-sym : (m n : ℕ) → eqb m n ≡ eqb n m
 eqb-sym m n = bool-iff _ _ (λ e. eq-eqb n m (sym (eqb-true m n e))) (λ e. eq-eqb m n (sym (eqb-true n m e)))
 
--- the three numbers that a call names
+-- The three numbers that a call names.
 pub record Named (T : Terms) (j u v : ℕ) : Type 0 where
   pub event : j < T .events
   pub from : u < T .members
@@ -88,7 +88,7 @@ all-named T fine j u v e =
     record { event = jl; from = ul; to = vl; small = small }
 
 module _ (T : Terms) (fine : Good T) where
-  -- a word that names event k as labels count it, read as an edge
+  -- A word that names event k as labels count it, read as an edge.
   fired-word : (k u v : ℕ) → u < 64 → v < 64 → (j a b : ℕ) → fired (1 + k * 4096 + u * 64 + v) j a b ≡ (eqb j k && eqb a u && eqb b v)
   unfolding fired
   fired-word k u v ul vl j a b =
@@ -98,7 +98,7 @@ module _ (T : Terms) (fine : Good T) where
       let to : (w - 1) % 64 ≡ v = omega arith in
       rw (ne-eqb w 0 (λ z. omega arith), no, from, to, eqb-sym k j, eqb-sym u a) (sym (and-assoc (eqb j k) (eqb a u) (eqb b v)))
 
-  -- the event word, read as an edge
+  -- The event word, read as an edge.
   fired-edge : (e : Event) → known T e ≡ true → (j a b : ℕ) → fired (labelled (T .events) (eventWord e)) j a b ≡ eventEdge (T .events) e j a b
   unfolding fired labelled
   fired-edge none i j a b = refl
@@ -138,7 +138,7 @@ module _ (T : Terms) (fine : Good T) where
         ∙ ap (λ c. c && (inside (T .members) (tableColumns T t) a b && S .table t a b)) (lt-ltb t (tables T) tl)
         ∙ ap (λ c. c && S .table t a b) (ap (λ k. inside (T .members) (columns (formula T k)) a b) (past-is T n nl p) ∙ i)
 
-    -- an entry holds now by the words where it holds by the state
+    -- An entry holds now by the words where it holds by the state.
     pub seen : (g : Assignment) (n a : ℕ) → n < T .entries → Among (T .members) g → a < T .members →
         nowAt T (relationsOf m) (pastOf m) g n a ≡ holdsNow (T .members) (graph T (S .now)) (S .table) (formula T n) g a
     unfolding nowAt
@@ -151,7 +151,7 @@ module _ (T : Terms) (fine : Good T) where
           bits = rw (table-spelled (T .entry) k p) (seen-table k (omega arith) p);
         }))
 
-    -- the next bits of a prev and of a since
+    -- The next bits of a prev and of a since.
     module _ (n : ℕ) (nl : n < T .entries) where
       operand : (k : ℕ) → k < n → SameAt (T .members) (columns (formula T n))
           (operandBits T (relationsOf m) (pastOf m) (columns (formula T n)) k)
@@ -175,7 +175,7 @@ module _ (T : Terms) (fine : Good T) where
           (ap₂ _&&_ (operand (T .entry n .a) (first-lower (fine .entry n nl) (rw e)) a b i)
           (seen-table n nl (rw e) a b i))
 
--- memory that has a state is ready to be decided from
+-- Memory that has a state is ready to be decided from.
 module _ (terms plan : List ℕ) (fine : Good (termsOf terms)) {S : State} {rest m : List ℕ} (has : HasState (termsOf terms) S rest m) where
   abbrev T : Terms
   T = termsOf terms

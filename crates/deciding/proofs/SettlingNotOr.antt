@@ -41,7 +41,7 @@ module _ (terms : List ℕ) (fine : goodMemory terms ≡ true) (i : ℕ) (il : i
     or-second-lower b e = lower m (rw b (second-lower entry (rw (sym op ∙ e))))
 
   module _ (rel past : List ℕ) (u v : ℕ) where
-    -- entry k holds now at u, with variable 0 standing for v
+    -- Entry k holds now at u, with variable 0 standing for v.
     abbrev H : ℕ → Bool
     H k = nowAt T rel past (assign (λ x. 0) 0 v) k u
 

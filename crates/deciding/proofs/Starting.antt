@@ -86,7 +86,7 @@ module _ {old before state new plan : List ℕ} (r : Revising old before state n
   old-has : HasState T S (drop stateWords state) state
   old-has = held T (old-fine .few-members) state (r .long-state) (r .good-state)
 
-  -- relations and event word carried over, and empty tables
+  -- Relations and event word carried over, and empty tables.
   pub begun-none : (m : List ℕ) → length m ≡ stateWords → ((i : ℕ) → i < relationWords → getD m i 0 ≡ getD state i 0) →
       ((i : ℕ) → i < tableWords → getD m (relationWords + i) 0 ≡ 0) → getD m eventAt 0 ≡ getD state eventAt 0 → Begun old state new 0 [] m
   unfolding startTables
@@ -111,7 +111,7 @@ module _ {old before state new plan : List ℕ} (r : Revising old before state n
           empty true = table-row-none (U .members) (tableColumns U t) a
           empty false = refl
 
-  -- all tables are filled in
+  -- All tables are filled in.
   pub begun-all : (m : List ℕ) → Begun old state new (U .entries) [] m → m ≡ wordsOf U (revised T S U)
   unfolding revised
   begun-all m has = has .words ∙ append-nil (wordsOf U (startBelow old state (U .entries) U))
@@ -138,7 +138,7 @@ module _ {old before state new plan : List ℕ} (r : Revising old before state n
     abbrev t : ℕ
     t = number (U .entry) n
 
-    -- its own table is still empty
+    -- Its own table is still empty.
     own-empty : (a b : ℕ) → X t a b ≡ false
     own-empty a b = start-untouched T S U n (λ t a b. false) t (omega arith) a b
 
@@ -149,11 +149,11 @@ module _ {old before state new plan : List ℕ} (r : Revising old before state n
     begin-with : {rest m : List ℕ} → HasState U (tabled S (startStep T S U n X)) rest m → Begun old state new (n + 1) rest m
     begin-with {rest} {m} has = subst (λ (Z : Tables). HasState U (tabled S Z) rest m) (sym step-is) has
 
-    -- an entry that is not past-time has no table
+    -- An entry that is not past-time has no table.
     pub start-none : {rest m : List ℕ} → isPast (U .entry n .op) ≡ false → Begun old state new n rest m → Begun old state new (n + 1) rest m
     start-none {rest} {m} e has = begin-with (subst (λ (c : Bool). HasState U (tabled S (cond c (store t (startBits T S U n X) X) X)) rest m) (sym e) has)
 
-    -- the table of the old entry
+    -- The table of the old entry.
     module _ (p : isPast (U .entry n .op) ≡ true) (kl : k < T .entries) where
       old-past : isPast (T .entry k .op) ≡ true
       old-past = past-same (T .entry) (U .entry) k n (first-has T (formula U n) kl) ∙ p
@@ -176,7 +176,7 @@ module _ {old before state new plan : List ℕ} (r : Revising old before state n
       abbrev words : List ℕ
       words = take 64 (drop oldPlace state)
 
-      -- both tables have the same columns
+      -- Both tables have the same columns.
       same-columns : tableColumns T (number (T .entry) k) ≡ tableColumns U t
       same-columns =
           ap (λ (j : ℕ). columns (formula T j)) (past-is T k kl old-past)
@@ -216,7 +216,7 @@ module _ {old before state new plan : List ℕ} (r : Revising old before state n
           placed : put (1024 + 64 * t) words m ≡ m'
           placed = ap (λ (x : ℕ). put (1024 + 64 * x) words m) (sym (r .planned-new .table n nl p .0)) ∙ sym e
 
-    -- a new table: what the since sweep makes of an empty one
+    -- A new table: what the since sweep makes of an empty one.
     pub start-anew : {rest m m' : List ℕ} → T .entries ≤ k → Begun old state new n rest m → Becomes new (sinceAt n) m m' → Begun old state new (n + 1) rest m'
     start-anew {rest} {m} {m'} le has b =
         begin-with (has-same U new-fine S (startStep T S U n X) (b .each (startBelow old state n U) rest has) same)
@@ -224,7 +224,7 @@ module _ {old before state new plan : List ℕ} (r : Revising old before state n
         other : (a b : ℕ) → startBits T S U n X a b ≡ (eqb (U .entry n .op) 7 && operandNow U (graph U (S .now)) n (U .entry n .b) X a b)
         other a b = ap (λ (c : Bool). cond c (S .table (number (T .entry) k) a b) (eqb (U .entry n .op) 7 && operandNow U (graph U (S .now)) n (U .entry n .b) X a b)) (le-ltb k (T .entries) le)
 
-        -- the bits stored, by the operator
+        -- The bits stored, by the operator.
         bits : (s a b : ℕ) (c d : Bool) → eqb (U .entry n .op) 6 ≡ c → eqb (U .entry n .op) 7 ≡ d → (q : Bool) → eqb s t ≡ q →
             cond d (store t (sinceBits U (graph U (S .now)) n X) X) X s a b ≡ cond (c || d) (store t (startBits T S U n X) X) X s a b
         bits s a b false false ce de q qe = refl
@@ -240,7 +240,7 @@ module _ {old before state new plan : List ℕ} (r : Revising old before state n
         same : (s : ℕ) → s < tables U → (a b : ℕ) → inside (U .members) (tableColumns U s) a b ≡ true → sinceStep U (graph U (S .now)) n X s a b ≡ startStep T S U n X s a b
         same s _ a b _ = bits s a b (eqb (U .entry n .op) 6) (eqb (U .entry n .op) 7) refl refl (eqb s t) refl
 
-    -- the memo after a turn
+    -- The memo after a turn.
     pub start-memo : {rest m m' w : List ℕ} → Begun old state new n rest m → Begun old state new (n + 1) rest m' → MemoOf U m (U .entries) w → Fresh (U .entries) n w →
         MemoOf U m' (U .entries) w
     start-memo {rest} {m} {m'} {w} has has' memo fresh =

@@ -1,4 +1,5 @@
--- What a store into the lent memory makes of the state whose words it has: one table, one edge, the event word; and memory that is cleared.
+-- What a store into the lent memory makes of the state whose words it has: one table, one edge, the event
+-- word; and memory that is cleared.
 use Prim.Native.Nat.{ℕ, zero, suc, _+_, _-_, _*_, _^_, _≤_, _<_}
 use native.Mathlib.Omega.{arith}
 use native.Mathlib.Numerals.{add-one}
@@ -30,7 +31,7 @@ use Rattle.memory.proofs.Row.{bit-row, bit-table, table-row-cong, table-row-non
 use Rattle.memory.proofs.Words.{length-words, words-by, relation-words}
 use Rattle.deciding.proofs.SameDecision.{has-long, has-relation, has-table, has-event}
 
--- words with the same bits are the same
+-- Words with the same bits are the same.
 below-pow : (n : ℕ) → n < 2 ^ n
 below-pow zero = rw (pow-zero 2) (omega arith)
 below-pow (suc n) = rw (pow-suc 2 n) (omega (arith, below-pow n))
@@ -42,13 +43,13 @@ same-bits v w h =
 table-row : (N : ℕ) → N < 65 → (cs : List ℕ) (p : ℕ → ℕ → Bool) (s : List ℕ) → Table N cs p s → (a : ℕ) → getD s a 0 ≡ tableRow N cs p a
 table-row N few cs p s h a = same-bits (getD s a 0) (tableRow N cs p a) (λ b. h .bits a b ∙ sym (bit-table N few cs p a b))
 
--- one word more copied
+-- One word more copied.
 pub copied : (i : ℕ) (vs ws : List ℕ) → i < length vs → i < length ws → take i vs ≡ take i ws →
     take (i + 1) (set vs i (getD ws i 0)) ≡ take (i + 1) ws
 copied i vs ws p q e =
     rw (add-one i) (take-suc-set vs i (getD ws i 0) p ∙ ap (λ l. l ++ (getD ws i 0 ∷ [])) e ∙ sym (take-suc ws i 0 q))
 
--- a list with a part replaced
+-- A list with a part replaced.
 module _ (s : ℕ) (vs l : List ℕ) (fits : s + length vs ≤ length l) where
   front : length (take s l) ≡ s
   front = length-take-le s l (omega arith)
@@ -87,7 +88,7 @@ module _ (s : ℕ) (vs l : List ℕ) (fits : s + length vs ≤ length l) where
   pub put-length : length (put s vs l) ≡ length l
   put-length = simp (length-append, length-drop, front) (omega arith)
 
--- a part that was lent and came back
+-- A part that was lent and came back.
 pub put-back : (a e : ℕ) (l ys vs : List ℕ) → ys ≡ vs → a + length vs ≡ e → putMid a (e - a) l ys ≡ put a vs l
 put-back a e l ys vs q z = rw (q, post-is a e l (omega arith), z)
 

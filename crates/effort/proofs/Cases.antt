@@ -13,7 +13,7 @@ use Rattle.sets.specs.Sets.{bit, pack}
 abbrev e : (op a b c : ℕ) → Entry
 e op a b c = record { op = op; a = a; b = b; c = c }
 
--- N members, one event, whose policy is entry p
+-- N members, one event, whose policy is entry p.
 abbrev terms : (N : ℕ) → List Entry → (p : ℕ) → Terms
 terms N es p = record {
   members = N;

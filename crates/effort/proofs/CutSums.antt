@@ -1,14 +1,14 @@
 -- The smaller of two numbers, sums and products that are cut, and one turn of each loop.
-use Prim.Native.Nat.{ℕ, suc, _+_, _-_, _*_, _^_, _<_, _≤_}
+use Prim.Native.Nat.{ℕ, _+_, _-_, _*_, _^_, _<_, _≤_}
 use native.Mathlib.Nat.{mul-le-mul}
 use native.Mathlib.Numerals.{add-one}
 use native.Mathlib.Omega.{arith}
-use mathlib.Core.Path.{_≡_, refl, sym, ap, ap₂, _∙_, subst}
-use mathlib.Core.Bool.{Bool, true, false, cond, _&&_, _||_}
+use mathlib.Core.Path.{_≡_, refl, sym, ap, ap₂, _∙_}
+use mathlib.Core.Bool.{Bool, true, false, cond, _&&_}
 use mathlib.Core.List.{List}
 use lib.Dec.{eqb, ltb}
 use lib.ListN.{getD, set}
-use borrow.Author.Tests.{lt-ltb, le-ltb, ltb-true, ltb-false}
+use borrow.Author.Tests.{lt-ltb, le-ltb, ltb-false}
 use Rattle.sets.specs.Sets.{bit, pack}
 use Rattle.sets.proofs.Pack.{pack-bit, pack-cong}
 use Rattle.theory.specs.Formula.{Entry, Operand, firstOperand, secondOperand, thirdOperand, isPast}
@@ -34,14 +34,14 @@ cut-le x = go (ltb most x) refl
     go true e = omega arith
     go false e = ltb-false most x e
 
--- a product of members and a number that is cut fits a word
+-- A product of members and a number that is cut fits a word.
 pub product-fits : (n x : ℕ) → n < 65536 → x ≤ most → n * x < 2 ^ 64
 product-fits n x l m = let few : n ≤ 65535 = omega arith in let p = mul-le-mul few m in omega arith
 
 pub square-less : (n : ℕ) → n < 65536 → n * n ≤ 4294836225
 square-less n l = let few : n ≤ 65535 = omega arith in mul-le-mul few few
 
--- a set by its bits
+-- A set by its bits.
 pub set-is : (s op a f g h : ℕ) → s < 2 ^ 64 → ((x : ℕ) → bit s x ≡ inFree op a f g h x) → setOf op a f g h ≡ cond (isPast op && eqb s 0) 1 s
 unfolding setOf
 set-is s op a f g h l e = let q : s ≡ pack 64 (inFree op a f g h) = sym (pack-bit 64 s l) ∙ pack-cong 64 (λ b _. e b) in rw (← q)

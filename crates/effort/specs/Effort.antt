@@ -17,7 +17,7 @@ use Rattle.memory.specs.Plan.{inFree, restOf}
 unfoldable pub smaller : ℕ → ℕ → ℕ
 smaller x y = cond (ltb y x) y x
 
--- 2 ^ 31
+-- 2 ^ 31.
 abbrev pub most : ℕ
 most = 2147483648
 

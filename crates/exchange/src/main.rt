@@ -1,4 +1,5 @@
-// Answers the requests of requests.tsv by the terms of terms.tsv, both in the current folder (docs/SCOPE.md, The program).
+// Answers the requests of requests.tsv by the terms of terms.tsv, both in the current
+// folder (docs/SCOPE.md, The program).
 use libc::STDERR_FILENO;
 use libc::STDOUT_FILENO;
 use writer::Written;
@@ -10,7 +11,8 @@ const TOO_MANY: usize = 65537;
 // As many bytes as the longest output has (`transcript`).
 const OUTPUT: usize = 983040;
 
-// Reads what a file has, as far as buf reaches, and gives the count of bytes. A file that cannot be opened counts as empty.
+// Reads what a file has, as far as buf reaches, and gives the count of bytes. A file that
+// cannot be opened counts as empty.
 fn contents(path: &[u8], buf: &mut [u8; TOO_MANY]) -> usize
     ensures { λ r. ⌜ Counts r (now (buf .exit)) ⌝ }
 {
@@ -34,7 +36,8 @@ fn print_front(out: &[u8], n: usize) {
     }
 }
 
-// Writes what was put into out, all of it at once. A refusal, which an output of this length never gets, counts as too long.
+// Writes what was put into out, all of it at once. A refusal, which an output of this length
+// never gets, counts as too long.
 fn print(out: &[u8; OUTPUT], written: Written) {
     match written {
         Written::Bytes(n) => print_front(out, n),

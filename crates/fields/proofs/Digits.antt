@@ -69,7 +69,7 @@ digits-double n h k = sym (digits-more 4 n h ∙ rw (digits-one 3 (n / 10) (omeg
 
 -- ---- the digits of a field's value are the field
 
--- a list that is not empty has a last element
+-- A list that is not empty has a last element.
 last-of : (x : ℕ) (f : List ℕ) → (g : List ℕ) × (d : ℕ) × (x ∷ f ≡ g ++ (d ∷ []))
 last-of x [] = ([], x, refl)
 last-of x (y ∷ f) = let r = last-of y f in (x ∷ r .0, r .1, ap {B = List ℕ} (λ l. x ∷ l) (r .2))
@@ -112,7 +112,7 @@ value-digits (suc k) (x ∷ f) h p a z =
     let r = last-of x f in
     subst (λ (l : List ℕ). Back (suc k) l) (sym (r .2)) (back-snoc k (λ l. value-digits k l) (r .0) (r .1)) h p a z
 
--- a field without padding is its own normal form
+-- A field without padding is its own normal form.
 pub digits-valueOf : (f : List ℕ) → isNumber f ≡ true → padded f ≡ false → normal f ≡ f
 unfolding digits valueOf padded
 digits-valueOf f h u =
@@ -156,7 +156,7 @@ digits-length (suc k) n =
     (omega arith))
     (true-or-false (ltb n 10))
 
--- the first digit of a number above 0 is not 0, and there is one
+-- The first digit of a number above 0 is not 0, and there is one.
 digits-first : (k n : ℕ) → 0 < n → n < 10 ^ k → (0 < length (digitsIn k n)) × (48 < getD (digitsIn k n) 0 0)
 digits-first zero n p h = absurd (omega arith)
 digits-first (suc k) n p h =

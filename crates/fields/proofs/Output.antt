@@ -9,7 +9,7 @@ use lib.ListN.{length, getD, take, set, length-append}
 use lib.Seq.{sets, length-sets, set-out, take-suc, take-all}
 use Rattle.fields.specs.private.Put.{Put}
 
-pub sets-append : (o : List ℕ) (i : ℕ) (bs cs : List ℕ) → sets o i (bs ++ cs) ≡ sets (sets o i bs) (i + length bs) cs
+sets-append : (o : List ℕ) (i : ℕ) (bs cs : List ℕ) → sets o i (bs ++ cs) ≡ sets (sets o i bs) (i + length bs) cs
 sets-append o i [] cs = rw (add-zero i) refl
 sets-append o i (b ∷ bs) cs = rw (add-suc i (length bs), ← suc-add i (length bs)) (sets-append (set o i b) (suc i) bs cs)
 
@@ -25,11 +25,11 @@ put-then {o} {p} {q} {i} {j} {k} {bs} {cs} f g =
       left = g .left ∙ (λ t. sets (f .left t) (f .next t) cs) ∙ sym (sets-append o i bs cs);
     }
 
--- an output keeps its length
+-- An output keeps its length.
 pub put-long : {o p : List ℕ} {i j : ℕ} {bs : List ℕ} → Put o p i j bs → length p ≡ length o
 put-long {o} {p} {i} {j} {bs} f = ap length (f .left) ∙ length-sets o i bs
 
--- past the end nothing is stored
+-- Past the end nothing is stored.
 sets-out : (o : List ℕ) (at : ℕ) (bs : List ℕ) → length o ≤ at → sets o at bs ≡ o
 sets-out o at [] h = refl
 sets-out o at (b ∷ bs) h = rw (set-out o at b h) (sets-out o (suc at) bs (omega arith))
@@ -37,7 +37,7 @@ sets-out o at (b ∷ bs) h = rw (set-out o at b h) (sets-out o (suc at) bs (omeg
 pub put-out : (o : List ℕ) (at m : ℕ) (bs : List ℕ) → length o ≤ at → m ≡ at + length bs → Put o o at m bs
 put-out o at m bs h e = record { next = e; left = sym (sets-out o at bs h) }
 
--- one byte more of a word
+-- One byte more of a word.
 pub put-more : {o p q : List ℕ} {at j k : ℕ} (w : List ℕ) (i : ℕ) → i < length w
     → Put o p at j (take i w) → Put p q j k (getD w i 0 ∷ []) → Put o q at k (take (i + 1) w)
 put-more w i h f g = rw (add-one i, take-suc w i 0 h) (put-then f g)

@@ -100,7 +100,7 @@ pub value-end : (f : List ℕ) (i v : ℕ) → length f ≤ i → valueFrom v (d
 unfolding valueFrom
 value-end f i v h = rw (drop-of-length-le f h) refl
 
--- i digits make a value below 10 ^ i
+-- i digits make a value below 10 ^ i.
 pub ten-more : (v d i : ℕ) → v < 10 ^ i → d ≤ 57 → v * 10 + (d - 48) < 10 ^ (i + 1)
 ten-more v d i h k = rw (add-one i, pow-suc 10 i) (omega arith)
 

@@ -1,4 +1,5 @@
--- Laws of fields and lines: how a text parts at its first separator, and that putting the parts together gives the text back.
+-- Laws of fields and lines: how a text parts at its first separator, and that putting the
+-- parts together gives the text back.
 use Prim.Native.Nat.{ℕ, zero, suc, _+_, _-_, _≤_, _<_, zero-le, suc-le-suc}
 use mathlib.Core.Path.{_≡_, refl, sym, ap, ap₂, _∙_}
 use mathlib.Core.Logic.{⊎-elim}
@@ -24,8 +25,8 @@ place-le c (x ∷ xs) =
     let h = place-le c xs in
     ⊎-elim (λ e. rw e zero-le) (λ e. rw e (suc-le-suc h)) (true-or-false (eqb x c))
 
--- the first piece and what follows its separator
-pub split-here : (c : ℕ) (s : List ℕ) → place c s < length s
+-- The first piece and what follows its separator.
+split-here : (c : ℕ) (s : List ℕ) → place c s < length s
     → split c s ≡ take (place c s) s ∷ split c (drop (suc (place c s)) s)
 unfolding place split
 split-here c [] h = absurd (omega arith)
@@ -36,8 +37,8 @@ split-here c (x ∷ xs) h =
     (λ e. let k : suc (place c xs) < suc (length xs) = rw e at h in rw (e, ih (omega arith)) refl)
     (true-or-false (eqb x c))
 
--- the only piece
-pub split-last : (c : ℕ) (s : List ℕ) → place c s ≡ length s → split c s ≡ s ∷ []
+-- The only piece.
+split-last : (c : ℕ) (s : List ℕ) → place c s ≡ length s → split c s ≡ s ∷ []
 unfolding place split
 split-last c [] h = refl
 split-last c (x ∷ xs) h =
@@ -47,7 +48,7 @@ split-last c (x ∷ xs) h =
     (λ e. let k : suc (place c xs) ≡ suc (length xs) = rw e at h in rw (e, ih (omega arith)) refl)
     (true-or-false (eqb x c))
 
--- the first line and what follows its line feed
+-- The first line and what follows its line feed.
 pub lines-here : (s : List ℕ) → place 10 s < length s
     → lines s ≡ line (take (place 10 s) s) (lines (drop (suc (place 10 s)) s))
 unfolding place lines
@@ -59,7 +60,7 @@ lines-here (x ∷ xs) h =
     (λ e. let k : suc (place 10 xs) < suc (length xs) = rw e at h in rw (e, ih (omega arith)) refl)
     (true-or-false (eqb x 10))
 
--- bytes with no line feed
+-- Bytes with no line feed.
 pub lines-cut : (s : List ℕ) → place 10 s ≡ length s → 0 < length s → lines s ≡ cut s
 unfolding place lines
 lines-cut [] h p = absurd (omega arith)
@@ -150,7 +151,7 @@ alike-length (x ∷ xs) (y ∷ ys) h = rw (alike-length xs ys (λ e. h (ap suc e
 
 -- ---- a walk over the pieces
 
--- a part to the end of a list, as code takes it
+-- A part to the end of a list, as code takes it.
 pub part-rest : (a : ℕ) (s : List ℕ) → take (length s - a) (drop a s) ≡ drop a s
 part-rest a s = take-all (length s - a) (drop a s) (le-of-eq (length-drop a s))
 

@@ -1,4 +1,5 @@
--- A number field, its value, and the digits of a number (docs/SCOPE.md, The terms file: decimal, 1 to 5 digits, leading zeros among them).
+-- A number field, its value, and the digits of a number (docs/SCOPE.md, The terms file: decimal, 1 to 5
+-- digits, leading zeros among them).
 use Prim.Native.Nat.{ℕ, zero, suc, _+_, _-_, _*_, _/_, _%_}
 use mathlib.Core.List.{List, [], _∷_, _++_}
 use mathlib.Core.Bool.{Bool, true, false, cond, _&&_}

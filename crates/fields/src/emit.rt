@@ -24,7 +24,8 @@ pub fn put_byte(out: &mut [u8], at: usize, b: u8) -> usize
     put(out, at, b)
 }
 
-// Puts the bytes of w from a place on. The place after them; the same place, with nothing put, where that would be 2 ^ 62 or more.
+// Puts the bytes of w from a place on. The place after them; the same place, with nothing put,
+// where that would be 2 ^ 62 or more.
 pub fn put_bytes(out: &mut [u8], at: usize, w: &[u8]) -> usize
     ensures { λ r. ⌜ PutIf (at + length (now (w .entry)) < 2 ^ 62) (now (out .entry)) (now (out .exit)) at r (now (w .entry)) ⌝ }
 {
@@ -37,7 +38,8 @@ pub fn put_bytes(out: &mut [u8], at: usize, w: &[u8]) -> usize
     put_word(out, at, w)
 }
 
-// Puts the digits of n. The place after them; the same place, with nothing put, from 2 ^ 61 or for a number of more than five digits.
+// Puts the digits of n. The place after them; the same place, with nothing put, from 2 ^ 61 or for a
+// number of more than five digits.
 pub fn put_decimal(out: &mut [u8], at: usize, n: usize) -> usize
     ensures { λ r. ⌜ PutIf ((n < 100000) × (at < 2 ^ 61)) (now (out .entry)) (now (out .exit)) at r (digits n) ⌝ }
 {

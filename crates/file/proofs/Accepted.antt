@@ -1,5 +1,5 @@
--- What holds of the file that an accepted text says: its terms are good and tidy; its edges, the bits of its tables and its event edge lie inside the terms;
--- its tables without a free variable are level.
+-- What holds of the file that an accepted text says: its terms are good and tidy; its edges, the bits of its tables and
+-- its event edge lie inside the terms; its tables without a free variable are level.
 use Prim.Native.Nat.{ℕ, _≤_, _<_}
 use mathlib.Core.Path.{_≡_, refl, subst}
 use mathlib.Core.List.{List, []}
@@ -8,7 +8,7 @@ use native.Mathlib.Omega.{arith}
 use lib.ListN.{length}
 use lib.Dec.{eqb}
 use borrow.Author.Tests.{eqb-true, lt-ltb}
-use Rattle.theory.specs.Terms.{Terms, tables}
+use Rattle.theory.specs.Terms.{Terms}
 use Rattle.theory.specs.Moment.{Event}
 use Rattle.theory.specs.Formula.{isPast}
 use Rattle.theory.specs.Fit.{every, entryTests, Good, GoodEntry}
@@ -41,7 +41,7 @@ pub record Accepted (f : File) : Type 0 where
   pub old-bits : f .stored ≡ false → (t a b : ℕ) → f .table t a b ≡ false
   pub old-last : f .stored ≡ false → f .last ≡ Event.none
 
--- good terms pass the tests of the lent memory
+-- Good terms pass the tests of the lent memory.
 entry-passes : {T : Terms} {n : ℕ} → GoodEntry T n → every (entryTests T n) ≡ true
 unfolding every
 entry-passes {T} {n} g =
@@ -105,12 +105,12 @@ accepting-good ls f a =
       old-last = λ s. let l = g .old s in g .no-last (omega arith);
     }
 
--- all lines pass: nothing is refused with 11 exactly where the tables without a free variable are level
+-- All lines pass: nothing is refused with 11 exactly where the tables without a free variable are level.
 module _ (text : List ℕ) (f : File) (e : readOn nothing 1 (lines text) ≡ accepted f) where
   pub read-good : Accepted f
   read-good = accepting-good (lines text) f (accepting nothing 1 (lines text) f e)
 
-  pub read-level : partlyAt f 1 (lines text) ≡ 0 → Level (f .terms) (f .table)
+  read-level : partlyAt f 1 (lines text) ≡ 0 → Level (f .terms) (f .table)
   read-level z = level-from (lines text) (accepting nothing 1 (lines text) f e .taken) z
 
   pub level-read : Level (f .terms) (f .table) → partlyAt f 1 (lines text) ≡ 0

@@ -28,7 +28,7 @@ passesAt [] k = true
 passesAt (t ∷ ts) zero = t .passes
 passesAt (t ∷ ts) (suc k) = passesAt ts k
 
--- test number k of a list that passes
+-- Test number k of a list that passes.
 pub passed-at : {ts : List Test} → Passed ts → (k : ℕ) → passesAt ts k ≡ true
 passed-at Passed.none k = refl
 passed-at (pass p ps) zero = p
@@ -88,7 +88,7 @@ pub record Accepting (f : File) (ls : Lines) (g : File) : Type 0 where
   pub taken : Taken f (records ls) g
   pub whole : complete g ≡ true
 
--- fields that pass say a line
+-- Fields that pass say a line.
 pub passed-formed : (f : File) (fs : List (List ℕ)) → Passed (tests f (parsed fs)) → Formed fs (parsed fs)
 unfolding tests
 passed-formed f fs p =
@@ -111,7 +111,7 @@ accepting f n (line l r) g e =
     let a = accepting (after f (parsed (split 9 l))) (n + 1) r g (t .1) in
     record { taken = one (passed-formed f (split 9 l) (t .0) .ranged) (t .0) (a .taken); whole = a .whole }
 
--- all lines pass, and none is a T line of a partly filled word
+-- All lines pass, and none is a T line of a partly filled word.
 levelled-accepted : (ls : Lines) (r : Reading) (f : File) → levelled ls r ≡ accepted f → (r ≡ accepted f) × (partlyAt f 1 ls ≡ 0)
 unfolding levelled
 levelled-accepted ls (accepted g) f e =

@@ -17,22 +17,22 @@ not-every [] k e = absurd (true≢false e)
 not-every (b ∷ bs) zero e = rw e refl
 not-every (b ∷ bs) (suc k) e = rw (not-every bs k e) (and-false b)
 
--- test number k of a line fails
+-- Test number k of a line fails.
 pub malformed : (x : Line) (bs : List Bool) (k : ℕ) → getD bs k true ≡ false → Malformed ≡ cond (every bs) x Malformed
 malformed x bs k e = rw (not-every bs k e) refl
 
--- a line of one number
+-- A line of one number.
 pub single-says : {n : ℕ} (says : ℕ → Line) (fs : List (List ℕ)) → eqb (length fs) 2 ≡ true → (isNum fs 1 ≡ true) × (n ≡ num fs 1) → says n ≡ singleLine says fs
 unfolding singleLine every
 single-says says fs l p = rw (l, p .0, p .1) refl
 
--- a line of three numbers
+-- A line of three numbers.
 pub triple-says : {k a b : ℕ} (says : ℕ → ℕ → ℕ → Line) (fs : List (List ℕ)) → eqb (length fs) 4 ≡ true → (isNum fs 1 ≡ true) × (k ≡ num fs 1)
     → (isNum fs 2 ≡ true) × (a ≡ num fs 2) → (isNum fs 3 ≡ true) × (b ≡ num fs 3) → says k a b ≡ tripleLine says fs
 unfolding tripleLine every
 triple-says says fs l p q r = rw (l, p .0, q .0, r .0, p .1, q .1, r .1) refl
 
--- a line of kind k
+-- A line of kind k.
 pub line-kind : {r : Line} (k : ℕ) (fs : List (List ℕ)) → r ≡ lineOf k fs → k ≡ kindOf (getD fs 0 []) → r ≡ parsed fs
 unfolding parsed
 line-kind k fs e h = e ∙ ap (λ (j : ℕ). lineOf j fs) h

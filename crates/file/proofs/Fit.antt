@@ -1,4 +1,5 @@
--- What the tests have made sure of so far, part by part: the entries, the policies, the marks, the effects, the edges, the tables, the event edge; and that one line more keeps it so.
+-- What the tests have made sure of so far, part by part: the entries, the policies, the marks, the effects, the edges,
+-- the tables, the event edge; and that one line more keeps it so.
 use Prim.Native.Nat.{ℕ, zero, suc, _+_, _*_, _/_, _%_, _≤_, _<_}
 use mathlib.Core.Path.{_≡_, refl, sym, ap, subst, subst₂, _∙_}
 use mathlib.Core.Logic.{_⊎_, inl, inr, ⊎-elim}
@@ -43,7 +44,7 @@ pub record EntriesFit (members labels entries : ℕ) (g : ℕ → Entry) : Type 
   pub fit : (n : ℕ) → n < entries → EntryFits members labels g n
   pub blank : (n : ℕ) → entries ≤ n → g n ≡ noEntry
 
--- the two tests of an operand are those of the lent memory
+-- The two tests of an operand are those of the lent memory.
 pub operand-fits : (k : Operand) (labels n v : ℕ) → inRange k labels v ≡ true → isLower k n v ≡ true → operandFits k labels n v ≡ true
 unfolding operandFits inRange isLower
 operand-fits unused labels n v p q = p
@@ -53,7 +54,7 @@ operand-fits label labels n v p q = p
 operand-fits entry labels n v p q = q
 operand-fits count labels n v p q = p
 
--- and the other way round; an operand that fits has at most five digits
+-- And the other way round; an operand that fits has at most five digits.
 pub in-range : (k : Operand) (labels n v : ℕ) → operandFits k labels n v ≡ true → inRange k labels v ≡ true
 unfolding operandFits inRange
 in-range unused labels n v h = h
@@ -81,7 +82,7 @@ operand-small label labels n v p q h = let e = ltb-true v labels h in omega arit
 operand-small entry labels n v p q h = let e = ltb-true v n h in omega arith
 operand-small count labels n v p q h = let e = leb-true v 64 (and-right (ltb 0 v) _ h) in omega arith
 
--- an operand that is not used is 0, and only reach and many use their third
+-- An operand that is not used is 0, and only reach and many use their third.
 pub unused-fits : (labels n v : ℕ) (k : Operand) → operandFits k labels n v ≡ true → k ≡ unused → v ≡ 0
 unfolding operandFits
 unused-fits labels n v k h e = eqb-true v 0 (rw e at h)
@@ -101,7 +102,7 @@ third-unused (suc (suc (suc (suc (suc (suc (suc (suc (suc (suc zero)))))))))) h 
 third-unused (suc (suc (suc (suc (suc (suc (suc (suc (suc (suc (suc zero))))))))))) h = absurd (true≢false h)
 third-unused (suc (suc (suc (suc (suc (suc (suc (suc (suc (suc (suc (suc o)))))))))))) h = refl
 
--- the formulas of a reach are those of entries below it
+-- The formulas of a reach are those of entries below it.
 pub reach-kept : (labels n : ℕ) (g h : ℕ → Entry) (v : Entry) → ((k : ℕ) → k < n → g k ≡ h k) → v .op ≡ 10
     → operandFits (secondOperand (v .op)) labels n (v .b) ≡ true → operandFits (thirdOperand (v .op)) labels n (v .c) ≡ true
     → reachFits (v .a) (spelled g (v .b)) (spelled g (v .c)) ≡ true → reachFits (v .a) (spelled h (v .b)) (spelled h (v .c)) ≡ true
@@ -126,7 +127,7 @@ entry-kept members labels g h n e t =
           (reach-kept labels n g h (g n) (λ k l. e k (omega arith)) q (t .second) (t .third) (t .reaches q));
     }
 
--- an entry put at n
+-- An entry put at n.
 module _ (members labels n : ℕ) (g : ℕ → Entry) (v : Entry) where
   abbrev now : ℕ → Entry
   now = update g n v
@@ -174,7 +175,7 @@ pub record PoliciesFit (policies events entries : ℕ) (g : ℕ → Entry) (poli
   pub free : (j : ℕ) → j < policies → onlyFree 0 (spelled g (policy j)) ≡ true
   pub blank : (j : ℕ) → policies ≤ j → policy j ≡ 0
 
--- before the first policy, events and entries may change
+-- Before the first policy, events and entries may change.
 pub policies-none : {p e m e′ m′ : ℕ} {g h : ℕ → Entry} {policy : ℕ → ℕ} → p ≡ 0 → PoliciesFit p e m g policy → PoliciesFit p e′ m′ h policy
 policies-none z t = record {
   few = omega arith;
@@ -198,7 +199,7 @@ pub record MarksFit (marks events : ℕ) (kept : ℕ → Bool) : Type 0 where
   pub few : marks ≤ events
   pub later : (j : ℕ) → marks ≤ j → kept j ≡ false
 
--- before the first mark, events may change
+-- Before the first mark, events may change.
 pub marks-none : {m e e′ : ℕ} {kept : ℕ → Bool} → m ≡ 0 → MarksFit m e kept → MarksFit m e′ kept
 marks-none z t = record { few = omega arith; later = t .later }
 
@@ -257,7 +258,7 @@ pub record InsideTables (T : Terms) (X : (t i k : ℕ) → Bool) : Type 0 where
 pub tables-none : {T : Terms} {X : (t i k : ℕ) → Bool} → ((t i k : ℕ) → X t i k ≡ false) → InsideTables T X
 tables-none h = record { within = λ t i k e. absurd (false≢true (sym (h t i k) ∙ e)) }
 
--- a place of a table by the number of its columns
+-- A place of a table by the number of its columns.
 pub one-place : (N : ℕ) (cs : List ℕ) (a b : ℕ) → hasTwo cs ≡ false → a < N → b < N → inside N cs a b ≡ true
 one-place N [] a b e al bl = and-both _ _ (lt-ltb a N al) (lt-ltb b N bl)
 one-place N (x ∷ []) a b e al bl = and-both _ _ (lt-ltb a N al) (lt-ltb b N bl)
@@ -305,9 +306,9 @@ inside-none h = record { within = λ k a b e. absurd (false≢true (sym (h k a b
 pub up-to-none : {R : (k a b : ℕ) → Bool} {k a b : ℕ} → ((k a b : ℕ) → R k a b ≡ false) → UpTo R k a b
 up-to-none h = record { upto = λ k a b e. absurd (false≢true (sym (h k a b) ∙ e)) }
 
--- one bit more
+-- One bit more.
 module _ (R : (k a b : ℕ) → Bool) (k a b : ℕ) where
-  -- a bit is that one or was there
+  -- A bit is that one or was there.
   pub bit-cases : (l c d : ℕ) → withBit R k a b l c d ≡ true → ((l ≡ k) × (c ≡ a) × (d ≡ b)) ⊎ (R l c d ≡ true)
   bit-cases l c d e =
       ⊎-elim
@@ -338,7 +339,7 @@ module _ (R : (k a b : ℕ) → Bool) (k a b : ℕ) where
         (bit-cases x y z e);
   }
 
-  -- (l, c, d) comes before (k, a, b), or nothing has come yet
+  -- (l, c, d) comes before (k, a, b), or nothing has come yet.
   pub up-to-more : {l c d : ℕ} → (((k a b : ℕ) → R k a b ≡ false) ⊎ (code l c d < code k a b)) → UpTo R l c d → UpTo (withBit R k a b) k a b
   up-to-more o t = record {
     upto = λ x y z e. ⊎-elim
@@ -360,7 +361,7 @@ pub data EventFits (events members : ℕ) : Event → Type 0 where
 pub event-none : {events members : ℕ} {x : Event} → x ≡ Event.none → EventFits events members x
 event-none {events} {members} e = subst (EventFits events members) (sym e) none
 
--- what a V line says, granted or denied
+-- What a V line says, granted or denied.
 pub event-named : {events members : ℕ} (j u v : ℕ) → eventNamed j < events → u < members → v < members → EventFits events members (eventSaid j u v)
 event-named j u v p q r =
     ⊎-elim

@@ -5,7 +5,7 @@ use mathlib.Core.Logic.{_⊎_, inl, inr, ⊎-elim}
 use mathlib.Core.List.{List, [], _∷_}
 use mathlib.Core.Bool.{Bool, true, false, not, _&&_, false≢true}
 use native.Mathlib.Omega.{arith}
-use lib.Dec.{eqb, ltb}
+use lib.Dec.{ltb}
 use borrow.Author.Tests.{eqb-true, leb-true, not-true}
 use Rattle.sets.specs.Sets.{allBelow}
 use Rattle.sets.proofs.Finite.{true-or-false, and-right, and-both, all-true, all-out}
@@ -42,7 +42,7 @@ pub record Level (T : Terms) (X : Tables) : Type 0 where
 pub level-empty : (T : Terms) (X : Tables) → ((t a b : ℕ) → X t a b ≡ false) → Level T X
 level-empty T X h = record { level = λ t a b c p e l. absurd (false≢true (sym (h t a b) ∙ e)) }
 
--- the table of a past-time entry
+-- The table of a past-time entry.
 module _ (T : Terms) (n : ℕ) (l : n < T .entries) (p : isPast (T .entry n .op) ≡ true) where
   pub level-entry : {X : Tables} → Level T X → closed (formula T n) ≡ true → (a b c : ℕ) → X (number (T .entry) n) a b ≡ true → c < T .members
       → X (number (T .entry) n) a c ≡ true
@@ -72,8 +72,8 @@ module _ (f : File) (t a : ℕ) where
 
 -- ---- one line
 
--- a bit was there, or it is of a word that is not partly filled
--- a table with two columns has free variables
+-- A bit was there, or it is of a word that is not partly filled
+-- a table with two columns has free variables.
 pair-open : (x : File) (t a : ℕ) → pairTable (x .terms) t ≡ true → partly x t a ≡ false
 unfolding partly closed
 pair-open x t a e = by-implying (closed φ) (allBelow (x .terms .members) (x .table t a)) (λ q. absurd (false≢true (sym (ap hasTwo (closed-columns φ (λ v l. not-true (free φ v) (all-out 16 (λ v. not (free φ v)) q v l)))) ∙ and-right (ltb t (tables (x .terms))) _ e)))
@@ -81,7 +81,7 @@ pair-open x t a e = by-implying (closed φ) (allBelow (x .terms .members) (x .ta
     φ : Formula
     φ = formula (x .terms) (pastEntry (x .terms) t)
 
--- the table of a T line with a field more has two columns
+-- The table of a T line with a field more has two columns.
 abbrev PairThere : File → Line → Type 0
 PairThere x l = (t a b c : ℕ) → l ≡ PairBit t a b c → pairTable (x .terms) t ≡ true
 
@@ -102,7 +102,7 @@ line-bits x f (EventEdge j u v) p w t a b e = inl e
 line-bits x f (Mark j) p w t a b e = inl e
 line-bits x f Malformed p w t a b e = inl e
 
--- a bit stays
+-- A bit stays.
 line-stays : (f : File) (l : Line) (t a b : ℕ) → f .table t a b ≡ true → after f l .table t a b ≡ true
 unfolding after
 line-stays f (Members n) t a b e = e
@@ -118,7 +118,7 @@ line-stays f (EventEdge j u v) t a b e = e
 line-stays f (Mark j) t a b e = e
 line-stays f Malformed t a b e = e
 
--- a T line of a level table
+-- A T line of a level table.
 line-level : (g f : File) (l : Line) → Level (g .terms) (g .table) → ((t a b : ℕ) → after f l .table t a b ≡ true → g .table t a b ≡ true)
     → partlyFilled g l ≡ false
 unfolding after
@@ -162,7 +162,7 @@ partly-none x n done h = refl
 partly-none x n (cut l) h = refl
 partly-none x n (line l r) h = let t = none-first h in rw (t .0) (partly-none x (n + 1) r (t .1))
 
--- which table a line with a field more is of, and that it is such a line
+-- Which table a line with a field more is of, and that it is such a line.
 abbrev tableOfPair : Line → ℕ
 tableOfPair (Members n) = 0
 tableOfPair (Labels r m) = 0
@@ -191,7 +191,7 @@ isPairLine (EventEdge j u v) = false
 isPairLine (Mark j) = false
 isPairLine Malformed = false
 
--- from the first T line on, the terms stay
+-- From the first T line on, the terms stay.
 line-late : (f : File) {l : Line} → Ranged l → Passed (tests f l) → 7 ≤ f .phase → (7 ≤ after f l .phase) × (after f l .terms ≡ f .terms)
 unfolding tests after
 line-late f (members h) p z = let y = eqb-true (f .phase) 0 (passed-at p 0) in absurd (omega arith)
@@ -240,7 +240,7 @@ taken-level : {f g : File} {ls : List Line} → Taken f ls g → Level (g .terms
 taken-level Taken.none v = none
 taken-level {f} {g} (one {l = l} r p u) v = and (line-level g f l v (taken-stays u)) (taken-level u v)
 
--- and so of the printed lines
+-- And so of the printed lines.
 printed-partly : {f g : File} {ls : List Line} → Taken f ls g → (x : File) → NonePartly x ls → (n : ℕ) → partlyAt x n (linesOf ls) ≡ 0
 unfolding partlyAt linesOf
 printed-partly Taken.none x h n = refl

@@ -19,7 +19,7 @@ unfolding listed
 listed-none zero g e = refl
 listed-none (suc n) g e = ap₂ _++_ (listed-none n g (λ i l. e i (omega arith))) (e n (omega arith))
 
--- one list more
+-- One list more.
 pub listed-more : (n : ℕ) (g h : ℕ → List Line) → ((i : ℕ) → i < n → h i ≡ g i) → listed (n + 1) h ≡ listed n g ++ h n
 unfolding listed
 listed-more n g h e = rw (add-one n) (ap (λ (ls : List Line). ls ++ h n) (listed-agree n g h e))
@@ -42,10 +42,10 @@ listed-changed (suc n) p g h x l e o z =
 pub empty : {c z : List Line} → c ≡ [] → z ≡ [] → c ++ z ≡ []
 empty p q = ap₂ _++_ p q
 
--- lines added to a part with nothing after it
+-- Lines added to a part with nothing after it.
 pub here : (b c y z x : List Line) → c ≡ b ++ x → y ≡ [] → z ≡ [] → c ++ z ≡ (b ++ y) ++ x
 here b c y z x p q r = rw (p, q, r, append-nil b) (append-nil (b ++ x))
 
--- lines added further on
+-- Lines added further on.
 pub later : (a b y z x : List Line) → b ≡ a → z ≡ y ++ x → b ++ z ≡ (a ++ y) ++ x
 later a b y z x q p = rw (p, q) (sym (append-assoc a y x))

@@ -55,7 +55,7 @@ module _ (f : File) (g : Going f) where
   no-heads : f .phase ≡ 0 → afterForm f ≡ []
   no-heads e = empty (head-none (f .phase) (f .terms .members) (f .terms .relations) (f .terms .events) e) (no-entries (omega arith))
 
--- no bit from the next one on
+-- No bit from the next one on.
 none-beyond : (kind : ℕ) (f : File) (R : (k a b : ℕ) → Bool) (k a b : ℕ) → a < 64 → b < 64 → (f .from < 64) × (f .to < 64)
     → (f .phase < kind → (k a b : ℕ) → R k a b ≡ false) → UpTo R (f .relation) (f .from) (f .to) → rises kind f k a b ≡ true
     → (l c d : ℕ) → code k a b ≤ code l c d → R l c d ≡ false
@@ -65,14 +65,14 @@ none-beyond kind f R k a b p q s n u h l c d m =
     (λ t. is-false (R l c d) (λ e. let o = u .upto l c d e in omega arith))
     (rises-code f kind k a b p q s h)
 
--- the same, where it is known that the bit comes after the last
+-- The same, where it is known that the bit comes after the last.
 none-after : (f : File) (R : (k a b : ℕ) → Bool) (k a b : ℕ) → a < 64 → b < 64 → (f .from < 64) × (f .to < 64)
     → (f .phase < 7 → (k a b : ℕ) → R k a b ≡ false) → UpTo R (f .relation) (f .from) (f .to)
     → (f .phase < 7) ⊎ (code (f .relation) (f .from) (f .to) < code k a b) → (l c d : ℕ) → code k a b ≤ code l c d → R l c d ≡ false
 none-after f R k a b p q s n u h l c d m =
     ⊎-elim (λ t. n t l c d) (λ t. is-false (R l c d) (λ e. let o = u .upto l c d e in omega arith)) h
 
--- what the line of a bit says, by the number of columns
+-- What the line of a bit says, by the number of columns.
 one-says : (T : Terms) (t i k : ℕ) → pairTable T t ≡ false → tableSays T t i k ≡ TableBit t i k
 one-says T t i k e = rw e refl
 
@@ -90,7 +90,7 @@ heads-same f p h i =
     let T = f .terms in
     head-late p (T .members) (T .relations) (T .events) i ∙ sym (head-late (f .phase) (T .members) (T .relations) (T .events) h)
 
--- at the form; and further on than each part, which stays
+-- At the form; and further on than each part, which stays.
 module _ (f f′ : File) (x : List Line) where
   at-form : formsOf f′ ≡ formsOf f ++ x → afterForm f ≡ [] → afterForm f′ ≡ [] → soFar f′ ≡ soFar f ++ x
   unfolding soFar

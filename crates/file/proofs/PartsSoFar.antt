@@ -94,12 +94,12 @@ module _ (f : File) where
   unfoldable pub soFar : List Line
   soFar = formsOf ++ afterForm
 
--- the S line
+-- The S line.
 pub form-more : (b : Bool) (n : ℕ) → b ≡ false → n ≡ 2 → formLines true ≡ formLines b ++ (Form n ∷ [])
 unfolding formLines
 form-more b n e h = rw (e, h) refl
 
--- no members yet, the members, the labels, and no change after them
+-- No members yet, the members, the labels, and no change after them.
 pub head-none : (p N r e : ℕ) → p ≡ 0 → headLines p N r e ≡ []
 unfolding headLines
 head-none p N r e h = rw h refl
@@ -192,7 +192,7 @@ events-more n s j c k d p q r l h =
     (λ i z. ap (effectLines i) (update-other s j t i z))
     (λ i m. ap (effectLines i) (h i m) ∙ unfold effectLines in refl)
 
--- edges and bits of tables
+-- Edges and bits of tables.
 module _ (n : ℕ) (says : ℕ → ℕ → ℕ → Line) (R : (k a b : ℕ) → Bool) where
   bit-none : (q : ℕ) → R (q / 4096) (q / 64 % 64) (q % 64) ≡ false → bitAt says R q ≡ []
   bit-none q h = rw h refl
@@ -224,7 +224,7 @@ module _ (n : ℕ) (says : ℕ → ℕ → ℕ → Line) (R : (k a b : ℕ) → 
       other : (i : ℕ) → eqb (i / 4096) k && (eqb (i / 64 % 64) a && eqb (i % 64) b) ≡ false → bitAt says (withBit R k a b) i ≡ bitAt says R i
       other i e = rw e refl
 
--- the event edge
+-- The event edge.
 pub event-line : (j u v : ℕ) → eventEdgeLine (eventSaid j u v) ≡ EventEdge j u v ∷ []
 event-line j u v =
     ⊎-elim

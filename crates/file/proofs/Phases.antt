@@ -38,7 +38,7 @@ pub record Going (f : File) : Type 0 where
   pub no-last : f .phase < 8 → f .last ≡ Event.none
   pub old : f .stored ≡ false → f .phase < 7
 
--- nothing has been said
+-- Nothing has been said.
 pub going-first : Going nothing
 unfolding nothing
 going-first = record {
@@ -99,7 +99,7 @@ module _ (f : File) where
   pub complete-is : 2 ≤ f .phase → f .policies ≡ f .terms .events → complete f ≡ true
   complete-is l e = and-both (leb 2 (f .phase)) _ (le-leb 2 (f .phase) l) (eq-eqb (f .policies) (f .terms .events) e)
 
-  -- an edge or bit is the first of its kind, or its number is above the last one's
+  -- An edge or bit is the first of its kind, or its number is above the last one's.
   pub rises-code : (kind k a b : ℕ) → a < 64 → b < 64 → (f .from < 64) × (f .to < 64) → rises kind f k a b ≡ true
       → (f .phase < kind) ⊎ (code (f .relation) (f .from) (f .to) < code k a b)
   rises-code kind k a b p q s h =
@@ -117,7 +117,7 @@ module _ (f : File) where
       (or-cases (ltb (f .relation) k) _ t)))
       (or-cases (ltb (f .phase) kind) _ h)
 
-  -- the same of a bit of a table with two columns
+  -- The same of a bit of a table with two columns.
   pub rises-pair : (t a b c : ℕ) → a < 16 → b < 16 → c < 16 → (f .from < 64) × (f .to < 64) → risesPair f t a b c ≡ true
       → (f .phase < 7) ⊎ (code (f .relation) (f .from) (f .to) < code t (pairWord a b) (pairBit b c))
   rises-pair t a b c p q r s h =

@@ -1,4 +1,5 @@
--- Bytes that are no separator: fields without tabs and lines without line feeds come apart again as they were put together.
+-- Bytes that are no separator: fields without tabs and lines without line feeds come apart
+-- again as they were put together.
 use Prim.Native.Nat.{ℕ, zero, suc, _<_}
 use mathlib.Core.Path.{_≡_, refl, ap, _∙_}
 use mathlib.Core.Logic.{⊎-elim}
@@ -39,8 +40,8 @@ split-only c [] h = refl
 split-only c (x ∷ p) h =
     rw (not-true (eqb x c) (and-left (not (eqb x c)) _ h), split-only c p (and-right (not (eqb x c)) _ h)) refl
 
--- fields without the separator, at least one, are the pieces of what they are joined to
-pub split-join : (c : ℕ) (fs : List (List ℕ)) → 0 < length fs → every (map (without c) fs) ≡ true → split c (join c fs) ≡ fs
+-- Fields without the separator, at least one, are the pieces of what they are joined to.
+split-join : (c : ℕ) (fs : List (List ℕ)) → 0 < length fs → every (map (without c) fs) ≡ true → split c (join c fs) ≡ fs
 unfolding join every
 split-join c [] h p = absurd (omega arith)
 split-join c (f ∷ []) h p = split-only c f (and-left (without c f) _ p)
@@ -90,7 +91,7 @@ all-without c (x ∷ s) h p =
 digits-without : (c n : ℕ) → c < 48 → without c (digits n) ≡ true
 digits-without c n h = all-without c (digits n) h (digits-allDigits n)
 
--- what each word of a table and the empty one have
+-- What each word of a table and the empty one have.
 pub word-all : (p : List ℕ → Bool) (ws : List (List ℕ)) → p [] ≡ true → every (map p ws) ≡ true → (k : ℕ) → p (getD ws k []) ≡ true
 unfolding every
 word-all p [] z h k = z
@@ -151,11 +152,11 @@ fields-without s Malformed = refl
 printed-without : (l : Line) → without 10 (printed l) ≡ true
 printed-without l = without-join 10 9 (fieldsOf l) refl (fields-without feed l)
 
--- a printed line parts into its fields
+-- A printed line parts into its fields.
 pub split-printed : (l : Line) → 0 < length (fieldsOf l) → split 9 (printed l) ≡ fieldsOf l
 split-printed l h = split-join 9 (fieldsOf l) h (fields-without tab l)
 
--- a text of printed lines parts into them
+-- A text of printed lines parts into them.
 pub lines-printed : (ls : List Line) → lines (printedAll ls) ≡ linesOf ls
 unfolding printedAll linesOf
 lines-printed [] = unfold lines in refl

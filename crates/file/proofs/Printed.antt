@@ -47,7 +47,7 @@ action-word : (c : ℕ) → 0 < c → c < 3 → actionOf (getD ([] ∷ actionWor
 action-word zero p h = absurd (omega arith)
 action-word (suc c) p h = action-at c (unfold actionWords in omega arith) ∙ (omega arith)
 
--- a line's fields say the line
+-- A line's fields say the line.
 pub parsed-printed : {l : Line} → Ranged l → parsed (fieldsOf l) ≡ l
 unfolding parsed fieldsOf lineOf singleLine labelsLine shortEntryLine longEntryLine entryLine policyLine effectLine tripleLine every pairLine tableLine
 parsed-printed (members {n = n} h) = rw (kind-word 0 (lit< tt), digits-number n h, valueOf-digits n h) refl
@@ -107,7 +107,7 @@ parsed-printed (event {j = j} {u = u} {v = v} h i m) =
     rw (kind-word 8 (lit< tt), digits-number j h, digits-number u i, digits-number v m, valueOf-digits j h, valueOf-digits u i, valueOf-digits v m) refl
 parsed-printed (mark {j = j} h) = rw (kind-word 9 (lit< tt), digits-number j h, valueOf-digits j h) refl
 
--- and the printed line parts into them
+-- And the printed line parts into them.
 pub split-ranged : {l : Line} → Ranged l → split 9 (printed l) ≡ fieldsOf l
 unfolding fieldsOf
 split-ranged (members {n = n} h) = split-printed (Members n) (omega arith)
@@ -139,7 +139,7 @@ places-length : (fs : List (List ℕ)) (k n : ℕ) → length (places fs k n) �
 places-length fs k zero = refl
 places-length fs k (suc n) = ap suc (places-length fs (suc k) n)
 
--- fields of a known count, one by one
+-- Fields of a known count, one by one.
 places-all : (fs : List (List ℕ)) (n : ℕ) → length fs ≡ n → places fs 0 n ≡ fs
 places-all fs n h =
     let l = places-length fs 0 n in
@@ -152,7 +152,7 @@ number-normal f h = rw h refl
 word-normal : (f w : List ℕ) → f ≡ w → not (isNumber w) ≡ true → w ≡ normalField f
 word-normal f w e h = rw (e, not-true (isNumber w) h) refl
 
--- no word is a number
+-- No word is a number.
 kind-normal : (f : List ℕ) (k : ℕ) → kindOf f ≡ k → k < 10 → getD kindWords k [] ≡ normalField f
 unfolding isNumber isDigit allDigits kindWords every
 kind-normal f k e h =

@@ -1,4 +1,5 @@
--- Reading what is written of set bits, each with one line, rising: the edges of the relations or the bits of the tables.
+-- Reading what is written of set bits, each with one line, rising: the edges of the
+-- relations or the bits of the tables.
 use Prim.Native.Nat.{ℕ, zero, suc, _+_, _*_, _/_, _%_, _≤_, _<_}
 use mathlib.Core.Path.{_≡_, sym, subst, fun-ext, _∙_}
 use mathlib.Core.Logic.{_⊎_, inl, inr, ⊎-elim}
@@ -25,7 +26,7 @@ Bounded kinds R = (k a b : ℕ) → R k a b ≡ true → (k < kinds) × (a < 64)
 pub bounded : {kinds members : ℕ} {R : (k a b : ℕ) → Bool} → members < 65 → Inside kinds members R → Bounded kinds R
 bounded l i k a b e = let h = i .within k a b e in let h1 = h .1 in let h2 = h .2 in (h .0, omega arith, omega arith)
 
--- a bit is the first of its kind, or its number is above the last one's
+-- A bit is the first of its kind, or its number is above the last one's.
 pub code-rises : (kind : ℕ) (f : File) (k a b : ℕ) → a < 64 → b < 64 → (f .from < 64) × (f .to < 64)
     → (f .phase < kind) ⊎ (code (f .relation) (f .from) (f .to) < code k a b) → rises kind f k a b ≡ true
 code-rises kind f k a b p q s h =
@@ -45,7 +46,7 @@ code-rises kind f k a b p q s h =
     (true-or-false (ltb (f .relation) k))))
     h
 
--- the same of a bit of a table with two columns
+-- The same of a bit of a table with two columns.
 pub code-rises-pair : (f : File) (t i k : ℕ) → i < 64 → k < 64 → (f .from < 64) × (f .to < 64)
     → (f .phase < 7) ⊎ (code (f .relation) (f .from) (f .to) < code t i k) → risesPair f t (i / 4) (4 * (i % 4) + k / 16) (k % 16) ≡ true
 code-rises-pair f t i k p q s h =
@@ -72,7 +73,8 @@ code-rises-pair f t i k p q s h =
     (true-or-false (ltb (f .relation) t))))
     h
 
--- The kind of lines, what a line says, what has been said by such lines, the bits that are written, and what else holds of a file read so far.
+-- The kind of lines, what a line says, what has been said by such lines, the bits that are written, and what
+-- else holds of a file read so far.
 module _ (kind : ℕ) (says : ℕ → ℕ → ℕ → Line) (bits : File → (k a b : ℕ) → Bool) (R : (k a b : ℕ) → Bool) (Ready : File → Type 0) where
   -- The line of a bit passes, and adds the bit.
   pub record Adds (g : File) (k a b : ℕ) : Type 0 where
@@ -96,7 +98,7 @@ module _ (kind : ℕ) (says : ℕ → ℕ → ℕ → Line) (bits : File → (k 
     pub going-so : Going g
 
   module _ (of-kind : Kind) where
-    -- no bit from q on
+    -- No bit from q on.
     beyond : (q : ℕ) (g : File) → Below q g → (k a b : ℕ) → q ≤ code k a b → bits g k a b ≡ false
     beyond q g t k a b h =
         ⊎-elim
@@ -172,7 +174,7 @@ module _ (kind : ℕ) (says : ℕ → ℕ → ℕ → Line) (bits : File → (k 
     bits-read zero g r h l = reached-none (record { ready = r; last = inl l; same = λ k a b p q m. absurd (omega arith); going-so = h })
     bits-read (suc q) g r h l = reached-then (bits-read q g r h l) (λ f u. bit-read q f u)
 
-    -- where all bits lie below q, these are all
+    -- Where all bits lie below q, these are all.
     pub all-read : (q kinds : ℕ) → kinds * 4096 ≤ q → Bounded kinds R → (g : File) → Bounded kinds (bits g) → Below q g → bits g ≡ R
     all-read q kinds h inside g i t = fun-ext (λ k. fun-ext (λ a. fun-ext (λ b. bool-iff (bits g k a b) (R k a b)
         (λ e. sym (below k a b (i k a b e)) ∙ e)

@@ -98,7 +98,7 @@ module _ (T : Terms) (good : Good T) (tidy : Tidy T) (R : Relations) (inside : I
               (bounded (good .few-members) (subst (λ (x : Terms). Inside (x .relations) (x .members) (g .edges)) (s .terms) (s .going-so .edges))) t;
         }
 
-  -- from a file that has said nothing but its form
+  -- From a file that has said nothing but its form.
   pub lines-read : (start : File) → start .phase ≡ 0 → Going start → Reached start (allLines T R) (Edged T R (start .stored) 6)
   unfolding allLines
   lines-read start blank begun =

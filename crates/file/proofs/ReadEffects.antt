@@ -140,7 +140,7 @@ module _ (T : Terms) (good : Good T) (tidy : Tidy T) (stored : Bool) where
       going-so = going ranged passed (t .going-so);
     }
 
-  -- the effects of one event
+  -- The effects of one event.
   event-read : (j : ℕ) → j < T .events → (so-far es : List Effect) → Within (T .relations) es → so-far ++ es ≡ T .effects j
       → (g : File) → Effected T stored j so-far g → Reached g (effectLines j es) (Effected T stored j (T .effects j))
   unfolding effectLines

@@ -1,4 +1,5 @@
--- Reading what is written, up to the policies: the file read so far has the terms' heads, their first n entries, their first n policies.
+-- Reading what is written, up to the policies: the file read so far has the terms' heads, their first n
+-- entries, their first n policies.
 use Prim.Native.Nat.{ℕ, zero, suc, _+_, _*_, _≤_, _<_}
 use mathlib.Core.Path.{_≡_, refl, sym, ap, subst, subst₂, _∙_}
 use mathlib.Core.Logic.{inl, ⊎-elim}
@@ -21,7 +22,7 @@ use Rattle.file.specs.File.{File, update, after}
 use Rattle.file.specs.Reading.{tests, inRange}
 use Rattle.file.specs.Writing.{listed, lineOfEntry}
 use Rattle.file.specs.declared.line.Line.{Line}
-use Rattle.file.specs.declared.line.Line.the-variants.{Members, Labels, Entry, Policy}
+use Rattle.file.specs.declared.line.Line.the-variants.{Members, Labels, Policy}
 use Rattle.file.proofs.Printed.{Ranged}
 use Rattle.file.specs.Refused.{Passed}
 use Rattle.file.proofs.Derivation.{Taken, Reached, reached-then, reached-one, reached-none}
@@ -68,7 +69,7 @@ pub record Decided (T : Terms) (stored : Bool) (n : ℕ) (g : File) : Type 0 whe
   pub policy : (j : ℕ) → j < n → g .terms .policy j ≡ T .policy j
   pub going-so : Going g
 
--- from a file that has said nothing but its form
+-- From a file that has said nothing but its form.
 module _ (T : Terms) (good : Good T) (tidy : Tidy T) (start : File) (blank : start .phase ≡ 0) (begun : Going start) where
   abbrev form : Bool
   form = start .stored
@@ -248,7 +249,7 @@ module _ (T : Terms) (good : Good T) (tidy : Tidy T) (start : File) (blank : sta
       reached-then (decided n (omega arith) g t)
       (λ f u. reached-one (policy-ranged n h f u) (policy-passed n h f u) (policy-decided n h f u))
 
-  -- the lines of members, labels, entries and policies, and those after them
+  -- The lines of members, labels, entries and policies, and those after them.
   pub told : {ms : List Line} {Q : File → Type 0} → ((g : File) → Decided T form (T .events) g → Reached g ms Q)
       → Reached start (Members (T .members) ∷ Labels (T .relations) (T .events) ∷ (listed (T .entries) (λ n. lineOfEntry T n ∷ [])
       ++ (listed (T .events) (λ j. Policy j (T .policy j) ∷ []) ++ ms))) Q

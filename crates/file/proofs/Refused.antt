@@ -1,5 +1,5 @@
--- A text is refused exactly where its first faulty line is, with the lowest number of a test that fails; or where it is cut or ends too soon;
--- or else at the first T line of a partly filled word.
+-- A text is refused exactly where its first faulty line is, with the lowest number of a test that fails; or where it is
+-- cut or ends too soon; or else at the first T line of a partly filled word.
 use Prim.Native.Nat.{ℕ, _+_, _≤_}
 use mathlib.Core.Path.{_≡_, refl, ap, subst, subst₂, _∙_}
 use mathlib.Core.Logic.{_⊎_, _↔_, inl, inr, ⊎-elim}
@@ -46,7 +46,7 @@ rise-rest : (m : ℕ) (t : Test) (ts : List Test) → numbersRise m (t ∷ ts) �
 unfolding numbersRise
 rise-rest m t ts r = and-right (leb m (t .number)) (numbersRise (t .number) ts) r
 
--- so the first test that fails has the lowest number
+-- So the first test that fails has the lowest number.
 fails-above : (m : ℕ) {n : ℕ} (ts : List Test) → numbersRise m ts ≡ true → Fails n ts → m ≤ n
 unfolding numbersRise
 fails-above m (t ∷ ts) r (this e p) = let l = leb-true m (t .number) (and-left (leb m (t .number)) _ r) in omega arith

@@ -18,7 +18,7 @@ use Rattle.theory.specs.Moment.Event.{happened, tried}
 use Rattle.theory.specs.Tables.{Tables, State}
 use Rattle.theory.specs.Fit.{Good}
 use Rattle.file.specs.File.{File, nothing, hasTwo, pairTable, withTableBit, eventNamed, eventSaid, after}
-use Rattle.file.specs.Reading.{tests, complete, rises, reading}
+use Rattle.file.specs.Reading.{tests, complete, reading}
 use Rattle.file.specs.Reading.Reading.{accepted}
 use Rattle.file.specs.Writing.{listed, bitAt, tableSays, allLines, eventEdgeLine, storedLines, written, stored}
 use Rattle.file.specs.declared.line.Line.{Line}
@@ -57,7 +57,7 @@ pub record Storable (T : Terms) (S : State) : Type 0 where
 
 -- ---- the bits of the tables
 
--- the bits of tables have at most 64 words, of 64 bits
+-- The bits of tables have at most 64 words, of 64 bits.
 tables-bounded : (T : Terms) → Good T → (X : Tables) → InsideTables T X → Bounded (tables T) X
 tables-bounded T good X inside t i k e =
     let h = inside .within t i k e in
@@ -81,7 +81,7 @@ module _ (T : Terms) (good : Good T) (R : Relations) (X : Tables) (inside : Insi
     there : (k < tables T) × (columnsInside (T .members) cs a b ≡ true)
     there = inside .within k a b e
 
-    -- after such a line
+    -- After such a line.
     ready-after : (l : Line) → Ranged l → Passed (tests g l) → after g l ≡ withTableBit g k a b → Ready (after g l)
     ready-after l r p q =
         let s = t .settled-so in
@@ -108,9 +108,6 @@ module _ (T : Terms) (good : Good T) (R : Relations) (X : Tables) (inside : Insi
     }
 
     module _ (rise : (g .phase < 7) ⊎ (code (g .relation) (g .from) (g .to) < code k a b)) (short : (g .from < 64) × (g .to < 64)) where
-      abbrev Passing : Line → Type 0
-      Passing l = Passed (tests g l)
-
       same-pair : pairTable (g .terms) k ≡ pairTable T k
       same-pair = ap (λ (x : Terms). pairTable x k) (t .settled-so .terms)
 
@@ -210,7 +207,7 @@ module _ (T : Terms) (good : Good T) (R : Relations) (X : Tables) (inside : Insi
     table : g .table ≡ X
     last : g .last ≡ E
 
-  -- the event and members that its line names
+  -- The event and members that its line names.
   module _ (j u v : ℕ) (few : j < 32) (p : eventNamed j < T .events) (q : u < T .members) (r : v < T .members) (g : File) (t : Bitted g) where
     event-ranged : Ranged (EventEdge j u v)
     event-ranged = let n = good .few-members in Ranged.event {j = j} {u = u} {v = v} (omega arith) (omega arith) (omega arith)

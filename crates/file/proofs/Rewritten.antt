@@ -1,4 +1,5 @@
--- Writing what an accepted text says, in its own form, gives the text in its normal form; of a plain text that is the text itself.
+-- Writing what an accepted text says, in its own form, gives the text in its normal form; of a
+-- plain text that is the text itself.
 use Prim.Native.Nat.{ℕ, _+_}
 use mathlib.Core.Path.{_≡_, refl, sym, ap, ap₂, fun-ext, _∙_}
 use mathlib.Core.Logic.{⊎-elim}
@@ -107,8 +108,8 @@ text-lines true T S = refl
 text-lines false T S = refl
 
 module _ (text : List ℕ) (f : File) (e : reading text ≡ accepted f) where
-  -- the lines of an accepted text are the lines of what it says
-  pub lines-said : linesSaid f ≡ records (lines text)
+  -- The lines of an accepted text are the lines of what it says.
+  lines-said : linesSaid f ≡ records (lines text)
   lines-said =
       let a = reading-accepting text f e in
       sym (all-said f (a .whole) (going-on (a .taken) going-first))
@@ -123,7 +124,7 @@ module _ (text : List ℕ) (f : File) (e : reading text ≡ accepted f) where
   pub rewritten-same : isPlain text ≡ true → textSaid f ≡ text
   rewritten-same h = rewritten ∙ normal-plain text h
 
-  -- nothing that is written is padded
+  -- Nothing that is written is padded.
   pub rewritten-plain : isPlain (normalText text) ≡ true
   unfolding isPlain normalText
   rewritten-plain =
@@ -131,7 +132,7 @@ module _ (text : List ℕ) (f : File) (e : reading text ≡ accepted f) where
       ∙ ap plainLines (lines-printed (records (lines text)))
       ∙ lines-normal nothing 1 (lines text) f (reading-read text f e)
 
-  -- the normal form is accepted too, its lines say the same, and so it gives the same form, terms and state
+  -- The normal form is accepted too, its lines say the same, and so it gives the same form, terms and state.
   pub normal-accepted : (g : File) × Unpadded text f g
   normal-accepted =
       let a = accepted-good text f e in
@@ -163,7 +164,7 @@ module _ (text : List ℕ) (f : File) (e : reading text ≡ accepted f) where
       ))
       (true-or-false (f .stored))
 
--- the lines of the normal form say what the text's lines say
+-- The lines of the normal form say what the text's lines say.
 pub normal-said : (text : List ℕ) (f : File) → reading text ≡ accepted f → records (lines (normalText text)) ≡ records (lines text)
 normal-said text f e =
     let n = normal-accepted text f e in

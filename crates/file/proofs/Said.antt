@@ -196,7 +196,7 @@ plus-last f z g =
       kept = λ j. or-false (f .terms .kept j) t;
     })
 
--- an accepted text is read as what its lines say
+-- An accepted text is read as what its lines say.
 pub said : (text : List ℕ) (f : File) → reading text ≡ accepted f → SaidBy (records (lines text)) f
 said text f e =
     let a = reading-accepting text f e in

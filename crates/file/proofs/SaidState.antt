@@ -1,4 +1,5 @@
--- What an accepted text says of edges, tables, event edge and form is what its lines say, taken line by line and with no test.
+-- What an accepted text says of edges, tables, event edge and form is what its lines say, taken
+-- line by line and with no test.
 use Prim.Native.Nat.{ℕ}
 use mathlib.Core.Path.{_≡_, refl, sym, _∙_}
 use mathlib.Core.Logic.{⊎-elim}
@@ -35,7 +36,7 @@ besideOf f = record { edges = f .edges; table = f .table; last = f .last; stored
 abbrev pub besideSaid : List Line → Beside
 besideSaid ls = record { edges = edgesSaid ls; table = tablesSaid ls; last = lastSaid ls; stored = storedSaid ls }
 
--- what f has said, and lines after it
+-- What f has said, and lines after it.
 beside : File → List Line → Beside
 beside f ls = record {
   edges = λ k a b. f .edges k a b || edgesSaid ls k a b;

@@ -14,7 +14,7 @@ module _ {A : Type 0} (g : ℕ → A) (n : ℕ) (v : A) where
   pub update-other : (k : ℕ) → (k ≡ n → ⊥) → update g n v k ≡ g k
   update-other k h = rw (ne-eqb k n h) refl
 
-  -- what holds of the changed place and of each other one
+  -- What holds of the changed place and of each other one.
   pub update-cases : (P : A → Type 0) (k : ℕ) → (k ≡ n → P v) → ((k ≡ n → ⊥) → P (g k)) → P (update g n v k)
   update-cases P k h i =
       ⊎-elim (λ e. rw e (h (eqb-true k n e))) (λ e. rw e (i (eqb-false k n e))) (true-or-false (eqb k n))

@@ -30,7 +30,7 @@ from-at j (w ∷ ws) (suc k) d h =
     let ih : indexFrom (suc j) ws (getD ws k []) ≡ suc j + k = from-at (suc j) ws k (and-right (absent w ws) (distinct ws) d) (omega arith) in
     rw (absent-at w ws k (and-left (absent w ws) (distinct ws) d) (omega arith)) (omega arith)
 
-pub indexOf-at : (ws : List (List ℕ)) (k : ℕ) → distinct ws ≡ true → k < length ws → indexOf ws (getD ws k []) ≡ k
+indexOf-at : (ws : List (List ℕ)) (k : ℕ) → distinct ws ≡ true → k < length ws → indexOf ws (getD ws k []) ≡ k
 indexOf-at ws k d h = let e : indexFrom 0 ws (getD ws k []) ≡ 0 + k = from-at 0 ws k d h in omega arith
 
 from-le : (j : ℕ) (ws : List (List ℕ)) (f : List ℕ) → j ≤ indexFrom j ws f
@@ -55,10 +55,10 @@ from-back j (w ∷ ws) f (suc k) e h =
     (λ t. let g : indexFrom (suc j) ws f ≡ j + suc k = rw t at e in ih (omega arith) (omega arith))
     (true-or-false (alike f w))
 
-pub indexOf-back : (ws : List (List ℕ)) (f : List ℕ) (k : ℕ) → indexOf ws f ≡ k → k < length ws → f ≡ getD ws k []
+indexOf-back : (ws : List (List ℕ)) (f : List ℕ) (k : ℕ) → indexOf ws f ≡ k → k < length ws → f ≡ getD ws k []
 indexOf-back ws f k e h = from-back 0 ws f k (omega arith) h
 
--- one word in front: what code finds that tries the words from the last to the first
+-- One word in front: what code finds that tries the words from the last to the first.
 pub picked : {r rest : ℕ} (f w : List ℕ) (ws : List (List ℕ)) (k : ℕ) → r ≡ cond (alike f w) k rest → rest ≡ indexFrom (suc k) ws f
     → r ≡ indexFrom k (w ∷ ws) f
 unfolding indexFrom

@@ -1,4 +1,5 @@
--- What the lines of a file have said so far, and what a line more makes of it (docs/SCOPE.md, The terms file and The stored form).
+-- What the lines of a file have said so far, and what a line more makes of it (docs/SCOPE.md, The
+-- terms file and The stored form).
 use Prim.Native.Nat.{ℕ, _+_, _-_}
 use mathlib.Core.Bool.{Bool, true, false, cond, _&&_}
 use mathlib.Core.List.{List, [], _∷_, _++_}
@@ -13,8 +14,9 @@ use Rattle.theory.specs.Limits.{maxEvents}
 use Rattle.file.specs.declared.line.Line.{Line}
 use Rattle.file.specs.declared.line.Line.the-variants.{Members, Labels, Entry, Policy, Effect, Edge, Form, TableBit, PairBit, EventEdge, Mark, Malformed}
 
--- What the lines so far have said. It is the stored form if it began with an S line. The phase is the number of the last kind: 0 none or S, 1 M, 2 L, 3 F,
--- 4 P or K, 5 E, 6 G, 7 T, 8 V. Marks is one past the last event marked as kept. The last edge or bit of a table is relation (or table), from (or word), to (or bit).
+-- What the lines so far have said. It is the stored form if it began with an S line. The phase is the number of the
+-- last kind: 0 none or S, 1 M, 2 L, 3 F, 4 P or K, 5 E, 6 G, 7 T, 8 V. Marks is one past the last event marked as kept.
+-- The last edge or bit of a table is relation (or table), from (or word), to (or bit).
 pub record File : Type 0 where
   pub stored : Bool
   pub phase : ℕ
@@ -125,7 +127,8 @@ hasTwo (x ∷ y ∷ zs) = true
 abbrev pub pairTable : Terms → (t : ℕ) → Bool
 pairTable T t = ltb t (tables T) && hasTwo (columns (formula T (pastEntry T t)))
 
--- A V line names a granted event by its number, a denied one by its number plus 16 (docs/SCOPE.md, The stored form): which event it is, and the event edge.
+-- A V line names a granted event by its number, a denied one by its number plus 16 (docs/SCOPE.md, The stored form):
+-- which event it is, and the event edge.
 abbrev pub eventNamed : ℕ → ℕ
 eventNamed j = cond (ltb j maxEvents) j (j - maxEvents)
 

@@ -18,7 +18,8 @@ num fs k = valueOf (getD fs k [])
 abbrev pub isNum : List (List ℕ) → ℕ → Bool
 isNum fs k = isNumber (getD fs k [])
 
--- A line of each kind: its field count, number forms and words, and what it says. (The action is 1 add, 2 del; the direction 0 fwd, 1 back.)
+-- A line of each kind: its field count, number forms and words, and what it says. (The action is 1 add, 2
+-- del; the direction 0 fwd, 1 back.)
 
 -- A line of one number: the members, a form or a kept event.
 unfoldable pub singleLine : (ℕ → Line) → List (List ℕ) → Line

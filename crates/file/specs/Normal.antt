@@ -1,4 +1,5 @@
--- A text in its normal form: each number field is the digits of its value, all else stays. A plain text has no padded number.
+-- A text in its normal form: each number field is the digits of its value, all else stays. A
+-- plain text has no padded number.
 use Prim.Native.Nat.{ℕ}
 use mathlib.Core.Bool.{Bool, true, cond, not, _&&_}
 use mathlib.Core.List.{List, [], _∷_, map}

@@ -186,7 +186,8 @@ partlyFilled f (EventEdge j u v) = false
 partlyFilled f (Mark j) = false
 partlyFilled f Malformed = false
 
--- The number of the first such line, from line n on; 0 if there is none. As T lines rise, it is the first T line of the first such word.
+-- The number of the first such line, from line n on; 0 if there is none. As T lines rise, it is the first
+-- T line of the first such word.
 unfoldable pub partlyAt : File → (n : ℕ) → Lines → ℕ
 partlyAt f n done = 0
 partlyAt f n (cut l) = 0

@@ -1,5 +1,6 @@
--- When a text is refused (docs/SCOPE.md, Refusals): at its first faulty line, with the lowest number of a test
--- that fails there; or where it is cut or ends too soon; or, where there is none of these, at the first T line of a partly filled word.
+-- When a text is refused (docs/SCOPE.md, Refusals): at its first faulty line, with the lowest number of a
+-- test that fails there; or where it is cut or ends too soon; or, where there is none of these, at the first
+-- T line of a partly filled word.
 use Prim.Native.Nat.{ℕ, _+_, _≤_}
 use mathlib.Core.Path.{_≡_}
 use mathlib.Core.List.{List, [], _∷_}
@@ -40,7 +41,8 @@ pub data Refused : (f : File) (at : ℕ) → Lines → (number line : ℕ) → T
   cut-off : {f : File} {at : ℕ} {l : List ℕ} → Refused f at (cut l) 1 at
   ended : {f : File} {at : ℕ} → complete f ≡ false → Refused f at done 1 at
 
--- Of the lines, the first with number n, line k is the first T line of a partly filled word in a table without a free variable.
+-- Of the lines, the first with number n, line k is the first T line of a partly filled word in a
+-- table without a free variable.
 pub data FirstPartly (f : File) : (n : ℕ) → Lines → (k : ℕ) → Type 0 where
   this : {n : ℕ} {l : List ℕ} {r : Lines} → partlyFilled f (parsed (split 9 l)) ≡ true → FirstPartly f n (line l r) n
   later : {n k : ℕ} {l : List ℕ} {r : Lines} → partlyFilled f (parsed (split 9 l)) ≡ false → FirstPartly f (n + 1) r k → FirstPartly f n (line l r) k

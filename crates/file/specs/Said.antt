@@ -1,4 +1,5 @@
--- What the lines of a text say, taken line by line and with no test: the terms and the first edges that the keeper is fed, and the state of a stored file.
+-- What the lines of a text say, taken line by line and with no test: the terms and the first edges that the keeper is
+-- fed, and the state of a stored file.
 use Prim.Native.Nat.{ℕ}
 use mathlib.Core.Bool.{Bool, true, false, cond, _&&_, _||_}
 use mathlib.Core.List.{List, [], _∷_}

@@ -175,7 +175,8 @@ fn effect_line(l: &[u8]) -> Line
     Line::Effect(j, action, k, direction)
 }
 
-// A line of three numbers, by its kind: `G` relation from to, `T` table member other, `V` event from to; it has n fields.
+// A line of three numbers, by its kind: `G` relation from to, `T` table member other, `V`
+// event from to; it has n fields.
 fn triple_line(l: &[u8], n: usize, kind: usize) -> Line
     requires { ⌜ n ≡ length (split 9 (now l)) ⌝ }
     ensures { λ r. ⌜ (kind ≡ 5 → r ≡ tripleLine Edge (split 9 (now (l .entry))))
@@ -221,7 +222,8 @@ fn pair_line(l: &[u8]) -> Line
     Line::PairBit(t, a, b, c)
 }
 
-// What a line says, by the kind that its first field names. A `T` line has a fifth field where its table has two columns.
+// What a line says, by the kind that its first field names. A `T` line has a fifth field
+// where its table has two columns.
 pub fn parse_line(l: &[u8]) -> Line
     ensures { λ r. ⌜ r ≡ parsed (split 9 (now (l .entry))) ⌝ }
 {

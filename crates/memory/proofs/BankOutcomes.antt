@@ -12,7 +12,7 @@ use Rattle.memory.specs.Checks.{goodMemory, goodRelations}
 use Rattle.memory.specs.Outcome.{Outcome, shortBanks, goodBanks, banksCheck, banksOpen, banksRevise}
 use Rattle.memory.specs.Outcome.Outcome.{passed, failed}
 
--- 6, 7 and 8 in this order, and then what comes after them
+-- 6, 7 and 8 in this order, and then what comes after them.
 abbrev way : (short terms banks : Bool) → Outcome → Outcome
 way s g b o = cond s (failed 6 0) (cond (not g) (failed 7 0) (cond (not b) (failed 8 0) o))
 
@@ -24,7 +24,7 @@ either false b e = (refl, e)
 either true b e = absurd (true≢false e)
 
 module _ (terms relations own other : List ℕ) where
-  -- memory that is long enough
+  -- Memory that is long enough.
   pub banks-long : short terms relations own other ≡ false →
       (termsWords ≤ length terms) × (relationWords ≤ length relations) × (ownWords ≤ length own) × (ownWords ≤ length other)
   banks-long e =

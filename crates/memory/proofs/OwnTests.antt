@@ -29,14 +29,14 @@ under : (x : Bool) {y z : Bool} → (x ≡ true → y ≡ z) → x ⇒ y ≡ x �
 under true e = e refl
 under false e = refl
 
--- w has the words of r first, and then those of o
+-- w has the words of r first, and then those of o.
 module _ (T : Terms) (g : Good T) (w r o : List ℕ) (first : (i : ℕ) → i < relationWords → getD w i 0 ≡ getD r i 0)
     (then : (i : ℕ) → i < ownWords → getD w (relationWords + i) 0 ≡ getD o i 0) where
   table : (t a : ℕ) → t < 32 → a < 64 → getD w (tableAt t a) 0 ≡ getD o (64 * t + a) 0
   table t a tl al =
       ap (λ i. getD w i 0) (let e : tableAt t a ≡ relationWords + (64 * t + a) = omega arith in e) ∙ then (64 * t + a) (omega arith)
 
-  pub good-apart : goodState T w ≡ goodRelations T r && goodOwn T o
+  good-apart : goodState T w ≡ goodRelations T r && goodOwn T o
   unfolding goodState goodOwn goodRelations every
   good-apart =
       ap₂ _&&_ (all-cong 16 (λ k kl. all-cong 64 (λ a al. ap (fits (T .members) (ltb k (T .relations)) a) (first (relationAt k a) (omega arith)))))
@@ -46,14 +46,14 @@ module _ (T : Terms) (g : Good T) (w r o : List ℕ) (first : (i : ℕ) → i < 
       (omega (arith, number-lt (T .entry) n (T .entries) nl past, g .few-tables)) al))))))
       (ap (λ v. goodEvent T v && true) (then 2048 (omega arith)))))
 
--- a state, and the part of it from the tables on
+-- A state, and the part of it from the tables on.
 pub good-state-apart : (T : Terms) → Good T → (w : List ℕ) → goodState T w ≡ goodRelations T w && goodOwn T (take ownWords (drop relationWords w))
 good-state-apart T g w =
     good-apart T g w w (take ownWords (drop relationWords w)) (λ i h. refl)
     (λ i h. sym (getD-take ownWords (drop relationWords w) i 0 h ∙ getD-drop relationWords w i 0))
 
--- relations and own words that are lent apart
-pub good-joined-apart : (T : Terms) → Good T → (r o : List ℕ) → relationWords ≤ length r →
+-- Relations and own words that are lent apart.
+good-joined-apart : (T : Terms) → Good T → (r o : List ℕ) → relationWords ≤ length r →
     goodState T (joined r o) ≡ goodRelations T r && goodOwn T o
 good-joined-apart T g r o l =
     good-apart T g (joined r o) r o
@@ -63,7 +63,7 @@ good-joined-apart T g r o l =
     long : length (take relationWords r) ≡ relationWords
     long = length-take-le relationWords r l
 
--- both banks: the relations are looked at once
+-- Both banks: the relations are looked at once.
 pub good-banks : (T : Terms) → Good T → (r o p : List ℕ) → relationWords ≤ length r → {a b c : Bool} →
     a ≡ goodRelations T r → b ≡ goodOwn T o → c ≡ goodOwn T p → a && (b && c) ≡ goodBanks T r o p
 good-banks T g r o p l {a} {b} {c} ea eb ec =

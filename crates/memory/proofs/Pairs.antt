@@ -75,7 +75,7 @@ permitting-all n i s q d h k =
     turned false true false c = refl
     turned false false b c = refl
 
--- a word of such a table keeps the layout exactly when it has permitted bits only
+-- A word of such a table keeps the layout exactly when it has permitted bits only.
 pair-fits : (N i w permitted : ℕ) → w < 2 ^ 64 → ((k : ℕ) → bit permitted k ≡ insidePair N i k) → eqb w (bitAnd w permitted) ≡ pairFits N i w
 pair-fits N i w permitted l h =
     sym (bool-iff _ _
@@ -90,7 +90,7 @@ pair-fits N i w permitted l h =
         go true q = h k ∙ implied (bit w k) _ (all-out 64 (λ k. bit w k ⇒ insidePair N i k) e k (bit-below w 64 k l q)) q
         go false q = refl
 
--- words in the same place of their members' four may have the same bits
+-- Words in the same place of their members' four may have the same bits.
 pub word-fits : (N i j w permitted : ℕ) → i / 4 < N → i % 4 ≡ j → w < 2 ^ 64 → ((k : ℕ) → bit permitted k ≡ insidePair N j k) →
     eqb w (bitAnd w permitted) ≡ pairFits N i w
 word-fits N i j w permitted h e l p = pair-fits N i w permitted l (λ k. p k ∙ same k)
@@ -100,13 +100,13 @@ word-fits N i j w permitted h e l p = pair-fits N i w permitted l (λ k. p k ∙
         ap₂ _&&_ (lt-ltb (j / 4) N (omega arith) ∙ sym (lt-ltb (i / 4) N h))
         (ap (λ m. ltb (4 * m + k / 16) N && (ltb (k % 16) N && ltb k 64)) (let q : j % 4 ≡ i % 4 = omega arith in q))
 
--- a word of no member has no bits
+-- A word of no member has no bits.
 word-none : (N i w : ℕ) → N ≤ i / 4 → w < 2 ^ 64 → eqb w 0 ≡ pairFits N i w
 word-none N i w h l =
     ap (eqb w) (let z : 0 ≡ bitAnd w 0 = omega (arith, and-le-r w 0) in z)
     ∙ pair-fits N i w 0 l (λ k. bit-zero k ∙ sym (ap (λ b. b && (ltb (4 * (i % 4) + k / 16) N && (ltb (k % 16) N && ltb k 64))) (le-ltb (i / 4) N h)))
 
--- one turn: the four words of a member
+-- One turn: the four words of a member.
 pub pairs-turn : (a : ℕ) (p : ℕ → Bool) (off o0 o1 o2 o3 : ℕ) → eqb o0 0 ≡ p (4 * a) → eqb o1 0 ≡ p (4 * a + 1) → eqb o2 0 ≡ p (4 * a + 2) →
     eqb o3 0 ≡ p (4 * a + 3) → eqb off 0 ≡ allBelow (4 * a) p → eqb (bitOr o3 (bitOr o2 (bitOr o1 (bitOr o0 off)))) 0 ≡ allBelow (4 * (a + 1)) p
 pairs-turn a p off o0 o1 o2 o3 e0 e1 e2 e3 h =

@@ -1,4 +1,5 @@
-// The most members, relations, events, entries, past-time tables, effects of an event, and variables that there may be, and the most that `many` asks for (docs/SCOPE.md, The terms file).
+// The most members, relations, events, entries, past-time tables, effects of an event, and variables that there may be,
+// and the most that `many` asks for (docs/SCOPE.md, The terms file).
 pub const MEMBERS: usize = 64;
 
 pub const RELATIONS: usize = 16;

@@ -1,4 +1,5 @@
--- The moment that a request over two banks makes, from the effects on the shared relations: in the bank that was asked with its event edge, in the other without one.
+-- The moment that a request over two banks makes, from the effects on the shared relations: in the bank that was asked
+-- with its event edge, in the other without one.
 use Prim.Native.Nat.{ℕ}
 use mathlib.Core.Path.{_≡_, sym, subst}
 use mathlib.Core.Bool.{Bool, true, false, cond}
@@ -10,7 +11,7 @@ use Rattle.deciding.specs.private.Moving.{Becomes, prevMoved, sinceMoved, allAf
 use Rattle.banking.specs.Banks.{quiet}
 use Rattle.banking.specs.private.Beside.{hushed}
 
--- the effects, if the request is granted
+-- The effects, if the request is granted.
 abbrev pub affectedIf : (granted : Bool) → (j u v : ℕ) → Terms → State → State
 affectedIf g j u v T S = cond g (allAffected j u v T S) S
 
@@ -20,7 +21,7 @@ made-effects {terms} {m} {m'} j u v e p = subst (λ (c : Bool). Becomes terms (a
 pub no-effects : {terms m : List ℕ} {g : Bool} (j u v : ℕ) → g ≡ false → Becomes terms (affectedIf g j u v) m m
 no-effects {terms} {m} j u v e = subst (λ (c : Bool). Becomes terms (affectedIf c j u v) m m) (sym e) (record { each = λ S rest has. has })
 
--- then the event edge, or none
+-- Then the event edge, or none.
 pub entered-by : {terms m m₁ m₂ : List ℕ} (g : Bool) (j u v : ℕ) → Becomes terms (affectedIf g j u v) m m₁ → Becomes terms (evented (occurring g j u v)) m₁ m₂
     → Becomes terms (entered g j u v) m m₂
 entered-by true j u v p q = record { each = λ S rest has. q .each _ rest (p .each S rest has) }
@@ -31,7 +32,7 @@ pub hushed-by : {terms m m₁ m₂ : List ℕ} (g : Bool) (j u v : ℕ) → Beco
 hushed-by true j u v p q = record { each = λ S rest has. q .each _ rest (p .each S rest has) }
 hushed-by false j u v p q = record { each = λ S rest has. q .each _ rest (p .each S rest has) }
 
--- the steps to the next moment
+-- The steps to the next moment.
 pub stepped-quietly : {terms m m₁ m₂ m₃ : List ℕ} (g : Bool) (j u v : ℕ) → Becomes terms prevMoved m m₁ → Becomes terms (hushed g j u v) m₁ m₂ → Becomes terms sinceMoved m₂ m₃
     → Becomes terms (λ T S. advance T S (quiet (made T (S .now) g j u v))) m m₃
 unfolding advance

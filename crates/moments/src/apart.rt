@@ -1,4 +1,5 @@
-// The sweeps over the tables where relations and own words are lent apart, as two banks lend them. (Of one state they cannot be lent apart: `moment` has the sweeps over that.)
+// The sweeps over the tables where relations and own words are lent apart, as two banks lend them. (Of one state they
+// cannot be lent apart: `moment` has the sweeps over that.)
 ghost use mathlib.Core.Path.{_≡_};
 ghost use mathlib.Core.Bool.{true};
 ghost use mathlib.Core.List.{List, _++_};
@@ -74,7 +75,8 @@ pub fn since_turn(
     }
 }
 
-// Moves every prev table on, from the highest entry down: a table reads only those of lower entries, which are still old.
+// Moves every prev table on, from the highest entry down: a table reads only those of
+// lower entries, which are still old.
 pub(crate) fn move_prev(
     terms: &[u16],
     plan: &[u16],
@@ -95,7 +97,8 @@ pub(crate) fn move_prev(
     }
 }
 
-// Moves every since table on, from the lowest entry up: a table reads only those of lower entries, which are moved already.
+// Moves every since table on, from the lowest entry up: a table reads only those of lower
+// entries, which are moved already.
 pub(crate) fn move_since(
     terms: &[u16],
     plan: &[u16],

@@ -1,4 +1,5 @@
-// The next moment of two banks, in place: the prev tables of both, the moment itself, the since tables of both. In the bank beside the moment has no event edge.
+// The next moment of two banks, in place: the prev tables of both, the moment itself, the since tables of both. In the
+// bank beside the moment has no event edge.
 ghost use mathlib.Core.Path.{_≡_};
 ghost use mathlib.Core.Bool.{true};
 ghost use mathlib.Core.List.{_++_};
@@ -143,8 +144,9 @@ fn move_shared(
     );
 }
 
-// The same, without a memo where that is brief. The rows are the first words of scratch; where there are more, it calls itself with the rows
-// alone, and leaves all of them 0. (Since this calls itself, the compiler does not take the memo of `move_shared` into its frame.)
+// The same, without a memo where that is brief. The rows are the first words of scratch; where there are more, it calls
+// itself with the rows alone, and leaves all of them 0. (Since this calls itself, the compiler does not take the memo
+// of `move_shared` into its frame.)
 fn move_on(
     terms: &[u16],
     plan: &[u16],
@@ -211,7 +213,8 @@ fn move_on(
     }
 }
 
-// Both banks at the moment that a request makes, granted or denied, in place; the named words of both scratches are left 0.
+// Both banks at the moment that a request makes, granted or denied, in place; the named
+// words of both scratches are left 0.
 pub fn next_moments(
     terms: &[u16],
     plan: &[u16],

@@ -1,9 +1,8 @@
 // From one moment to the next, in place: the prev tables, the moment itself, the since tables.
 ghost use mathlib.Core.Path.{_≡_};
-ghost use mathlib.Core.Bool.{true, cond};
+ghost use mathlib.Core.Bool.{true};
 ghost use mathlib.Core.List.{_++_};
 ghost use Prim.Native.Nat.{_+_, _*_, _<_, _≤_};
-ghost use lib.Dec.{ltb};
 ghost use lib.ListN.{length, getD, drop, replicate};
 ghost use Rattle.theory.specs.Limits.{scratchWords};
 ghost use Rattle.memory.specs.Layout.{termsWords, stateWords, blockWords, termsOf, stateOf, wordsOf};
@@ -11,8 +10,8 @@ ghost use Rattle.memory.specs.Checks.{goodMemory, goodState, goodRelations};
 ghost use Rattle.theory.specs.Tables.{named, opening, decideNow, made, advance};
 ghost use Rattle.memory.specs.Plan.{planTable, Planned};
 ghost use Rattle.calls.specs.Telling.{holdsAt};
-ghost use Rattle.deciding.specs.private.Memo.{MemoOf, Above, Fresh};
-ghost use Rattle.deciding.specs.private.Moving.{Movable, Becomes, put, prevAt, prevMoved, entered, sinceAt, sinceMoved};
+ghost use Rattle.deciding.specs.private.Memo.{MemoOf, Fresh};
+ghost use Rattle.deciding.specs.private.Moving.{Movable, Becomes, put, prevAt, prevMoved, sinceAt, sinceMoved};
 use crate::apart::renew;
 use crate::effects::enter;
 use decide::memo;
@@ -154,7 +153,8 @@ fn since_turn(
     }
 }
 
-// Moves every prev table on, from the highest entry down: a table reads only those of lower entries, which are still old.
+// Moves every prev table on, from the highest entry down: a table reads only those of
+// lower entries, which are still old.
 fn move_prev(terms: &[u16], plan: &[u16], state: &mut [u64], memo: &mut [u64], rows: &mut [u64])
     requires { ⌜ Movable (now terms) (now plan) (now state) × (length (now rows) ≡ blockWords) ⌝ }
     ensures { λ _. ⌜ Becomes (now (terms .entry)) prevMoved (now (state .entry)) (now (state .exit)) ⌝ }
@@ -168,7 +168,8 @@ fn move_prev(terms: &[u16], plan: &[u16], state: &mut [u64], memo: &mut [u64], r
     }
 }
 
-// Moves every since table on, from the lowest entry up: a table reads only those of lower entries, which are moved already.
+// Moves every since table on, from the lowest entry up: a table reads only those of lower
+// entries, which are moved already.
 fn move_since(terms: &[u16], plan: &[u16], state: &mut [u64], memo: &mut [u64], rows: &mut [u64])
     requires { ⌜ Movable (now terms) (now plan) (now state) × (length (now rows) ≡ blockWords) ⌝ }
     ensures { λ _. ⌜ Becomes (now (terms .entry)) sinceMoved (now (state .entry)) (now (state .exit)) ⌝ }

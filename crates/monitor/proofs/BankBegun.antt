@@ -34,14 +34,14 @@ module _ (terms relations first second : List ℕ) (e : banksOpen terms relation
   front : length (take relationWords relations) ≡ relationWords
   front = length-take-le relationWords relations (banks-opened terms relations first second e .banks-long .relations-long)
 
-  -- own words with which the relations are the words of moment 0
+  -- Own words with which the relations are the words of moment 0.
   pub opened-own : (own own' : List ℕ) → ownWords ≤ length own → take relationWords relations ++ own' ≡ words ++ drop ownWords own →
       own' ≡ ownOpened terms relations first second own
   opened-own own own' l w =
       sym (drop-at (take relationWords relations) own' relationWords front) ∙ ap (drop relationWords) w
       ∙ drop-append-le relationWords words (drop ownWords own) (omega (arith, long)) ∙ sym (own-opened terms relations first second e own l)
 
-  -- the second bank's own words are those of the first
+  -- The second bank's own words are those of the first.
   pub opened-copy : {first' ys : List ℕ} → first' ≡ ownOpened terms relations first second first →
       ys ≡ take (length (take ownWords second)) first' → putMid 0 ownWords second ys ≡ ownOpened terms relations first second second
   opened-copy {first'} {ys} f q =
@@ -111,7 +111,7 @@ module _ (old relations first second new edges third fourth : List ℕ) where
             same = z;
           }
 
-  -- a bank under old terms that passes, with the plans of both terms
+  -- A bank under old terms that passes, with the plans of both terms.
   module _ (e : passed ≡ gives) {before plan : List ℕ} (b : Planned (termsOf old) before) (p : Planned (termsOf new) plan) where
     pub revising : (own : List ℕ) → ownWords ≤ length own → goodState (termsOf old) (joined relations own) ≡ true → Revising old before (joined relations own) new plan
     revising own l g =
@@ -141,7 +141,7 @@ module _ (old relations first second new edges third fourth : List ℕ) where
   unfolding ownRevised
   own-begun e own own' = rw (sym e)
 
-  -- the relations carry over as they are
+  -- The relations carry over as they are.
   pub edges-begun : passed ≡ gives → take relationWords relations ≡ take relationWords (begunWords old relations first new) →
       {ys : List ℕ} → ys ≡ take (length (take relationWords edges)) relations →
       putMid 0 relationWords edges ys ≡ relationsRevised old relations first second new edges third fourth
@@ -151,7 +151,7 @@ module _ (old relations first second new edges third fourth : List ℕ) where
       q ∙ ap (λ (k : ℕ). take k relations) (length-take-le relationWords edges (revised-says e .edges-long)) in
       ap (λ (x : List ℕ). x ++ drop relationWords edges) (copied ∙ c) ∙ rw (sym e)
 
--- own words with which the relations are the words w, put back before further ones
+-- Own words with which the relations are the words w, put back before further ones.
 pub own-begins : (relations part w second : List ℕ) → relationWords ≤ length relations → take relationWords relations ++ part ≡ w →
     (putMid 0 ownWords second part ≡ drop relationWords w ++ drop ownWords second) × (take relationWords relations ≡ take relationWords w)
 own-begins relations part w second l e =

@@ -25,7 +25,7 @@ module _ (t relations own other scratch spare : List ℕ) (j u v : ℕ) where
   abbrev answer : Answer
   answer = bankAnswer t relations own other scratch spare j u v
 
-  -- a number of 1 is a grant
+  -- A number of 1 is a grant.
   one-granted : gainOf (numberOf answer) ≡ cond (granted answer) 1 0
   unfolding gainOf
   one-granted =
@@ -36,7 +36,7 @@ module _ (t relations own other scratch spare : List ℕ) (j u v : ℕ) where
 
 -- ---- the loop
 
--- relations, own words, the other bank's, scratch and spare
+-- Relations, own words, the other bank's, scratch and spare.
 abbrev pub Mem : Type 0
 Mem = List ℕ × (List ℕ × (List ℕ × (List ℕ × (List ℕ × Unit {0}))))
 
@@ -54,7 +54,7 @@ module _ (t : List ℕ) where
     (of (ownAfter t) m r, (of (otherAfter t) m r, (of (clearedAfter t) m r (m .1 .1 .1 .0), (of (clearedAfter t) m r (m .1 .1 .1 .1 .0), tt)))),
   )
 
-  -- what `step` ensures of the record e
+  -- What `step` ensures of the record e.
   abbrev pub Said : Mem → Record → ℕ → Mem → Type 0
   Said m e r m′ =
       (r ≡ numberOf (ask m e)) × (m′ .0 ≡ of (relationsAfter t) m e) × (m′ .1 .0 ≡ of (ownAfter t) m e) × (m′ .1 .1 .0 ≡ of (otherAfter t) m e)

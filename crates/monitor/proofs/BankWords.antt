@@ -20,20 +20,20 @@ module _ (r o w : List ℕ) (e : joined r o ≡ w) (l : length w ≡ stateWords)
       sym (length-append (take relationWords r) (take ownWords o)) ∙ ap length e ∙ l in
       omega (arith, both, length-take relationWords r, length-take ownWords o)
 
-  pub front-words : take relationWords r ≡ take relationWords w
+  front-words : take relationWords r ≡ take relationWords w
   front-words = sym (ap (take relationWords) (sym e) ∙ take-at (take relationWords r) (take ownWords o) relationWords front-long)
 
-  pub back-words : take ownWords o ≡ drop relationWords w
+  back-words : take ownWords o ≡ drop relationWords w
   back-words = sym (ap (drop relationWords) (sym e) ∙ drop-at (take relationWords r) (take ownWords o) relationWords front-long)
 
-  -- with the further words
-  pub relations-left : (r₀ : List ℕ) → drop relationWords r ≡ drop relationWords r₀ → r ≡ take relationWords w ++ drop relationWords r₀
+  -- With the further words.
+  relations-left : (r₀ : List ℕ) → drop relationWords r ≡ drop relationWords r₀ → r ≡ take relationWords w ++ drop relationWords r₀
   relations-left r₀ f = sym (take-append-drop relationWords r) ∙ ap₂ _++_ front-words f
 
-  pub own-left : (o₀ : List ℕ) → drop ownWords o ≡ drop ownWords o₀ → o ≡ drop relationWords w ++ drop ownWords o₀
+  own-left : (o₀ : List ℕ) → drop ownWords o ≡ drop ownWords o₀ → o ≡ drop relationWords w ++ drop ownWords o₀
   own-left o₀ f = sym (take-append-drop ownWords o) ∙ ap₂ _++_ back-words f
 
--- what a request that makes a moment leaves
+-- What a request that makes a moment leaves.
 module _ (terms relations own other scratch spare : List ℕ) (j u v : ℕ) (k : bankMoves terms relations own other scratch spare j u v ≡ true) where
   pub moved-after : {g : Bool} {r o p : List ℕ} → g ≡ granted (bankAnswer terms relations own other scratch spare j u v) →
       Moved terms g j u v relations own other r o p →

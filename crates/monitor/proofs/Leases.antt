@@ -1,5 +1,5 @@
 -- Several `&mut [T]` that a function holds, lent together for a call. It says nothing of this crate.
---     Lease                       a slice that is held: its lifetime, the share of its token, its name, its place and its count
+--     Lease                       a slice that is held: its lifetime, its token's share, its name, place and count
 --     Holds                       the slices at the lists m, each with its token
 --     lends-all                   they are lent one by one (`lend`), each for a lifetime of the call
 --     again, gives-all            as `&mut`, and come back at the lists z that the call left
@@ -38,7 +38,7 @@ ref L δ ys = record { ptr = (L .b, L .o); name = δ; now = ys }
 abbrev pub val : Lease → Val
 val L = sliceVal (L .b, L .o) (L .n)
 
--- a name and a lifetime of the call for each
+-- A name and a lifetime of the call for each.
 abbrev pub Names : List Lease → Type 0
 Names [] = Unit {0}
 Names (L ∷ Ls) = (ℕ × GName) × Names Ls
@@ -67,7 +67,7 @@ module _ (R : RattleType) where
   Rooms [] = Unit {0}
   Rooms (L ∷ Ls) = Room R (L .n) × Rooms Ls
 
-  -- what a function's tokens and parameters are, before Z
+  -- What a function's tokens and parameters are, before Z.
   abbrev pub Toks : Fml → List Lease → Fml
   Toks Z [] = Z
   Toks Z (L ∷ Ls) = fsep (flft (L .κ) (L .q)) (Toks Z Ls)
@@ -76,7 +76,7 @@ module _ (R : RattleType) where
   Owns Z [] m = Z
   Owns Z (L ∷ Ls) m = fsep (own L (m .0)) (Owns Z Ls (m .1))
 
-  -- what the call is handed, before Z, and what is kept meanwhile, by what one slice gives
+  -- What the call is handed, before Z, and what is kept meanwhile, by what one slice gives.
   module _ (one : Lease → ℕ × GName → List (R .Denot) → Fml) where
     abbrev pub Lent : Fml → (Ls : List Lease) → Names Ls → Lists Ls → Fml
     Lent Z [] p m = Z
@@ -86,7 +86,7 @@ module _ (R : RattleType) where
     Kept [] p m = ftrue
     Kept (L ∷ Ls) p m = fsep (one L (p .0) (m .0)) (Kept Ls (p .1) (m .1))
 
-  -- what the call says of the lists z that it leaves, before Z
+  -- What the call says of the lists z that it leaves, before Z.
   abbrev pub Lasts : Fml → (Ls : List Lease) → Names Ls → (m z : Lists Ls) → Fml
   Lasts Z [] p m z = Z
   Lasts Z (L ∷ Ls) p m z = fsep (fsep (finally R (p .0 .1) (z .0)) (feq ℕ (length (z .0)) (length (m .0)))) (Lasts Z Ls (p .1) (m .1) (z .1))
@@ -119,10 +119,10 @@ module _ (R : RattleType) where
         lends-all Z (L ∷ Ls) m l =
             qed W (‵ (Holds (L ∷ Ls) m) ∷ ‵ Z ∷ []) ∵ updating ! $ fsplit ! $ fsplit ! $
             use2 W (later (some (λ (p : ℕ × GName). (‵ (flft (p .0 ∷ []) fullShare) ⊛ ‵ (lent L p (m .0))) ⊛ ‵ (kept L p (m .0))))) (lend L (m .0) (l .0)) $ await ! tt $ pick ! (λ p. split ! $ split ! $
-            -- [the token; the slice; what is kept; the others; Z]
+            -- [the token; the slice; what is kept; the others; Z].
             move ! (3 ∷ 4 ∷ []) $
             use2 W (later (some (λ (ps : Names Ls). ‵ (Tokens Ls ps) ⊛ (‵ (Lent lent Z Ls ps (m .1)) ⊛ ‵ (Kept kept Ls ps (m .1)))))) (lends-all Z Ls (m .1) (l .1)) $ await ! tt $ pick ! (λ ps. split ! $ move ! (1 ∷ []) $ split ! $
-            -- [the others; what is kept of them; their tokens; the token; the slice; what is kept]
+            -- [the others; what is kept of them; their tokens; the token; the slice; what is kept].
             at-once ! $ show ! (Gone Z (L ∷ Ls) m) (p, ps) $
             move ! (3 ∷ 2 ∷ []) $ fjoin ! $ frame ! $ move ! (2 ∷ 0 ∷ []) $ fjoin ! $ frame ! $ move ! (1 ∷ 0 ∷ []) $ fjoin ! $ done !))
 
@@ -136,7 +136,7 @@ module _ (R : RattleType) where
     gives-all Z (L ∷ Ls) p m z r l =
         qed W (‵ (Tokens (L ∷ Ls) p) ∷ ‵ (Kept kept-again (L ∷ Ls) p m) ∷ ‵ (Lasts Z (L ∷ Ls) p m z) ∷ []) ∵ updating ! $
         fsplit ! $ move ! (2 ∷ []) $ fsplit ! $ move ! (4 ∷ []) $ fsplit ! $ fsplit ! $ move ! (1 ∷ []) $ feqL ! (λ len.
-        -- [the last value; the others'; what is kept; the others'; the token; the others']
+        -- [the last value; the others'; what is kept; the others'; the token; the others'].
         move ! (4 ∷ 2 ∷ 0 ∷ []) $ use3 W (later (‵ (own L (z .0)) ⊛ ‵ (flft (L .κ) (L .q))))
         (gives-slice R (L .κ) (L .q) (L .γ) (L .b) (L .o) 𝓤 H A W (named 0) (named 0) (m .0) (L .n) (l .0) (p .0 .0) (p .0 .1) (z .0) (r .0) len) $ await ! tt $ split ! $
         move ! (4 ∷ 3 ∷ 2 ∷ []) $ use3 W (later (given (Long Ls (z .1)) (‵ (Holds Ls (z .1))))) (gives-all Z Ls (p .1) (m .1) (z .1) (r .1) (l .1)) $ await ! tt $ learn ! (λ long.
@@ -151,7 +151,7 @@ module _ (R : RattleType) where
     shared-back-all [] p m r l = qed W (‵ ftrue ∷ ‵ ftrue ∷ []) ∵ updating ! $ at-once ! $ keep ! (0 ∷ []) $ done !
     shared-back-all (L ∷ Ls) p m r l =
         qed W (‵ (Tokens (L ∷ Ls) p) ∷ ‵ (Kept kept-shared (L ∷ Ls) p m) ∷ []) ∵ updating ! $ fsplit ! $ move ! (2 ∷ []) $ fsplit ! $
-        -- [what is kept; the others'; the token; the others']
+        -- [what is kept; the others'; the token; the others'].
         move ! (2 ∷ 0 ∷ []) $ use2 W (later (‵ (own L (m .0)) ⊛ ‵ (flft (L .κ) (L .q))))
         (shared-back R (L .κ) (L .q) (L .γ) (L .b) (L .o) 𝓤 H A W (named 0) (named 0) (m .0) (L .n) (l .0) (p .0 .0) (r .0)) $ await ! tt $ split ! $
         move ! (3 ∷ 2 ∷ []) $ use2 W (later (‵ (Holds Ls (m .1)))) (shared-back-all Ls (p .1) (m .1) (r .1) (l .1)) $ await ! tt $
@@ -161,7 +161,7 @@ module _ (R : RattleType) where
     holds-all Z Z′ [] m = qed W (‵ Z ∷ ‵ Z′ ∷ []) ∵ nothing ! $ done !
     holds-all Z Z′ (L ∷ Ls) m =
         qed W (‵ (Toks Z (L ∷ Ls)) ∷ ‵ (Owns Z′ (L ∷ Ls) m) ∷ []) ∵ fsplit ! $ move ! (2 ∷ []) $ fsplit ! $
-        -- [the slice; the others; the token; the others']
+        -- [the slice; the others; the token; the others'].
         move ! (3 ∷ 1 ∷ []) $ use2 W (‵ (Holds Ls (m .1)) ⊛ (‵ Z ⊛ ‵ Z′)) (holds-all Z Z′ Ls (m .1)) $ split ! $
         move ! (2 ∷ 3 ∷ []) $ fjoin ! $ move ! (0 ∷ 1 ∷ []) $ fjoin ! $ frame ! $ split ! $ done !
 
@@ -170,5 +170,5 @@ module _ (R : RattleType) where
     held-all Z Z′ (L ∷ Ls) m =
         qed W (‵ (Holds (L ∷ Ls) m) ∷ ‵ Z ∷ ‵ Z′ ∷ []) ∵ fsplit ! $ fsplit ! $ move ! (2 ∷ 3 ∷ 4 ∷ []) $
         use3 W (‵ (Toks Z Ls) ⊛ ‵ (Owns Z′ Ls (m .1))) (held-all Z Z′ Ls (m .1)) $ split ! $
-        -- [the others' tokens; the others; the slice; its token]
+        -- [the others' tokens; the others; the slice; its token].
         move ! (3 ∷ 0 ∷ []) $ fjoin ! $ frame ! $ move ! (1 ∷ 0 ∷ []) $ fjoin ! $ done !

@@ -1,6 +1,7 @@
--- The loop of a set list, with no program and no memory in it: what holds of the index, the count, the records and what is left of the memory at the loop's head,
--- that a turn keeps it, and what it says at the end. It is over what an answer is (`ask`) and what it leaves (`after`).
-use mathlib.Core.Path.{_≡_, refl, sym, ap, _∙_, subst}
+-- The loop of a set list, with no program and no memory in it: what holds of the index, the count, the records and what
+-- is left of the memory at the loop's head, that a turn keeps it, and what it says at the end. It is over what an
+-- answer is (`ask`) and what it leaves (`after`).
+use mathlib.Core.Path.{_≡_, refl, sym, ap, _∙_}
 use Prim.Native.Nat.{ℕ, suc, _+_, _<_, _≤_, _^_}
 use native.Mathlib.Nat.{zero-add, add-zero, add-assoc}
 use native.Mathlib.Omega.{arith}
@@ -63,7 +64,7 @@ turns-within o n = at (hasPassed o)
     at true = omega arith
     at false = omega arith
 
--- a turn is made only where the checks pass
+-- A turn is made only where the checks pass.
 pub turns-passed : (o : Outcome) (i n : ℕ) → i < turnsOf o n → hasPassed o ≡ true
 unfolding turnsOf
 turns-passed o i n = at (hasPassed o)
@@ -74,7 +75,7 @@ turns-passed o i n = at (hasPassed o)
 
 -- ---- requests one after another
 
--- the records at the end, how many were granted, and what is left of the memory
+-- The records at the end, how many were granted, and what is left of the memory.
 pub record Ran (Mem : Type 0) : Type 0 where
   pub records : List Record
   pub grants : ℕ
@@ -90,7 +91,7 @@ module _ {Mem : Type 0} (ask : Mem → Record → Answer) (after : Mem → Recor
       let later = each (after m r) rs in
       record { records = filled r (ask m r) ∷ later .records; grants = gain m r + later .grants; mem = later .mem }
 
-  -- one record more
+  -- One record more.
   abbrev more : Ran Mem → Record → Ran Mem
   more X z = record { records = X .records ++ (filled z (ask (X .mem) z) ∷ []); grants = X .grants + gain (X .mem) z; mem = after (X .mem) z }
 
@@ -106,7 +107,7 @@ module _ {Mem : Type 0} (ask : Mem → Record → Answer) (after : Mem → Recor
 
   -- ---- the loop, from the records ys₀ and the memory m₀; `Kept` is what else it keeps of the memory
   module _ (ys₀ : List Record) (m₀ : Mem) (Kept : Mem → Type 0) where
-    -- where i records are answered: g were granted, ys are the records, m is what is left of the memory
+    -- Where i records are answered: g were granted, ys are the records, m is what is left of the memory.
     pub record Facts (i g : ℕ) (ys : List Record) (m : Mem) : Type 0 where
       pub before : List Record
       pub done : List Record
@@ -191,7 +192,7 @@ module _ {Mem : Type 0} (ask : Mem → Record → Answer) (after : Mem → Recor
       abbrev lent : Ran Mem
       lent = record { records = ys₀; grants = 0; mem = m₀ }
 
-      -- all records were answered
+      -- All records were answered.
       ran : Facts (length ys₀) g ys m → now ≡ each m₀ ys₀
       ran F = ap (λ (l : List Record). record { records = l; grants = g; mem = m }) ended ∙ F .run ∙ ap (each m₀) all
         where
@@ -207,7 +208,7 @@ module _ {Mem : Type 0} (ask : Mem → Record → Answer) (after : Mem → Recor
           ended : ys ≡ F .done
           ended = F .parts ∙ ap (λ (l : List Record). F .done ++ l) none-left ∙ append-nil (F .done)
 
-      -- none was
+      -- None was.
       stayed : Facts 0 g ys m → now ≡ lent
       unfolding each
       stayed F = λ j. record { records = kept j; grants = begun j .grants; mem = begun j .mem }
@@ -221,7 +222,7 @@ module _ {Mem : Type 0} (ask : Mem → Record → Answer) (after : Mem → Recor
           begun : record { records = F .done; grants = g; mem = m } ≡ each m₀ []
           begun = F .run ∙ ap (each m₀) first
 
-      -- by the outcome of the checks: what is counted, and what is left, as seen in another form
+      -- By the outcome of the checks: what is counted, and what is left, as seen in another form.
       pub counts : (o : Outcome) (k : ℕ) → each m₀ ys₀ .grants ≡ k → Facts (turnsOf o (length ys₀)) g ys m → listing o g ≡ listing o k
       unfolding turnsOf
       counts passed k e F = ap counted (ap (λ (X : Ran Mem). X .grants) (ran F) ∙ e)

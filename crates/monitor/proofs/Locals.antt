@@ -52,7 +52,7 @@ module _ {M : Type 1} (𝓤 : URA M) (H : Heap 𝓤) (A : Atoms 𝓤) (W : Given
   swap : (P Q R : SProp 𝓤) → ent 𝓤 (sep 𝓤 P (sep 𝓤 Q R)) (sep 𝓤 Q (sep 𝓤 P R))
   swap P Q R = qed W (raw P ∷ raw Q ∷ raw R ∷ []) ∵ move ! (1 ∷ []) $ done !
 
-  -- an entry j goes before the list Δ, out of what stands after it
+  -- An entry j goes before the list Δ, out of what stands after it.
   forward : (Δ Γ Γ′ : List (Item 𝓤)) (j : Item 𝓤) → ent 𝓤 (⋆ 𝓤 H A Γ) (sep 𝓤 (mean 𝓤 H A j) (⋆ 𝓤 H A Γ′)) → ent 𝓤 (⋆ 𝓤 H A (Δ ++ Γ)) (⋆ 𝓤 H A (j ∷ (Δ ++ Γ′)))
   forward Δ Γ Γ′ j h =
       via 𝓤 (sep 𝓤 (⋆ 𝓤 H A Δ) (⋆ 𝓤 H A Γ)) (⊢++ 𝓤 H A Δ Γ)

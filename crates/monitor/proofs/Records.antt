@@ -1,4 +1,5 @@
--- A `Record` as an element of a slice: its row, its machine value, what holding one tells of its fields, and where element i lies.
+-- A `Record` as an element of a slice: its row, its machine value, what holding one tells of its
+-- fields, and where element i lies.
 use mathlib.Core.Path.{_≡_, refl, sym}
 use Prim.Native.Nat.{ℕ, _+_, _*_, _<_, _^_}
 use mathlib.Core.List.{List}
@@ -27,19 +28,19 @@ vals = LL.vals T.the-type T′.the-laws
 pub tells : Tells R (Is R) vals
 tells = LL.tells T.the-type T′.the-laws
 
--- the bytes of a record
+-- The bytes of a record.
 abbrev bytes : ℕ
 bytes = 16
 
--- an index in range, times the size of a record, is no overflow
+-- An index in range, times the size of a record, is no overflow.
 pub scaled : (i n : ℕ) → i < n → Room R n → Fits w64 (i * bytes)
 scaled i n l room = scaled-fits i n bytes l (room .1)
 
--- the place of element i is what the code computes
+-- The place of element i is what the code computes.
 pub at-place : (o i : ℕ) → i * bytes + o ≡ place (mem R .size) o i
 at-place o i = sym (place-is bytes o i)
 
--- the record with another answer
+-- The record with another answer.
 abbrev pub put-answer : Record → ℕ → Record
 put-answer r a = record { event = r .event; from = r .from; to = r .to; answer = a }
 

@@ -20,7 +20,7 @@ use Rattle.monitor.proofs.Listing.{Ran, each, turns-passed}
 use Rattle.calls.proofs.ListChecks.{list-ready}
 use Rattle.calls.proofs.OneByOne.{one-granted, AsRequest, after-passed}
 
--- state and scratch
+-- State and scratch.
 abbrev pub Mem : Type 0
 Mem = List ℕ × List ℕ
 
@@ -54,7 +54,7 @@ module _ (t : List ℕ) (ys₀ : List Record) (st₀ sc₀ : List ℕ) (c : Insp
   abbrev outcome : Outcome
   outcome = outcomeOf (c .outcome)
 
-  -- the lengths stay, and memory that has passed the checks passes them
+  -- The lengths stay, and memory that has passed the checks passes them.
   pub record Kept (m : Mem) : Type 0 where
     pub words : length (m .0) ≡ length st₀
     pub scraps : length (m .1) ≡ length sc₀
@@ -66,11 +66,11 @@ module _ (t : List ℕ) (ys₀ : List Record) (st₀ sc₀ : List ℕ) (c : Insp
   pub begins : Facts 0 0 ys₀ st₀ sc₀
   begins = loop.begins (ask t) (after t) ys₀ (st₀, sc₀) Kept (record { words = refl; scraps = refl; ready = passed-all t st₀ sc₀ c seen })
 
-  -- what `step` asks
+  -- What `step` asks.
   pub asks : (i g : ℕ) (ys : List Record) (st sc : List ℕ) → Facts i g ys st sc → i < turnsOf outcome (length ys₀) → Passed t (c .plan) st sc
   asks i g ys st sc F l = F .kept .ready (turns-passed outcome i (length ys₀) l)
 
-  -- what `step` ensures of the record e
+  -- What `step` ensures of the record e.
   abbrev pub Said : List ℕ → List ℕ → Record → ℕ → List ℕ → List ℕ → Type 0
   Said st sc e r st′ sc′ = AsRequest t st sc (e .event) (e .from) (e .to) r st′ sc′
 

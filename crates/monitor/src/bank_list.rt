@@ -1,4 +1,5 @@
-// A set list of a bank: its records are requests of that bank, answered in order. The memory of both banks is checked before any record.
+// A set list of a bank: its records are requests of that bank, answered in order. The memory of both
+// banks is checked before any record.
 ghost use mathlib.Core.Path.{_≡_};
 ghost use Rattle.memory.specs.Outcome.{outcomeOf};
 ghost use Rattle.calls.specs.SetList.{listingOf, numberOf};
@@ -67,7 +68,8 @@ fn step(
     number_of(a)
 }
 
-// Answers the records in order, each as a single request of the bank would be. Where a check of the memory fails, nothing is written.
+// Answers the records in order, each as a single request of the bank would be. Where a check of the
+// memory fails, nothing is written.
 pub fn set_list(
     terms: &[u16],
     relations: &mut [u64],

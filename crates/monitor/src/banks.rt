@@ -1,4 +1,5 @@
-// Two banks over lent memory (docs/SCOPE.md, Two banks): opening, looking, requesting, revising the terms. The bank that is called comes first, and the other beside it.
+// Two banks over lent memory (docs/SCOPE.md, Two banks): opening, looking, requesting, revising the terms. The bank
+// that is called comes first, and the other beside it.
 ghost use mathlib.Core.Path.{_≡_};
 ghost use mathlib.Core.Bool.{true};
 ghost use mathlib.Core.List.{_++_};
@@ -92,7 +93,8 @@ pub fn look(
     )
 }
 
-// Answers a request of the bank. One that makes a moment makes it in both banks, in the other without an event edge, and leaves the named words of both scratches 0. Anything else leaves all memory as lent.
+// Answers a request of the bank. One that makes a moment makes it in both banks, in the other without an event edge,
+// and leaves the named words of both scratches 0. Anything else leaves all memory as lent.
 pub fn request(
     terms: &[u16],
     relations: &mut [u64],
@@ -189,7 +191,8 @@ fn begin_own(
     );
 }
 
-// Gives both banks new terms together: second relations and second own words are filled in. A refusal leaves them as lent.
+// Gives both banks new terms together: second relations and second own words are filled in.
+// A refusal leaves them as lent.
 pub fn revise(
     old: &[u16],
     relations: &[u64],

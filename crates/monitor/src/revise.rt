@@ -1,4 +1,5 @@
-// New terms while playing (docs/SCOPE.md, New terms): a second state is filled in for them from the old one. Its tables are filled in over relations and own words apart, of one state or of a bank.
+// New terms while playing (docs/SCOPE.md, New terms): a second state is filled in for them from the old one. Its tables
+// are filled in over relations and own words apart, of one state or of a bank.
 ghost use mathlib.Core.Path.{_≡_};
 ghost use mathlib.Core.List.{[], _++_};
 ghost use Prim.Native.Nat.{_+_, _*_, _<_, _≤_};
@@ -50,8 +51,9 @@ fn take_table(before: &[u16], own: &[u64], plan: &[u16], second: &mut [u64], k: 
     put_table(plan, second, &own[t..t + ROWS], n);
 }
 
-// Fills in the table of new entry n, if that is a prev or a since: with the table of the first old entry with the same formula; or else a prev stays empty, and a since is what its second
-// operand is now, which the since sweep makes of an empty table.
+// Fills in the table of new entry n, if that is a prev or a since: with the table of the first old entry with
+// the same formula; or else a prev stays empty, and a since is what its second operand is now, which the since
+// sweep makes of an empty table.
 fn start_turn(
     old: &[u16],
     before: &[u16],
@@ -172,7 +174,8 @@ fn start_shared(
     );
 }
 
-// The own words that the new terms begin with: the event word carries over, and the tables, empty at first, are filled in.
+// The own words that the new terms begin with: the event word carries over, and the tables,
+// empty at first, are filled in.
 pub(crate) fn begin(
     old: &[u16],
     before: &[u16],
@@ -219,7 +222,8 @@ pub(crate) fn begin(
     }
 }
 
-// From old terms, the state under them and new terms, fills in the second state, with which the new terms go on. A refusal leaves it as lent.
+// From old terms, the state under them and new terms, fills in the second state, with which the new terms go
+// on. A refusal leaves it as lent.
 pub fn revise(old: &[u16], state: &[u64], new: &[u16], second: &mut [u64]) -> Outcome
     ensures { λ r. ⌜ outcomeOf r ≡ revises (now (old .entry)) (now (state .entry)) (now (new .entry)) (now (second .entry)) ⌝ }
     ensures { λ r. ⌜ now (second .exit) ≡ revisedState (now (old .entry)) (now (state .entry)) (now (new .entry)) (now (second .entry)) ⌝ }

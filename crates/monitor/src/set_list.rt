@@ -1,4 +1,5 @@
-// A set list: a lent list of request records, answered in order. Terms, state and scratch are checked once, before any record.
+// A set list: a lent list of request records, answered in order. Terms, state and scratch are
+// checked once, before any record.
 ghost use mathlib.Core.Path.{_≡_};
 ghost use Rattle.memory.specs.Outcome.{outcomeOf};
 ghost use Rattle.calls.specs.Monitor.{answer, stateAfter, scratchAfter};
@@ -69,7 +70,8 @@ fn finish(inspected: Inspected, count: usize) -> Listed
     lists::finish(outcome, count)
 }
 
-// Answers the records in order, each as a single request would be. Where a check of terms, state or scratch fails, nothing is written.
+// Answers the records in order, each as a single request would be. Where a check of terms, state or
+// scratch fails, nothing is written.
 pub fn set_list(
     terms: &[u16],
     state: &mut [u64],

@@ -28,24 +28,24 @@ use Rattle.deciding.proofs.Stored.{copied, put-back}
 pub stand-long : (at : ℕ) (w : List ℕ) → at + stateWords ≤ length w → length (standing at w) ≡ stateWords
 stand-long at w h = length-take-le stateWords (drop at w) (rw (length-drop at w) (omega arith))
 
--- the part that is lent is the state that stands there
+-- The part that is lent is the state that stands there.
 pub part-stands : (at : ℕ) (w : List ℕ) → take (at + stateWords - at) (drop at w) ≡ standing at w
 part-stands at w = let n : at + stateWords - at ≡ stateWords = omega arith in ap (λ n. take n (drop at w)) n
 
 pub spared-none : (at : ℕ) (w : List ℕ) → Spared at w w
 spared-none at w = record { long = refl; before = refl }
 
-pub spared-on : {at : ℕ} {w w₁ w₂ : List ℕ} → Spared at w w₁ → Spared at w₁ w₂ → Spared at w w₂
+spared-on : {at : ℕ} {w w₁ w₂ : List ℕ} → Spared at w w₁ → Spared at w₁ w₂ → Spared at w w₂
 spared-on p q = record { long = q .long ∙ p .long; before = q .before ∙ p .before }
 
-pub spared-less : (at b : ℕ) {w w' : List ℕ} → at ≤ b → Spared b w w' → Spared at w w'
+spared-less : (at b : ℕ) {w w' : List ℕ} → at ≤ b → Spared b w w' → Spared at w w'
 spared-less at b {w} {w'} l p = record {
   long = p .long;
   before = sym (take-take at b w' l) ∙ ap (take at) (p .before) ∙ take-take at b w l;
 }
 
--- a state stands in the words that are spared
-pub stand-spared : (at : ℕ) (w w' : List ℕ) → at + stateWords ≤ length w → Spared (at + stateWords) w w' → standing at w' ≡ standing at w
+-- A state stands in the words that are spared.
+stand-spared : (at : ℕ) (w w' : List ℕ) → at + stateWords ≤ length w → Spared (at + stateWords) w w' → standing at w' ≡ standing at w
 stand-spared at w w' h p =
     sym (drop-at (take at w') (standing at w') at (length-take-le at w' (omega (arith, p .long))))
     ∙ ap (drop at) (sym (take-add at stateWords w') ∙ p .before ∙ take-add at stateWords w)
@@ -54,7 +54,7 @@ stand-spared at w w' h p =
 pub placed-on : {at : ℕ} {s s' w w₁ w₂ : List ℕ} → Placed at s w w₁ → Placed at s' w₁ w₂ → Placed at s' w w₂
 placed-on p q = record { spared = spared-on (p .spared) (q .spared); here = q .here }
 
--- a part that was lent and came back
+-- A part that was lent and came back.
 pub placed-part : (at : ℕ) (w ys s : List ℕ) → at + stateWords ≤ length w → ys ≡ s → length s ≡ stateWords →
     Placed at s w (putMid at (at + stateWords - at) w ys)
 placed-part at w ys s h e l =
@@ -68,7 +68,7 @@ placed-part at w ys s h e l =
       here = ap (take stateWords) (drop-at (take at w) (s ++ drop (at + length s) w) at front) ∙ take-at s (drop (at + length s) w) stateWords l;
     })
 
--- all the words of a game, cleared
+-- All the words of a game, cleared.
 pub game-cleared : (w zs : List ℕ) → length w ≡ gameWords → zs ≡ replicate (length (take gameWords w)) 0 →
     putMid 0 gameWords w zs ≡ replicate gameWords 0
 game-cleared w zs l e =
@@ -76,7 +76,7 @@ game-cleared w zs l e =
     ∙ ap (λ (z : List ℕ). replicate gameWords 0 ++ z) (drop-of-length-le w {i = gameWords} (omega (arith, l)))
     ∙ append-nil (replicate gameWords 0)
 
--- a state copied behind itself: i words are
+-- A state copied behind itself: i words are.
 pub record Copying (at i : ℕ) (w w' : List ℕ) : Type 0 where
   pub spared : Spared (at + stateWords) w w'
   pub done : take i (drop (at + stateWords) w') ≡ take i (drop at w)
@@ -116,7 +116,7 @@ stepped-long terms s j u v l = after-long terms s (replicate scratchWords 0) j u
 
 -- ---- the rival's moves in number
 
--- after move i of the rival, if it has that, p
+-- After move i of the rival, if it has that, p.
 abbrev pub offer : Terms → List ℕ → (rival : ℕ) → (List ℕ → Bool) → List ℕ → ℕ → Bool
 offer T terms rival p s i = offered T i ⇒ p (replied terms rival i s)
 
@@ -153,7 +153,7 @@ module _ (T : Terms) (few-members : T .members < 9) (few-events : T .events < 5)
   pub all-offers : allBelow 33 ask ≡ each
   all-offers = bool-iff (allBelow 33 ask) each forth back
 
-  -- one that fails
+  -- One that fails.
   pub offer-fails : (i : ℕ) → i < 33 → offered T i ≡ true → p (replied terms rival i s) ≡ false → each ≡ false
   offer-fails i l o e = is-false each (λ h.
       not-both (p (replied terms rival i s)) (implied (offered T i) _ (all-out 33 ask (back h) i l) o) e)
@@ -168,7 +168,7 @@ module _ (terms plan : List ℕ) (planner rival goal u v k : ℕ) where
   unfolding wins movesFrom
   no-moves l s = let none : moves plan - k ≡ 0 = omega arith in rw none
 
-  pub first-move : k < moves plan → (s : List ℕ) →
+  first-move : k < moves plan → (s : List ℕ) →
       winsFrom terms plan planner rival goal u v k s ≡ (reachedIn terms goal u v (after s) || outlasts terms plan planner rival goal u v (k + 1) (after s))
   unfolding wins movesFrom
   first-move l s = let left : moves plan - k ≡ suc (moves plan - (k + 1)) = omega arith in rw (left, add-one k)
@@ -226,14 +226,14 @@ module _ {terms plan : List ℕ} {planner rival goal u v : ℕ} (p : Playable te
               pub turn-spared : Spared to w₀ w₃
               turn-spared = spared-on sp (spared-on (p₁ .spared) (spared-on (p₂ .spared) (spared-less to (to + stateWords) (omega arith) p₃)))
 
--- the offers up to i are met
+-- The offers up to i are met.
 module _ (n : ℕ) (q : ℕ → Bool) where
   pub offers-more : allBelow n q ≡ true → q n ≡ true → allBelow (n + 1) q ≡ true
   offers-more h e = all-more n q ∙ and-both (q n) (allBelow n q) e h
 
 -- ---- the whole game
 
--- the planner's first move, and what comes after
+-- The planner's first move, and what comes after.
 pub played : (terms state plan : List ℕ) (planner rival goal u v : ℕ) (s₁ s₂ : List ℕ) (won r : Bool) → 0 < moves plan → s₁ ≡ take stateWords state →
     won ≡ reachedIn terms goal u v (after terms plan planner rival goal u v 0 s₁) → s₂ ≡ after terms plan planner rival goal u v 0 s₁ →
     r ≡ (won || outlasts terms plan planner rival goal u v 1 s₂) → r ≡ accepted terms state plan planner rival goal u v

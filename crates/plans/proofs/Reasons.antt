@@ -1,5 +1,5 @@
 -- The tests of 14 and 9, and the reasons of which they are made: a test fails exactly where a reason fits.
-use Prim.Native.Nat.{ℕ, zero, suc, _+_, _*_, _≤_, _<_}
+use Prim.Native.Nat.{ℕ, zero, suc, _+_, _*_, _<_}
 use native.Mathlib.Omega.{arith}
 use mathlib.Core.Path.{_≡_, refl, sym, _∙_}
 use mathlib.Core.List.{List}
@@ -75,7 +75,7 @@ module _ (T : Terms) (plan : List ℕ) (planner rival goal : ℕ) where
   is-no-game (one-side h) = rw (eq-eqb planner rival h) (simp and-false)
   is-no-game (no-goal h) = game-parts T plan planner rival goal ∙ rw (is-unasked T goal h) (simp and-false)
 
-  -- where there is no reason against it, there is a game
+  -- Where there is no reason against it, there is a game.
   pub is-game : ¬ NoGame T plan planner rival goal → every (gameTests T plan planner rival goal) ≡ true
   is-game h = go (every (gameTests T plan planner rival goal)) refl
     where
@@ -83,7 +83,7 @@ module _ (T : Terms) (plan : List ℕ) (planner rival goal : ℕ) where
       go true e = e
       go false e = absurd (h (why-no-game e))
 
--- some request of the plan fails its test
+-- Some request of the plan fails its test.
 some-fails : (n : ℕ) (p : ℕ → Bool) → allBelow n p ≡ false → (k : ℕ) × (k < n) × (p k ≡ false)
 unfolding allBelow
 some-fails zero p e = absurd (true≢false e)

@@ -2,9 +2,9 @@
 -- is given exactly when its line of the table fits, with line 0, nothing else is ever given, and scratch is left as
 -- lent.
 use Prim.Native.Nat.{ℕ, _≤_}
-use mathlib.Core.Path.{_≡_, refl, sym, subst, _∙_}
+use mathlib.Core.Path.{_≡_, refl, subst}
 use mathlib.Core.List.{List}
-use mathlib.Core.Bool.{Bool, true, false, cond, not, _&&_, _||_, true≢false, and-false}
+use mathlib.Core.Bool.{Bool, true, false, cond, not, _&&_, _||_, and-false}
 use lib.Dec.{ltb}
 use lib.ListN.{length}
 use borrow.Author.Tests.{lt-ltb, le-ltb, ltb-true, ltb-false}
@@ -18,7 +18,7 @@ use Rattle.calls.specs.Telling.Telling.{holds, fails, refused}
 use Rattle.plans.specs.Game.{Ruling, gameTests, knownTests, gameWords}
 use Rattle.plans.specs.Game.Ruling.{accept, reject, refuse}
 use Rattle.plans.specs.Plans.{accepted, ruling, scratchAfterRuling}
-use Rattle.plans.specs.Refused.{Sound, Unasked, NoGame, PlanRefusal, TellingRefusal}
+use Rattle.plans.specs.Refused.{Sound, Unasked, PlanRefusal, TellingRefusal}
 use Rattle.plans.proofs.Reasons.{why-unasked, is-unasked, why-no-game, is-no-game, is-game, why-unknown, is-unknown}
 
 -- ---- plans
@@ -36,7 +36,7 @@ module _ (terms state scratch plan : List ℕ) (planner rival goal u v : ℕ) wh
   abbrev known : Bool
   known = every (knownTests (termsOf terms) plan planner rival u v)
 
-  -- what a ruling says of the memory and the plan
+  -- What a ruling says of the memory and the plan.
   abbrev Said : Ruling → Type 0
   Said accept = Unit {0}
   Said reject = Unit {0}
@@ -134,7 +134,7 @@ module _ (terms state : List ℕ) (n u v : ℕ) where
   abbrev Because : ℕ → Type 0
   Because = TellingRefusal terms state n u v
 
-  -- what is told says this of the memory and the entry
+  -- What is told says this of the memory and the entry.
   abbrev Tells : Telling → Type 0
   Tells holds = Unit {0}
   Tells fails = Unit {0}
@@ -192,7 +192,7 @@ module _ (terms state : List ℕ) (n u v : ℕ) where
       by-length false a false b =
           terms-or (ltb-false (length terms) termsWords a) (ltb-false (length state) stateWords b) (goodMemory terms) refl
 
-  -- memory and entry pass
+  -- Memory and entry pass.
   asked : ¬ Unasked (termsOf terms) n → askable (termsOf terms) n ≡ true
   asked h = go (askable (termsOf terms) n) refl
     where

@@ -1,6 +1,6 @@
 -- The game is the sentence that it stands for, and over memory that holds what the keeper's list says the monitor plays
 -- the keeper's game.
-use Prim.Native.Nat.{ℕ, zero, suc, _≤_, _<_}
+use Prim.Native.Nat.{ℕ, zero, suc, _≤_}
 use native.Mathlib.Omega.{arith}
 use mathlib.Core.Path.{_≡_, refl, sym, ap, ap₂, subst, _∙_}
 use mathlib.Core.List.{List, [], _∷_}
@@ -12,8 +12,8 @@ use borrow.Author.Tests.{le-ltb, lt-ltb, ltb-true}
 use Rattle.sets.specs.Sets.{allBelow}
 use Rattle.sets.proofs.Finite.{and-left, and-right, and-both, all-true, all-out, all-cong}
 use Rattle.theory.specs.Meaning.{Starts}
-use Rattle.theory.specs.Terms.{Terms, formula}
-use Rattle.theory.specs.Fit.{every, onlyFree, Good}
+use Rattle.theory.specs.Terms.{Terms}
+use Rattle.theory.specs.Fit.{every, Good}
 use Rattle.theory.specs.Limits.{scratchWords}
 use Rattle.theory.specs.Moment.{Moment}
 use Rattle.theory.specs.Keeper.{Book, target, keeperHolds}
@@ -28,7 +28,6 @@ use Rattle.plans.specs.Game.Ruling.{accept, reject, refuse}
 use Rattle.theory.proofs.Good.{every-at}
 use Rattle.theory.proofs.RunInvariant.{Kept, entry-kept}
 use Rattle.memory.proofs.Front.{state-front, good-front}
-use Rattle.memory.proofs.Outcomes.{Checked}
 use Rattle.calls.proofs.MemoryInvariant.{Held}
 use Rattle.calls.proofs.OneCall.{step}
 use Rattle.calls.proofs.Telling.{told-holds}
@@ -36,7 +35,7 @@ use Rattle.calls.proofs.Telling.{told-holds}
 -- ---- the game is the sentence
 
 module _ {S : Type 0} (stp : S → (j u v : ℕ) → S) (reached : S → Bool) (T : Terms) (planner rival : ℕ) where
-  -- replies that the rival has
+  -- Replies that the rival has.
   abbrev pub Has : (ℕ → Reply) → Type 0
   Has r = (k : ℕ) → hasReply T (r k) ≡ true
 
@@ -121,7 +120,7 @@ module _ (terms : List ℕ) (long-terms : termsWords ≤ length terms) (fine : G
     abbrev at : List Moment → Book
     at Ms = record { terms = T; start = s; moments = Ms }
 
-    -- the named words alone hold it too
+    -- The named words alone hold it too.
     named-held : (m : List ℕ) (Ms : List Moment) → Held T s fine m₀ m Ms → Held T s fine (take stateWords m₀) (take stateWords m) Ms
     named-held m Ms h =
         let lm : stateWords ≤ length m = omega (arith, h .long) in
@@ -139,7 +138,7 @@ module _ (terms : List ℕ) (long-terms : termsWords ≤ length terms) (fine : G
             sym (state-front (take stateWords m) (drop stateWords m) (omega (arith, length-take-le stateWords m lm)))
             ∙ ap stateOf (take-append-drop stateWords m)
 
-    -- a goal and a pair that pass the checks
+    -- A goal and a pair that pass the checks.
     module _ (goal u v : ℕ) (asked : askable T goal ≡ true) (pair : paired T u v ≡ true) where
       on : (m : List ℕ) (Ms : List Moment) → Held T s fine (take stateWords m₀) m Ms → (j x y : ℕ) →
           Held T s fine (take stateWords m₀) (stepped terms m j x y) (keeperStep T s Ms j x y)
@@ -147,7 +146,7 @@ module _ (terms : List ℕ) (long-terms : termsWords ≤ length terms) (fine : G
           step terms long-terms fine good-terms s (take stateWords m₀) m (omega (arith, length-take-le stateWords m₀ long)) Ms h
           (record { look = false; event = j; from = x; to = y; scratch = replicate scratchWords 0 }) .1
 
-      -- what is told of the goal is what the keeper reads
+      -- What is told of the goal is what the keeper reads.
       told : (m : List ℕ) (Ms : List Moment) → Held T s fine (take stateWords m₀) m Ms → reachedIn terms goal u v m ≡ keeperHolds T s Ms goal (target v) u
       told m Ms h =
           told-holds terms m goal u v (record {
@@ -166,7 +165,7 @@ module _ (terms : List ℕ) (long-terms : termsWords ≤ length terms) (fine : G
           wins-same (stepped terms) (reachedIn terms goal u v) (keeperStep T s) (λ Ns. keeperHolds T s Ns goal (target v) u) T planner rival
           (Held T s fine (take stateWords m₀)) on told (movesOf plan) (take stateWords m) Ms (named-held m Ms h)
 
-    -- what passes the checks 14 and 9
+    -- What passes the checks 14 and 9.
     goal-askable : (plan : List ℕ) (planner rival goal : ℕ) → every (gameTests T plan planner rival goal) ≡ true → askable T goal ≡ true
     goal-askable plan planner rival goal e =
         and-both (ltb goal (T .entries)) _ (every-at (gameTests T plan planner rival goal) e 4) (every-at (gameTests T plan planner rival goal) e 5)

@@ -15,7 +15,7 @@ use Rattle.theory.specs.Limits.{scratchWords}
 use Rattle.theory.specs.Moment.{Moment}
 use Rattle.theory.specs.Keeper.{Book, Call, Answer, recordOf, last, target, keeperHolds, keepAll}
 use Rattle.memory.specs.Outcome.{askable}
-use Rattle.plans.specs.Game.{Move, wins, movesOf, Ruling, gameTests, knownTests, gameWords, keeperStep, keeperAccepts, keeperRules}
+use Rattle.plans.specs.Game.{Move, wins, movesOf, gameTests, knownTests, gameWords, keeperStep, keeperAccepts, keeperRules}
 use Rattle.plans.specs.Game.Ruling.{accept, reject, refuse}
 use Rattle.theory.proofs.AlikeTerms.{met, met-is, same-formula, keepAll-alike}
 use Rattle.plans.proofs.Rulings.{game-parts}
@@ -38,7 +38,7 @@ module _ (T U : Terms) (a : Alike T U) (g : Good T) (s : Starts) where
   holds-met : (Ms : List Moment) (n u v : ℕ) → n < T .entries → keeperHolds T s Ms n (target v) u ≡ keeperHolds W s Ms n (target v) u
   holds-met Ms n u v l = ap (λ (f : Formula). holds (T .members) s (recordOf T Ms) f (last Ms) (target v) u) (same-formula T U a n l)
 
-  -- the game goes by the numbers of events and members only
+  -- The game goes by the numbers of events and members only.
   wins-met : {S : Type 0} (step : S → (j u v : ℕ) → S) (reached : S → Bool) (planner rival : ℕ) (ms : List Move) (x : S) →
       wins step reached T planner rival ms x ≡ wins step reached W planner rival ms x
   unfolding wins

@@ -1,5 +1,5 @@
 -- The ways through what `forced` gives: one law for each, and what a plan that passes check 14 is.
-use Prim.Native.Nat.{ℕ, _+_, _*_, _≤_, _<_}
+use Prim.Native.Nat.{ℕ, _≤_, _<_}
 use native.Mathlib.Omega.{arith}
 use mathlib.Core.Path.{_≡_, refl, sym, ap, _∙_}
 use mathlib.Core.Bool.{Bool, true, false, cond, not, _&&_, _||_, true≢false}
@@ -15,7 +15,7 @@ use Rattle.memory.specs.Layout.{termsWords, stateWords, termsOf}
 use Rattle.memory.specs.Checks.{goodMemory, goodState}
 use Rattle.memory.specs.Outcome.{hasPassed, askable, entryChecks}
 use Rattle.memory.specs.Outcome.Outcome.{passed, failed}
-use Rattle.plans.specs.Game.{Ruling, moves, gameTests, knownTests, gameWords}
+use Rattle.plans.specs.Game.{Ruling, gameTests, knownTests, gameWords}
 use Rattle.plans.specs.Plans.{accepted, ruling, scratchAfterRuling}
 use Rattle.plans.specs.Game.Ruling.{accept, reject, refuse}
 use Rattle.plans.specs.private.Playing.{Playable}
@@ -24,7 +24,7 @@ use Rattle.theory.proofs.Good.{every-at}
 use Rattle.memory.proofs.Outcomes.{Checked}
 use Rattle.deciding.proofs.Stored.{put-back}
 
--- check 14 is that of the game and that of the goal
+-- Check 14 is that of the game and that of the goal.
 pub game-parts : (T : Terms) (plan : List ℕ) (planner rival goal : ℕ) →
     every (gameTests T plan planner rival goal) ≡ every (take 4 (gameTests T plan planner rival 0)) && askable T goal
 unfolding every

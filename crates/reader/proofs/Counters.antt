@@ -68,7 +68,7 @@ module _ (f : File) (g : Going f) where
   first-small n l =
       fits-variable (f .terms .relations + 2 * f .terms .events) n (f .terms .entry n .a) (firstOperand (f .terms .entry n .op)) (g .entries .fit n l .first)
 
-  -- the variables that are free in an entry are below 16
+  -- The variables that are free in an entry are below 16.
   small-entries : (n : ℕ) → n ≤ f .terms .entries → (k x : ℕ) → free (below (f .terms .entry) n k) x ≡ true → x < 16
   small-entries n l = small-below (f .terms .entry) n (λ k m. first-small k (omega arith))
 
@@ -78,7 +78,7 @@ module _ (f : File) (g : Going f) where
       small-node (number (f .terms .entry) n) (below (f .terms .entry) n) (f .terms .entry n .op) (f .terms .entry n .a) (f .terms .entry n .b) (f .terms .entry n .c)
       (small-entries n (omega arith)) (first-small n l) x e
 
--- one entry more
+-- One entry more.
 module _ (f : File) (o a b c : ℕ) where
   abbrev n : ℕ
   n = f .terms .entries
@@ -100,7 +100,7 @@ module _ (f : File) (o a b c : ℕ) where
   unfolding spelled
   spelled-new = let s = update-same e n (record { op = o; a = a; b = b; c = c }) in λ i. node (number e' n) (below e' n) (s i .op) (s i .a) (s i .b) (s i .c)
 
-  -- the entries before it stay
+  -- The entries before it stay.
   formula-old : (k : ℕ) → k < n → spelled e' k ≡ spelled e k
   formula-old k l = spelled-agree e' e k (λ j m. old j (omega arith))
 
@@ -116,7 +116,7 @@ module _ (f : File) (o a b c : ℕ) where
       unfolding isLower
       below-entry k v h z = ltb-true v n (rw z at h)
 
-      -- m is the set of its free variables, which are below 16
+      -- m is the set of its free variables, which are below 16.
       free-new : (x : ℕ) → bit m x ≡ free (spelled e' n) x
       free-new x =
           is (number e' n) b c x (below e' n)
@@ -138,7 +138,7 @@ module _ (f : File) (o a b c : ℕ) where
       fit-new : m < 2 ^ 64 → setFits (f .terms .members) m ≡ columnsFit (f .terms .members) (columns (spelled e' n))
       fit-new fits = fit-set m fits (spelled e' n) free-new small-new (f .terms .members)
 
-      -- the test of a reach by sets is that by formulas
+      -- The test of a reach by sets is that by formulas.
       reach-new : (eqb o 10 ⇒ reachSets a (getD masks b 0) (getD masks c 0)) ≡ (eqb o 10 ⇒ reachFits a (formula (f .terms) b) (formula (f .terms) c))
       reach-new =
           ⊎-elim
@@ -177,7 +177,7 @@ module _ (f : File) (g : Going f) (j : ℕ) (l : f .event ≤ j) where
 
 module _ (f : File) (g : Going f) (terms : List ℕ) (words : terms ≡ memoryOf (f .terms)) (masks : List ℕ) (masked : Masked (f .terms) masks) (m : ℕ)
     (fits : m < 2 ^ 64) where
-  -- a table that is there has two columns by the set of its entry, where all policies have been given
+  -- A table that is there has two columns by the set of its entry, where all policies have been given.
   pair-test : complete f ≡ true → (t : ℕ) → m ≡ getD masks (pastEntry (termsOf terms) t) 0 → isPair (contextOf f) m t ≡ pairTable (f .terms) t
   pair-test c t is =
       let a = going-good f c g in

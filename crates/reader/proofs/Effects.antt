@@ -95,7 +95,7 @@ effects-few w from (suc n) = go (eqb (getD w from 0) 0) (effects-few w (from + 3
     go true h = omega arith
     go false h = omega arith
 
--- what the tests say of n triples from a word on
+-- What the tests say of n triples from a word on.
 pub record Fitting (w : List ℕ) (r from n : ℕ) : Type 0 where
   pub fit : (i : ℕ) → i < n → effectFits r (getD w (from + 3 * i) 0) (getD w (from + 3 * i + 1) 0) (getD w (from + 3 * i + 2) 0) ≡ true
   pub front : (i : ℕ) → suc i < n → eqb (getD w (from + 3 * i) 0) 0 ⇒ eqb (getD w (from + 3 * suc i) 0) 0 ≡ true
@@ -114,7 +114,7 @@ module _ (w : List ℕ) (r : ℕ) where
           eqb (getD w (from + 3 + 3 * i) 0) 0 ⇒ eqb (getD w (from + 3 + 3 * suc i) 0) 0 ≡ true
       front i e = rw (at-later from i, at-later from (suc i)) at e
 
-  -- after an effect that is none there are no more
+  -- After an effect that is none there are no more.
   blank-triple : (from n : ℕ) → Fitting w r from n → getD w from 0 ≡ 0 → (i : ℕ) → i < n → Triple w (from + 3 * i) [] i
   unfolding effectWord
   blank-triple from n f z i l = record {

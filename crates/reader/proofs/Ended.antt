@@ -1,4 +1,5 @@
--- The ways that reading a text into lent memory goes: memory that is too short, a text that is refused, a text that is accepted.
+-- The ways that reading a text into lent memory goes: memory that is too short, a text that is
+-- refused, a text that is accepted.
 use Prim.Native.Nat.{ℕ, _≤_, _<_}
 use native.Mathlib.Omega.{arith}
 use mathlib.Core.Path.{_≡_, refl, sym, ap, _∙_}
@@ -32,7 +33,7 @@ was-refused (accepted f) k n e = absurd (go (f .stored) e)
     go false e = let z : _≡_ {A = ℕ} 0 1 = cc in omega arith
 was-refused (refused i j) k n e = cc
 
--- it is not a refusal
+-- It is not a refusal.
 abbrev pub Unrefused : Filling → Type 0
 Unrefused old = Unit {0}
 Unrefused stored = Unit {0}
@@ -44,13 +45,13 @@ was-accepted (refused i j) old e t = let z : _≡_ {A = ℕ} 0 1 = cc in absurd 
 was-accepted (refused i j) stored e t = let z : _≡_ {A = ℕ} 0 1 = cc in absurd (omega arith)
 was-accepted (refused i j) (unfilled k n) e t = absurd t
 
--- nor is what the code answers then
+-- Nor is what the code answers then.
 pub unrefused : (x : Filled) → OneOf (0 ∷ 1 ∷ []) (tagOf the-type x) → Unrefused (fillingOf x)
 unrefused Old h = tt
 unrefused Stored h = tt
 unrefused (Refused n l) h = absurd (miss (0 ∷ 1 ∷ []) 2 tt h)
 
--- what filling gives and leaves
+-- What filling gives and leaves.
 abbrev pub Leaves : (text terms state : List ℕ) → Filling → (terms' state' : List ℕ) → Type 0
 Leaves text terms state o terms' state' =
     (o ≡ fillGives text terms state) × ((terms' ≡ readTerms text terms state) × (state' ≡ readWords text terms state))
@@ -80,7 +81,7 @@ module _ (text terms state : List ℕ) where
       unfolding reading levelled
       text-refused k n h = refuses k n (rw (was-refused (allRead text) k n (sym h)))
 
-      -- all lines pass: the words hold what they say, and line is that of refusal 11, or 0
+      -- All lines pass: the words hold what they say, and line is that of refusal 11, or 0.
       module _ (o : Filling) (words bits masks : List ℕ) (r : Reads text o words bits masks) (unrefused : Unrefused o) (line : ℕ)
           (found : Found text words bits masks line)
         where
@@ -104,7 +105,7 @@ module _ (text terms state : List ℕ) where
           unfolding reading levelled
           whole l = rw (said .1, ← line-is, eq-eqb line 0 (omega arith))
 
-          -- they are copied to the front of the lent memory
+          -- They are copied to the front of the lent memory.
           pub text-accepted : line ≤ 0 → (terms' state' : List ℕ) → terms' ≡ words ++ drop (length words) terms →
               state' ≡ bits ++ drop (length bits) state → Leaves text terms state o terms' state'
           unfolding fillGives readTerms readWords

@@ -14,12 +14,12 @@ use Rattle.reader.specs.private.Testing.{refusedBy, numberFrom}
 use Rattle.file.specs.Refused.{Passed}
 use Rattle.file.specs.Refused.Passed.{none, pass}
 
--- no test has the number 0
+-- No test has the number 0.
 unfoldable pub positive : List Test → Bool
 positive [] = true
 positive (t ∷ ts) = ltb 0 (t .number) && positive ts
 
--- a number stays
+-- A number stays.
 stays : (k : ℕ) (ts : List Test) → 0 < k → numberFrom k ts ≡ k
 unfolding numberFrom refusedBy
 stays k [] h = refl
@@ -55,7 +55,7 @@ tried-fails (t ∷ ts) n r p h =
     (λ b. rw (failing t ts l b, b) refl)
     (true-or-false (t .passes))
 
--- two lists of tests come to the same
+-- Two lists of tests come to the same.
 pub record Same (ts us : List Test) : Type 0 where
   pub come : (n : ℕ) (r : Reading) → tried ts n r ≡ tried us n r
   pub passes : Passed ts → Passed us
@@ -63,7 +63,7 @@ pub record Same (ts us : List Test) : Type 0 where
 pub same-all : (ts : List Test) → Same ts ts
 same-all ts = record { come = λ n r. refl; passes = λ p. p }
 
--- a test is that of the other list, and the later ones are so where it passes
+-- A test is that of the other list, and the later ones are so where it passes.
 pub same-test : {k : ℕ} {b c : Bool} {ts us : List Test} → b ≡ c → (c ≡ true → Same ts us) → Same (test k b ∷ ts) (test k c ∷ us)
 unfolding tried
 same-test {k} {b} {c} {ts} {us} e h = record { come = λ n r. rw e (go n r c h); passes = both }

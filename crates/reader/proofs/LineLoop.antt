@@ -1,4 +1,5 @@
--- The loop over the lines: what is left, read on from here, gives what the whole text gives; and one law for each way that a turn goes.
+-- The loop over the lines: what is left, read on from here, gives what the whole text gives; and one law
+-- for each way that a turn goes.
 use Prim.Native.Nat.{ℕ, zero, suc, _+_, _-_, _%_, _^_, _≤_, _<_}
 use native.Mathlib.Omega.{arith}
 use native.Mathlib.Numerals.{add-one}
@@ -62,7 +63,8 @@ none-terms = sym (tabulate-cong termsWords (termsWord (nothing .terms)) (λ i. 0
 
 -- ---- the invariant
 
--- The text t is left from line n on. The counters c, the sets of free variables and the words stand for one file that has been said so far.
+-- The text t is left from line n on. The counters c, the sets of free variables and the words stand for one
+-- file that has been said so far.
 pub record Along (text terms state masks t : List ℕ) (c : Context) (n : ℕ) : Type 0 where
   pub file : File
   pub going : Going file
@@ -91,7 +93,7 @@ along-first text terms state masks p q r = record {
 
 -- ---- the ways out of the loop
 
--- a text that is refused
+-- A text that is refused.
 refuses : (text terms state masks : List ℕ) (k n : ℕ) → allRead text ≡ refused k n → Reads text (unfilled k n) terms state masks
 refuses text terms state masks k n e = record {
   given = rw e;
@@ -99,7 +101,7 @@ refuses text terms state masks k n e = record {
 }
 
 module _ (text terms state masks t : List ℕ) (c : Context) (n : ℕ) (s : Along text terms state masks t c n) where
-  -- nothing is left
+  -- Nothing is left.
   read-end : length t ≤ 0 → allRead text ≡ cond (isComplete c) (accepted (s .file)) (refused 1 n)
   unfolding readOn lines
   read-end h =
@@ -120,7 +122,7 @@ module _ (text terms state masks t : List ℕ) (c : Context) (n : ℕ) (s : Alon
         masked = s .masked;
       }
 
-  -- all lines pass; x says whether one was an S line
+  -- All lines pass; x says whether one was an S line.
   pub along-done : length t ≤ 0 → isComplete c ≡ true → (x : Bool) → c .stored ≡ x → Reads text (cond x stored old) terms state masks
   along-done h b x q =
       let r : allRead text ≡ accepted (s .file) = read-end h ∙ rw b in
@@ -132,7 +134,7 @@ module _ (text terms state masks t : List ℕ) (c : Context) (n : ℕ) (s : Alon
   pub along-short : length t ≤ 0 → isComplete c ≡ false → Reads text (unfilled 1 n) terms state masks
   along-short h b = refuses text terms state masks 1 n (read-end h ∙ rw b)
 
-  -- no line feed is left
+  -- No line feed is left.
   pub along-cut : (e : ℕ) → e ≡ place 10 t → 0 < length t → length t ≤ e → Reads text (unfilled 1 n) terms state masks
   unfolding readOn
   along-cut e p h k =
@@ -161,7 +163,8 @@ line-read : (f : File) (t : List ℕ) (n e : ℕ) (l : Line) → e ≡ place 10 
 unfolding readOn
 line-read f t n e l p h q = rw (q, part-rest (e + 1) t, add-one e, p, lines-here t (omega arith)) refl
 
--- The line l ends at e, m is the set of free variables that it is tested by, r says whether it may be a reach, and k is the number of its first test that fails.
+-- The line l ends at e, m is the set of free variables that it is tested by, r says whether it may be a reach, and k is
+-- the number of its first test that fails.
 pub record Turn (text terms state masks t : List ℕ) (c : Context) (n e : ℕ) (l : Line) (m : ℕ) (r : Bool) (k : ℕ) : Type 0 where
   pub along : Along text terms state masks t c n
   pub ends : e ≡ place 10 t
@@ -196,7 +199,7 @@ module _ {text terms state masks t : List ℕ} {c : Context} {n e : ℕ} {l : Li
     pub few-tables : c .tables < 33
     few-tables = subst (λ (d : Context). d .tables < 33) (sym (s .along .context)) (s .along .going .entries .few-tables)
 
-    -- the line is refused
+    -- The line is refused.
     pub turn-refused : 0 < k → Reads text (unfilled k n) terms state masks
     turn-refused h =
         refuses text terms state masks k n
@@ -221,7 +224,7 @@ module _ {text terms state masks t : List ℕ} {c : Context} {n e : ℕ} {l : Li
       pub turn-ranges : Ranges c l
       turn-ranges = subst (λ (d : Context). Ranges d l) (sym (s .along .context)) (in-ranges ranged (s .along .going) passes)
 
-      -- the line is taken
+      -- The line is taken.
       pub turn-next : Along text (storedTerms c l terms) (storedState l state) (storedSets l m masks) rest (stepped c l) (n + 1)
       turn-next = record {
         file = after f l;
@@ -236,7 +239,7 @@ module _ {text terms state masks t : List ℕ} {c : Context} {n e : ℕ} {l : Li
         same = sym (read-line ∙ tried-passed passes n later);
       }
 
-      -- and its set is at hand for the next one
+      -- And its set is at hand for the next one.
       pub turn-last : LastSet (storedTerms c l terms) (storedSets l m masks) (stepped c l .phase) (stepped c l .relation) m
       turn-last =
           subst (λ (d : Context). LastSet (storedTerms d l terms) (storedSets l m masks) (stepped d l .phase) (stepped d l .relation) m)

@@ -30,7 +30,7 @@ use Rattle.reader.proofs.Ended.{Unrefused, was-refused, was-accepted}
 
 -- ---- the first line says which form a text has
 
--- an S line comes before all others
+-- An S line comes before all others.
 no-form : {f g : File} {ls : List Line} → Taken f ls g → (0 < f .phase) ⊎ (storedSaid (take 1 ls) ≡ false) → storedSaid ls ≡ false
 unfolding storedSaid tests after
 no-form none h = refl
@@ -60,7 +60,7 @@ module _ (text : List ℕ) (f : File) where
       go true h e = let z : _≡_ {A = ℕ} 0 1 = cc in absurd (omega arith)
       go false h e = (e, old-form h e)
 
--- the first line, by the bytes before the first line feed
+-- The first line, by the bytes before the first line feed.
 module _ (text : List ℕ) (e : ℕ) (p : e ≡ place 10 text) where
   pub begins-cut : length text ≤ e → false ≡ beginsStored text
   unfolding beginsStored records storedSaid lines
@@ -77,7 +77,7 @@ module _ (text : List ℕ) (e : ℕ) (p : e ≡ place 10 text) where
 -- ---- the ways that filling terms and relations goes
 
 module _ (text terms relations : List ℕ) where
-  -- what it gives and leaves
+  -- What it gives and leaves.
   abbrev Leaves : Filling → (terms' relations' : List ℕ) → Type 0
   Leaves o terms' relations' =
       (o ≡ oldFillGives text terms relations) × ((terms' ≡ oldTerms text terms relations) × (relations' ≡ oldRelations text terms relations))
@@ -106,7 +106,7 @@ module _ (text terms relations : List ℕ) where
       unfolding oldReading
       form-refused h = refuses 1 1 (rw (← h) refl)
 
-      -- the text is read into the terms and into a state
+      -- The text is read into the terms and into a state.
       module _ (state : List ℕ) (sl : stateWords ≤ length state) (h : false ≡ beginsStored text) where
         given : fillGives text terms state ≡ filling (reading text)
         unfolding fillGives
@@ -147,7 +147,7 @@ module _ (text terms relations : List ℕ) where
                 ),
               )
 
-        -- the words of its relations are copied to the front of the lent ones
+        -- The words of its relations are copied to the front of the lent ones.
         pub text-accepted : (o : Filling) → o ≡ fillGives text terms state → Unrefused o → (terms' state' relations' : List ℕ) →
             terms' ≡ readTerms text terms state → state' ≡ readWords text terms state →
             relations' ≡ take relationWords state' ++ drop (length (take relationWords state')) relations → Leaves o terms' relations'

@@ -1,8 +1,9 @@
--- The tables with two columns, by the sets of free variables: a T line has five fields where the set of its table's entry has two.
+-- The tables with two columns, by the sets of free variables: a T line has five fields where the
+-- set of its table's entry has two.
 use Prim.Native.Nat.{ℕ, _^_, _<_}
 use native.Mathlib.Omega.{arith}
 use mathlib.Core.Bool.{Bool, true, false, not, _&&_, _||_}
-use mathlib.Core.List.{List, []}
+use mathlib.Core.List.{List}
 use mathlib.Core.Logic.{⊎-elim}
 use mathlib.Core.Path.{_≡_, refl, sym, ap, _∙_}
 use lib.Dec.{eqb, ltb}
@@ -23,7 +24,7 @@ use Rattle.memory.proofs.FreeSets.{fit-set}
 use Rattle.file.specs.File.{hasTwo, pairTable}
 
 module _ (m : ℕ) (fits : m < 2 ^ 64) (φ : Formula) (is : (x : ℕ) → bit m x ≡ free φ x) (small : (x : ℕ) → free φ x ≡ true → x < 16) where
-  pub two-set : (N : ℕ) → columnsFit N (columns φ) ≡ true → not (eqb (restOf m) 0) ≡ hasTwo (columns φ)
+  two-set : (N : ℕ) → columnsFit N (columns φ) ≡ true → not (eqb (restOf m) 0) ≡ hasTwo (columns φ)
   two-set N e =
       ⊎-elim
       (λ z. ap (λ (w : ℕ). not (eqb (restOf w) 0)) (eqb-true m 0 z) ∙ sym (ap hasTwo (columns-none φ m fits small is (eqb-true m 0 z))))
@@ -38,7 +39,7 @@ module _ (m : ℕ) (fits : m < 2 ^ 64) (φ : Formula) (is : (x : ℕ) → bit m 
           eqb-true (restOf (restOf m)) 0 (and-left (eqb (restOf (restOf m)) 0) _ (sym (ap (λ (b : Bool). b || (eqb (restOf (restOf m)) 0 && ltb N 17)) z) ∙ fit-set m fits φ is small N ∙ e)) in
           ap not z ∙ sym (ap hasTwo (columns-pair φ m fits small is l r none))
 
--- T is alike to the terms that the words hold, and m is the set of the entry of table t
+-- T is alike to the terms that the words hold, and m is the set of the entry of table t.
 module _ (T : Terms) (fine : Good T) (U : Terms) (a : Alike T U) (masks : List ℕ) (masked : Masked T masks) where
   pub pair-same : (t m : ℕ) → m < 2 ^ 64 → m ≡ getD masks (pastEntry U t) 0 → ltb t (tables T) && not (eqb (restOf m) 0) ≡ pairTable T t
   pair-same t m fits e = go (ltb t (tables T)) refl

@@ -1,4 +1,5 @@
--- Refusal 11, by the words that the lines have filled: a line is the first T line of a partly filled word where they say so.
+-- Refusal 11, by the words that the lines have filled: a line is the first T line of a partly
+-- filled word where they say so.
 use Prim.Native.Nat.{ℕ, zero, suc, _+_, _-_, _^_, _≤_, _<_}
 use native.Mathlib.Omega.{arith}
 use native.Mathlib.Numerals.{add-one}
@@ -60,7 +61,7 @@ highest-below (suc n) p h = go (p n) (highest-below n p)
         none zero ih = omega arith
         none (suc m) ih = omega (arith, ih (omega arith))
 
--- a set of free variables is empty
+-- A set of free variables is empty.
 closed-set : (T : Terms) → Good T → (n w : ℕ) → n < T .entries → ((x : ℕ) → bit w x ≡ free (formula T n) x) → eqb w 0 ≡ closed (formula T n)
 unfolding closed
 closed-set T g n w h b =
@@ -155,7 +156,7 @@ module _ (f : File) (acc : Accepted f) (terms state masks : List ℕ) (holds : H
   line-partly full e (Mark j) = refl
   line-partly full e Malformed = refl
 
-  -- a check passes only where the tables without a free variable are level
+  -- A check passes only where the tables without a free variable are level.
   check-level : (text : List ℕ) → allRead text ≡ accepted f → passed ≡ checks terms state → partlyAt f 1 (lines text) ≡ 0
   check-level text r c =
       level-read text f r (good-level T (acc .good) (stateSaid f) (acc .bits)
@@ -219,6 +220,6 @@ module _ {text terms state masks t : List ℕ} {n full e : ℕ} {l : Line} (s : 
     same = λ f r h. sym (line-looked f r h false q) ∙ s .looking .same f r h;
   }
 
--- a check that passes
+-- A check that passes.
 pub found-none : (text terms state masks : List ℕ) → passed ≡ checks terms state → Found text terms state masks 0
 found-none text terms state masks c f e h = sym (check-level f (read-good text f e) terms state masks h text e c)

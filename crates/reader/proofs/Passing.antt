@@ -46,7 +46,7 @@ operand-low label r n v h l p q = omega (arith, ltb-true v r p)
 operand-low entry r n v h l p q = omega (arith, ltb-true v n q)
 operand-low count r n v h l p q = omega (arith, leb-true v 64 (and-right (ltb 0 v) _ p))
 
--- a V line's number, and the event word that holds it
+-- A V line's number, and the event word that holds it.
 named-low : (j e : ℕ) → e < 17 → eventNamed j < e → j < 32
 named-low j e h l =
     ⊎-elim (λ p. omega (arith, ltb-true j 16 p)) (λ p. let m : j - 16 < e = rw p at l in omega arith) (true-or-false (ltb j 16))
@@ -58,7 +58,7 @@ event-word j u v =
     (λ p. rw p (omega (arith, ltb-false j 16 p)))
     (true-or-false (ltb j 16))
 
--- what it says is in its range
+-- What it says is in its range.
 pub in-ranges : {f : File} {l : Line} → Ranged l → Going f → Passed (tests f l) → Ranges (contextOf f) l
 unfolding tests
 in-ranges (members {n = n} h) g p = ltb-true n 65 (passed-at p 2)
@@ -129,7 +129,7 @@ in-ranges {f} (mark {j = j} h) g p =
     let e : f .terms .events < 17 = g .labels (complete-phase f (passed-at p 0)) .2 in
     omega (arith, ltb-true j (f .terms .events) (passed-at p 3))
 
--- the counters after it
+-- The counters after it.
 pub context-after : {f : File} {l : Line} → Ranged l → Going f → Passed (tests f l) → stepped (contextOf f) l ≡ contextOf (after f l)
 unfolding tests stepped after
 context-after (members h) g p = refl
@@ -151,7 +151,7 @@ context-after (pair h i j k) g p = refl
 context-after (event h i k) g p = refl
 context-after (mark h) g p = refl
 
--- the sets of free variables after it
+-- The sets of free variables after it.
 pub masked-after : {f : File} {l : Line} → Ranged l → Going f → Passed (tests f l) → (terms masks : List ℕ) → Masked (f .terms) masks →
     (m : ℕ) → FreeIn terms masks l m → Masked (after f l .terms) (storedSets l m masks)
 unfolding tests after storedSets
@@ -170,7 +170,7 @@ masked-after (pair h i j q) g p terms masks k m is = k
 masked-after (event h i j) g p terms masks k m is = k
 masked-after (mark h) g p terms masks k m is = record { long = k .long; bits = k .bits }
 
--- after a T line the set of its table is at hand
+-- After a T line the set of its table is at hand.
 pub last-after : (f : File) {l : Line} → Ranged l → Passed (tests f l) → (terms masks : List ℕ) (m : ℕ) → FreeIn terms masks l m →
     LastSet (storedTerms (contextOf f) l terms) (storedSets l m masks) (stepped (contextOf f) l .phase) (stepped (contextOf f) l .relation) m
 unfolding tests storedTerms storedSets stepped
@@ -186,7 +186,7 @@ last-after f (pair h i j q) p terms masks m is e = is
 last-after f (event h i j) p terms masks m is e = absurd (omega (arith, e))
 last-after f (mark h) p terms masks m is e = absurd (omega (arith, e))
 
--- the words after it
+-- The words after it.
 pub terms-after : {f : File} {l : Line} → Ranged l → Going f → Passed (tests f l) →
     storedTerms (contextOf f) l (memoryOf (f .terms)) ≡ memoryOf (after f l .terms)
 unfolding tests after storedTerms

@@ -1,4 +1,5 @@
--- The words of the state while lines are read: bits as they come, and at the end the words of the state that the file says.
+-- The words of the state while lines are read: bits as they come, and at the end the words
+-- of the state that the file says.
 use Prim.Native.Nat.{ℕ, _+_, _-_, _*_, _/_, _%_, _^_, _≤_, _<_}
 use native.Mathlib.Omega.{arith}
 use mathlib.Core.Path.{_≡_, refl, sym, ap, ap₂, _∙_}
@@ -164,7 +165,7 @@ event-stored B e v =
 
 -- ---- the words of a state
 
--- a word of blocks that lie inside
+-- A word of blocks that lie inside.
 module _ (kinds N : ℕ) (R : Blocks) (few : N < 65) (inside : Inside kinds N R) (k a : ℕ) where
   word-fits : fits N (ltb k kinds) a (pack 64 (R k a)) ≡ true
   word-fits = go (ltb k kinds && ltb a N) refl
@@ -183,7 +184,7 @@ module _ (kinds N : ℕ) (R : Blocks) (few : N < 65) (inside : Inside kinds N R)
       row-fits N (ltb k kinds) (R k) a (pack 64 (R k a))
       (λ b l. sym (bit-pack 64 (R k a) b ∙ rw (lt-ltb b 64 (omega arith)))) word-fits
 
--- a word of a table with these columns, where c says whether it is there
+-- A word of a table with these columns, where c says whether it is there.
 module _ (N : ℕ) (few : N < 65) (p : ℕ → ℕ → Bool) (i : ℕ) where
   one : (c : Bool) → ((k : ℕ) → p i k ≡ true → (c ≡ true) × (i < N) × (k < N)) → fits N c i (pack 64 (p i)) ≡ true
   one c h = go (c && ltb i N) refl
@@ -204,11 +205,11 @@ module _ (N : ℕ) (few : N < 65) (p : ℕ → ℕ → Bool) (i : ℕ) where
   packed-fits (x ∷ y ∷ zs) false h =
       eq-eqb (pack 64 (p i)) 0 (pack-cong 64 (λ k _. is-false (p i k) (λ e. false≢true (h k e .0))) ∙ pack-none 64)
 
-  pub packed-row : (cs : List ℕ) (c : Bool) → ((k : ℕ) → p i k ≡ true → (c ≡ true) × (inside N cs i k ≡ true)) → pack 64 (p i) ≡ cond c (tableRow N cs p i) 0
+  packed-row : (cs : List ℕ) (c : Bool) → ((k : ℕ) → p i k ≡ true → (c ≡ true) × (inside N cs i k ≡ true)) → pack 64 (p i) ≡ cond c (tableRow N cs p i) 0
   packed-row cs c h =
       row-fits-table N few cs c p i (pack 64 (p i)) (λ k l. sym (bit-pack 64 (p i) k ∙ rw (lt-ltb k 64 l))) (packed-fits cs c h)
 
--- what the lines have put there is what the file says
+-- What the lines have put there is what the file says.
 module _ (f : File) (few : f .terms .members < 65) (edges : Inside (f .terms .relations) (f .terms .members) (f .edges))
     (bits : InsideTables (f .terms) (f .table))
   where

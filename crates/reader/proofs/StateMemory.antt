@@ -1,4 +1,5 @@
--- The words of the state that a file says: where they keep the layout, and what the lent memory holds that an accepted text fills.
+-- The words of the state that a file says: where they keep the layout, and what the lent memory
+-- holds that an accepted text fills.
 use Prim.Native.Nat.{ℕ, zero, suc, _-_, _^_, _≤_, _<_}
 use native.Mathlib.Omega.{arith}
 use mathlib.Core.Path.{_≡_, refl, sym, ap, ap₂, subst, _∙_}
@@ -23,7 +24,7 @@ use Rattle.theory.proofs.Past.{past-entry, past-is}
 use Rattle.theory.proofs.Good.{implied, implies, every-at, every-in}
 use Rattle.theory.proofs.AlikeTerms.{met, met-is, same-number, same-formula, same-past}
 use Rattle.memory.specs.Layout.{termsWords, stateWords, tableAt, eventAt, termsOf, stateOf, wordsOf, tableColumns}
-use Rattle.memory.specs.Checks.{fits, tableFits, level, goodEvent, goodRelations, stateTests, goodState, EventInside, Inside as InsideMoment}
+use Rattle.memory.specs.Checks.{tableFits, level, goodEvent, goodRelations, stateTests, goodState, EventInside, Inside as InsideMoment}
 use Rattle.memory.specs.Outcome.{checks, opens}
 use Rattle.memory.specs.Outcome.Outcome.{passed}
 use Rattle.memory.proofs.Row.{fits-row, table-fits-row, level-row}
@@ -87,7 +88,7 @@ module _ (T U : Terms) (a : Alike T U) (s : List ℕ) where
 
 -- ---- the words keep the layout exactly where the tables without a free variable are level
 
--- a formula without a free variable has one column
+-- A formula without a free variable has one column.
 pub bare-columns : (φ : Formula) → closed φ ≡ true → columns φ ≡ 0 ∷ []
 unfolding closed
 bare-columns φ q = closed-columns φ (λ v l. not-true (free φ v) (all-out 16 (λ v. not (free φ v)) q v l))
@@ -98,7 +99,7 @@ event-inside T (EventFits.happened j u v) = (j, u, v)
 event-inside T (EventFits.tried j u v) = (j, u, v)
 
 module _ (T : Terms) (fine : Good T) (S : State) where
-  pub level-good : EventInside T (S .now .event) → Level T (S .table) → goodState T (wordsOf T S) ≡ true
+  level-good : EventInside T (S .now .event) → Level T (S .table) → goodState T (wordsOf T S) ≡ true
   unfolding goodState goodRelations
   level-good i v = every-in (stateTests T (wordsOf T S)) test
     where
@@ -180,7 +181,7 @@ module _ (text : List ℕ) (f : File) (e : reading text ≡ accepted f) (terms s
   front : stateWords ≤ length (wordsOf (f .terms) (stateSaid f))
   front = omega (arith, length-words (f .terms) (stateSaid f))
 
-  pub placed-now : stateOf (placed f state) .now ≡ stateSaid f .now
+  placed-now : stateOf (placed f state) .now ≡ stateSaid f .now
   placed-now =
       ap (λ (s : State). s .now) (state-front (wordsOf (f .terms) (stateSaid f)) (drop stateWords state) front)
       ∙ now-back (f .terms) (a .good) (stateSaid f) inside
@@ -188,7 +189,7 @@ module _ (text : List ℕ) (f : File) (e : reading text ≡ accepted f) (terms s
   pub placed-edges : stateOf (placed f state) .now .edge ≡ f .edges
   placed-edges = λ d. placed-now d .edge
 
-  pub placed-long : length (placed f state) ≡ length state
+  placed-long : length (placed f state) ≡ length state
   placed-long =
       length-append (wordsOf (f .terms) (stateSaid f)) (drop stateWords state)
       ∙ omega (arith, length-words (f .terms) (stateSaid f), length-drop stateWords state)
@@ -205,7 +206,7 @@ module _ (text : List ℕ) (f : File) (e : reading text ≡ accepted f) (terms s
       ∙ good-front (wordsOf (f .terms) (stateSaid f)) (drop stateWords state) front (f .terms) (a .good)
       ∙ level-good (f .terms) (a .good) (stateSaid f) (event-inside (f .terms) (a .last)) (accepted-level text f e)
 
-  -- they pass a check, and they open
+  -- They pass a check, and they open.
   pub checked : checks (filled f terms) (placed f state) ≡ passed
   checked = sym (check-passed (filled f terms) (placed f state) (record {
     long-terms = filled-long;

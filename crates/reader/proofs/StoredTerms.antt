@@ -66,7 +66,7 @@ module _ (T : Terms) where
       ap (λ w. set w 2 e) (set-tabulate termsWords (termsWord T) 1 r)
       ∙ set-tabulate termsWords (update (termsWord T) 1 r) 2 e ∙ tabulate-cong termsWords _ _ (λ i l. labels-word r e i)
 
-  -- one word of three from at on
+  -- One word of three from at on.
   abbrev thrice : (ℕ → ℕ) → (at x y z : ℕ) → ℕ → ℕ
   thrice g at x y z = update (update (update g at x) (at + 1) y) (at + 2) z
 
@@ -76,7 +76,7 @@ module _ (T : Terms) where
       ∙ ap (λ w. set w (at + 2) z) (set-tabulate termsWords (update g at x) (at + 1) y)
       ∙ set-tabulate termsWords (update (update g at x) (at + 1) y) (at + 2) z
 
-  -- no word of the three, and each of them
+  -- No word of the three, and each of them.
   not-three : (g : ℕ → ℕ) (at x y z i : ℕ) → (i ≡ at → ⊥) → (i ≡ at + 1 → ⊥) → (i ≡ at + 2 → ⊥) → thrice g at x y z i ≡ g i
   not-three g at x y z i p q r = rw (ne-eqb i (at + 2) r, ne-eqb i (at + 1) q, ne-eqb i at p)
 
@@ -87,7 +87,7 @@ module _ (T : Terms) where
   of-three g at x y z i (suc (suc zero)) e h = rw (eq-eqb i (at + 2) (omega arith))
   of-three g at x y z i (suc (suc (suc c))) e h = absurd (omega arith)
 
-  -- one word of four
+  -- One word of four.
   abbrev fourfold : (ℕ → ℕ) → (at x y z v : ℕ) → ℕ → ℕ
   fourfold g at x y z v = update (thrice g at x y z) (at + 3) v
 
@@ -186,7 +186,7 @@ module _ (T : Terms) where
     unfolding memoryOf
     mark-stored = set-tabulate termsWords (termsWord T) (markAt j) 1 ∙ tabulate-cong termsWords _ _ (λ i l. mark-word i)
 
-  -- the words of an effect after the others
+  -- The words of an effect after the others.
   abbrev wordOf : terms.Effect → ℕ → ℕ
   wordOf e c = cond (eqb c 0) (cond (e .adds) 1 2) (cond (eqb c 1) (e .relation) (cond (e .back) 1 0))
 

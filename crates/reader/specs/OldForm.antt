@@ -1,5 +1,5 @@
--- Reading the terms and the relations of a text of the old form: what it gives and leaves, for every text and every lent
--- memory.
+-- Reading the terms and the relations of a text of the old form: what it gives and leaves, for
+-- every text and every lent memory.
 use Prim.Native.Nat.{ℕ}
 use mathlib.Core.Bool.{Bool, cond, _||_}
 use mathlib.Core.List.{List, _++_}
@@ -33,8 +33,8 @@ oldFilling (refused n l) = unfilled n l
 unfoldable pub oldFillGives : (text terms relations : List ℕ) → Filling
 oldFillGives text terms relations = cond (shortRelations terms relations) (unfilled 6 0) (oldFilling (oldReading text))
 
--- An accepted text fills the named words of terms and of relations with what it says; a refusal leaves all memory as lent.
--- Further words are not touched.
+-- An accepted text fills the named words of terms and of relations with what it says; a refusal leaves all memory as
+-- lent. Further words are not touched.
 abbrev pub filledRelations : List ℕ → Reading → List ℕ
 filledRelations relations (accepted f) = take relationWords (wordsOf (f .terms) (stateSaid f)) ++ drop relationWords relations
 filledRelations relations (refused n l) = relations

@@ -44,8 +44,8 @@ filling (refused n l) = unfilled n l
 unfoldable pub fillGives : (text terms state : List ℕ) → Filling
 fillGives text terms state = cond (short terms state) (unfilled 6 0) (filling (reading text))
 
--- An accepted text fills the named words of terms and of state with what it says, an old one without tables and event; a refusal leaves all memory as lent.
--- Further words are not touched.
+-- An accepted text fills the named words of terms and of state with what it says, an old one without tables and event;
+-- a refusal leaves all memory as lent. Further words are not touched.
 abbrev pub filledTerms : List ℕ → Reading → List ℕ
 filledTerms terms (accepted f) = memoryOf (f .terms) ++ drop termsWords terms
 filledTerms terms (refused n l) = terms

@@ -7,7 +7,8 @@ use memory::plan::set_at;
 ghost use mathlib.Core.Path.{_≡_};
 ghost use Rattle.reader.specs.private.Testing.{tableSet, LastSet, FreeIn, reachIn};
 
-// The free variables of the entry of table t. Where the line before was a T line of the same table, they are `last`, at hand.
+// The free variables of the entry of table t. Where the line before was a T line of the same
+// table, they are `last`, at hand.
 fn table_set(phase: usize, table: usize, last: u64, terms: &[u16], masks: &[u64], t: usize) -> u64
     requires { ⌜ LastSet (now terms) (now masks) phase table last ⌝ }
     ensures { λ r. ⌜ r ≡ tableSet (now (terms .entry)) (now (masks .entry)) t ⌝ }
@@ -18,7 +19,8 @@ fn table_set(phase: usize, table: usize, last: u64, terms: &[u16], masks: &[u64]
     set_at(masks, past_entry(terms, t))
 }
 
-// The free variables that a line is tested by: those of the entry that it gives, of the policy that it names, or of the entry of its table.
+// The free variables that a line is tested by: those of the entry that it gives, of the policy that it
+// names, or of the entry of its table.
 pub(crate) fn free_in(
     phase: usize,
     table: usize,

@@ -1,4 +1,5 @@
-// The reader of a terms file: one pass over the lines, into words of its own, which an accepted text leaves in the lent memory.
+// The reader of a terms file: one pass over the lines, into words of its own, which an accepted
+// text leaves in the lent memory.
 use crate::Filled;
 use crate::free::free_in;
 use crate::free::reach_in;
@@ -89,8 +90,8 @@ fn copy_state(dst: &mut [u64], src: &[u64])
     }
 }
 
-// Reads a terms file. An accepted text fills the named words of terms and of state with what it says, an old one without tables and event;
-// a refusal has its number and line and leaves all memory as lent.
+// Reads a terms file. An accepted text fills the named words of terms and of state with what it says, an old one
+// without tables and event; a refusal has its number and line and leaves all memory as lent.
 pub fn fill(text: &[u8], terms: &mut [u16], state: &mut [u64]) -> Filled
     ensures { λ r. ⌜ fillingOf r ≡ fillGives (now (text .entry)) (now (terms .entry)) (now (state .entry)) ⌝ }
     ensures { λ r. ⌜ now (terms .exit) ≡ readTerms (now (text .entry)) (now (terms .entry)) (now (state .entry)) ⌝ }
@@ -133,8 +134,8 @@ fn begins_stored(text: &[u8]) -> bool
     false
 }
 
-// Reads a terms file of the old form, as `fill` does, and of the state only the relations; a stored text is refused where
-// its S stands.
+// Reads a terms file of the old form, as `fill` does, and of the state only the relations; a stored text
+// is refused where its S stands.
 pub fn fill_relations(text: &[u8], terms: &mut [u16], relations: &mut [u64]) -> Filled
     ensures { λ r. ⌜ fillingOf r ≡ oldFillGives (now (text .entry)) (now (terms .entry)) (now (relations .entry)) ⌝ }
     ensures { λ r. ⌜ now (terms .exit) ≡ oldTerms (now (text .entry)) (now (terms .entry)) (now (relations .entry)) ⌝ }

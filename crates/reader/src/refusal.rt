@@ -154,7 +154,8 @@ fn effect_number(c: Context, j: usize, a: usize, k: usize, d: usize, m: u64, rea
     first(p, 2, k < c.relations)
 }
 
-// Whether an edge (kind 6) or a bit of a table (kind 7) comes after the last of its kind, by relation or table, from, to.
+// Whether an edge (kind 6) or a bit of a table (kind 7) comes after the last of its kind,
+// by relation or table, from, to.
 fn is_rising(kind: usize, c: Context, k: usize, a: usize, b: usize) -> bool
     ensures { λ r. ⌜ r ≡ rising kind c k a b ⌝ }
 {

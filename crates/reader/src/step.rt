@@ -1,12 +1,13 @@
-// The counters of the reader, in place of what the lines have said: before the first line, and after each that has passed.
+// The counters of the reader, in place of what the lines have said: before the first line,
+// and after each that has passed.
 use file::line::Line;
 use memory::plan::is_past;
 ghost use mathlib.Core.Path.{_≡_};
 ghost use Prim.Native.Nat.{_<_};
 ghost use Rattle.reader.specs.private.Stepping.{begun, isComplete, slot, Ranges, stepped};
 
-// What the lines so far have said, in numbers: tables counts the prev and since entries, marks is one past the last event marked as kept,
-// effects counts those of event, and relation, from and to are the last edge or bit of a table.
+// What the lines so far have said, in numbers: tables counts the prev and since entries, marks is one past the last
+// event marked as kept, effects counts those of event, and relation, from and to are the last edge or bit of a table.
 pub struct Context {
     pub stored: bool,
     pub phase: usize,

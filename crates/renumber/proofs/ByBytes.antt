@@ -18,7 +18,7 @@ use Rattle.renumber.proofs.Spreading.{spread-zero, spread-byte, spread-
 
 -- ---- filling
 
--- the words of the first n eights are there
+-- The words of the first n eights are there.
 abbrev pub FilledTo : (p : ℕ → ℕ) → List ℕ → ℕ → Type 0
 FilledTo p bytes n = (length bytes ≡ 2048) × ((i v m : ℕ) → i < n → v < 256 → bit (getD bytes (256 * i + v) 0) m ≡ spread 8 (λ k. p (8 * i + k)) v m)
 
@@ -37,7 +37,7 @@ filled-more p bytes ys i il long h f =
 
 -- ---- spreading
 
--- 16 members, by two bytes
+-- 16 members, by two bytes.
 pub part-spread : (bytes : List ℕ) (i w : ℕ) → i < 4 → (p : ℕ → ℕ) → Bytes p bytes → (m : ℕ) →
     bit (bitOr (getD bytes (512 * i + bitAnd w 255) 0) (getD bytes (512 * i + 256 + bitAnd (w / 256) 255) 0)) m ≡ spread 16 (λ k. p (16 * i + k)) w m
 part-spread bytes i w il p b m =
@@ -53,7 +53,7 @@ part-spread bytes i w il p b m =
     (λ k _. let z : 8 * (2 * i + 1) + k ≡ 16 * i + (8 + k) = omega arith in ap p z))
     ∙ sym (spread-byte (λ k. p (16 * i + k)) m 8 w)
 
--- 64 members, by four parts
+-- 64 members, by four parts.
 module _ (p : ℕ → ℕ) (m w a b c d : ℕ) where
   abbrev Part : (r i v : ℕ) → Type 0
   Part r i v = bit r m ≡ spread 16 (λ k. p (16 * i + k)) v m
@@ -62,7 +62,7 @@ module _ (p : ℕ → ℕ) (m w a b c d : ℕ) where
   or-three true y z = refl
   or-three false y z = refl
 
-  -- the parts from i on
+  -- The parts from i on.
   more : (i j n v r : ℕ) → j ≡ i + 1 → Part r i v → spread (16 + n) (λ k. p (16 * i + k)) v m ≡ (bit r m || spread n (λ k. p (16 * j + k)) (v / 65536) m)
   more i j n v r e h =
       spread-half (λ k. p (16 * i + k)) m n v
@@ -82,6 +82,6 @@ module _ (p : ℕ → ℕ) (m w a b c d : ℕ) where
       ∙ or-three (bit a m) (bit b m || bit c m) (bit d m)
       ∙ ap (λ (x : Bool). x || bit d m) (or-three (bit a m) (bit b m) (bit c m)))
 
--- no member
+-- No member.
 pub none-spread : (p : ℕ → ℕ) (w m : ℕ) → w ≡ 0 → bit 0 m ≡ spread 64 p w m
 none-spread p w m e = bit-zero m ∙ sym (ap (λ (x : ℕ). spread 64 p x m) e ∙ spread-zero p m 64)

@@ -15,7 +15,7 @@ use Rattle.sets.proofs.Bits.{bit-zero, bit-without, same-bits}
 use Rattle.theory.specs.NewNumbers.{renumbers}
 use Rattle.calls.proofs.MembersNumbers.{getD-any}
 
--- the set of the first i numbers of the list
+-- The set of the first i numbers of the list.
 abbrev pub Seen : List ℕ → ℕ → ℕ → Type 0
 Seen p i seen = (m : ℕ) → bit seen m ≡ anyBelow i (λ k. ltb m 64 && eqb m (getD p k 0))
 
@@ -77,7 +77,7 @@ all-seen p n all seen small long mask s =
         (sym (eqb-true (getD p (b .0) (b .0)) m (b .2)) ∙ getD-any p (b .0) (b .0) 0 (subst (λ (x : ℕ). b .0 < x) (sym long) (b .1))))) in
         not-both (not (bit seen m)) (and-right (bit all m) (not (bit seen m)) two) (ap not seen-it)
 
--- a list of another length
+-- A list of another length.
 pub short : (p : List ℕ) (n : ℕ) → (length p ≡ n → ⊥) → renumbers n p ≡ false
 unfolding renumbers
 short p n h = rw (ne-eqb (length p) n h)

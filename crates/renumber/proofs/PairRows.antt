@@ -1,4 +1,5 @@
--- The rows of a table with two columns go to the quarters of their new numbers, one after another, and so do the tables of a state.
+-- The rows of a table with two columns go to the quarters of their new numbers, one after another,
+-- and so do the tables of a state.
 use Prim.Native.Nat.{ℕ, _+_, _-_, _*_, _/_, _%_, _≤_, _<_}
 use native.Mathlib.Omega.{arith}
 use native.Mathlib.Numerals.{add-one}
@@ -45,11 +46,11 @@ or-swap false false = refl
 
 -- ---- one row
 
--- the first of four parts
+-- The first of four parts.
 pub first-part : (p : ℕ → ℕ) (r row : ℕ) → ((m : ℕ) → bit row m ≡ spread 16 (λ k. p (16 * 0 + k)) r m) → (m : ℕ) → bit row m ≡ spread 16 p r m
 first-part p r row h m = h m ∙ spread-cong 16 (λ k. p (16 * 0 + k)) p r m (λ k _. let z : 16 * 0 + k ≡ k = omega arith in ap p z)
 
--- r is row q of the word w, spread by p to row
+-- r is row q of the word w, spread by p to row.
 module _ (p : ℕ → ℕ) (few : Few p) (w q r row : ℕ) (here : (c : ℕ) → bit r c ≡ (ltb c 16 && bit w (16 * q + c)))
     (there : (m : ℕ) → bit row m ≡ spread 16 p r m)
   where
@@ -71,7 +72,7 @@ module _ (p : ℕ → ℕ) (few : Few p) (w q r row : ℕ) (here : (c : ℕ) →
         (and-both _ _ (here c ∙ and-both _ _ (lt-ltb c 16 l) e)
         (and-both _ _ (lt-ltb (p c) 64 (let z : p c < 16 = few c l in omega arith)) (eq-eqb (p c) (p c) refl)))
 
-    -- in quarter b of a word
+    -- In quarter b of a word.
     quartered : (b k : ℕ) → (eqb (k / 16) b && bit row (k % 16)) ≡ anyBelow 16 (λ c. bit w (16 * q + c) && eqb k (16 * b + p c))
     quartered b k =
         bool-iff _ _
@@ -88,7 +89,7 @@ module _ (p : ℕ → ℕ) (few : Few p) (w q r row : ℕ) (here : (c : ℕ) →
         and-both _ _ (eq-eqb (k / 16) b (omega arith))
         (subst (λ m. bit row m ≡ true) c (to-row (s .0) (s .1) (and-left (bit w (16 * q + s .0)) _ (s .2)))))
 
--- the word of a row is there
+-- The word of a row is there.
 pub place-below : (p : ℕ → ℕ) → Few p → (i q a b : ℕ) → i < 64 → q < 4 → a ≡ p (i / 4) → b ≡ p (4 * (i % 4) + q) → 4 * a + b / 4 < 64
 place-below p few i q a b il ql ea eb =
     let al : p (i / 4) < 16 = few (i / 4) (omega arith) in
@@ -98,7 +99,7 @@ place-below p few i q a b il ql ea eb =
 -- ---- one row after another
 
 module _ (p : ℕ → ℕ) (few : Few p) (ws : ℕ → ℕ) (into : List ℕ) where
-  -- row d, in a word that gets it in its quarter
+  -- Row d, in a word that gets it in its quarter.
   pub gone-more : (d i q a b k r row w : ℕ) → Gone p ws into d → i < 64 → q < 4 → d ≡ 4 * i + q → a ≡ p (i / 4) → b ≡ p (4 * (i % 4) + q) → k ≡ 4 * a + b / 4 →
       ((c : ℕ) → bit r c ≡ (ltb c 16 && bit (ws i) (16 * q + c))) → ((m : ℕ) → bit row m ≡ spread 16 p r m) →
       ((m : ℕ) → bit w m ≡ (bit (getD into k 0) m || (eqb (m / 16) (b % 4) && bit row (m % 16)))) → Gone p ws (set into k w) (d + 1)
@@ -128,7 +129,7 @@ module _ (p : ℕ → ℕ) (few : Few p) (ws : ℕ → ℕ) (into : List ℕ) wh
       bits-of : ℕ → ℕ → Bool
       bits-of b m = anyBelow 16 (λ c. bit (ws i) (16 * q + c) && eqb m (16 * (b % 4) + p c))
 
-      -- what row d says
+      -- What row d says.
       says : (j m : ℕ) → goesTo p ws d j m ≡ (eqb j k && bits-of b m)
       says j m =
           rw (first, second, word, quarter, ← ea, ← eb, ← ek)
@@ -146,7 +147,7 @@ module _ (p : ℕ → ℕ) (few : Few p) (ws : ℕ → ℕ) (into : List ℕ) wh
           ∙ ap (λ x. x || anyBelow d (λ d. goesTo p ws d j m)) (sym (says j m ∙ ap (λ x. x && bits-of b m) e))
           ∙ sym (any-more d (λ d. goesTo p ws d j m))
 
-  -- row d of a word that is 0
+  -- Row d of a word that is 0.
   gone-empty : (d : ℕ) → ws (d / 4) ≡ 0 → Gone p ws into d → Gone p ws into (d + 1)
   gone-empty d z g = record {
     long = g .long;
@@ -159,7 +160,7 @@ module _ (p : ℕ → ℕ) (few : Few p) (ws : ℕ → ℕ) (into : List ℕ) wh
           let s = any-elim 16 (λ c. bit (ws (d / 4)) (16 * (d % 4) + c) && eqb m (16 * (p (d % 16) % 4) + p c)) (and-right (eqb j _) _ e) in
           not-both _ (and-left (bit (ws (d / 4)) (16 * (d % 4) + s .0)) _ (s .2)) (ap (λ x. bit x (16 * (d % 4) + s .0)) z ∙ bit-zero _))
 
-  -- the four rows of such a word
+  -- The four rows of such a word.
   pub gone-word : (i : ℕ) → ws i ≡ 0 → Gone p ws into (4 * i) → Gone p ws into (4 * (i + 1))
   gone-word i z g =
       let at : (q : ℕ) → q < 4 → ws ((4 * i + q) / 4) ≡ 0 = λ q l. (let y : (4 * i + q) / 4 ≡ i = omega arith in ap ws y ∙ z) in
@@ -176,7 +177,7 @@ module _ (p : ℕ → ℕ) (few : Few p) (ws : ℕ → ℕ) (into : List ℕ) wh
   pub gone-none : length into ≡ 64 → ((i : ℕ) → getD into i 0 ≡ 0) → Gone p ws into (4 * 0)
   gone-none l z = record { long = l; bits = λ j m. ap (λ x. bit x m) (z j) ∙ bit-zero m ∙ sym (none-below _) }
 
--- words up to i are 0
+-- Words up to i are 0.
 pub cleared : (ws : List ℕ) (i : ℕ) → i < length ws → ((j : ℕ) → j < i → getD ws j 0 ≡ 0) → (j : ℕ) → j < i + 1 → getD (set ws i 0) j 0 ≡ 0
 cleared ws i l h j jl = by (last-or-below j i (omega arith))
   where
@@ -203,7 +204,7 @@ module _ (T : Terms) (p : ℕ → ℕ) (state before : List ℕ) where
     kept = λ t i l h. refl;
   }
 
-  -- a table with one column
+  -- A table with one column.
   pub tabled-skip : (after : List ℕ) (s : ℕ) → isTwo (tableColumns T s) ≡ false → Tabled T p state before after s → Tabled T p state before after (s + 1)
   tabled-skip after s one h = record {
     long = h .long;
@@ -218,7 +219,7 @@ module _ (T : Terms) (p : ℕ → ℕ) (state before : List ℕ) where
       by t i k two (inl q) il = h .moved t i k q two il
       by t i k two (inr q) il = absurd (not-both _ two (ap (λ x. isTwo (tableColumns T x)) q ∙ one))
 
-  -- a table with two: its words come back in ys
+  -- A table with two: its words come back in ys.
   pub tabled-more : (after from ys : List ℕ) (s at : ℕ) → s < 32 → at ≡ 1024 + 64 * s → 3073 ≤ length before → ((a : ℕ) → a < 64 → getD from a 0 ≡ getD state (at + a) 0) →
       isTwo (tableColumns T s) ≡ true → Gone p (λ a. getD from a 0) ys 256 → Tabled T p state before after s →
       Tabled T p state before (putMid at (at + 64 - at) after ys) (s + 1)
@@ -258,14 +259,14 @@ module _ (T : Terms) (p : ℕ → ℕ) (state before : List ℕ) where
           absurd (out (omega arith) (ap (λ x. isTwo (tableColumns T x)) z ∙ two))
       kept t i il out false q = other t i il (eqb-false t s q) ∙ h .kept t i il (λ l. out (omega arith))
 
--- two columns are of few members
+-- Two columns are of few members.
 two-few : (N : ℕ) (cs : List ℕ) → columnsFit N cs ≡ true → isTwo cs ≡ true → N < 17
 two-few N [] fit two = absurd (false≢true two)
 two-few N (x ∷ []) fit two = absurd (false≢true two)
 two-few N (x ∷ y ∷ []) fit two = ltb-true N 17 fit
 two-few N (x ∷ y ∷ z ∷ zs) fit two = absurd (false≢true fit)
 
--- the plan says which table it is, and whether it has two columns
+-- The plan says which table it is, and whether it has two columns.
 module _ (T : Terms) (good : Good T) (plan : List ℕ) (h : Planned T plan) (n w : ℕ) (l : n < T .entries) (past : isPast (T .entry n .op) ≡ true) (is : w ≡ getD plan n 0) where
   same-columns : tableColumns T (number (T .entry) n) ≡ columns (formula T n)
   same-columns = ap (λ d. columns (formula T d)) (past-is T n l past)
@@ -283,7 +284,7 @@ module _ (T : Terms) (good : Good T) (plan : List ℕ) (h : Planned T plan) (n w
   pub planned-few : isTwo (tableColumns T (number (T .entry) n)) ≡ true → T .members < 17
   planned-few two = two-few (T .members) (columns (formula T n)) (good .entry n l .columns-fit past) (ap isTwo (sym same-columns) ∙ two)
 
--- 64 words of a list
+-- 64 words of a list.
 module _ (w : List ℕ) (at : ℕ) (l : at + 64 ≤ length w) where
   pub part-long : length (take (at + 64 - at) (drop at w)) ≡ 64
   part-long = simp (length-take, length-drop) (omega arith)
@@ -293,7 +294,7 @@ module _ (w : List ℕ) (at : ℕ) (l : at + 64 ≤ length w) where
 
 -- ---- what the words of such a table then say
 
--- row 16a + b is that of a and b
+-- Row 16a + b is that of a and b.
 module _ (a b : ℕ) (al : a < 16) (bl : b < 16) where
   row-member : (16 * a + b) / 16 ≡ a
   row-member = omega arith
@@ -313,7 +314,7 @@ module _ (a b : ℕ) (al : a < 16) (bl : b < 16) where
   word-below : 4 * a + b / 4 < 64
   word-below = omega arith
 
--- they said X, in words ws
+-- They said X, in words ws.
 module _ (N : ℕ) (p q : ℕ → ℕ) (r : Renumbering N p q) (few : N < 17) (x y : ℕ) (X : ℕ → ℕ → Bool) (ws : ℕ → ℕ)
     (says : (i k : ℕ) → i < 64 → bit (ws i) k ≡ (inside N (x ∷ y ∷ []) i k && X i k))
   where
@@ -323,7 +324,7 @@ module _ (N : ℕ) (p q : ℕ → ℕ) (r : Renumbering N p q) (few : N < 17) (x
     fit : columnsFit N cs ≡ true
     fit = lt-ltb N 17 few
 
-    pub pairs-said : (j k : ℕ) → j < 64 → anyBelow 256 (λ d. goesTo p ws d j k) ≡ (inside N cs j k && X (wordUnder cs q j k) (bitUnder cs q j k))
+    pairs-said : (j k : ℕ) → j < 64 → anyBelow 256 (λ d. goesTo p ws d j k) ≡ (inside N cs j k && X (wordUnder cs q j k) (bitUnder cs q j k))
     pairs-said j k jl = bool-iff _ _ there back
       where
         there : anyBelow 256 (λ d. goesTo p ws d j k) ≡ true → (inside N cs j k && X (wordUnder cs q j k) (bitUnder cs q j k)) ≡ true
@@ -380,7 +381,7 @@ module _ (N : ℕ) (p q : ℕ → ℕ) (r : Renumbering N p q) (few : N < 17) (x
                 (any-intro 16 (λ c. bit (ws (4 * a + b / 4)) (16 * (b % 4) + c) && eqb k (16 * (p b % 4) + p c)) c cl
                 (and-both _ _ set (eq-eqb k (16 * (p b % 4) + p c) (sym (ap₂ (λ b c. 16 * (b % 4) + c) pb pc ∙ pair-bit-back j k (h .below))))))))
 
--- the same of any two columns
+-- The same of any two columns.
 pub two-said : (N : ℕ) (p q : ℕ → ℕ) → Renumbering N p q → (cs : List ℕ) → columnsFit N cs ≡ true → isTwo cs ≡ true → (X : ℕ → ℕ → Bool) (ws : ℕ → ℕ) →
     ((i k : ℕ) → i < 64 → bit (ws i) k ≡ (inside N cs i k && X i k)) → (j k : ℕ) → j < 64 →
     anyBelow 256 (λ d. goesTo p ws d j k) ≡ (inside N cs j k && X (wordUnder cs q j k) (bitUnder cs q j k))

@@ -1,4 +1,5 @@
--- Rows put at their new numbers, one after another, and the event word; the words that are then there are those of the renumbered state.
+-- Rows put at their new numbers, one after another, and the event word; the words that are then there are
+-- those of the renumbered state.
 use Prim.Native.Nat.{ℕ, zero, suc, _+_, _-_, _*_, _/_, _%_, _≤_, _<_}
 use native.Mathlib.Omega.{arith}
 use native.Mathlib.Numerals.{add-one}
@@ -68,7 +69,7 @@ module _ (p : ℕ → ℕ) (far : Apart p) where
           ap (λ (x : ℕ). bit (getD (set after k w) x 0) m) (ap (placeOf p) z ∙ sym e)
           ∙ ap (λ (x : ℕ). bit x m) (getD-set-same after k w 0 there) ∙ h m ∙ ap (λ (x : ℕ). spread 64 p (getD state x 0) m) (sym z)
 
-  -- then the tables with two columns, and the event word
+  -- Then the tables with two columns, and the event word.
   pub rewritten : (T : Terms) → tables T < 33 → (state before rows after : List ℕ) (w : ℕ) → stateWords ≤ length before → w ≡ newEvent p (getD state eventAt 0) →
       Placed p state before rows eventAt → Tabled T p state rows after (tables T) → Rewritten T p state before (set after eventAt w)
   rewritten T few state before rows after w long e q h = record {
@@ -107,8 +108,8 @@ new-event p w n u v e f g = rw (e ∙ add-one n, f, g) (go (ltb (n / 4096) 16) r
     go true z = refl
     go false z = let h : 16 ≤ n / 4096 = ltb-false (n / 4096) 16 z in let k : n / 4096 ≡ 16 + (n / 4096 - 16) = omega arith in ap (λ (j : ℕ). 1 + j * 4096 + p (n / 64 % 64) * 64 + p (n % 64)) k
 
--- the event word of a state that keeps the layout is small
-pub event-small : (T : Terms) → Good T → (w : ℕ) → goodEvent T w ≡ true → w < 131073
+-- The event word of a state that keeps the layout is small.
+event-small : (T : Terms) → Good T → (w : ℕ) → goodEvent T w ≡ true → w < 131073
 event-small T fine zero g = omega arith
 event-small T fine (suc n) g = go (ltb (n / 4096) 16) refl (ltb-true _ (T .events) (and-left _ _ g))
   where
@@ -118,7 +119,7 @@ event-small T fine (suc n) g = go (ltb (n / 4096) 16) refl (ltb-true _ (T .event
 
 -- ---- the renumbered state
 
--- what check 15 says of rows
+-- What check 15 says of rows.
 pub apart-of : (N : ℕ) (p : List ℕ) → N < 65 → renumbers N p ≡ true → Apart (newNumber p)
 unfolding renumbers
 apart-of N p small ok = record {
@@ -138,7 +139,7 @@ apart-of N p small ok = record {
         let z : newNumber p a ≡ a = List·getD-eq-default p a (let h : N ≤ a = ltb-false a N e in omega (arith, long)) in
         omega arith
 
--- and of so few members
+-- And of so few members.
 pub few-of : (N : ℕ) (p : List ℕ) → renumbers N p ≡ true → N < 17 → Few (newNumber p)
 unfolding renumbers
 few-of N p ok few a al = by (ltb a N) refl
@@ -165,7 +166,7 @@ spread-permuted N p q r far w small m =
     any-intro 64 (λ k. bit w k && (ltb m 64 && eqb m (p k))) (q m) l
     (and-both (bit w (q m)) (ltb m 64 && eqb m (p (q m))) e (and-both (ltb m 64) (eqb m (p (q m))) (lt-ltb m 64 (omega arith)) (eq-eqb m (p (q m)) (sym f)))))
 
--- the event of a state's words, and that old numbers do not count in an event
+-- The event of a state's words, and that old numbers do not count in an event.
 now-event : (w : List ℕ) → eventOf (getD w eventAt 0) ≡ stateOf w .now .event
 unfolding stateOf
 now-event w = refl
@@ -179,7 +180,7 @@ pub event-of-good : (T : Terms) → Good T → (w : List ℕ) → goodState T w 
 unfolding goodState
 event-of-good T fine w g = event-small T fine (getD w eventAt 0) (every-at (stateTests T w) g 3)
 
--- one column
+-- One column.
 one-inside : (N : ℕ) (cs : List ℕ) → isTwo cs ≡ false → (a b : ℕ) (v : Bool) → (inside N cs a b && v) ≡ (ltb a N && (ltb b N && v))
 one-inside N [] one a b v = and-assoc (ltb a N) (ltb b N) v
 one-inside N (x ∷ []) one a b v = and-assoc (ltb a N) (ltb b N) v
@@ -237,11 +238,11 @@ module _ (T : Terms) (fine : Good T) (numbers state : List ℕ) (ok : renumbers 
         ap (λ (w : List ℕ). getD w i 0) (canonical T (fine .few-members) state long g)
         ∙ List·getD-append (wordsOf T S) (drop stateWords state) 0 i (omega (arith, length-words T S))
 
-    -- the last of three tests
+    -- The last of three tests.
     third : (x y z w : Bool) → (x && (y && (z && w))) ≡ true → z ≡ true
     third x y z w e = and-left z w (and-right y (z && w) (and-right x (y && (z && w)) e))
 
-    -- one block: k is its place, there whether it is there, f what it says
+    -- One block: k is its place, there whether it is there, f what it says.
     module _ (before after : List ℕ) (R : Rewritten T p state before after) where
       moved : (k : ℕ) (there : Bool) (f : ℕ → ℕ → Bool) → 64 * k + 64 ≤ eventAt →
           ((a m : ℕ) → a < 64 → bit (getD after (64 * k + p a) 0) m ≡ spread 64 p (getD state (64 * k + a) 0) m) →
@@ -269,7 +270,7 @@ module _ (T : Terms) (fine : Good T) (numbers state : List ℕ) (ok : renumbers 
       as-block : (t a : ℕ) → tableAt t a ≡ 64 * (16 + t) + a
       as-block t a = omega arith
 
-      -- a table with one column, or none that is in use
+      -- A table with one column, or none that is in use.
       row-table : (t : ℕ) → t < 32 → (t < tables T → isTwo (tableColumns T t) ≡ true → ⊥) → (a m : ℕ) → a < 64 →
           bit (getD after (tableAt t a) 0) m ≡ (ltb t (tables T) && (inside (T .members) (tableColumns T t) a m && S' .table t a m))
       row-table t tl one a m al =
@@ -283,7 +284,7 @@ module _ (T : Terms) (fine : Good T) (numbers state : List ℕ) (ok : renumbers 
           sym (one-inside (T .members) (tableColumns T t) col a m (S' .table t a m)
           ∙ ap (λ (x : Bool). ltb a (T .members) && (ltb m (T .members) && x)) (one-under q (tableColumns T t) col (some-column (formula T (pastEntry T t))) (S .table t) a m)))
 
-      -- a table with two
+      -- A table with two.
       pair-table : (t : ℕ) → t < tables T → isTwo (tableColumns T t) ≡ true → (a m : ℕ) → a < 64 →
           bit (getD after (tableAt t a) 0) m ≡ (ltb t (tables T) && (inside (T .members) (tableColumns T t) a m && S' .table t a m))
       pair-table t tl two a m al =

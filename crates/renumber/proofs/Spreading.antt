@@ -21,7 +21,7 @@ any-false : (n : ℕ) (p : ℕ → Bool) → ((k : ℕ) → k < n → p k ≡ fa
 any-false n p h = ⊎-elim
     (λ e. let w = any-elim n p e in absurd (not-both (p (w .0)) (w .2) (h (w .0) (w .1)))) (λ e. e) (true-or-false (anyBelow n p))
 
-pub any-split : (a b : ℕ) (f : ℕ → Bool) → anyBelow (a + b) f ≡ (anyBelow a f || anyBelow b (λ k. f (a + k)))
+any-split : (a b : ℕ) (f : ℕ → Bool) → anyBelow (a + b) f ≡ (anyBelow a f || anyBelow b (λ k. f (a + k)))
 any-split a b f =
     bool-iff _ _
     (λ e. let w = any-elim (a + b) f e in by (w .0) (w .1) (w .2) (ltb (w .0) a) refl)
@@ -37,7 +37,7 @@ any-split a b f =
         let same : a + (k - a) ≡ k = omega arith in
         or-right (anyBelow a f) _ (any-intro b (λ k. f (a + k)) (k - a) (omega arith) (ap f same ∙ e))
 
--- bit a + k of w is bit k of w without its first a bits
+-- Bit a + k of w is bit k of w without its first a bits.
 bit-shift : (a w k : ℕ) → bit w (a + k) ≡ bit (w / 2 ^ a) k
 bit-shift zero w k = ap₂ bit (sym (div-one w)) (omega arith)
 bit-shift (suc a) w k =
@@ -45,13 +45,13 @@ bit-shift (suc a) w k =
     ap (bit w) next ∙ bit-half w (a + k) ∙ bit-shift a (w / 2) k
     ∙ ap (λ (x : ℕ). bit x k) (div-div-eq-div-mul w 2 (2 ^ a) ∙ ap (λ (x : ℕ). w / x) (mul-comm 2 (2 ^ a) ∙ sym (pow-suc 2 a)))
 
--- a bit above all others
+-- A bit above all others.
 bit-top : (k u j : ℕ) → u < 2 ^ k → bit (2 ^ k + u) j ≡ (bit u j || eqb j k)
 bit-top k u j l =
     let once : 1 * 2 ^ k ≡ 2 ^ k = omega arith in
     ap (λ (x : ℕ). bit x j) (ap (λ (x : ℕ). x + u) (sym once) ∙ sym (or-shifted-r 1 k u l) ∙ ap (bitOr u) once) ∙ bit-set u k j
 
-pub byte-low : (w k : ℕ) → bit (bitAnd w 255) k ≡ (bit w k && ltb k 8)
+byte-low : (w k : ℕ) → bit (bitAnd w 255) k ≡ (bit w k && ltb k 8)
 byte-low w k = bit-and w 255 k ∙ ap (λ (x : Bool). bit w k && x) (bit-mask 8 k)
 
 module _ (p : ℕ → ℕ) (m : ℕ) where
@@ -62,12 +62,8 @@ module _ (p : ℕ → ℕ) (m : ℕ) where
   unfolding spread
   spread-zero n = any-false n _ (λ k _. ap (λ (b : Bool). b && X k) (bit-zero k))
 
-  pub spread-none : (w : ℕ) → spread 0 p w m ≡ false
-  unfolding spread anyBelow
-  spread-none w = refl
-
-  -- a member above all others of a set
-  pub spread-top : (n k u : ℕ) → k < n → u < 2 ^ k → spread n p (2 ^ k + u) m ≡ (spread n p u m || (ltb m 64 && eqb m (p k)))
+  -- A member above all others of a set.
+  spread-top : (n k u : ℕ) → k < n → u < 2 ^ k → spread n p (2 ^ k + u) m ≡ (spread n p u m || (ltb m 64 && eqb m (p k)))
   unfolding spread
   spread-top n k u kl ul =
       any-cong n {p = λ j. bit (2 ^ k + u) j && X j} {q = λ j. (bit u j || eqb j k) && X j} (λ j _. ap (λ (b : Bool). b && X j) (bit-top k u j ul))
@@ -85,7 +81,7 @@ module _ (p : ℕ → ℕ) (m : ℕ) where
       (λ x. any-intro n (λ j. (bit u j || eqb j k) && X j) k kl (and-both _ (X k) (or-right (bit u k) (eqb k k) (eq-eqb k k refl)) x))
       (or-cases (anyBelow n (λ j. bit u j && X j)) (X k) h))
 
--- the first byte, and the rest
+-- The first byte, and the rest.
 pub spread-byte : (p : ℕ → ℕ) (m b w : ℕ) →
     spread (8 + b) p w m ≡ (spread 8 p (bitAnd w 255) m || spread b (λ k. p (8 + k)) (w / 256) m)
 unfolding spread
@@ -95,14 +91,14 @@ spread-byte p m b w =
     (any-cong 8 (λ k l. ap (λ (x : Bool). x && X p m k) (sym (byte-low w k ∙ ap (λ (x : Bool). bit w k && x) (lt-ltb k 8 l) ∙ and-true (bit w k)))))
     (any-cong b (λ k _. ap (λ (x : Bool). x && X p m (8 + k)) (bit-shift 8 w k)))
 
--- the first 16 members, and the rest
+-- The first 16 members, and the rest.
 pub spread-half : (p : ℕ → ℕ) (m b w : ℕ) → spread (16 + b) p w m ≡ (spread 16 p w m || spread b (λ k. p (16 + k)) (w / 65536) m)
 unfolding spread
 spread-half p m b w =
     any-split 16 b (λ k. bit w k && X p m k)
     ∙ ap (λ (x : Bool). anyBelow 16 (λ k. bit w k && X p m k) || x) (any-cong b (λ k _. ap (λ (x : Bool). x && X p m (16 + k)) (bit-shift 16 w k)))
 
--- eight members are in the first byte
+-- Eight members are in the first byte.
 pub spread-low : (p : ℕ → ℕ) (m w : ℕ) → spread 8 p (bitAnd w 255) m ≡ spread 8 p w m
 unfolding spread
 spread-low p m w = any-cong 8 (λ k l. ap (λ (x : Bool). x && X p m k) (byte-low w k ∙ ap (λ (x : Bool). bit w k && x) (lt-ltb k 8 l) ∙ and-true (bit w k)))
@@ -119,7 +115,7 @@ module _ (p : ℕ → ℕ) (b : ℕ) where
       let z : v ≡ 0 = omega arith in
       rw z (ap (λ (x : ℕ). bit x m) (getD-set-same part 0 0 0 l) ∙ bit-zero m ∙ sym (spread-zero (λ k. p (b + k)) m 8))
 
-  -- one more member
+  -- One more member.
   pub byte-more : (part after : List ℕ) (n k x more : ℕ) → n ≡ 2 ^ k → k < 8 → x ≡ p (b + k) → ((m : ℕ) → bit more m ≡ (ltb m 64 && eqb m x)) →
       Doubled part n more after n → ByteOf p b part n → ByteOf p b after (2 * n)
   byte-more part after n k x more e kl is says d h v m vl = by (ltb v n) refl

@@ -168,7 +168,8 @@ fn rewrite(terms: &[u16], plan: &[u16], state: &[u64], numbers: &[u8], second: &
     second[layout::EVENT_AT] = new_event(numbers, state[layout::EVENT_AT]);
 }
 
-// Rewrites a state into a second one, byte m of the list being the new number of member m. A refusal leaves the second state as lent.
+// Rewrites a state into a second one, byte m of the list being the new number of member m. A refusal
+// leaves the second state as lent.
 pub fn renumber(terms: &[u16], state: &[u64], numbers: &[u8], second: &mut [u64]) -> Outcome
     ensures { λ r. ⌜ outcomeOf r ≡ renumbering (now (terms .entry)) (now (state .entry)) (now (numbers .entry)) (now (second .entry)) ⌝ }
     ensures { λ r. ⌜ now (second .exit) ≡ renumberedState (now (terms .entry)) (now (state .entry)) (now (numbers .entry)) (now (second .entry)) ⌝ }

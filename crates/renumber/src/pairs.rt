@@ -1,4 +1,5 @@
-// Tables with two columns: each row, of members a and b, goes to the quarter of their new numbers, with its bits at theirs.
+// Tables with two columns: each row, of members a and b, goes to the quarter of their new
+// numbers, with its bits at theirs.
 use memory::layout::BLOCK;
 use memory::layout::TABLES_AT;
 use memory::layout::entries;

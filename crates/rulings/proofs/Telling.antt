@@ -10,14 +10,14 @@ use borrow.Author.Tests.{le-ltb, ltb-true}
 use Rattle.sets.proofs.Finite.{and-left, and-right, and-under}
 use Rattle.theory.specs.Formula.{Formula}
 use Rattle.theory.specs.Meaning.{Starts, holds as isTrue}
-use Rattle.theory.specs.Terms.{Terms, formula, Alike}
+use Rattle.theory.specs.Terms.{Terms, Alike}
 use Rattle.theory.specs.Fit.{onlyFree}
 use Rattle.theory.specs.Moment.{Moment}
-use Rattle.theory.specs.Keeper.{Book, recordOf, last, target, keeperHolds}
+use Rattle.theory.specs.Keeper.{Book, recordOf, last, target}
 use Rattle.memory.specs.Layout.{termsWords, stateWords, termsOf, stateOf}
 use Rattle.memory.specs.Outcome.{askable}
 use Rattle.calls.specs.Agreement.{Lent}
-use Rattle.calls.specs.Telling.{Telling, paired, holdsAt, tells}
+use Rattle.calls.specs.Telling.{Telling, paired, tells}
 use Rattle.calls.specs.Telling.Telling.{holds, fails, refused}
 use Rattle.rulings.specs.Telling.{keeperTells}
 use Rattle.theory.proofs.AlikeTerms.{met, met-is, same-formula}
@@ -25,7 +25,7 @@ use Rattle.theory.proofs.RunInvariant.{entry-kept}
 use Rattle.memory.proofs.Accepted.{good}
 use Rattle.calls.proofs.Demand.{Playing}
 
--- where an entry may be asked, and the pair is of members, it is told by its truth
+-- Where an entry may be asked, and the pair is of members, it is told by its truth.
 abbrev tellBy : (asked known true : Bool) → Telling
 tellBy a k t = cond (not a) (refused 14 0) (cond (not k) (refused 9 0) (cond t holds fails))
 
@@ -34,7 +34,7 @@ tell-same true a' true {t} {t'} e h = ap (λ (x : Bool). cond x holds fails) (h 
 tell-same true a' false {t} {t'} e h = ap (λ (x : Bool). tellBy x false t') e
 tell-same false a' k {t} {t'} e h = ap (λ (x : Bool). tellBy x k t') e
 
--- terms that agree where they count
+-- Terms that agree where they count.
 module _ (T U : Terms) (a : Alike T U) (s : Starts) (Ms : List Moment) (n u v : ℕ) where
   abbrev by : Terms → Book
   by X = record { terms = X; start = s; moments = Ms }

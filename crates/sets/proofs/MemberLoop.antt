@@ -11,7 +11,7 @@ use Rattle.sets.proofs.Finite.{and-left}
 use Rattle.sets.proofs.Bits.{bit-zero}
 use Rattle.sets.proofs.Least.{Least, Rest, least-law, rest-law}
 
--- over the members of want; those of rest are to come
+-- Over the members of want; those of rest are to come.
 abbrev pub Done : ℕ → ℕ → ℕ → Bool
 Done want rest k = bit want k && not (bit rest k)
 
@@ -22,7 +22,7 @@ pub record Going (want rest : ℕ) : Type 0 where
 pub going : (want : ℕ) → want < 2 ^ 64 → Going want want
 going want h = record { fits = h; inside = λ k e. e }
 
--- one turn: a is the least of rest, and rest' is what is left
+-- One turn: a is the least of rest, and rest' is what is left.
 pub record Turn (want rest a rest' : ℕ) : Type 0 where
   pub upon : Going want rest
   pub next : Least rest a

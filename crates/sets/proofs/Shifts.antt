@@ -13,16 +13,16 @@ use Rattle.sets.specs.Sets.{bit}
 use Rattle.sets.proofs.Finite.{is-false, and-left, and-right, and-true, and-implied, below-suc, true-or-false}
 use Rattle.sets.proofs.Bits.{bit-and, bit-or, bit-zero, bit-mask, bit-below}
 
-pub bit-shr : (w j k : ℕ) → bit (w / 2 ^ j) k ≡ bit w (j + k)
+bit-shr : (w j k : ℕ) → bit (w / 2 ^ j) k ≡ bit w (j + k)
 unfolding bit
 bit-shr w j k = ap (λ (x : ℕ). eqb (x % 2) 1) (shr-shr w j k)
 
-pub bit-shl : (w j k : ℕ) → j ≤ k → bit (w * 2 ^ j) k ≡ bit w (k - j)
+bit-shl : (w j k : ℕ) → j ≤ k → bit (w * 2 ^ j) k ≡ bit w (k - j)
 bit-shl w j k h =
     let e : j + (k - j) ≡ k = omega arith in
     ap (bit (w * 2 ^ j)) (sym e) ∙ sym (bit-shr (w * 2 ^ j) j (k - j)) ∙ ap (λ (x : ℕ). bit x (k - j)) (shl-shr w j)
 
-pub bit-shl-low : (w j k : ℕ) → k < j → bit (w * 2 ^ j) k ≡ false
+bit-shl-low : (w j k : ℕ) → k < j → bit (w * 2 ^ j) k ≡ false
 unfolding bit
 bit-shl-low w j k h =
     let d : ℕ = j - k - 1 in
@@ -33,7 +33,7 @@ bit-shl-low w j k h =
     ap (λ (x : ℕ). eqb (x / 2 ^ k % 2) 1) split ∙ ap (λ (x : ℕ). eqb (x % 2) 1) (shl-shr (w * 2 ^ d * 2) k)
     ∙ ap (λ (x : ℕ). eqb x 1) (mul-mod-left (w * 2 ^ d) 2)
 
--- quarter q of a word
+-- Quarter q of a word.
 pub quarter-bits : (w q c : ℕ) → bit (bitAnd (w / 2 ^ (16 * q)) 65535) c ≡ (ltb c 16 && bit w (16 * q + c))
 quarter-bits w q c =
     bit-and (w / 2 ^ (16 * q)) 65535 c ∙ ap₂ _&&_ (bit-shr w (16 * q) c) (bit-mask 16 c) ∙ swap (bit w (16 * q + c)) (ltb c 16)
@@ -44,7 +44,7 @@ quarter-bits w q c =
     swap false true = refl
     swap false false = refl
 
--- a row of 16 bits put in as quarter q
+-- A row of 16 bits put in as quarter q.
 placed-bits : (row q k : ℕ) → q < 4 → row < 65536 → bit (row * 2 ^ (16 * q) % 2 ^ 64) k ≡ (eqb (k / 16) q && bit row (k % 16))
 placed-bits row q k ql rl =
     ap (λ (x : ℕ). bit x k) (shl-exact 16 (16 * q) 64 rl (omega arith))
@@ -64,7 +64,7 @@ placed-bits row q k ql rl =
         ∙ sym (ap (λ (x : Bool). x && bit row (k % 16)) e))
         (true-or-false (eqb (k / 16) q))
 
--- a number from 4 up is no quarter
+-- A number from 4 up is no quarter.
 module _ (q k : ℕ) (x : Bool) where
   pub in-quarter : q < 4 → (ltb k 64 && (eqb (k / 16) q && x)) ≡ (eqb (k / 16) q && x)
   in-quarter l =
@@ -78,7 +78,7 @@ module _ (q k : ℕ) (x : Bool) where
       let z : k / 16 ≡ q = eqb-true (k / 16) q (and-left (eqb (k / 16) q) x (and-right (ltb k 64) (eqb (k / 16) q && x) e)) in
       omega arith)
 
--- a row cut to 16 bits and put in as quarter q
+-- A row cut to 16 bits and put in as quarter q.
 pub put-bits : (row q k : ℕ) → q < 4 →
     bit (bitAnd row 65535 * 2 ^ (16 * q) % 2 ^ 64) k ≡ (ltb k 64 && (eqb (k / 16) q && bit row (k % 16)))
 put-bits row q k l =

@@ -19,7 +19,7 @@ use Rattle.sets.proofs.Finite.{count-cong, count-le, count-none, count-
 use Rattle.sets.proofs.MemberLoop.{Going, going, going-on, Turn, Done, done-all, done-more}
 use Rattle.sets.proofs.Bits.{apart, bit-and, bit-or, bit-xor, bit-mask, bit-below, bit-zero}
 
-pub tally-cong : (ps qs : List ℕ) (n b : ℕ) → ((j : ℕ) → j < n → getD ps j 0 ≡ getD qs j 0) → tally ps n b ≡ tally qs n b
+tally-cong : (ps qs : List ℕ) (n b : ℕ) → ((j : ℕ) → j < n → getD ps j 0 ≡ getD qs j 0) → tally ps n b ≡ tally qs n b
 unfolding tally
 tally-cong ps qs zero b h = refl
 tally-cong ps qs (suc n) b h =
@@ -29,7 +29,7 @@ one-of : (c : Bool) (P : ℕ) → cond c P 0 ≤ P
 one-of true P = omega arith
 one-of false P = omega arith
 
-pub tally-lt : (ps : List ℕ) (n b : ℕ) → tally ps n b < 2 ^ n
+tally-lt : (ps : List ℕ) (n b : ℕ) → tally ps n b < 2 ^ n
 unfolding tally
 tally-lt ps zero b = pow-pos 0
 tally-lt ps (suc n) b = omega (arith, tally-lt ps n b, one-of (bit (getD ps n 0) b) (2 ^ n), pow-suc 2 n)
@@ -86,7 +86,7 @@ module _ {p₀ : List ℕ} {row : ℕ} {p : List ℕ} {carry i : ℕ} (a : Addin
       go true s = omega (arith, tally-lt p 7 b)
       go false s = omega (arith, tally-lt p 7 b)
 
--- with nothing left to carry, the planes above are as they were
+-- With nothing left to carry, the planes above are as they were.
 sums-above : (p p₀ : List ℕ) (i b d e n : ℕ) → ((j : ℕ) → i ≤ j → getD p j 0 ≡ getD p₀ j 0) → tally p i b + d ≡ tally p₀ i b + e →
     tally p (i + n) b + d ≡ tally p₀ (i + n) b + e
 unfolding tally
@@ -119,7 +119,7 @@ comparing ps k = record {
   bits = λ b. bit-mask 64 b ∙ sym (rw (mod-one k) (and-true (ltb b 64)));
 }
 
--- the last digit of k decides how a plane goes in
+-- The last digit of k decides how a plane goes in.
 one-digit : (x : Bool) (P q t : ℕ) → t < P → leb (1 * P + q) (t + cond x P 0) ≡ (leb q t && x)
 one-digit true P q t l =
     bool-iff _ _ (λ e. and-both (leb q t) true (le-leb q t (omega (arith, leb-true (1 * P + q) (t + P) e))) refl)
@@ -240,7 +240,7 @@ module _ (ws : List ℕ) (set mask : ℕ) (all : (c : ℕ) → bit mask c ≡ (l
   listed-below c e =
       ltb-true c (length ws) (and-right (ltb c 64) _ (sym (all c) ∙ and-right (bit set c) _ (sym (bit-and set mask c) ∙ e)))
 
-  -- the others have an empty one
+  -- The others have an empty one.
   pub listed-bit : (c b : ℕ) → c < 64 → (bit (bitAnd set mask) c && bit (getD ws c 0) b) ≡ (bit set c && bit (getD ws c 0) b)
   listed-bit c b l =
       ap (λ (x : Bool). x && bit (getD ws c 0) b) (bit-and set mask c ∙ ap (_&&_ (bit set c)) (all c ∙ ap (λ (x : Bool). x && ltb c (length ws)) (lt-ltb c 64 l)))

@@ -27,7 +27,7 @@ use Rattle.file.proofs.AlikeText.{written-alike}
 use Rattle.reader.proofs.TermsMemory.{memory-good}
 use Rattle.text.proofs.TidyTerms.{tidied, tidied-alike, tidied-good, tidied-tidy, tidied-words}
 
--- what reading an accepted text leaves
+-- What reading an accepted text leaves.
 module _ (text : List ℕ) (f : File) (e : reading text ≡ accepted f) (terms state : List ℕ)
     (tl : termsWords ≤ length terms) (sl : stateWords ≤ length state)
   where
@@ -55,7 +55,8 @@ yields w long = (
       subst (λ v. goodMemory v ≡ true) whole (memory-good (f .terms) (a .good) (a .tidy) (drop termsWords w))),
 )
 
--- What was written of good memory is accepted as a text of the old form, and reading it gives the same words of terms, and the state of moment 0 of the same relations.
+-- What was written of good memory is accepted as a text of the old form, and reading it gives the same words of terms,
+-- and the state of moment 0 of the same relations.
 pub reread-memory : (terms state : List ℕ) → termsWords ≤ length terms → goodMemory terms ≡ true → goodState (termsOf terms) state ≡ true →
     (f : File) × (reading (writtenText terms state) ≡ accepted f) × (f .stored ≡ false)
     × (memoryOf (f .terms) ≡ take termsWords terms)

@@ -4,7 +4,7 @@ use native.Mathlib.Omega.{arith}
 use mathlib.Core.Path.{_≡_, refl, ap, _∙_}
 use mathlib.Core.Bool.{Bool, true, false, cond}
 use lib.Dec.{eqb}
-use Rattle.theory.specs.Formula.{Formula, Entry, number, below}
+use Rattle.theory.specs.Formula.{number, below}
 use Rattle.theory.specs.Meaning.{Graph, alone}
 use Rattle.theory.specs.Columns.{standing, member}
 use Rattle.theory.specs.Terms.{Terms, formula, Alike}

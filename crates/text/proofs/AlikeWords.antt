@@ -1,4 +1,5 @@
--- Terms that are alike have the same words of a state and at moment 0, keep the same moments inside, and the words agree with the same records.
+-- Terms that are alike have the same words of a state and at moment 0, keep the same moments inside, and the
+-- words agree with the same records.
 use Prim.Native.Nat.{ℕ, _-_, _/_, _%_}
 use native.Mathlib.Omega.{arith}
 use mathlib.Core.Path.{_≡_, refl, ap, subst, _∙_}
@@ -27,7 +28,7 @@ module _ (T U : Terms) (a : Alike T U) where
   abbrev W : Terms
   W = met T U
 
-  -- the entry of a table is the same formula
+  -- The entry of a table is the same formula.
   pub same-entry : (t : ℕ) → ltb t (tables T) ≡ true → formula T (pastEntry T t) ≡ formula W (pastEntry W t)
   same-entry t l = same-formula T U a (pastEntry T t) (past-entry T t (ltb-true t (tables T) l) .exists) ∙ ap (formula W) (same-past T U a t)
 
@@ -52,7 +53,7 @@ module _ (T U : Terms) (a : Alike T U) where
           ∙ (λ d. ltb t (same-number T U a (T .entries) (omega arith) d) && (inside (T .members) (tableColumns W t) i b
           && keeperHolds W s Ms (pastEntry W t) (standing (formula W (pastEntry W t)) i b) (member (formula W (pastEntry W t)) i)))
 
-  -- a word of a table
+  -- A word of a table.
   row-met : (t : ℕ) (p : ℕ → ℕ → Bool) (i : ℕ) →
       cond (ltb t (tables T)) (tableRow (T .members) (tableColumns T t) p i) 0 ≡ cond (ltb t (tables W)) (tableRow (T .members) (tableColumns W t) p i) 0
   row-met t p i = go (ltb t (tables T)) refl ∙ (λ d. cond (ltb t (same-number T U a (T .entries) (omega arith) d)) (tableRow (T .members) (tableColumns W t) p i) 0)
@@ -68,7 +69,7 @@ module _ (T U : Terms) (a : Alike T U) where
       (cond (ltb i eventAt) (row-met ((i - relationWords) / 64) (S .table ((i - relationWords) / 64)) (i % 64) d)
       (eventWord (S .now .event))))
 
-  -- the same of a state renumbered, whose tables go by their columns
+  -- The same of a state renumbered, whose tables go by their columns.
   numbered-row : (ns : List ℕ) (S : State) (t i : ℕ) →
       cond (ltb t (tables T)) (tableRow (T .members) (tableColumns T t) (stateBy T ns S .table t) i) 0
       ≡ cond (ltb t (tables W)) (tableRow (T .members) (tableColumns W t) (stateBy W ns S .table t) i) 0

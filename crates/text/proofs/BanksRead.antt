@@ -50,11 +50,11 @@ module _ (text : List ℕ) (f : File) (e : reading text ≡ accepted f) (terms r
   abbrev U : Terms
   U = termsOf (filled f terms)
 
-  -- the words that the text says of a state
+  -- The words that the text says of a state.
   abbrev w : List ℕ
   w = wordsOf T (stateSaid f)
 
-  -- the relations in memory
+  -- The relations in memory.
   abbrev r : List ℕ
   r = filledRelations relations (accepted f)
 
@@ -107,7 +107,7 @@ module _ (text : List ℕ) (f : File) (e : reading text ≡ accepted f) (terms r
 -- ---- the ways that reading goes
 
 module _ (text terms relations first second : List ℕ) where
-  -- what it gives and leaves
+  -- What it gives and leaves.
   abbrev Leaves : Outcome → (terms' relations' first' second' : List ℕ) → Type 0
   Leaves o terms' relations' first' second' =
       (o ≡ banksReadGives text terms relations first second)
@@ -152,7 +152,7 @@ module _ (text terms relations first second : List ℕ) where
           go false (accepted f) e = let z : _≡_ {A = ℕ} 0 1 = cc in absurd (omega arith)
           go false (refused i j) e = (cc, λ own. refl)
 
-      -- an accepted text's memory is opened
+      -- An accepted text's memory is opened.
       module _ (o : Filling) (u : Unrefused o) (h : o ≡ oldFillGives text terms relations) where
         was-filled : (shortRelations terms relations ≡ false) × ((f : File) × (oldReading text ≡ accepted f))
         unfolding oldFillGives

@@ -1,17 +1,18 @@
--- Lent memory that holds what a book says, stored and loaded again into other memory. What is loaded again is as good as what was stored, also where there is no record.
+-- Lent memory that holds what a book says, stored and loaded again into other memory. What is loaded again is as good
+-- as what was stored, also where there is no record.
 use Prim.Native.Nat.{ℕ, _≤_, _<_}
 use native.Mathlib.Omega.{arith}
 use mathlib.Core.Path.{_≡_, refl, sym, ap, subst, subst₂, _∙_}
-use mathlib.Core.Bool.{Bool, true, false, cond}
-use mathlib.Core.List.{List, [], _∷_, _++_}
+use mathlib.Core.Bool.{Bool, true, false}
+use mathlib.Core.List.{List, _++_}
 use lib.Dec.{ltb}
 use lib.ListN.{length, getD, take, drop, length-append, length-drop, List·getD-append}
 use lib.Seq.{take-at, getD-take, length-take-le}
 use Rattle.theory.specs.Terms.{Terms, Alike}
 use Rattle.theory.specs.Keeper.{Book}
 use Rattle.theory.proofs.AlikeTerms.{alike-trans, kept-alike}
-use Rattle.memory.specs.Layout.{termsWords, stateWords, termsOf, stateOf, wordsOf}
-use Rattle.memory.specs.Checks.{goodMemory, goodState, Inside}
+use Rattle.memory.specs.Layout.{termsWords, stateWords, termsOf, stateOf}
+use Rattle.memory.specs.Checks.{goodMemory}
 use Rattle.memory.specs.Outcome.{Outcome, checks}
 use Rattle.memory.specs.Outcome.Outcome.{passed, failed}
 use Rattle.memory.proofs.Accepted.{good}
@@ -26,19 +27,19 @@ use Rattle.reader.specs.Memory.{memoryOf}
 use Rattle.reader.specs.Read.{readTerms}
 use Rattle.reader.proofs.StateMemory.{state-alike as good-alike}
 use Rattle.reader.proofs.TermsMemory.{length-memory, memory-alike, memory-good}
-use Rattle.writer.specs.Write.{Writing, storedText, storeGives, storeLeaves, fitted, filledOut}
-use Rattle.writer.specs.Write.Writing.{bytes, unwritten}
+use Rattle.writer.specs.Write.{storedText, storeGives, storeLeaves, fitted, filledOut}
+use Rattle.writer.specs.Write.Writing.{bytes}
 use Rattle.text.specs.Text.{readState}
 use Rattle.text.specs.Recorded.{loaded}
 use Rattle.text.proofs.AlikeWords.{state-alike, inside-alike}
-use Rattle.text.proofs.TidyTerms.{tidied, tidied-alike}
+use Rattle.text.proofs.TidyTerms.{tidied-alike}
 use Rattle.text.proofs.AcceptedMemory.{read-terms}
 use Rattle.text.proofs.SameAnswers.{Twins}
 use Rattle.text.proofs.Reloaded.{Reloaded, reloaded, reread-stored-memory, named-words}
 
 -- ---- stored and loaded again
 
--- what was stored
+-- What was stored.
 was-stored : (o : Outcome) (c : Bool) (k n : ℕ) → fitted c k o ≡ bytes n → (passed ≡ o) × (k ≡ n)
 was-stored passed true k n e = let z : _≡_ {A = ℕ} 0 1 = cc in absurd (omega arith)
 was-stored passed false k n e = (refl, cc)
@@ -55,7 +56,7 @@ module _ (m s out : List ℕ) (n : ℕ) (e : storeGives m s out ≡ bytes n) whe
       ap (λ w. take n (filledOut (storedText m s) out w)) e
       ∙ take-at (storedText m s) (drop (length (storedText m s)) out) n (passed-so .1)
 
-  -- into any memory
+  -- Into any memory.
   module _ (terms state : List ℕ) (tl' : termsWords ≤ length terms) (sl' : stateWords ≤ length state) where
     checked : Checked m s
     checked = passed-checked m s (passed-so .0)

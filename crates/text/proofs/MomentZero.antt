@@ -1,4 +1,5 @@
--- An accepted text of the old form, read into lent memory: the state of moment 0, which holds what the keeper begins with and passes the checks.
+-- An accepted text of the old form, read into lent memory: the state of moment 0, which holds what the keeper
+-- begins with and passes the checks.
 use Prim.Native.Nat.{ℕ, _≤_}
 use native.Mathlib.Omega.{arith}
 use mathlib.Core.Path.{_≡_, refl, sym, ap, subst, _∙_}
@@ -39,7 +40,7 @@ module _ (text : List ℕ) (f : File) (e : reading text ≡ accepted f) (form : 
     abbrev T : Terms
     T = f .terms
 
-    -- the terms in memory, and the state
+    -- The terms in memory, and the state.
     abbrev m : List ℕ
     m = memoryOf T ++ drop termsWords terms
 

@@ -1,4 +1,5 @@
--- What the reader filled: an old file's memory opens, and opening leaves the state of moment 0; a stored file's is its own. So `read` does what it should.
+-- What the reader filled: an old file's memory opens, and opening leaves the state of moment 0; a stored file's is its
+-- own. So `read` does what it should.
 use Prim.Native.Nat.{ℕ, _≤_}
 use native.Mathlib.Omega.{arith}
 use mathlib.Core.Path.{_≡_, refl, sym, ap, ap₂, _∙_}
@@ -17,7 +18,7 @@ use Rattle.file.specs.Reading.{Reading, reading}
 use Rattle.file.specs.Reading.Reading.{accepted, refused}
 use Rattle.reader.specs.Read.{Filling, short, filling, outcome, readGives, fillGives, filledWords, readTerms, readWords}
 use Rattle.reader.specs.Read.Filling.{old, stored, unfilled}
-use Rattle.text.specs.Text.{beginning, filledState, readState}
+use Rattle.text.specs.Text.{filledState, readState}
 use Rattle.reader.proofs.StateMemory.{filled, placed, filled-alike, placed-edges, placed-further, passes}
 use Rattle.text.proofs.AlikeWords.{words-alike}
 use Rattle.text.proofs.AcceptedMemory.{read-terms, read-state}
@@ -37,7 +38,7 @@ module _ (text : List ℕ) (f : File) (e : reading text ≡ accepted f) (terms s
 
 -- ---- what filling gave
 
--- a text of the form that b says was accepted
+-- A text of the form that b says was accepted.
 abbrev WasRead : (form short₁ short₂ : Bool) → Reading → Type 0
 WasRead form x y r = (x ≡ false) × (y ≡ false) × ((f : File) × (r ≡ accepted f) × (f .stored ≡ form))
 
@@ -60,7 +61,7 @@ was-read b false true r e = absurd (no-form b 6 0 e)
 was-read b false false (accepted f) e = (refl, refl, (f, refl, same-form b (f .stored) e))
 was-read b false false (refused n l) e = absurd (no-form b n l e)
 
--- a refusal leaves the state as lent
+-- A refusal leaves the state as lent.
 was-refused : (state : List ℕ) (b : Bool) (r : Reading) (n l : ℕ) → unfilled n l ≡ cond b (unfilled 6 0) (filling r) →
     (failed n l ≡ cond b (failed 6 0) (outcome r)) × (cond b state (filledWords state r) ≡ cond b state (filledState state r))
 was-refused state true r n l e = (cc, refl)
@@ -106,11 +107,11 @@ module _ (text terms state : List ℕ) where
     read-begun : readState text terms state ≡ wordsOf (f .terms) (cond b (stateSaid f) (opening (f .terms) (f .edges))) ++ drop stateWords state
     read-begun = read-state text f e terms state tl sl ∙ ap (λ c. wordsOf (f .terms) (cond c (stateSaid f) (opening (f .terms) (f .edges))) ++ drop stateWords state) form
 
-  -- a stored file's state stands there
+  -- A stored file's state stands there.
   pub fill-stored : stored ≡ fillGives text terms state → (passed ≡ readGives text terms state) × (readWords text terms state ≡ readState text terms state)
   fill-stored h = (sym (done true h), read-placed true h ∙ sym (read-begun true h))
 
-  -- an old file's is opened
+  -- An old file's is opened.
   pub fill-opened : old ≡ fillGives text terms state → (terms' state' : List ℕ) → terms' ≡ readTerms text terms state → state' ≡ readWords text terms state →
       (o : Outcome) (state'' : List ℕ) → o ≡ opens terms' state' → state'' ≡ openedState terms' state' →
       (o ≡ readGives text terms state) × (state'' ≡ readState text terms state)

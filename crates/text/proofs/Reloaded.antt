@@ -1,4 +1,5 @@
--- What is stored of memory that passes the checks, read again into other memory: the very same named words of terms and state.
+-- What is stored of memory that passes the checks, read again into other memory: the very same
+-- named words of terms and state.
 use Prim.Native.Nat.{ℕ, _≤_, _<_}
 use native.Mathlib.Omega.{arith}
 use mathlib.Core.Path.{_≡_, refl, sym, ap, _∙_}
@@ -21,7 +22,6 @@ use Rattle.memory.proofs.Words.{length-words, word-table, now-back, table-back,
 use Rattle.file.specs.File.{File, stateSaid}
 use Rattle.file.specs.Reading.{reading}
 use Rattle.file.specs.Reading.Reading.{accepted}
-use Rattle.file.specs.Writing.{stored}
 use Rattle.file.proofs.Fit.{InsideTables}
 use Rattle.file.proofs.Accepted.{accepted-good}
 use Rattle.file.proofs.Reread.{reread-stored}
@@ -58,7 +58,7 @@ module _ (T : Terms) (fine : Good T) (S : State) (now : InsideMoment T (S .now))
       go true e = let i = bits .within t a b e in table-back T fine S t a b (i .0) (i .1)
       go false e = under (ltb t 32) refl (ltb a 64) refl e ∙ sym e
 
-  pub state-back : stateOf (wordsOf T S) ≡ S
+  state-back : stateOf (wordsOf T S) ≡ S
   state-back = λ d. record { now = now-back T fine S now d; table = λ t a b. bit-back t a b d }
 
 -- The words of what an accepted text says hold it.

@@ -1,5 +1,5 @@
--- Over lent memory: writing what reading an accepted text left, in the text's own form, gives the text in its normal form, where the output has room; a plain
--- text byte by byte.
+-- Over lent memory: writing what reading an accepted text left, in the text's own form, gives the text in its normal
+-- form, where the output has room; a plain text byte by byte.
 use Prim.Native.Nat.{ℕ, _≤_, _<_}
 use native.Mathlib.Omega.{arith}
 use mathlib.Core.Path.{_≡_, sym, ap, subst, _∙_}
@@ -84,7 +84,7 @@ module _ (text : List ℕ) (f : File) (e : reading text ≡ accepted f) (terms s
       unfolding oldWriteLeaves
       write-leaves = rw (write-gives, text-back)
 
-      pub returned-old : Back oldWriteGives oldWriteLeaves text terms state out (normalText text)
+      returned-old : Back oldWriteGives oldWriteLeaves text terms state out (normalText text)
       returned-old =
           rw (read-terms text f e terms state tl sl, read-opened text f e form terms state tl sl) (read-done, write-gives, write-leaves)
 
@@ -117,8 +117,9 @@ module _ (text : List ℕ) (f : File) (e : reading text ≡ accepted f) (terms s
       returned-said : Back storeGives storeLeaves text terms state out (normalText text)
       returned-said = rw (read-terms text f e terms state tl sl, read-said) (read-done, store-gives, store-leaves)
 
--- For every accepted text of the old form and all lent memory that is long enough: reading is done, writing over what reading left gives the count of the bytes of
--- the text's normal form, and leaves that in the output, with its further bytes as they were.
+-- For every accepted text of the old form and all lent memory that is long enough: reading is done, writing over
+-- what reading left gives the count of the bytes of the text's normal form, and leaves that in the output, with
+-- its further bytes as they were.
 pub returned : (text : List ℕ) (f : File) → reading text ≡ accepted f → f .stored ≡ false → (terms state out : List ℕ) →
     termsWords ≤ length terms → stateWords ≤ length state → length (normalText text) ≤ length out →
     (readGives text terms state ≡ passed)

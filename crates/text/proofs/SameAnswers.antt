@@ -1,4 +1,5 @@
--- Two memories that pass the checks, with alike terms and the same named words of state, answer alike whatever is asked of them, also where no record is.
+-- Two memories that pass the checks, with alike terms and the same named words of state, answer alike whatever is asked
+-- of them, also where no record is.
 use Prim.Native.Nat.{ℕ, _+_, _≤_, _<_}
 use native.Mathlib.Omega.{arith}
 use mathlib.Core.Path.{_≡_, refl, sym, ap, ap₂, subst, _∙_}
@@ -19,7 +20,7 @@ use Rattle.theory.specs.Tables.{named, State, decideNow, made, advance, revised
 use Rattle.theory.proofs.AlikeTerms.{alike-refl, size-alike, revised-alike}
 use Rattle.theory.proofs.Size.{same-members, same-relations, same-events}
 use Rattle.memory.specs.Layout.{termsWords, stateWords, termsOf, stateOf, wordsOf}
-use Rattle.memory.specs.Outcome.{Outcome, hasPassed, checks, revises}
+use Rattle.memory.specs.Outcome.{Outcome, hasPassed, revises}
 use Rattle.memory.specs.Checks.{goodMemory}
 use Rattle.memory.specs.Outcome.Outcome.{passed, failed}
 use Rattle.memory.proofs.Accepted.{good}
@@ -51,7 +52,7 @@ pub record Twins (m s m' s' : List ℕ) : Type 0 where
 -- ---- one call
 
 module _ (sc : List ℕ) (j u v : ℕ) where
-  -- what memory that passes the checks answers
+  -- What memory that passes the checks answers.
   abbrev given : Terms → State → Answer
   given T S = cond (ltb (length sc) scratchWords) (refused 6 0) (cond (not (named T j u v)) (refused 9 0) (decided (cond (decideNow T S j u v) grant deny)))
 
@@ -59,7 +60,7 @@ module _ (sc : List ℕ) (j u v : ℕ) where
   unfolding answer
   answer-is m s c = rw (le-ltb (length m) termsWords (c .long-terms), le-ltb (length s) stateWords (c .long-state), c .good-terms, c .good-state)
 
-  -- a call that names no event or no member makes no moment
+  -- A call that names no event or no member makes no moment.
   unmoved : (m s : List ℕ) → Checked m s → named (termsOf m) j u v ≡ false → (k : Bool) → moves k (answer m s sc j u v) ≡ false
   unmoved m s c n k = ap (moves k) (answer-is m s c) ∙ rw n (go (ltb (length sc) scratchWords))
     where
@@ -92,7 +93,7 @@ module _ (sc : List ℕ) (j u v : ℕ) where
         λ d. cond (ltb (length sc) scratchWords) (refused 6 0) (cond (not (same-named d)) (refused 9 0) (decided (cond (same-decision n d) grant deny)))
     same-given false n = let k : named U j u v ≡ false = sym same-named ∙ n in rw (n, k)
 
-    pub same-answer : answer m s sc j u v ≡ answer m' s' sc j u v
+    same-answer : answer m s sc j u v ≡ answer m' s' sc j u v
     same-answer = answer-is m s (t .checked) ∙ same-given (named T j u v) refl ∙ sym (answer-is m' s' (t .other))
 
     same-moves : moves (T .kept j) (answer m s sc j u v) ≡ moves (U .kept j) (answer m' s' sc j u v)
@@ -102,11 +103,11 @@ module _ (sc : List ℕ) (j u v : ℕ) where
         go true n = λ d. moves (t .like .kept j (event-known n) d) (same-answer d)
         go false n = unmoved m s (t .checked) n (T .kept j) ∙ sym (unmoved m' s' (t .other) (sym same-named ∙ n) (U .kept j))
 
-    pub same-scratch : scratchAfter m s sc j u v ≡ scratchAfter m' s' sc j u v
+    same-scratch : scratchAfter m s sc j u v ≡ scratchAfter m' s' sc j u v
     unfolding scratchAfter
     same-scratch = ap (λ (b : Bool). cond b (replicate scratchWords 0 ++ drop scratchWords sc) sc) same-moves
 
-    -- the states at the moment that a verdict makes
+    -- The states at the moment that a verdict makes.
     abbrev left-at : Bool → State
     left-at g = advance T (stateOf s) (made T (stateOf s .now) g j u v)
 
@@ -139,7 +140,7 @@ module _ (sc : List ℕ) (j u v : ℕ) where
             ∙ sym (List·getD-append (wordsOf U S') (drop stateWords s') 0 i (omega (arith, length-words U S')))
         go false e = t .words i l
 
-    pub after-twins : Twins m (stateAfter m s sc j u v) m' (stateAfter m' s' sc j u v)
+    after-twins : Twins m (stateAfter m s sc j u v) m' (stateAfter m' s' sc j u v)
     after-twins = record {
       checked = after-checked m s sc j u v (t .checked);
       other = after-checked m' s' sc j u v (t .other);
@@ -150,8 +151,8 @@ module _ (sc : List ℕ) (j u v : ℕ) where
 -- ---- set lists
 
 module _ (m m' : List ℕ) where
-  -- records, count and scratch are the same, and the states are twins
-  pub record SameRun (x y : Run) : Type 0 where
+  -- Records, count and scratch are the same, and the states are twins.
+  record SameRun (x y : Run) : Type 0 where
     pub records : x .records ≡ y .records
     pub grants : x .grants ≡ y .grants
     pub states : Twins m (x .state) m' (y .state)
@@ -177,8 +178,8 @@ module _ (m m' : List ℕ) where
         scratch = later .scratch;
       }
 
-  -- what a set list answers, and the states that it leaves
-  pub same-list : (sc : List ℕ) (rs : List Record) (s s' : List ℕ) → Twins m s m' s' →
+  -- What a set list answers, and the states that it leaves.
+  same-list : (sc : List ℕ) (rs : List Record) (s s' : List ℕ) → Twins m s m' s' →
       (answersIn (listed m s sc rs) (left m s sc rs .records) ≡ answersIn (listed m' s' sc rs) (left m' s' sc rs .records))
       × Twins m (left m s sc rs .state) m' (left m' s' sc rs .state)
   unfolding listed left listChecks
@@ -188,7 +189,7 @@ module _ (m m' : List ℕ) where
       r : SameRun (singly m s sc rs) (singly m' s' sc rs)
       r = same-run rs s s' sc t
 
-      -- what the checks give where the scratch is short, and where it is not
+      -- What the checks give where the scratch is short, and where it is not.
       check : Bool → Outcome
       check b = cond b (failed 6 0) passed
 
@@ -214,7 +215,7 @@ module _ (m s m' s' : List ℕ) (t : Twins m s m' s') (new second : List ℕ) wh
   abbrev New : Terms
   New = termsOf new
 
-  -- what is left of the checks where terms and state pass
+  -- What is left of the checks where terms and state pass.
   abbrev offer : Bool → Outcome
   offer z =
       cond (ltb (length new) termsWords || ltb (length second) stateWords) (failed 6 0)
@@ -225,7 +226,7 @@ module _ (m s m' s' : List ℕ) (t : Twins m s m' s') (new second : List ℕ) wh
   revises-is m s c =
       rw (le-ltb (length m) termsWords (c .long-terms), le-ltb (length s) stateWords (c .long-state), c .good-terms, c .good-state)
 
-  pub same-revises : revises m s new second ≡ revises m' s' new second
+  same-revises : revises m s new second ≡ revises m' s' new second
   same-revises = revises-is m s (t .checked) ∙ ap offer (size-alike Before Before′ (t .like) New) ∙ sym (revises-is m' s' (t .other))
 
   same-revised : revisedState m s new second ≡ revisedState m' s' new second
@@ -235,7 +236,7 @@ module _ (m s m' s' : List ℕ) (t : Twins m s m' s') (new second : List ℕ) wh
       ∙ ap (λ (S : State). cond (hasPassed (revises m' s' new second)) (wordsOf New S ++ drop stateWords second) second)
       (revised-alike Before Before′ (t .like) (stateOf s) New ∙ ap (λ (S : State). revised Before′ S New) (state-cong s s' (t .words)))
 
-  -- the second state passes the checks under the new terms
+  -- The second state passes the checks under the new terms.
   begun-checked : passed ≡ revises m s new second → Checked new (revisedState m s new second)
   unfolding revisedState
   begun-checked e =
@@ -253,8 +254,8 @@ module _ (m s m' s' : List ℕ) (t : Twins m s m' s') (new second : List ℕ) wh
   abbrev TwinLent : Lent → Lent → Type 0
   TwinLent L K = Twins (L .terms) (L .state) (K .terms) (K .state)
 
-  -- the memory in use afterwards
-  pub same-in-use : (b b' : List ℕ) →
+  -- The memory in use afterwards.
+  same-in-use : (b b' : List ℕ) →
       TwinLent (inUse (record { terms = m; state = s; before = b }) new second) (inUse (record { terms = m'; state = s'; before = b' }) new second)
   same-in-use b b' = go (revises m s new second) refl (revises m' s' new second) (sym same-revises)
     where
@@ -274,7 +275,7 @@ module _ (m s m' s' : List ℕ) (t : Twins m s m' s') (new second : List ℕ) wh
 -- ---- new numbers
 
 module _ (m s m' s' : List ℕ) (t : Twins m s m' s') (numbers second : List ℕ) where
-  -- what is left of the checks where terms and state pass
+  -- What is left of the checks where terms and state pass.
   abbrev toldBy : ℕ → Outcome
   toldBy N = cond (ltb (length second) stateWords) (failed 6 0) (cond (not (renumbers N numbers)) (failed 15 0) passed)
 
@@ -283,7 +284,7 @@ module _ (m s m' s' : List ℕ) (t : Twins m s m' s') (numbers second : List ℕ
   numbers-is m s c =
       rw (le-ltb (length m) termsWords (c .long-terms), le-ltb (length s) stateWords (c .long-state), c .good-terms, c .good-state)
 
-  pub same-renumbering : renumbering m s numbers second ≡ renumbering m' s' numbers second
+  same-renumbering : renumbering m s numbers second ≡ renumbering m' s' numbers second
   same-renumbering = numbers-is m s (t .checked) ∙ ap toldBy (t .like .members) ∙ sym (numbers-is m' s' (t .other))
 
   same-renumbered : renumberedState m s numbers second ≡ renumberedState m' s' numbers second
@@ -294,7 +295,7 @@ module _ (m s m' s' : List ℕ) (t : Twins m s m' s') (numbers second : List ℕ
       (numbered-alike (termsOf m) (termsOf m') (t .like) numbers (stateOf s)
       ∙ ap (λ (S : State). wordsOf (termsOf m') (stateBy (termsOf m') numbers S)) (state-cong s s' (t .words)))
 
-  -- the second state passes the checks
+  -- The second state passes the checks.
   numbered-checked : renumbering m s numbers second ≡ passed → Checked m (renumberedState m s numbers second)
   numbered-checked e =
       record {
@@ -304,8 +305,8 @@ module _ (m s m' s' : List ℕ) (t : Twins m s m' s') (numbers second : List ℕ
         good-state = second-good m s numbers second e;
       }
 
-  -- the memory in use afterwards
-  pub same-in-use-by : (b b' : List ℕ) →
+  -- The memory in use afterwards.
+  same-in-use-by : (b b' : List ℕ) →
       let L : Lent = inUseBy (record { terms = m; state = s; before = b }) numbers second in
       let K : Lent = inUseBy (record { terms = m'; state = s'; before = b' }) numbers second in
       Twins (L .terms) (L .state) (K .terms) (K .state)

@@ -1,9 +1,10 @@
--- A state that keeps the layout can be stored: all that it has is inside the terms, and its tables without a free variable are level.
+-- A state that keeps the layout can be stored: all that it has is inside the terms, and its tables
+-- without a free variable are level.
 use Prim.Native.Nat.{ℕ, _-_, _^_, _<_}
 use native.Mathlib.Omega.{arith}
 use mathlib.Core.Path.{_≡_, refl, sym, ap, subst, _∙_}
 use mathlib.Core.Logic.{_⊎_, inl, inr}
-use mathlib.Core.Bool.{Bool, true, false, _&&_, _||_, false≢true}
+use mathlib.Core.Bool.{Bool, true, false, false≢true}
 use mathlib.Core.List.{List, [], _∷_}
 use lib.Dec.{eqb, ltb}
 use lib.ListN.{getD}
@@ -11,13 +12,13 @@ use borrow.Author.Tests.{eqb-true, lt-ltb, ltb-true}
 use Rattle.sets.specs.Sets.{allBelow, bit}
 use Rattle.sets.proofs.Finite.{not-both, and-left, and-right, and-both, or-cases, all-out}
 use Rattle.sets.proofs.Bits.{bit-zero, bit-below, bit-mask}
-use Rattle.theory.specs.Formula.{Formula, number, isPast, columns}
+use Rattle.theory.specs.Formula.{number, isPast, columns}
 use Rattle.theory.specs.Columns.{insidePair}
 use Rattle.theory.specs.Columns as places
 use Rattle.theory.specs.Terms.{Terms, formula, tables, pastEntry, Alike}
 use Rattle.theory.specs.Moment.{Event}
 use Rattle.theory.specs.Moment.Event.{none as noEvent, happened as granted, tried as denied}
-use Rattle.theory.specs.Fit.{_⇒_, closed, Good}
+use Rattle.theory.specs.Fit.{_⇒_, closed}
 use Rattle.theory.specs.Tables.{State}
 use Rattle.theory.proofs.Good.{every-at}
 use Rattle.theory.proofs.Past.{PastEntry, past-entry}
@@ -26,7 +27,7 @@ use Rattle.memory.specs.Layout.{tableAt, tableColumns, stateOf}
 use Rattle.memory.specs.Checks.{tableFits, level, stateTests, goodState, EventInside}
 use Rattle.memory.proofs.Row.{fits-inside}
 use Rattle.memory.proofs.Inside.{state-inside}
-use Rattle.file.proofs.Fit.{Inside, EventFits}
+use Rattle.file.proofs.Fit.{EventFits}
 use Rattle.file.proofs.Fit.EventFits.{none, happened, tried}
 use Rattle.file.proofs.Reread.{Storable}
 use Rattle.text.proofs.AlikeWords.{same-entry}
@@ -35,7 +36,7 @@ implied : (x : Bool) {y : Bool} → (x ⇒ y) ≡ true → x ≡ true → y ≡ 
 implied true h e = h
 implied false h e = absurd (false≢true e)
 
--- a level word with one of its bits has them all
+-- A level word with one of its bits has them all.
 level-word : (N w b c : ℕ) → level N w ≡ true → bit w b ≡ true → c < N → bit w c ≡ true
 level-word N w b c h e l = go (or-cases (eqb w 0) _ h)
   where
@@ -43,7 +44,7 @@ level-word N w b c h e l = go (or-cases (eqb w 0) _ h)
     go (inl p) = absurd (false≢true (sym (bit-zero b) ∙ ap (λ v. bit v b) (sym (eqb-true w 0 p)) ∙ e))
     go (inr p) = ap (λ v. bit v c) (eqb-true w (2 ^ N - 1) p) ∙ bit-mask N c ∙ lt-ltb c N l
 
--- a bit that is set is one of a table that is there, and at members
+-- A bit that is set is one of a table that is there, and at members.
 table-inside : (N : ℕ) (cs : List ℕ) (c : Bool) (i w k : ℕ) → tableFits N cs c i w ≡ true → bit w k ≡ true → (c ≡ true) × (places.inside N cs i k ≡ true)
 table-inside N [] c i w k e s = let h = fits-inside N c i w k e s in (h .0, and-both _ _ (lt-ltb i N (h .1)) (lt-ltb k N (h .2)))
 table-inside N (x ∷ []) c i w k e s = let h = fits-inside N c i w k e s in (h .0, and-both _ _ (lt-ltb i N (h .1)) (lt-ltb k N (h .2)))
@@ -65,8 +66,8 @@ module _ (T : Terms) (w : List ℕ) (good : goodState T w ≡ true) where
   unfolding goodState
   test = every-at (stateTests T w) good
 
-  -- a bit of a table, in its word
-  pub record Bit (t a b : ℕ) : Type 0 where
+  -- A bit of a table, in its word.
+  record Bit (t a b : ℕ) : Type 0 where
     pub table : t < 32
     pub member : a < 64
     pub set : bit (word t a) b ≡ true
@@ -112,7 +113,7 @@ module _ (T : Terms) (w : List ℕ) (good : goodState T w ≡ true) where
     level = record { level = even };
   }
 
--- alike terms store the same states
+-- Alike terms store the same states.
 module _ (T U : Terms) (a : Alike T U) (S : State) where
   storable-met : Storable T S → Storable (met T U) S
   storable-met s = record {

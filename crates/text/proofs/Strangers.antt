@@ -1,4 +1,5 @@
--- Strangers have no say, over lent memory: two runs as in demand 3 that differ only outside a circle answer every call inside it alike (docs/SCOPE.md, Strangers).
+-- Strangers have no say, over lent memory: two runs as in demand 3 that differ only outside a circle answer every call
+-- inside it alike (docs/SCOPE.md, Strangers).
 use Prim.Native.Nat.{ℕ, _≤_}
 use mathlib.Core.Path.{_≡_, sym, ap, subst, _∙_}
 use mathlib.Core.Bool.{false}
@@ -11,7 +12,7 @@ use Rattle.theory.specs.Strangers.{Circle, WithoutReach, Separate, SeparateFirs
 use Rattle.theory.specs.Fit.{Good}
 use Rattle.theory.proofs.Strangers.{strangers, strangers-first}
 use Rattle.memory.specs.Layout.{termsWords, stateWords}
-use Rattle.calls.specs.Agreement.{LentStep, fedSteps, KeepsTerms, fedCalls, serveSteps}
+use Rattle.calls.specs.Agreement.{LentStep, KeepsTerms, fedCalls, serveSteps}
 use Rattle.calls.proofs.Demand.{keep-calls, fed-kept}
 use Rattle.fields.specs.Split.{lines}
 use Rattle.file.specs.File.{File}
@@ -24,7 +25,7 @@ use Rattle.text.specs.Recorded.{saidBook, loaded}
 use Rattle.text.specs.Recorded.Recorded.{old}
 use Rattle.text.proofs.Demand.{demand-3}
 
--- the answers of a run that begins by reading a text of the old form, where its lines say the terms T
+-- The answers of a run that begins by reading a text of the old form, where its lines say the terms T.
 keeper-answers : (text : List ℕ) (f : File) → reading text ≡ accepted f → f .stored ≡ false → (T : Terms) → termsSaid (records (lines text)) ≡ T →
     (terms state : List ℕ) → termsWords ≤ length terms → stateWords ≤ length state → (ss : List LentStep) → KeepsTerms ss →
     serveSteps (loaded text terms state) ss .0 ≡ keeper T (edgesSaid (records (lines text))) (fedCalls ss) .0
@@ -34,9 +35,11 @@ keeper-answers text f e form T says terms state tl sl ss keeps =
     ∙ ap (λ (k : List Answer × Book). k .0) (keep-calls (saidBook text) (fedCalls ss))
     ∙ ap (λ U. keeper U (edgesSaid (records (lines text))) (fedCalls ss) .0) says
 
--- Two runs as in demand 3 that begin at moment 0 with the same terms T, without reach, and keep them: each reads an accepted text of the old form into lent memory that is
--- long enough, and takes a list of steps over what reading left, requests, looks and set lists, and no new terms. "The same terms" asks no more than that the lines of both texts say T: how
--- numbers are padded makes no difference, and G lines add nothing to T. They say the first relations, which agree inside S, a set of members.
+-- Two runs as in demand 3 that begin at moment 0 with the same terms T, without reach, and keep them: each reads an
+-- accepted text of the old form into lent memory that is long enough, and takes a list of steps over what reading left,
+-- requests, looks and set lists, and no new terms. "The same terms" asks no more than that the lines of both texts say
+-- T: how numbers are padded makes no difference, and G lines add nothing to T. They say the first relations, which
+-- agree inside S, a set of members.
 module _ (T : Terms) (without : WithoutReach T) (S : Circle) (text text' : List ℕ)
     (f f' : File) (is-read : reading text ≡ accepted f) (is-read' : reading text' ≡ accepted f') (form : f .stored ≡ false) (form' : f' .stored ≡ false)
     (says : termsSaid (records (lines text)) ≡ T) (says' : termsSaid (records (lines text')) ≡ T)
@@ -47,7 +50,7 @@ module _ (T : Terms) (without : WithoutReach T) (S : Circle) (text text' : List 
     good : Good T
     good = subst Good (sym (said text f is-read .terms) ∙ says) (accepted-good text f is-read .good)
 
-    -- from what the keeper answers in both to what the monitor does
+    -- From what the keeper answers in both to what the monitor does.
     handed-on : (n : ℕ) →
         getD (keeper T (edgesSaid (records (lines text))) (fedCalls ss) .0) n a₀ ≡ getD (keeper T (edgesSaid (records (lines text'))) (fedCalls ss') .0) n a₀ →
         getD (serveSteps (loaded text terms state) ss .0) n a₀
@@ -56,9 +59,10 @@ module _ (T : Terms) (without : WithoutReach T) (S : Circle) (text text' : List 
         ap (λ xs. getD xs n a₀) (keeper-answers text f is-read form T says terms state tl sl ss keeps) ∙ e
         ∙ ap (λ xs. getD xs n a₀) (sym (keeper-answers text' f' is-read' form' T says' terms' state' tl' sl' ss' keeps'))
 
-    -- What a designer can check. No first edge joins S to the rest. At each place in the two lists of calls, the calls are the same with both ends in S, or have both ends
-    -- outside S in each run, making a moment in both or in neither; each is lent enough scratch. Then every call inside S gets the same answer in both runs. That no edge ever
-    -- joins S to the rest is no premise: it follows.
+    -- What a designer can check. No first edge joins S to the rest. At each place in the two lists of calls, the calls
+    -- are the same with both ends in S, or have both ends outside S in each run, making a moment in both or in neither;
+    -- each is lent enough scratch. Then every call inside S gets the same answer in both runs. That no edge ever joins
+    -- S to the rest is no premise: it follows.
     pub strangers-have-no-say-first :
         SeparateFirst T S (edgesSaid (records (lines text))) → SeparateFirst T S (edgesSaid (records (lines text'))) →
         Paired T S (first (edgesSaid (records (lines text))) ∷ []) (first (edgesSaid (records (lines text'))) ∷ []) (fedCalls ss) (fedCalls ss') →
@@ -68,9 +72,11 @@ module _ (T : Terms) (without : WithoutReach T) (S : Circle) (text text' : List 
     strangers-have-no-say-first p q pair n i =
         handed-on n (strangers-first T good without S c₀ a₀ _ _ agree p q (fedCalls ss) (fedCalls ss') pair n i)
 
-    -- As docs/SCOPE.md, Strangers, has it. In both runs no edge, relation or event, at any moment joins S to the rest. At each place in the two lists of calls, the calls are
-    -- the same with both ends in S, or have both ends outside S in each run, making a moment in both or in neither; each is lent enough scratch. Then every call inside S,
-    -- number n, gets the same answer in both runs. (A set list is its requests. Past the ends of the lists getD gives c₀ and a₀, whatever they are.)
+    -- As docs/SCOPE.md, Strangers, has it. In both runs no edge, relation or event, at any moment joins S to the rest.
+    -- At each place in the two lists of calls, the calls are the same with both ends in S, or have both ends outside S
+    -- in each run, making a moment in both or in neither; each is lent enough scratch. Then every call inside S,
+    -- number n, gets the same answer in both runs. (A set list is its requests. Past the ends of the lists getD gives
+    -- c₀ and a₀, whatever they are.)
     pub strangers-have-no-say :
         Separate T S (keeper T (edgesSaid (records (lines text))) (fedCalls ss) .1) →
         Separate T S (keeper T (edgesSaid (records (lines text'))) (fedCalls ss') .1) →

@@ -1,4 +1,5 @@
--- Strangers have no say, for two runs that begin at moment 0, whatever files they went through since: each goes on from a file whose record began at moment 0 with the same terms, and kept them.
+-- Strangers have no say, for two runs that begin at moment 0, whatever files they went through since: each goes on from
+-- a file whose record began at moment 0 with the same terms, and kept them.
 use Prim.Native.Nat.{ℕ, suc, _+_, _≤_}
 use mathlib.Core.Path.{_≡_, refl, sym, ap, subst, _∙_}
 use mathlib.Core.List.{List, [], _∷_, _++_}
@@ -12,7 +13,7 @@ use Rattle.theory.specs.Strangers.{Circle, WithoutReach, Separate, AgreeWithin,
 use Rattle.theory.specs.Fit.{Good}
 use Rattle.theory.proofs.Strangers.{strangers}
 use Rattle.memory.specs.Layout.{termsWords, stateWords}
-use Rattle.calls.specs.Agreement.{LentStep, KeepsTerms, fedSteps, fedCalls, serveSteps}
+use Rattle.calls.specs.Agreement.{LentStep, KeepsTerms, fedCalls, serveSteps}
 use Rattle.calls.proofs.Demand.{calls-on, keep-calls, fed-kept, keeper-good}
 use Rattle.text.specs.Recorded.{loaded, Recorded}
 use Rattle.text.proofs.Demand.{demand-3, playing}
@@ -22,7 +23,7 @@ unfolding keepAll
 answers-long T Ms [] = refl
 answers-long T Ms (c ∷ cs) = ap suc (answers-long T (keep T fromFirst Ms c .1) cs)
 
--- the keeper's answers to the calls ds after cs, at their places in the whole list
+-- The keeper's answers to the calls ds after cs, at their places in the whole list.
 later-answer : (T : Terms) (R : Relations) (cs ds : List Call) (a₀ : Answer) (n : ℕ) →
     getD (keepAll T fromFirst (keeper T R cs .1) ds .0) n a₀ ≡ getD (keeper T R (cs ++ ds) .0) (length cs + n) a₀
 later-answer T R cs ds a₀ n =
@@ -34,7 +35,7 @@ later-answer T R cs ds a₀ n =
 abbrev bookAfter : Terms → Relations → List Call → Book
 bookAfter T R cs = record { terms = T; start = fromFirst; moments = keeper T R cs .1 }
 
--- the answers of a run that goes on from a file with such a record
+-- The answers of a run that goes on from a file with such a record.
 resumed-answers : (T : Terms) (R : Relations) (cs : List Call) (text : List ℕ) → Recorded text (bookAfter T R cs) →
     (terms state : List ℕ) → termsWords ≤ length terms → stateWords ≤ length state → (ss : List LentStep) → KeepsTerms ss →
     serveSteps (loaded text terms state) ss .0 ≡ keepAll T fromFirst (keeper T R cs .1) (fedCalls ss) .0
@@ -44,7 +45,8 @@ resumed-answers T R cs text has terms state tl sl ss keeps =
     ∙ ap (λ (xs : List Step). keepSteps B xs .0) (fed-kept ss keeps)
     ∙ ap (λ (k : List Answer × Book). k .0) (keep-calls B (fedCalls ss))
 
--- cs and cs' are the calls that were made before the files were written, by panels that began at moment 0; none, for a run that begins with an old file.
+-- cs and cs' are the calls that were made before the files were written, by panels that began at moment 0; none, for a
+-- run that begins with an old file.
 module _ (T : Terms) (without : WithoutReach T) (S : Circle) (R Q : Relations) (agree : AgreeWithin T S R Q) (cs cs' : List Call) (text text' : List ℕ)
     (has : Recorded text (bookAfter T R cs)) (has' : Recorded text' (bookAfter T Q cs'))
     (terms terms' state state' : List ℕ) (tl : termsWords ≤ length terms) (tl' : termsWords ≤ length terms')
@@ -53,7 +55,8 @@ module _ (T : Terms) (without : WithoutReach T) (S : Circle) (R Q : Relations) (
     good : Good T
     good = keeper-good (bookAfter T R cs) (loaded text terms state) (playing has terms state tl sl)
 
-    -- The premises speak of the whole runs, with what was called before the files were written; the answers are those of what is called after.
+    -- The premises speak of the whole runs, with what was called before the files were written; the answers are
+    -- those of what is called after.
     pub strangers-any-start :
         Separate T S (keeper T R (cs ++ fedCalls ss) .1) → Separate T S (keeper T Q (cs' ++ fedCalls ss') .1) →
         Paired T S (first R ∷ []) (first Q ∷ []) (cs ++ fedCalls ss) (cs' ++ fedCalls ss') →

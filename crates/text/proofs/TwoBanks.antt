@@ -7,7 +7,6 @@ use mathlib.Core.Bool.{Bool, true, false, cond}
 use mathlib.Core.List.{List}
 use lib.Dec.{ltb}
 use lib.ListN.{length, getD, take}
-use borrow.Author.Tests.{le-ltb}
 use Rattle.theory.specs.Meaning.{Starts}
 use Rattle.theory.specs.Terms.{Terms, Alike}
 use Rattle.theory.specs.Moment.{Relations, Moment}
@@ -38,19 +37,6 @@ use Rattle.reader.proofs.StateMemory.{filled}
 use Rattle.reader.proofs.OldForm.{old-accepted}
 use Rattle.text.specs.Banks.{shortRead, banksReadGives, banksReadTerms, banksReadRelations, banksReadOwn, saidBooks, loadedBanks}
 use Rattle.text.proofs.BanksRead.{filled-like, relations-long, relations-edges, banks-open, own-filled}
-
--- Reading into two banks is done where the memory is long enough and the text is accepted as one of the old form, and
--- only there.
-pub read-done : (text terms relations first second : List ℕ) → termsWords ≤ length terms → relationWords ≤ length relations →
-    ownWords ≤ length first → ownWords ≤ length second → (f : File) → oldReading text ≡ accepted f → banksReadGives text terms relations first second ≡ passed
-unfolding banksReadGives
-read-done text terms relations first second tl rl fl sl f e = rw (
-  le-ltb (length terms) termsWords tl,
-  le-ltb (length relations) relationWords rl,
-  le-ltb (length first) ownWords fl,
-  le-ltb (length second) ownWords sl,
-  e,
-)
 
 done-read : (text terms relations first second : List ℕ) → banksReadGives text terms relations first second ≡ passed →
     (shortRead terms relations first second ≡ false) × ((f : File) × (oldReading text ≡ accepted f))
@@ -83,7 +69,7 @@ module _ (text terms : List ℕ) (W : Lent) (done : banksReadGives text terms (W
   r : reading text ≡ accepted f
   r = old-accepted text f e .0
 
-  -- the memory that is opened
+  -- The memory that is opened.
   abbrev m : List ℕ
   m = filled f terms
 
@@ -96,7 +82,7 @@ module _ (text terms : List ℕ) (W : Lent) (done : banksReadGives text terms (W
   opens : banksOpen m (X .relations) (X .own left) (X .own right) ≡ passed
   opens = banks-open text f r terms (W .relations) (lb .relations-long) (W .own left) (W .own right) (lb .own-long) (lb .other-long)
 
-  -- opened, it is the memory that reading leaves
+  -- Opened, it is the memory that reading leaves.
   loaded-terms : m ≡ loadedBanks text terms W .terms
   unfolding banksReadTerms
   loaded-terms = rw (was-read .0, e)
@@ -110,7 +96,7 @@ module _ (text terms : List ℕ) (W : Lent) (done : banksReadGives text terms (W
   loaded-own d = rw (was-read .0, e)
       (own-filled text f r terms (W .relations) (lb .relations-long) (W .own left) (W .own right) (lb .own-long) (lb .other-long) (W .own d) (own-lent d))
 
-  -- and holds moment 0 of what the text says
+  -- And holds moment 0 of what the text says.
   opened : BanksPlaying (firstBooks (f .terms) (f .edges)) (openedInUse m X)
   opened =
       let p : BanksPlaying (firstBooks (termsOf m) (f .edges)) (openedInUse m X) =
@@ -156,15 +142,8 @@ module _ (text terms : List ℕ) (W : Lent) (done : banksReadGives text terms (W
       λ i. record { terms = loaded-terms i; lent = record { relations = loaded-relations i; own = λ d. loaded-own d i }; before = W } in
       subst₂ BanksPlaying books memory lent
 
-  -- The banks so read hold moment 0: the terms are alike those that the text says, and each bank's state agrees with a
-  -- record of its first moment alone.
-  pub banks-begun-old :
-      Alike (saidBooks text .terms) (termsOf (loadedBanks text terms W .terms))
-      × BanksAgree (termsOf (loadedBanks text terms W .terms)) (saidBooks text .start) W (loadedBanks text terms W .lent) (saidBooks text .moments)
-  banks-begun-old = (playing .like, banks-agree _ _ playing)
-
-  -- Demand 3 for each bank goes on from there, over any list of steps: the answers are those of the keeper of two records,
-  -- who is fed the lines of the text.
+  -- Demand 3 for each bank goes on from there, over any list of steps: the answers are those of the keeper of two
+  -- records, who is fed the lines of the text.
   pub demand-3-banks-old : (ss : List LentBankStep) →
       let after = serveBankSteps (loadedBanks text terms W) ss in
       let kept = keepBankSteps (saidBooks text) (fedBankSteps ss) in
@@ -174,9 +153,9 @@ module _ (text terms : List ℕ) (W : Lent) (done : banksReadGives text terms (W
       let n = run-banks ss (saidBooks text) (loadedBanks text terms W) playing in
       (n .0, n .1 .like, banks-agree _ _ (n .1))
 
--- Two runs from one old file, in memory of any kind: the same calls of bank b, looks too, at the same places, with enough
--- scratch, the same new terms at the same places, and at each other place a call of the other bank in each run, which makes
--- a moment in both or in neither, with equal relations after it. Then bank b gets the same answers.
+-- Two runs from one old file, in memory of any kind: the same calls of bank b, looks too, at the same places, with
+-- enough scratch, the same new terms at the same places, and at each other place a call of the other bank in each run,
+-- which makes a moment in both or in neither, with equal relations after it. Then bank b gets the same answers.
 pub banks-isolated-old : (text terms terms' : List ℕ) (V' W : Lent) → banksReadGives text terms (V' .relations) (V' .own left) (V' .own right) ≡ passed →
     banksReadGives text terms' (W .relations) (W .own left) (W .own right) ≡ passed →
     (b : Bank) (ss ts : List LentBankStep) → Placed b (saidBooks text) (saidBooks text) (fedBankSteps ss) (fedBankSteps ts) →

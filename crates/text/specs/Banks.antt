@@ -26,8 +26,8 @@ shortRead terms relations first second = ltb (length terms) termsWords || shortB
 unfoldable pub banksReadGives : (text terms relations first second : List ℕ) → Outcome
 banksReadGives text terms relations first second = cond (shortRead terms relations first second) (failed 6 0) (outcome (oldReading text))
 
--- An accepted text fills the named words of terms and of relations with what it says, and those of a bank's own with the
--- tables and the event word of moment 0; a refusal leaves all memory as lent. Further words are not touched.
+-- An accepted text fills the named words of terms and of relations with what it says, and those of a bank's own with
+-- the tables and the event word of moment 0; a refusal leaves all memory as lent. Further words are not touched.
 abbrev pub filledOwn : List ℕ → Reading → List ℕ
 filledOwn own (accepted f) = drop relationWords (wordsOf (f .terms) (opening (f .terms) (f .edges))) ++ drop ownWords own
 filledOwn own (refused n l) = own
@@ -39,7 +39,7 @@ unfoldable pub banksReadRelations : (text terms relations first second : List �
 banksReadRelations text terms relations first second =
     cond (shortRead terms relations first second) relations (filledRelations relations (oldReading text))
 
--- own is either bank's.
+-- Own is either bank's.
 unfoldable pub banksReadOwn : (text terms relations first second : List ℕ) → (own : List ℕ) → List ℕ
 banksReadOwn text terms relations first second own = cond (shortRead terms relations first second) own (filledOwn own (oldReading text))
 

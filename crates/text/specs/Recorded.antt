@@ -1,5 +1,5 @@
--- Which files have a record, and what the keeper holds of it (docs/SCOPE.md, The stored form): an old file, or a stored file written by a panel that itself
--- began so and was kept from other hands until then.
+-- Which files have a record, and what the keeper holds of it (docs/SCOPE.md, The stored form): an old file, or a stored
+-- file written by a panel that itself began so and was kept from other hands until then.
 use Prim.Native.Nat.{ℕ, _≤_}
 use mathlib.Core.Path.{_≡_}
 use mathlib.Core.Bool.{false}

@@ -8,9 +8,9 @@ ghost use mathlib.Core.Path.{_≡_};
 ghost use Rattle.memory.specs.Outcome.{outcomeOf};
 ghost use Rattle.text.specs.Banks.{banksReadGives, banksReadTerms, banksReadRelations, banksReadOwn};
 
-// Reads a terms file of the old form. An accepted text fills the named words of terms, of relations and of both banks' own
-// words, at moment 0; a refusal has its number and line and leaves all memory as lent. A stored text is none of the old
-// form: refused with 1 at line 1.
+// Reads a terms file of the old form. An accepted text fills the named words of terms, of relations and of both banks'
+// own words, at moment 0; a refusal has its number and line and leaves all memory as lent. A stored text is none of the
+// old form: refused with 1 at line 1.
 pub fn read(
     text: &[u8],
     terms: &mut [u16],

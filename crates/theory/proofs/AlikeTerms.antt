@@ -2,22 +2,20 @@
 use Prim.Native.Nat.{ℕ, zero, suc, _≤_, _<_}
 use native.Mathlib.Omega.{arith}
 use mathlib.Core.Path.{_≡_, refl, sym, ap, ap₂, subst, _∙_, fun-ext}
-use mathlib.Core.Bool.{Bool, true, false, cond, not, _&&_, _||_, false≢true}
-use mathlib.Core.List.{List, [], _∷_, _++_, map}
+use mathlib.Core.Bool.{Bool, true, false, cond, not, _&&_, _||_}
+use mathlib.Core.List.{List, [], _∷_, _++_}
 use lib.Dec.{eqb, ltb, leb}
 use borrow.Author.Tests.{ltb-true, leb-false}
 use Rattle.theory.specs.Formula.{Formula, Entry, node, firstOperand, secondOperand, thirdOperand, isPast, number, below, spelled, highest, bare, same, columns}
-use Rattle.theory.specs.Meaning.{Graph, Starts, fromFirst, holds}
+use Rattle.theory.specs.Meaning.{Graph, Starts, holds}
 use Rattle.theory.specs.Columns.{columnsFit, standing, member, inside}
 use Rattle.theory.specs.Terms.{Terms, Effect, labels, formula}
-use Rattle.theory.specs.Moment.{Relations, Moment, graph, affectAll, denied, first}
+use Rattle.theory.specs.Moment.{Moment, graph, affectAll, denied, first}
 use Rattle.theory.specs.Moment.Event.{happened}
-use Rattle.theory.specs.Limits.{scratchWords, leastTerms, leastState}
-use Rattle.theory.specs.Keeper.{Call, Answer, Book, Step, recordOf, last, lastMoment, target, judge, keep, keepAll, keeper, withMoments, revisedStart, revisedBook, keepStep}
-use Rattle.theory.specs.Keeper.Step.{call, revise, renumber}
-use Rattle.theory.specs.NewNumbers.{renumbers, momentBy}
+use Rattle.theory.specs.Limits.{scratchWords}
+use Rattle.theory.specs.Keeper.{Call, Answer, Book, recordOf, last, lastMoment, target, judge, keep, keepAll, revisedStart}
 use Rattle.theory.specs.Keeper.Verdict.{grant, deny}
-use Rattle.theory.specs.Keeper.Answer.{decided, done, refused}
+use Rattle.theory.specs.Keeper.Answer.{decided, refused}
 use Rattle.theory.specs.Terms.{tables, pastEntry, firstSame, sameSize, Alike}
 use Rattle.theory.specs.Fit.{operandFits, onlyFree, reachFits, Good, GoodEntry, Within}
 use Rattle.theory.specs.Tables.{Tables, State, store, holdsNow, operandNow, sinceTables, startBits, startStep, startTables, revised}
@@ -142,7 +140,7 @@ module _ (T U : Terms) (a : Alike T U) where
   unfolding judge
   judge-met g s Ms c = go (leb (T .events) (c .event)) refl
     where
-      -- what becomes of a call of an event with policy φ and effects es, kept or not
+      -- What becomes of a call of an event with policy φ and effects es, kept or not.
       kept : Formula → List Effect → Bool → Answer × List Moment
       kept φ es k =
           cond (not (holds (T .members) s (recordOf T Ms) φ (last Ms) (target (c .to)) (c .from)))
@@ -150,7 +148,7 @@ module _ (T U : Terms) (a : Alike T U) where
           (cond (c .look) (decided grant, [])
           (decided grant, record { edge = affectAll (c .from) (c .to) es (lastMoment Ms .edge); event = happened (c .event) (c .from) (c .to) } ∷ []))
 
-      -- a call, where it is told whether its event is out of range, and what becomes of it if it is in range
+      -- A call, where it is told whether its event is out of range, and what becomes of it if it is in range.
       called : Bool → Answer × List Moment → Answer × List Moment
       called b k = cond (ltb (c .scratch) scratchWords) (refused 6 0, []) (cond (b || leb (T .members) (c .from) || leb (T .members) (c .to)) (refused 9 0, []) k)
 
@@ -222,9 +220,6 @@ module _ (T U : Terms) (a : Alike T U) where
   pub keepAll-alike : Good T → (s : Starts) (Ms : List Moment) (cs : List Call) → keepAll T s Ms cs ≡ keepAll U s Ms cs
   keepAll-alike g s Ms cs = keepAll-met g s Ms cs ∙ ap (λ X. keepAll X s Ms cs) met-is
 
-  pub keeper-alike : Good T → (R : Relations) (cs : List Call) → keeper T R cs ≡ keeper U R cs
-  keeper-alike g R = keepAll-alike g fromFirst (first R ∷ [])
-
   pub kept-alike : (s : Starts) (S : State) (Ms : List Moment) → Kept T s S Ms → Kept U s S Ms
   kept-alike s S Ms kept = subst (λ X. Kept X s S Ms) met-is (kept-met s S Ms kept)
 
@@ -234,7 +229,7 @@ module _ (T U : Terms) (a : Alike T U) where
   unfolding firstSame
   first-met φ = lowest-cong (T .entries) (λ k. same (formula T k) φ) (λ k. same (formula W k) φ) (λ k l. ap (λ (ψ : Formula). same ψ φ) (same-formula k l))
 
-  -- what is looked up by the table of the first old entry with a formula
+  -- What is looked up by the table of the first old entry with a formula.
   taken-met : {A : Type 0} (φ : Formula) (at : ℕ → A) (other : A) →
       cond (ltb (firstSame T φ) (T .entries)) (at (number (T .entry) (firstSame T φ))) other
       ≡ cond (ltb (firstSame W φ) (T .entries)) (at (number (W .entry) (firstSame W φ))) other
@@ -271,7 +266,7 @@ module _ (T U : Terms) (a : Alike T U) where
       (start-bits-met S Z n (startTables T S Z n X))
       ∙ ap (startStep W S Z n) (start-met S Z n X)
 
-  -- the state that new terms Z begin with, after terms that are alike
+  -- The state that new terms Z begin with, after terms that are alike.
   pub revised-alike : (S : State) (Z : Terms) → revised T S Z ≡ revised U S Z
   unfolding revised
   revised-alike S Z =
@@ -313,66 +308,3 @@ alike-refl T = record {
   effects = λ j l. refl;
   kept = λ j l. refl;
 }
-
--- ---- books that are alike: the same starts and the same record
-
-pub record AlikeBooks (B C : Book) : Type 0 where
-  pub terms : Alike (B .terms) (C .terms)
-  pub start : B .start ≡ C .start
-  pub moments : B .moments ≡ C .moments
-
--- the same answer, and books that are alike
-abbrev Kin : Answer × Book → Answer × Book → Type 0
-Kin k m = (k .0 ≡ m .0) × AlikeBooks (k .1) (m .1)
-
-pub step-alike : (B C : Book) → AlikeBooks B C → Good (B .terms) → (x : Step) → Kin (keepStep B x) (keepStep C x)
-unfolding keepStep
-step-alike B C l g x =
-    subst (λ (D : Book). Kin (keepStep B x) (keepStep D x)) (λ d. record { terms = C .terms; start = l .start d; moments = l .moments d }) (by x)
-  where
-    U : Terms
-    U = C .terms
-
-    D : Book
-    D = record { terms = U; start = B .start; moments = B .moments }
-
-    here : AlikeBooks B D
-    here = record { terms = l .terms; start = refl; moments = refl }
-
-    go : (Z : Terms) (x y z w : Bool) → z ≡ w →
-        Kin (cond x (refused 6 0, B) (cond (not y) (refused 7 0, B) (cond (not z) (refused 13 0, B) (done, revisedBook B Z))))
-        (cond x (refused 6 0, D) (cond (not y) (refused 7 0, D) (cond (not w) (refused 13 0, D) (done, revisedBook D Z))))
-    go Z true y z w q = (refl, here)
-    go Z false false z w q = (refl, here)
-    go Z false true false false q = (refl, here)
-    go Z false true false true q = absurd (false≢true q)
-    go Z false true true false q = absurd (false≢true (sym q))
-    go Z false true true true q = (refl, record { terms = alike-refl Z; start = start-alike (B .terms) U (l .terms) (B .start) (B .moments) Z; moments = refl })
-
-    by : (x : Step) → Kin (keepStep B x) (keepStep D x)
-    by (call c) = (
-      ap (λ (r : Answer × List Moment). r .0) (keep-alike (B .terms) U (l .terms) g (B .start) (B .moments) c),
-      record {
-        terms = l .terms;
-        start = refl;
-        moments = ap (λ (r : Answer × List Moment). r .1) (keep-alike (B .terms) U (l .terms) g (B .start) (B .moments) c);
-      },
-    )
-    by (revise o) =
-        go (o .terms) (ltb (o .words) leastTerms || ltb (o .state) leastState) (o .sound) (sameSize (B .terms) (o .terms)) (sameSize U (o .terms))
-        (size-alike (B .terms) U (l .terms) (o .terms))
-    by (renumber ns n) = numbered (ltb n leastState) (B .terms .members) (U .members) (l .terms .members)
-      where
-        told : Bool → ℕ → Book → Answer × Book
-        told x m E =
-            cond x (refused 6 0, E) (cond (not (renumbers m ns)) (refused 15 0, E) (done, withMoments E (map (momentBy m ns) (E .moments))))
-
-        same : (x b : Bool) (m : ℕ) →
-            Kin (cond x (refused 6 0, B) (cond (not b) (refused 15 0, B) (done, withMoments B (map (momentBy m ns) (B .moments)))))
-            (cond x (refused 6 0, D) (cond (not b) (refused 15 0, D) (done, withMoments D (map (momentBy m ns) (D .moments)))))
-        same true b m = (refl, here)
-        same false false m = (refl, here)
-        same false true m = (refl, record { terms = l .terms; start = refl; moments = refl })
-
-        numbered : (x : Bool) (m k : ℕ) → m ≡ k → Kin (told x m B) (told x k D)
-        numbered x m k e = subst (λ (j : ℕ). Kin (told x m B) (told x j D)) e (same x (renumbers m ns) m)

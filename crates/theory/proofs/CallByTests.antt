@@ -78,7 +78,7 @@ makes-counted T Ms c =
     go true M = refl
     go false M = refl
 
--- how much scratch there is beyond enough makes no difference
+-- How much scratch there is beyond enough makes no difference.
 pub judge-lent : (T : Terms) (s : Starts) (Ms : List Moment) {c d : Call} →
     c .look ≡ d .look → c .event ≡ d .event → c .from ≡ d .from → c .to ≡ d .to →
     scratchWords ≤ c .scratch → scratchWords ≤ d .scratch → judge T s Ms c ≡ judge T s Ms d
@@ -86,7 +86,7 @@ unfolding judge
 judge-lent T s Ms {c} {d} l e u v p q =
     rw (le-ltb (c .scratch) scratchWords p, le-ltb (d .scratch) scratchWords q, l, e, u, v)
 
--- what a call names that is not refused for it
+-- What a call names that is not refused for it.
 pub named : (T : Terms) (c : Call) → not (unnamed T c) ≡ true → (c .event < T .events) × (c .from < T .members) × (c .to < T .members)
 named T c e = go (leb (T .events) (c .event)) (leb (T .members) (c .from)) (leb (T .members) (c .to)) refl refl refl e
   where

@@ -1,24 +1,25 @@
--- The first entry with the same fully spelled-out formula; the starts of new terms, and that an entry that is taken over means what it meant.
-use Prim.Native.Nat.{ℕ, zero, suc, _≤_, _<_}
+-- The first entry with the same fully spelled-out formula; the starts of new terms, and that an entry that is
+-- taken over means what it meant.
+use Prim.Native.Nat.{ℕ, _≤_, _<_}
 use native.Mathlib.Omega.{arith}
-use mathlib.Core.Path.{_≡_, refl, sym, ap, _∙_, subst}
-use mathlib.Core.Bool.{Bool, true, false, cond}
+use mathlib.Core.Path.{_≡_, refl, sym, ap, _∙_}
+use mathlib.Core.Bool.{Bool, true, cond}
 use lib.Dec.{ltb}
 use borrow.Author.Tests.{lt-ltb}
 use Rattle.sets.proofs.Finite.{bool-iff}
-use Rattle.theory.specs.Formula.{Formula, number, isPast, bare, same, lowest}
-use Rattle.theory.specs.Meaning.{Record, Starts, Assignment, holds}
+use Rattle.theory.specs.Formula.{Formula, number, isPast, bare, same}
+use Rattle.theory.specs.Meaning.{Record, Assignment, holds}
 use Rattle.theory.specs.Terms.{Terms, formula, pastEntry, firstSame}
 use Rattle.theory.specs.Keeper.{Book, last, revisedStart}
 use Rattle.theory.proofs.Unfolding.{tableOf, number-lt, number-apart, table-spelled}
 use Rattle.theory.proofs.Past.{PastEntry, past-entry}
 use Rattle.theory.proofs.Lowest.{lowest-has, lowest-first, lowest-cong}
-use Rattle.theory.proofs.Renumbered.{same-bare, bare-same, renumbered-twice, past-same, Everywhere, everywhere-spelled, same-meaning}
+use Rattle.theory.proofs.Renumbered.{same-bare, bare-same, renumbered-twice, past-same, everywhere-spelled, same-meaning}
 use Rattle.theory.proofs.RunInvariant.{Together}
 
 -- ---- the first entry with the same formula
 
--- it depends on the fully spelled-out formula alone
+-- It depends on the fully spelled-out formula alone.
 pub first-cong : (T : Terms) (f h : Formula) → bare f ≡ bare h → firstSame T f ≡ firstSame T h
 unfolding firstSame
 first-cong T f h e =
@@ -30,18 +31,18 @@ first-cong T f h e =
 pub first-bare : (T : Terms) (f : Formula) → firstSame T (bare f) ≡ firstSame T f
 first-bare T f = first-cong T (bare f) f (renumbered-twice (λ t. 0) (λ t. 0) f)
 
--- where there is one, it has that formula
+-- Where there is one, it has that formula.
 pub first-has : (T : Terms) (f : Formula) → firstSame T f < T .entries → bare (formula T (firstSame T f)) ≡ bare f
 unfolding firstSame
 first-has T f l = same-bare (formula T (firstSame T f)) f (lowest-has (λ k. same (formula T k) f) (T .entries) l)
 
--- and it is no later than any that has it
+-- And it is no later than any that has it.
 pub first-le : (T : Terms) (f : Formula) (k : ℕ) → k < T .entries → bare (formula T k) ≡ bare f → firstSame T f ≤ k
 unfolding firstSame
 first-le T f k l e = lowest-first (λ k. same (formula T k) f) (T .entries) k l (bare-same (formula T k) f e)
 
--- past-time entry number t, from an entry's side
-pub past-number : (T : Terms) (n : ℕ) → n < T .entries → isPast (T .entry n .op) ≡ true → pastEntry T (number (T .entry) n) ≡ n
+-- Past-time entry number t, from an entry's side.
+past-number : (T : Terms) (n : ℕ) → n < T .entries → isPast (T .entry n .op) ≡ true → pastEntry T (number (T .entry) n) ≡ n
 past-number T n l p =
     let e : PastEntry T (number (T .entry) n) = past-entry T (number (T .entry) n) (number-lt (T .entry) n (T .entries) l p) in
     number-apart (T .entry) (pastEntry T (number (T .entry) n)) n (e .past) p (e .numbered)
@@ -60,12 +61,12 @@ module _ (B : Book) where
   start-bare φ =
       ap (λ (k : ℕ). cond (ltb k (T .entries)) (B .start (number (T .entry) k)) (last (B .moments))) (first-bare T φ)
 
-  -- a new entry
+  -- A new entry.
   pub start-new : (U : Terms) (n : ℕ) → n < U .entries → isPast (U .entry n .op) ≡ true →
       revisedStart B U (number (U .entry) n) ≡ startOf (formula U n)
   start-new U n l p = ap (λ (k : ℕ). startOf (formula U k)) (past-number U n l p)
 
-  -- an old entry: the first with its formula started with it
+  -- An old entry: the first with its formula started with it.
   pub start-old : Together T (B .start) → (k : ℕ) → k < T .entries → isPast (T .entry k .op) ≡ true →
       B .start (number (T .entry) k) ≡ startOf (formula T k)
   start-old together k l p =
@@ -75,8 +76,8 @@ module _ (B : Book) where
       together k j l (omega arith) p (past-same (T .entry) (T .entry) j k has ∙ p) (sym has)
       ∙ sym (ap (λ (c : Bool). cond c (B .start (number (T .entry) j)) (last (B .moments))) (lt-ltb j (T .entries) (omega arith)))
 
-  -- An entry of the new terms means, from its new start, what an old entry with the same formula meant from its own: whichever old entry that is, and
-  -- the past-time entries inside included.
+  -- An entry of the new terms means, from its new start, what an old entry with the same formula meant from its own:
+  -- whichever old entry that is, and the past-time entries inside included.
   module _ (U : Terms) (N : ℕ) (γ : Record) (together : Together T (B .start)) where
     pub taken-meaning : (n k : ℕ) → n < U .entries → k < T .entries → bare (formula U n) ≡ bare (formula T k) →
         (i : ℕ) (g : Assignment) (m : ℕ) → holds N (revisedStart B U) γ (formula U n) i g m ≡ holds N (B .start) γ (formula T k) i g m

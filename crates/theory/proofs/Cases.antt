@@ -79,7 +79,8 @@ byTables T S (c ∷ cs) =
     let rest = byTables T (cond (not (c .look) && (p || T .kept (c .event))) after S) cs in
     cond p yes no ∷ rest
 
--- Event 0 is always granted; the others go by: prev of prev, prev of a since, since over a since, since with a first operand that never holds, prev.
+-- Event 0 is always granted; the others go by: prev of prev, prev of a since, since over a since, since with a first
+-- operand that never holds, prev.
 unfoldable pub nested : Terms
 nested = record {
   members = 2;
@@ -94,7 +95,7 @@ nested = record {
   kept = λ j. false;
 }
 
--- three grants, and at each moment the five policies at member 0
+-- Three grants, and at each moment the five policies at member 0.
 unfoldable pub nestedCalls : List Call
 nestedCalls =
     looks 1 0 1 ∷ looks 2 0 1 ∷ looks 3 0 1 ∷ looks 4 0 1 ∷ looks 5 0 1 ∷ requests 0 0 1
@@ -115,8 +116,9 @@ nested-answers = (refl, refl)
 
 -- ---- denied requests that are kept, by the keeper and by the tables
 
--- Denied requests of event 0 are kept; a grant of it adds an edge of relation 0. It is granted where there is no such edge yet and the same request was denied just before. Event 1 goes by: I was granted event 0
--- at some time; event 2 by: I was denied it at some time, to the target. Label 1 is event 0, label 4 event 0 denied.
+-- Denied requests of event 0 are kept; a grant of it adds an edge of relation 0. It is granted where there is no such
+-- edge yet and the same request was denied just before. Event 1 goes by: I was granted event 0 at some time; event 2
+-- by: I was denied it at some time, to the target. Label 1 is event 0, label 4 event 0 denied.
 unfoldable pub trying : Terms
 trying = record {
   members = 2;
@@ -145,7 +147,8 @@ tries-answers = (refl, refl)
 
 -- ---- terms about three people, by the keeper and by the tables
 
--- The preset's load by a since with two free variables: 1 has shared with 2 and not withdrawn since. Its columns are 1 and 2.
+-- The preset's load by a since with two free variables: 1 has shared with 2 and not withdrawn
+-- since. Its columns are 1 and 2.
 unfoldable pub pairs : Terms
 pairs = record {
   members = 3;

@@ -22,7 +22,7 @@ not-and true true = refl
 not-and true false = refl
 not-and false b = refl
 
--- not some is each not
+-- Not some is each not.
 not-any : (n : ℕ) (p : ℕ → Bool) → not (anyBelow n p) ≡ allBelow n (λ k. not (p k))
 unfolding anyBelow allBelow
 not-any zero p = refl
@@ -32,18 +32,14 @@ not-any (suc n) p = go (p n) ∙ ap (λ x. not (p n) && x) (not-any n p)
     go true = refl
     go false = refl
 
-not-not : (a : Bool) → not (not a) ≡ a
-not-not true = refl
-not-not false = refl
-
 module _ (N : ℕ) (s : Starts) (γ : Record) (i : ℕ) (g : Assignment) (m : ℕ) where
-  -- f and h: not (or (not f) (not h))
+  -- f and h: not (or (not f) (not h)).
   pub conjunction : (f h : Formula) → holds N s γ (neg (or (neg f) (neg h))) i g m ≡ holds N s γ f i g m && holds N s γ h i g m
   unfolding holds
   conjunction f h = not-or (holds N s γ f i g m) (holds N s γ h i g m)
 
-  -- once f: since top f. It holds where f does at some moment from its start up to the present one.
-  pub once-from : (t : ℕ) (f : Formula) → holds N s γ (since t top f) i g m ≡ anyBelow (suc i) (λ j. leb (s t) j && holds N s γ f j g m)
+  -- Once f: since top f. It holds where f does at some moment from its start up to the present one.
+  once-from : (t : ℕ) (f : Formula) → holds N s γ (since t top f) i g m ≡ anyBelow (suc i) (λ j. leb (s t) j && holds N s γ f j g m)
   unfolding holds
   once-from t f =
       any-cong (suc i) (λ j _.
@@ -51,7 +47,7 @@ module _ (N : ℕ) (s : Starts) (γ : Record) (i : ℕ) (g : Assignment) (m : �
       ∙ ap (λ x. leb (s t) j && x) (and-true (holds N s γ f j g m)))
 
   -- f all along: not (since top (not f)). It holds where f does at each moment from its start up to the present one.
-  pub all-along-from : (t : ℕ) (f : Formula) →
+  all-along-from : (t : ℕ) (f : Formula) →
       holds N s γ (neg (since t top (neg f))) i g m ≡ allBelow (suc i) (λ j. leb (s t) j ⇒ holds N s γ f j g m)
   unfolding holds
   all-along-from t f =
@@ -65,7 +61,7 @@ module _ (N : ℕ) (s : Starts) (γ : Record) (i : ℕ) (g : Assignment) (m : �
   every-neighbour l f =
       not-any N (λ m'. γ i l m m' && not (holds N s γ f i g m')) ∙ all-cong N (λ m' _. not-and (γ i l m m') (holds N s γ f i g m'))
 
-  -- the same against the edges: not (in l (not f)), and each member from which an l edge comes
+  -- The same against the edges: not (in l (not f)), and each member from which an l edge comes.
   pub every-neighbour-in : (l : ℕ) (f : Formula) →
       holds N s γ (neg (into l (neg f))) i g m ≡ allBelow N (λ m'. γ i l m' m ⇒ holds N s γ f i g m')
   unfolding holds

@@ -38,7 +38,7 @@ those-next (suc n) k p x lo hi e none = go (eqb k x) refl (λ l. those-next n (s
         ap (λ c. cond c (k ∷ those n (suc k) p) (those n (suc k) p)) (none k (omega arith) (omega arith))
         ∙ ih (omega arith) ∙ ap (λ m. x ∷ those (m - suc x) (suc x) p) size
 
--- s has the free variables of f, which are below 16
+-- s has the free variables of f, which are below 16.
 module _ (f : Formula) (s : ℕ) (fits : s < 2 ^ 64) (small : (x : ℕ) → free f x ≡ true → x < 16) (has : (x : ℕ) → bit s x ≡ free f x) where
   abbrev rest : ℕ
   rest = bitAnd s (s - 1)
@@ -68,7 +68,7 @@ module _ (f : Formula) (s : ℕ) (fits : s < 2 ^ 64) (small : (x : ℕ) → free
     first-column : those 16 0 (free f) ≡ least s ∷ those (16 - suc (least s)) (suc (least s)) (free f)
     first-column = those-next 16 0 (free f) (least s) (omega arith) (small (least s) first-free) first-free (λ j _ l. before-first j l)
 
-    -- a later free variable is in the rest
+    -- A later free variable is in the rest.
     in-rest : (j : ℕ) → suc (least s) ≤ j → free f j ≡ true → bit rest j ≡ true
     in-rest j l e = left .bits j ∙ and-both _ _ (has j ∙ e) (ap not (ne-eqb j (least s) (λ z. omega arith)))
 
@@ -153,7 +153,7 @@ module _ (f : Formula) (s : ℕ) (fits : s < 2 ^ 64) (small : (x : ℕ) → free
                 (omega (arith, rising, small (least more) third-free, later)) third-free))
             go (z ∷ zs) e = refl
 
-  -- refusal 4's condition
+  -- Refusal 4's condition.
   pub fit-of-set : (N : ℕ) → columnsFit N (columns f) ≡ (eqb rest 0 || (eqb more 0 && ltb N 17))
   fit-of-set N = by-some (eqb s 0) refl
     where

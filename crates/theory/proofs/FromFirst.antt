@@ -1,4 +1,5 @@
--- Where each entry starts at moment 0, as from an old file on while the terms are not revised, a formula means what the table of docs/SCOPE.md, Meaning, says of the whole record.
+-- Where each entry starts at moment 0, as from an old file on while the terms are not revised, a formula means what the
+-- table of docs/SCOPE.md, Meaning, says of the whole record.
 use Prim.Native.Nat.{ℕ, suc, _-_}
 use native.Mathlib.Omega.{arith}
 use mathlib.Core.Path.{_≡_, refl, ap, ap₂}
@@ -29,7 +30,7 @@ module _ (N : ℕ) (γ : Record) where
   from-first (reach x f h) i g m = any-cong N (λ k _. ap₂ _&&_ (from-first f i (alone x k) m) (from-first h i g k))
   from-first (many l f n) i g m = ap (leb n) (count-cong N (λ k _. ap (λ x. γ i l m k && x) (from-first f i g k)))
 
-  -- the expansion laws at moment 0
+  -- The expansion laws at moment 0.
   pub prev-first : (t : ℕ) (f : Formula) (g : Assignment) (m : ℕ) → holds N fromFirst γ (prev t f) 0 g m ≡ false
   prev-first t f g m = prev-start N fromFirst γ t f g m 0 (omega arith)
 

@@ -1,7 +1,7 @@
 -- The lowest number below a bound that passes a test, or the bound.
 use Prim.Native.Nat.{ℕ, zero, suc, _≤_, _<_}
 use native.Mathlib.Omega.{arith}
-use mathlib.Core.Path.{_≡_, refl, sym, ap, ap₂, _∙_, subst}
+use mathlib.Core.Path.{_≡_, refl, ap₂, subst}
 use mathlib.Core.Bool.{Bool, true, false, cond}
 use mathlib.Core.Logic.{_⊎_, inl, inr}
 use lib.Dec.{ltb}
@@ -20,7 +20,7 @@ module _ (p : ℕ → Bool) where
       go h false true = omega arith
       go h false false = omega arith
 
-  -- where it is below the bound it passes
+  -- Where it is below the bound it passes.
   pub lowest-has : (n : ℕ) → lowest n p < n → p (lowest n p) ≡ true
   unfolding lowest
   lowest-has zero h = absurd (omega arith)
@@ -32,7 +32,7 @@ module _ (p : ℕ → Bool) where
       go false e true q ih h = q
       go false e false q ih h = absurd (omega arith)
 
-  -- nothing lower passes
+  -- Nothing lower passes.
   pub lowest-first : (n k : ℕ) → k < n → p k ≡ true → lowest n p ≤ k
   unfolding lowest
   lowest-first zero k h e = absurd (omega arith)
@@ -46,8 +46,8 @@ module _ (p : ℕ → Bool) where
       go false c true q ih (inr z) = omega arith
       go false c false q ih (inr z) = absurd (not-both (p n) (subst (λ j. p j ≡ true) z e) q)
 
-  -- the one that passes, with none below it
-  pub lowest-is : (n k : ℕ) → k < n → p k ≡ true → ((j : ℕ) → j < k → p j ≡ false) → lowest n p ≡ k
+  -- The one that passes, with none below it.
+  lowest-is : (n k : ℕ) → k < n → p k ≡ true → ((j : ℕ) → j < k → p j ≡ false) → lowest n p ≡ k
   lowest-is n k l e none = go (ltb (lowest n p) k) refl
     where
       go : (c : Bool) → ltb (lowest n p) k ≡ c → lowest n p ≡ k
@@ -56,7 +56,7 @@ module _ (p : ℕ → Bool) where
           absurd (not-both (p (lowest n p)) (lowest-has n (omega arith)) (none (lowest n p) less))
       go false c = omega (arith, ltb-false (lowest n p) k c, lowest-first n k l e)
 
-  -- none passes
+  -- None passes.
   pub lowest-none : (n : ℕ) → ((j : ℕ) → j < n → p j ≡ false) → lowest n p ≡ n
   lowest-none n none = go (ltb (lowest n p) n) refl
     where
@@ -66,7 +66,7 @@ module _ (p : ℕ → Bool) where
           absurd (not-both (p (lowest n p)) (lowest-has n less) (none (lowest n p) less))
       go false c = omega (arith, ltb-false (lowest n p) n c, lowest-le n)
 
-  -- a higher bound finds the same, where something is found
+  -- A higher bound finds the same, where something is found.
   pub lowest-more : (n m : ℕ) → lowest n p < n → n ≤ m → lowest m p ≡ lowest n p
   lowest-more n m h le =
       let up : lowest m p ≤ lowest n p = lowest-first m (lowest n p) (omega arith) (lowest-has n h) in
@@ -79,7 +79,7 @@ lowest-cong zero p q h = refl
 lowest-cong (suc n) p q h =
     ap₂ (λ (k : ℕ) (c : Bool). cond (ltb k n) k (cond c n (suc n))) (lowest-cong n p q (λ k l. h k (omega arith))) (h n (omega arith))
 
--- a search from below: none has passed so far
+-- A search from below: none has passed so far.
 module _ (p : ℕ → Bool) (k : ℕ) (none : lowest k p ≡ k) where
   pub lowest-hit : (n : ℕ) → k < n → p k ≡ true → lowest n p ≡ k
   lowest-hit n l e = lowest-is p n k l e missed

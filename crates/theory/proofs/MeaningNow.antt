@@ -14,15 +14,15 @@ use Rattle.theory.proofs.Unfolding.{Visible, tableOf}
 use Rattle.theory.proofs.Record.{coincidence}
 use Rattle.theory.proofs.Places.{In, Among, among-assign, among-alone, place-member, place-inside, place-standing}
 
--- two relations agree on the members
+-- Two relations agree on the members.
 abbrev pub Same : ℕ → (ℕ → ℕ → Bool) → (ℕ → ℕ → Bool) → Type 0
 Same N p q = (a b : ℕ) → a < N → b < N → p a b ≡ q a b
 
--- two tables with these columns agree at the places of members
+-- Two tables with these columns agree at the places of members.
 abbrev pub SameAt : ℕ → List ℕ → (ℕ → ℕ → Bool) → (ℕ → ℕ → Bool) → Type 0
 SameAt N cs p q = (i k : ℕ) → inside N cs i k ≡ true → p i k ≡ q i k
 
--- a table's columns fit, and two tables agree there
+-- A table's columns fit, and two tables agree there.
 pub record SameTable (N : ℕ) (X Y : Tables) (φ : Formula) : Type 0 where
   pub fit : columnsFit N (columns φ) ≡ true
   pub bits : SameAt N (columns φ) (X (tableOf φ)) (Y (tableOf φ))
@@ -32,7 +32,7 @@ module _ (N : ℕ) (G H : Graph) (X Y : Tables) (same : (l : ℕ) → Same N (G 
       recalled X (tableOf φ) (columns φ) g m ≡ recalled Y (tableOf φ) (columns φ) g m
   like φ v g m w l = v .bits (wordFor (columns φ) g m) (bitFor (columns φ) g) (place-inside N g w m l (columns φ) (v .fit))
 
-  -- only the edges between members count, and the bits at members of those tables that are read
+  -- Only the edges between members count, and the bits at members of those tables that are read.
   pub now-cong : (f : Formula) (g : Assignment) (m : ℕ) → Among N g → m < N →
       Visible (SameTable N X Y) f → holdsNow N G X f g m ≡ holdsNow N H Y f g m
   unfolding holdsNow
@@ -51,13 +51,15 @@ module _ (N : ℕ) (G H : Graph) (X Y : Tables) (same : (l : ℕ) → Same N (G 
   now-cong (many r f c) g m w l v =
       ap (leb c) (count-cong N (λ k kl. ap₂ _&&_ (same r m k l kl) (now-cong f g k w kl v)))
 
--- A past-time formula's table is right at moment i: it has room for its columns, they are its free variables, and its bits are its meaning.
+-- A past-time formula's table is right at moment i: it has room for its columns, they are its free
+-- variables, and its bits are its meaning.
 pub record Right (N : ℕ) (s : Starts) (γ : Record) (i : ℕ) (X : Tables) (φ : Formula) : Type 0 where
   pub fit : columnsFit N (columns φ) ≡ true
   pub all : (x : ℕ) → free φ x ≡ true → In x (columns φ)
   pub bits : SameAt N (columns φ) (X (tableOf φ)) (λ a b. holds N s γ φ i (standing φ a b) (member φ a))
 
--- The one law of a table's bits, over the number of free variables: at the place of m and g they say what the formula means at m under g.
+-- The one law of a table's bits, over the number of free variables: at the place of m and g they say what
+-- the formula means at m under g.
 pub right-says : (N : ℕ) (s : Starts) (γ : Record) (i : ℕ) (X : Tables) (φ : Formula) → Right N s γ i X φ → (g : Assignment) (m : ℕ) → Among N g → m < N →
     recalled X (tableOf φ) (columns φ) g m ≡ holds N s γ φ i g m
 right-says N s γ i X φ r g m w l =
@@ -67,7 +69,7 @@ right-says N s γ i X φ r g m w l =
     (λ x q. place-standing N g w m l (columns φ) (r .fit) x (r .all x q))
 
 module _ (N : ℕ) (G : Graph) (X : Tables) (s : Starts) (γ : Record) (i : ℕ) (same : (l : ℕ) → Same N (G l) (γ i l)) where
-  -- where the tables that are read are right, so is the meaning
+  -- Where the tables that are read are right, so is the meaning.
   pub now-holds : (f : Formula) (g : Assignment) (m : ℕ) → Among N g → m < N → Visible (Right N s γ i X) f →
       holdsNow N G X f g m ≡ holds N s γ f i g m
   unfolding holdsNow holds

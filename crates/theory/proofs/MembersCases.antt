@@ -1,4 +1,5 @@
--- Small runs with new numbers, computed of the keeper and of the tables: they fail where a definition that both share is wrong.
+-- Small runs with new numbers, computed of the keeper and of the tables: they fail where a
+-- definition that both share is wrong.
 use Prim.Native.Nat.{ℕ}
 use mathlib.Core.Path.{_≡_, refl}
 use mathlib.Core.List.{List, [], _∷_}
@@ -26,7 +27,8 @@ sees j u v = call (looks j u v)
 abbrev turns : Step
 turns = renumber (2 ∷ 0 ∷ 1 ∷ []) leastState
 
--- In the preset 0 owns 2 and has shared with 1, so 1 loads from 2. With the new numbers 2 owns 1 and has shared with 0, and its withdrawal from 0 ends it.
+-- In the preset 0 owns 2 and has shared with 1, so 1 loads from 2. With the new numbers 2 owns 1 and has shared with 0,
+-- and its withdrawal from 0 ends it.
 unfoldable pub turned : List Step
 turned =
     asks 0 0 1 ∷ sees 2 1 2 ∷ turns ∷ sees 2 1 2 ∷ sees 2 2 0 ∷ sees 2 0 1 ∷ asks 1 1 0 ∷ asks 2 0 1 ∷ asks 1 2 0 ∷ sees 2 0 1 ∷ []
@@ -44,7 +46,8 @@ pub turned-pairs : (keepSteps (firstBook pairs own) turned .0 ≡ turnedAnswers)
 unfolding keepSteps keepStep judge keep holds turned turnedAnswers pairs own spelled below node number anyBelow allBelow affectAll free those highest renumbers byTables holdsNow opening advance prevTables sinceTables
 turned-pairs = (refl, refl)
 
--- Short memory, a number twice, a number that is no member's and a list of another length are refused, and all stays as it was.
+-- Short memory, a number twice, a number that is no member's and a list of another length are
+-- refused, and all stays as it was.
 unfoldable pub refusals : List Step
 refusals =
     asks 0 0 1 ∷ renumber (2 ∷ 0 ∷ 1 ∷ []) 3072 ∷ renumber (2 ∷ 0 ∷ 0 ∷ []) leastState ∷ renumber (3 ∷ 0 ∷ 1 ∷ []) leastState

@@ -12,21 +12,21 @@ use Rattle.theory.specs.Meaning.{Assignment}
 use Rattle.theory.specs.Columns.{columnsFit, wordFor, bitFor, memberAt, standingAt, inside, wordUnder, bitUnder}
 use Rattle.theory.proofs.Places.{In, Among}
 
--- word and bit of a, b and c, and the members that they stand for
+-- Word and bit of a, b and c, and the members that they stand for.
 module _ (a b c : ℕ) (bl : b < 16) (cl : c < 16) where
-  pub pair-member : (4 * a + b / 4) / 4 ≡ a
+  pair-member : (4 * a + b / 4) / 4 ≡ a
   pair-member = omega arith
 
-  pub pair-first : 4 * ((4 * a + b / 4) % 4) + (16 * (b % 4) + c) / 16 ≡ b
+  pair-first : 4 * ((4 * a + b / 4) % 4) + (16 * (b % 4) + c) / 16 ≡ b
   pair-first = omega arith
 
-  pub pair-last : (16 * (b % 4) + c) % 16 ≡ c
+  pair-last : (16 * (b % 4) + c) % 16 ≡ c
   pair-last = omega arith
 
-  pub pair-bit : 16 * (b % 4) + c < 64
+  pair-bit : 16 * (b % 4) + c < 64
   pair-bit = omega arith
 
--- the members of a place, and their word and bit
+-- The members of a place, and their word and bit.
 module _ (i k : ℕ) (kl : k < 64) where
   pub pair-word-back : 4 * (i / 4) + (4 * (i % 4) + k / 16) / 4 ≡ i
   pair-word-back = omega arith
@@ -34,7 +34,7 @@ module _ (i k : ℕ) (kl : k < 64) where
   pub pair-bit-back : 16 * ((4 * (i % 4) + k / 16) % 4) + k % 16 ≡ k
   pair-bit-back = omega arith
 
--- what a place of members with two columns is
+-- What a place of members with two columns is.
 pub record PairInside (N i k : ℕ) : Type 0 where
   pub member : i / 4 < N
   pub first : 4 * (i % 4) + k / 16 < N
@@ -52,9 +52,9 @@ pair-inside N i k x y zs e =
       below = ltb-true k 64 (and-right (ltb (k % 16) N) _ e2);
     }
 
--- members stay members under q
+-- Members stay members under q.
 module _ (N : ℕ) (q : ℕ → ℕ) (old : (m : ℕ) → m < N → q m < N) where
-  -- the three members of a place, under q, of at most 16
+  -- The three members of a place, under q, of at most 16.
   module _ (i k x y : ℕ) (few : N < 17) (e : inside N (x ∷ y ∷ []) i k ≡ true) where
     abbrev h : PairInside N i k
     h = pair-inside N i k x y [] e
@@ -68,19 +68,19 @@ module _ (N : ℕ) (q : ℕ → ℕ) (old : (m : ℕ) → m < N → q m < N) whe
     abbrev c : ℕ
     c = q (k % 16)
 
-    pub al : a < N
+    al : a < N
     al = old (i / 4) (h .member)
 
-    pub bl : b < N
+    bl : b < N
     bl = old (4 * (i % 4) + k / 16) (h .first)
 
-    pub cl : c < N
+    cl : c < N
     cl = old (k % 16) (h .last)
 
-    pub b16 : b < 16
+    b16 : b < 16
     b16 = omega (arith, bl)
 
-    pub c16 : c < 16
+    c16 : c < 16
     c16 = omega (arith, cl)
 
   pub under-inside : (cs : List ℕ) (i k : ℕ) → columnsFit N cs ≡ true → inside N cs i k ≡ true → inside N cs (wordUnder cs q i k) (bitUnder cs q i k) ≡ true
@@ -125,7 +125,7 @@ module _ (N : ℕ) (q : ℕ → ℕ) (old : (m : ℕ) → m < N → q m < N) whe
       go false u false v (inr (inl r)) = absurd (eqb-false z y v r)
   under-standing (x ∷ y ∷ z ∷ zs) i k fit e v s = absurd (false≢true fit)
 
-  -- the place of m under g, with other members, is that of the other members
+  -- The place of m under g, with other members, is that of the other members.
   pub place-under : (cs : List ℕ) (g : Assignment) (m : ℕ) → Among N g → m < N → columnsFit N cs ≡ true →
       (wordUnder cs q (wordFor cs g m) (bitFor cs g) ≡ wordFor cs (λ x. q (g x)) (q m)) × (bitUnder cs q (wordFor cs g m) (bitFor cs g) ≡ bitFor cs (λ x. q (g x)))
   place-under [] g m w l fit = (refl, refl)
@@ -136,7 +136,7 @@ module _ (N : ℕ) (q : ℕ → ℕ) (old : (m : ℕ) → m < N → q m < N) whe
       rw (pair-member m (g x) (g y) b c, pair-first m (g x) (g y) b c, pair-last m (g x) (g y) b c) (refl, refl)
   place-under (x ∷ y ∷ z ∷ zs) g m w l fit = absurd (false≢true fit)
 
-  -- there and back
+  -- There and back.
   pub under-back : (p : ℕ → ℕ) → ((m : ℕ) → p (q m) ≡ m) → (cs : List ℕ) (i k : ℕ) → columnsFit N cs ≡ true → inside N cs i k ≡ true →
       (wordUnder cs p (wordUnder cs q i k) (bitUnder cs q i k) ≡ i) × (bitUnder cs p (wordUnder cs q i k) (bitUnder cs q i k) ≡ k)
   under-back p back [] i k fit e = (back i, refl)

@@ -13,7 +13,7 @@ use Rattle.theory.specs.Formula.Formula.{top, var, neg, or, out, into, p
 use Rattle.theory.specs.Meaning.{Record, Starts, Assignment, assign, alone, holds}
 use Rattle.theory.specs.Columns.{standing, member, inside, wordUnder, bitUnder}
 use Rattle.theory.specs.Terms.{Terms, Effect, formula}
-use Rattle.theory.specs.Moment.{Relations, Event, Moment, eventEdge, graph, affect, affectAll, next, denied, first}
+use Rattle.theory.specs.Moment.{Relations, Event, Moment, eventEdge, graph, affect, affectAll, next, first}
 use Rattle.theory.specs.Moment.Event.{none, happened, tried}
 use Rattle.theory.specs.Keeper.{Call, Answer, recordOf, last, lastMoment, keeperHolds, target, judge, keep, keepAll}
 use Rattle.theory.specs.Tables.{State, made}
@@ -29,14 +29,11 @@ use Rattle.theory.specs.Fit.{Good}
 use Rattle.theory.proofs.Permuted.{Permutes, any-permuted, count-permuted}
 use Rattle.theory.proofs.Regular.{Only, policy-target, regular}
 
-pub undoing : {N : ℕ} {p q : ℕ → ℕ} → Renumbering N p q → Renumbering N q p
-undoing r = record { new = r .old; old = r .new; back = r .forth; forth = r .back }
-
 pub permutes : {N : ℕ} {p q : ℕ → ℕ} → Renumbering N p q → Permutes N p q
 permutes r = record { new = r .new; old = r .old; back = λ k _. r .back k; forth = λ k _. r .forth k }
 
 module _ (N : ℕ) (p q : ℕ → ℕ) (r : Renumbering N p q) where
-  pub same-new : (a u : ℕ) → eqb a (p u) ≡ eqb (q a) u
+  same-new : (a u : ℕ) → eqb a (p u) ≡ eqb (q a) u
   same-new a u =
       bool-iff _ _
       (λ e. eq-eqb (q a) u (ap q (eqb-true a (p u) e) ∙ r .back u))
@@ -45,7 +42,7 @@ module _ (N : ℕ) (p q : ℕ → ℕ) (r : Renumbering N p q) where
   pub same-both : (a u : ℕ) → eqb (p a) (p u) ≡ eqb a u
   same-both a u = same-new (p a) u ∙ ap (λ x. eqb x u) (r .back a)
 
-  pub same-bound : (m : ℕ) → leb N (p m) ≡ leb N m
+  same-bound : (m : ℕ) → leb N (p m) ≡ leb N m
   same-bound m = go (ltb m N) refl
     where
       go : (c : Bool) → ltb m N ≡ c → leb N (p m) ≡ leb N m
@@ -56,7 +53,7 @@ module _ (N : ℕ) (p q : ℕ → ℕ) (r : Renumbering N p q) where
           stays true f = absurd (let l : q (p m) < N = r .old (p m) (ltb-true (p m) N f) in let z = r .back m in let g = ltb-false m N e in omega arith)
           stays false f = le-leb N (p m) (ltb-false (p m) N f) ∙ sym (le-leb N m (ltb-false m N e))
 
-  -- the meaning over a renumbered record, at the new number, where the free variables stand for the new numbers
+  -- The meaning over a renumbered record, at the new number, where the free variables stand for the new numbers.
   module _ (s : Starts) (γ δ : Record) (edge : (i l a b : ℕ) → δ i l a b ≡ γ i l (q a) (q b)) where
     moved : (i l a b : ℕ) → δ i l (p a) (p b) ≡ γ i l a b
     moved i l a b = edge i l (p a) (p b) ∙ ap₂ (γ i l) (r .back a) (r .back b)
@@ -109,7 +106,7 @@ module _ (T : Terms) (p q : ℕ → ℕ) (r : Renumbering (T .members) p q) wher
   abbrev pub ren : Moment → Moment
   ren = renumberMoment p q
 
-  pub event-renumbered : (e : ℕ) (E : Event) (j a b : ℕ) → eventEdge e (renumberEvent p q E) j a b ≡ eventEdge e E j (q a) (q b)
+  event-renumbered : (e : ℕ) (E : Event) (j a b : ℕ) → eventEdge e (renumberEvent p q E) j a b ≡ eventEdge e E j (q a) (q b)
   event-renumbered e none j a b = refl
   event-renumbered e (happened i u v) j a b = rw (same-new (T .members) p q r a u, same-new (T .members) p q r b v)
   event-renumbered e (tried i u v) j a b = rw (same-new (T .members) p q r a u, same-new (T .members) p q r b v)
@@ -117,7 +114,7 @@ module _ (T : Terms) (p q : ℕ → ℕ) (r : Renumbering (T .members) p q) wher
   pub graph-renumbered : (M : Moment) (l a b : ℕ) → graph T (ren M) l a b ≡ graph T M l (q a) (q b)
   graph-renumbered M l a b = ap (cond (ltb l (T .relations)) (M .edge l (q a) (q b))) (event-renumbered (T .events) (M .event) (l - T .relations) a b)
 
-  pub record-renumbered : (Ms : List Moment) (i l a b : ℕ) → recordOf T (map ren Ms) i l a b ≡ recordOf T Ms i l (q a) (q b)
+  record-renumbered : (Ms : List Moment) (i l a b : ℕ) → recordOf T (map ren Ms) i l a b ≡ recordOf T Ms i l (q a) (q b)
   record-renumbered Ms i l a b =
       ap (λ (M : Moment). graph T M l a b) (List·getD-map ren Ms i (first (λ k a b. false)))
       ∙ graph-renumbered (getD Ms i (first (λ k a b. false))) l a b
@@ -148,9 +145,6 @@ module _ (T : Terms) (p q : ℕ → ℕ) (r : Renumbering (T .members) p q) wher
       ap (λ (R : Relations). record { edge = R; event = happened j (p u) (p v) })
       (fun-ext (λ k. fun-ext (λ a. fun-ext (λ b. affect-renumbered u v (T .effects j) (M .edge) (ren M .edge) (λ k a b. refl) k a b))))
 
-  denied-renumbered : (M : Moment) (j u v : ℕ) → denied (ren M) j (p u) (p v) ≡ ren (denied M j u v)
-  denied-renumbered M j u v = refl
-
   pub made-renumbered : (M : Moment) (g : Bool) (j u v : ℕ) → made T (ren M) g j (p u) (p v) ≡ ren (made T M g j u v)
   made-renumbered M true j u v = next-renumbered M j u v
   made-renumbered M false j u v = refl
@@ -172,7 +166,7 @@ module _ (T : Terms) (p q : ℕ → ℕ) (r : Renumbering (T .members) p q) wher
   lifted A false M = refl
 
   module _ (good : Good T) (s : Starts) where
-    -- entry n over the renumbered record
+    -- Entry n over the renumbered record.
     entry-renumbered : (Ms : List Moment) (n : ℕ) → n < T .entries → (g h : Assignment) (m : ℕ) →
         ((x : ℕ) → free (formula T n) x ≡ true → h x ≡ p (g x)) → keeperHolds T s (map ren Ms) n h (p m) ≡ keeperHolds T s Ms n g m
     entry-renumbered Ms n l g h m v =
@@ -201,7 +195,7 @@ module _ (T : Terms) (p q : ℕ → ℕ) (r : Renumbering (T .members) p q) wher
         ∙ rw (granted-renumbered Ms c) (by-tests Ms c (granted T s Ms c))
         ∙ ap lift (sym (judged T s Ms c))
 
-    pub keep-renumbered : (Ms : List Moment) (c : Call) →
+    keep-renumbered : (Ms : List Moment) (c : Call) →
         keep T s (map ren Ms) (renumberCall p q c) ≡ lift (keep T s Ms c)
     unfolding keep
     keep-renumbered Ms c =

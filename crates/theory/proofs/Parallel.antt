@@ -49,13 +49,13 @@ module _ (T : Terms) (S : Circle) where
     edge-agrees : (l a b : ℕ) → In (T .members) S a → In (T .members) S b → ltb l (T .relations) ≡ true → M .edge l a b ≡ N .edge l a b
     edge-agrees l a b ai bi e = rw e at (al l a b ai bi)
 
-    -- the same call makes moments that agree
+    -- The same call makes moments that agree.
     agree-same : (c : Call) (g : Bool) → Agree (madeBy T M c g) (madeBy T N c g)
     agree-same c true l a b ai bi =
         by-label l (λ e. affectAll-cong (c .from) (c .to) (T .effects (c .event)) (M .edge) (N .edge) l a b (edge-agrees l a b ai bi e)) refl
     agree-same c false l a b ai bi = by-label l (edge-agrees l a b ai bi) refl
 
-    -- two calls with their ends outside S do too, whichever they are
+    -- Two calls with their ends outside S do too, whichever they are.
     agree-outside : (c d : Call) → Outside S c → Outside S d → (g h : Bool) → Agree (madeBy T M c g) (madeBy T N d h)
     agree-outside c d p q g h l a b ai bi =
         untouched M c p g ∙ by-label l (edge-agrees l a b ai bi) refl ∙ sym (untouched N d q h)

@@ -1,4 +1,5 @@
--- A permutation of the numbers below a bound: it changes neither whether some number passes a test nor how many do; and what is onto is one.
+-- A permutation of the numbers below a bound: it changes neither whether some number passes a test nor how
+-- many do; and what is onto is one.
 use Prim.Native.Nat.{ℕ, zero, suc, _+_, _≤_, _<_}
 use mathlib.Core.Path.{_≡_, refl, sym, ap, _∙_, subst}
 use mathlib.Core.Bool.{Bool, true, false, cond, not, _&&_}
@@ -12,7 +13,7 @@ use Rattle.sets.proofs.Finite.{bool-iff, not-both, and-true, last-or-below, any
 abbrev one : Bool → ℕ
 one b = cond b 1 0
 
--- one number more
+-- One number more.
 count-step : (n : ℕ) (p : ℕ → Bool) → countBelow (suc n) p ≡ one (p n) + countBelow n p
 unfolding countBelow
 count-step n p = go (p n) (countBelow n p)
@@ -26,7 +27,7 @@ unfolding countBelow
 count-all zero p h = refl
 count-all (suc n) p h = rw (h n (omega arith)) (omega (arith, count-all n p (λ k l. h k (omega arith))))
 
--- p with a taken out
+-- p with a taken out.
 abbrev but : (ℕ → Bool) → ℕ → ℕ → Bool
 but p a k = p k && not (eqb k a)
 
@@ -62,11 +63,11 @@ count-empty : (p : ℕ → Bool) → countBelow 0 p ≡ 0
 unfolding countBelow
 count-empty p = refl
 
--- no two numbers below n have the same image
-abbrev pub Apart : ℕ → (ℕ → ℕ) → Type 0
+-- No two numbers below n have the same image.
+abbrev Apart : ℕ → (ℕ → ℕ) → Type 0
 Apart n p = (j k : ℕ) → j < n → k < n → p j ≡ p k → j ≡ k
 
-pub count-image : (n N : ℕ) (p : ℕ → ℕ) (f : ℕ → Bool) → ((k : ℕ) → k < n → p k < N) → Apart n p →
+count-image : (n N : ℕ) (p : ℕ → ℕ) (f : ℕ → Bool) → ((k : ℕ) → k < n → p k < N) → Apart n p →
     countBelow n (λ k. f (p k)) ≤ countBelow N f
 count-image zero N p f b i = omega (arith, count-empty (λ k. f (p k)))
 count-image (suc n) N p f b i =
@@ -77,14 +78,14 @@ count-image (suc n) N p f b i =
     let all : countBelow N f ≡ one (f (p n)) + countBelow N (but f (p n)) = count-but N f (p n) (b n (omega arith)) in
     omega (arith, count-step n (λ k. f (p k)))
 
--- p and q are a permutation of the numbers below n and its inverse
+-- p and q are a permutation of the numbers below n and its inverse.
 pub record Permutes (n : ℕ) (p q : ℕ → ℕ) : Type 0 where
   pub new : (k : ℕ) → k < n → p k < n
   pub old : (k : ℕ) → k < n → q k < n
   pub back : (k : ℕ) → k < n → q (p k) ≡ k
   pub forth : (k : ℕ) → k < n → p (q k) ≡ k
 
-pub permutes-back : {n : ℕ} {p q : ℕ → ℕ} → Permutes n p q → Permutes n q p
+permutes-back : {n : ℕ} {p q : ℕ → ℕ} → Permutes n p q → Permutes n q p
 permutes-back h = record { new = h .old; old = h .new; back = h .forth; forth = h .back }
 
 permutes-apart : {n : ℕ} {p q : ℕ → ℕ} → Permutes n p q → Apart n p
@@ -104,7 +105,7 @@ any-permuted {n} {p} {q} h f =
     (λ e. let w = any-elim n (λ k. f (p k)) e in any-intro n f (p (w .0)) (h .new (w .0) (w .1)) (w .2))
     (λ e. let w = any-elim n f e in any-intro n (λ k. f (p k)) (q (w .0)) (h .old (w .0) (w .1)) (ap f (h .forth (w .0) (w .1)) ∙ w .2))
 
--- where each number below n is the image under p of one below n, p is a permutation of them
+-- Where each number below n is the image under p of one below n, p is a permutation of them.
 module _ (n : ℕ) (p q : ℕ → ℕ) (old : (k : ℕ) → k < n → q k < n) (forth : (k : ℕ) → k < n → p (q k) ≡ k) where
   hit : (m : ℕ) → m < n → (k : ℕ) × (k < n) × (q k ≡ m)
   hit m l = go (anyBelow n (λ k. eqb (q k) m)) refl

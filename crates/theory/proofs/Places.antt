@@ -12,7 +12,7 @@ use Rattle.theory.specs.Formula.{Formula, free, those, orTarget, columns
 use Rattle.theory.specs.Meaning.{Assignment, assign, alone}
 use Rattle.theory.specs.Columns.{columnsFit, wordFor, bitFor, memberAt, standingAt, inside}
 
--- x is one of the columns
+-- x is one of the columns.
 abbrev pub In : ℕ → List ℕ → Type 0
 In x [] = ⊥
 In x (y ∷ ys) = (x ≡ y) ⊎ In x ys
@@ -29,7 +29,7 @@ those-in p (suc n) k x lo hi e = go (eqb x k) refl (p k) refl (λ l. those-in p 
     go false q true r ih = inr (ih (omega (arith, eqb-false x k q)))
     go false q false r ih = ih (omega (arith, eqb-false x k q))
 
--- each free variable is a column
+-- Each free variable is a column.
 pub columns-in : (f : Formula) (x : ℕ) → x < 16 → free f x ≡ true → In x (columns f)
 columns-in f x l e = go (those 16 0 (free f)) (those-in (free f) 16 0 x (omega arith) l e)
   where
@@ -41,7 +41,7 @@ unfolding those
 those-none p zero k h = refl
 those-none p (suc n) k h = rw (h k (omega arith) (omega arith)) (those-none p n (suc k) (λ x lo hi. h x (omega arith) (omega arith)))
 
--- without a free variable the one column is variable 0
+-- Without a free variable the one column is variable 0.
 pub closed-columns : (f : Formula) → ((x : ℕ) → x < 16 → free f x ≡ false) → columns f ≡ 0 ∷ []
 closed-columns f h = ap orTarget (those-none (free f) 16 0 (λ x lo hi. h x hi))
 
@@ -55,7 +55,7 @@ those-has p (suc n) k x i = go (p k) refl i (those-has p n (suc k) x)
     go true q (inr j) ih = ih j
     go false q j ih = ih j
 
--- each column is a free variable, or there is none and the one column is variable 0
+-- Each column is a free variable, or there is none and the one column is variable 0.
 pub columns-free : (f : Formula) → ((x : ℕ) → In x (columns f) → free f x ≡ true) ⊎ (((x : ℕ) → x < 16 → free f x ≡ false) × (columns f ≡ 0 ∷ []))
 columns-free f = go (those 16 0 (free f)) refl
   where
@@ -64,14 +64,14 @@ columns-free f = go (those 16 0 (free f)) refl
     go [] e = inr ((λ x l. is-false (free f x) (λ q. subst (In x) e (those-in (free f) 16 0 x (omega arith) l q))), ap orTarget e)
     go (y ∷ ys) e = inl (λ x i. those-has (free f) 16 0 x (subst (In x) (ap orTarget e ∙ sym e) i))
 
--- assignments that agree on the columns have the same place
+-- Assignments that agree on the columns have the same place.
 pub place-cong : (cs : List ℕ) (g h : Assignment) (m : ℕ) → ((x : ℕ) → In x cs → h x ≡ g x) → (wordFor cs h m ≡ wordFor cs g m) × (bitFor cs h ≡ bitFor cs g)
 place-cong [] g h m e = (refl, refl)
 place-cong (x ∷ []) g h m e = (refl, e x (inl refl))
 place-cong (x ∷ y ∷ zs) g h m e =
     (ap (λ b. 4 * m + b / 4) (e x (inl refl)), (λ d. 16 * (e x (inl refl) d % 4) + e y (inr (inl refl)) d))
 
--- every variable stands for a member
+-- Every variable stands for a member.
 abbrev pub Among : ℕ → Assignment → Type 0
 Among N g = (x : ℕ) → g x < N
 

@@ -1,7 +1,7 @@
 -- Laws of reach: which variables its first formula may be read under, and what ties it to out and in.
 use Prim.Native.Nat.{ℕ, _<_}
 use mathlib.Core.Path.{_≡_, refl, sym, ap, _∙_}
-use mathlib.Core.Bool.{Bool, true, false, cond, _&&_}
+use mathlib.Core.Bool.{Bool, true, cond, _&&_}
 use lib.Dec.{eqb}
 use borrow.Author.Tests.{eqb-true, eq-eqb}
 use Rattle.sets.specs.Sets.{anyBelow}
@@ -11,7 +11,7 @@ use Rattle.theory.specs.Formula.Formula.{var, out, into, reach}
 use Rattle.theory.specs.Meaning.{Record, Starts, Assignment, assign, alone, holds}
 use Rattle.theory.proofs.Record.{coincidence}
 
--- p at the one number k
+-- p at the one number k.
 any-one : (n : ℕ) (p : ℕ → Bool) (k : ℕ) → k < n → anyBelow n (λ j. p j && eqb j k) ≡ p k
 any-one n p k h =
     bool-iff _ (p k)

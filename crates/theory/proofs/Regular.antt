@@ -13,11 +13,11 @@ use Rattle.theory.specs.Fit.{onlyFree, reachFits, Good}
 use Rattle.theory.proofs.Unfolding.{EachReach, below-spelled, reach-spelled}
 use Rattle.theory.proofs.Good.{small, only-out, second-lower}
 
--- x is the only variable free in f
+-- x is the only variable free in f.
 abbrev pub Only : ℕ → Formula → Type 0
 Only x f = (y : ℕ) → free f y ≡ true → y ≡ x
 
--- what is not below n is spelled out as top
+-- What is not below n is spelled out as top.
 below-high : (entry : ℕ → Entry) (n k : ℕ) → n ≤ k → below entry n k ≡ top
 unfolding below
 below-high entry zero k h = refl
@@ -29,7 +29,7 @@ below-high entry (suc n) k h = go (eqb k n) (ne-eqb k n (λ e. omega arith)) (be
     go false z ih = ih
 
 module _ (T : Terms) (good : Good T) where
-  -- a policy has no free variable but 0
+  -- A policy has no free variable but 0.
   pub policy-target : (j : ℕ) → j < T .events → Only 0 (formula T (T .policy j))
   policy-target j l x q =
       only-out 0 (formula T (T .policy j)) (good .policy-free j l) x (small T good (T .policy j) (good .policy-exists j l) x q) q
@@ -41,7 +41,7 @@ module _ (T : Terms) (good : Good T) where
       (and-right (ltb 0 (T .entry k .a)) (onlyFree (T .entry k .a) (formula T (T .entry k .b)) && not (free (formula T (T .entry k .c)) (T .entry k .a)))
       (good .entry k l .reaches e))
 
-  -- the first operand of a reach has no free variable but that of the reach
+  -- The first operand of a reach has no free variable but that of the reach.
   reach-only : (k : ℕ) → k < T .entries → T .entry k .op ≡ 10 → Only (T .entry k .a) (below (T .entry) k (T .entry k .b))
   reach-only k l e =
       let lower : T .entry k .b < k = second-lower (good .entry k l) (rw e) in

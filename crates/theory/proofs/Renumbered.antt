@@ -2,9 +2,9 @@
 use Prim.Native.Nat.{ℕ, zero, suc, _-_, _≤_, _<_}
 use native.Mathlib.Omega.{arith}
 use native.Mathlib.Decide.{ℕ-discrete}
-use mathlib.Core.Path.{_≡_, refl, sym, ap, ap₂, subst, _∙_}
+use mathlib.Core.Path.{_≡_, refl, sym, ap, ap₂, _∙_}
 use mathlib.Core.List.{_∷_}
-use mathlib.Core.Bool.{Bool, true, false, cond, not, _&&_, _||_, true≢false, false≢true}
+use mathlib.Core.Bool.{Bool, true, false, cond, not, _&&_, _||_, false≢true}
 use lib.Dec.{eqb, ltb, leb}
 use borrow.Author.Tests.{ne-eqb}
 use Rattle.sets.proofs.Finite.{any-cong, count-cong, all-cong}
@@ -75,7 +75,7 @@ columns-bare f h e =
 
 -- ---- past-time formulas
 
-pub pastly : Formula → Bool
+pastly : Formula → Bool
 pastly top = false
 pastly (var x) = false
 pastly (neg f) = false
@@ -121,7 +121,7 @@ pastly-node t f (suc (suc (suc (suc (suc (suc (suc (suc (suc (suc (suc zero)))))
 pastly-node t f (suc (suc (suc (suc (suc (suc (suc (suc (suc (suc (suc (suc n)))))))))))) a b c =
     sym (ap₂ _||_ (ne-eqb (suc (suc (suc (suc (suc (suc (suc (suc (suc (suc (suc (suc n)))))))))))) 6 (λ e. omega arith)) (ne-eqb (suc (suc (suc (suc (suc (suc (suc (suc (suc (suc (suc (suc n)))))))))))) 7 (λ e. omega arith)))
 
--- an entry with the same formula as a past-time entry is one
+-- An entry with the same formula as a past-time entry is one.
 pub past-same : (d e : ℕ → Entry) (k n : ℕ) → bare (spelled d k) ≡ bare (spelled e n) → isPast (d k .op) ≡ isPast (e n .op)
 unfolding spelled
 past-same d e k n q =
@@ -193,7 +193,7 @@ module _ (entry : ℕ → Entry) (P : Formula → Type 0) where
       go ih true = everywhere-node P (number entry n) (below entry n) (entry n .op) (entry n .a) (entry n .b) (entry n .c) ih (h n (omega arith))
       go ih false = ih k
 
-  -- all past-time formulas inside an entry are entries
+  -- All past-time formulas inside an entry are entries.
   pub everywhere-spelled : (n : ℕ) → ((k : ℕ) → k ≤ n → isPast (entry k .op) ≡ true → P (spelled entry k)) → Everywhere P (spelled entry n)
   unfolding spelled
   everywhere-spelled n h =

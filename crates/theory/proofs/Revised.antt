@@ -7,18 +7,17 @@ use mathlib.Core.Logic.{_⊎_, inl, inr}
 use mathlib.Core.Bool.{Bool, true, false, cond, _&&_, _||_}
 use lib.Dec.{eqb, ltb}
 use lib.ListN.{getD}
-use borrow.Author.Tests.{eqb-true, eq-eqb, ne-eqb, ltb-true}
+use borrow.Author.Tests.{eqb-true, ne-eqb, ltb-true}
 use Rattle.sets.proofs.Finite.{last-or-below}
 use Rattle.theory.specs.Formula.{Formula, number, below, isPast, bare, columns}
-use Rattle.theory.specs.Formula.Formula.{prev, since}
 use Rattle.theory.specs.Meaning.{Graph, Record, Starts, Assignment, holds}
 use Rattle.theory.specs.Columns.{inside, memberAt, standingAt, standing, member}
 use Rattle.theory.specs.Terms.{Terms, formula, pastEntry, firstSame}
 use Rattle.theory.specs.Moment.{Moment, eventEdge, graph, first}
-use Rattle.theory.specs.Keeper.{Book, recordOf, last, lastMoment, revisedStart, revisedBook}
-use Rattle.theory.specs.Tables.{Tables, store, operandNow, sinceBits, State, taken, startBits, startStep, startTables, revised}
+use Rattle.theory.specs.Keeper.{Book, recordOf, last, revisedStart}
+use Rattle.theory.specs.Tables.{Tables, operandNow, sinceBits, State, taken, startBits, startStep, startTables, revised}
 use Rattle.theory.specs.Fit.{Good}
-use Rattle.theory.proofs.Unfolding.{Visible, tableOf, or-cases, number-le, number-lt, spelled-prev, spelled-since, table-spelled, visible-below}
+use Rattle.theory.proofs.Unfolding.{or-cases, number-le, number-lt, spelled-prev, spelled-since, table-spelled, visible-below}
 use Rattle.theory.proofs.Good.{column-free}
 use Rattle.theory.proofs.Record.{prev-start, since-start}
 use Rattle.theory.proofs.Places.{inside-among, inside-member}
@@ -26,7 +25,7 @@ use Rattle.theory.proofs.MeaningNow.{Same, SameAt, Right, now-holds}
 use Rattle.theory.proofs.Sweeps.{stored, untouched, meant}
 use Rattle.theory.proofs.Renumbered.{columns-bare, past-same}
 use Rattle.theory.proofs.RunInvariant.{Together, Kept}
-use Rattle.theory.proofs.CarriedOver.{first-cong, first-has, startOf, start-new, taken-meaning}
+use Rattle.theory.proofs.CarriedOver.{first-cong, first-has, start-new, taken-meaning}
 
 module _ (T : Terms) (S : State) (U : Terms) where
   pub start-untouched : (n : ℕ) (X : Tables) (t : ℕ) → number (U .entry) n ≤ t → (a b : ℕ) → startTables T S U n X t a b ≡ X t a b
@@ -61,7 +60,7 @@ module _ (B : Book) (S : State) (kept : Kept (B .terms) (B .start) S (B .moments
     now-same : (l : ℕ) → Same (U .members) (G l) (γ i l)
     now-same l a b _ _ = ap (λ (M : Moment). graph U M l a b) (kept .now)
 
-    -- each start is one that was, or now
+    -- Each start is one that was, or now.
     revised-begun : (t : ℕ) → s t ≤ i
     revised-begun t = let k : ℕ = firstSame T (formula U (pastEntry U t)) in go (ltb k (T .entries)) (number (T .entry) k)
       where
@@ -69,7 +68,7 @@ module _ (B : Book) (S : State) (kept : Kept (B .terms) (B .start) S (B .moments
         go true t = kept .begun t
         go false t = omega arith
 
-    -- the bits of one entry, from right tables of the lower ones
+    -- The bits of one entry, from right tables of the lower ones.
     module _ (n : ℕ) (nl : n < U .entries) (p : isPast (U .entry n .op) ≡ true) (X : Tables)
         (lower : (j : ℕ) → j < n → isPast (U .entry j .op) ≡ true → Right (U .members) s γ i X (formula U j)) (a b : ℕ) (z : inside (U .members) (columns (formula U n)) a b ≡ true)
       where
@@ -152,7 +151,7 @@ module _ (B : Book) (S : State) (kept : Kept (B .terms) (B .start) S (B .moments
             ∙ start-bits n le q Y (lower ih) a b y)
             z p
 
-    -- two new entries with the same formula take from the same old one
+    -- Two new entries with the same formula take from the same old one.
     revised-together : Together U s
     revised-together k n kl nl p q e =
         start-new B U k kl p
@@ -170,7 +169,8 @@ module _ (B : Book) (S : State) (kept : Kept (B .terms) (B .start) S (B .moments
       unused = λ t a b h. start-untouched T S U (U .entries) (λ t a b. false) t h a b;
     }
 
--- For the program: what works out a since table gives the table that a new since begins with, where its own table is still 0.
+-- For the program: what works out a since table gives the table that a new since begins with,
+-- where its own table is still 0.
 pub start-since : (U : Terms) (G : Graph) (n : ℕ) (X : Tables) (a b : ℕ) → X (number (U .entry) n) a b ≡ false →
     sinceBits U G n X a b ≡ operandNow U G n (U .entry n .b) X a b
 start-since U G n X a b e =

@@ -1,10 +1,10 @@
--- Small runs with new terms, computed of the keeper and of the tables: they fail where a definition that both share is wrong.
+-- Small runs with new terms, computed of the keeper and of the tables: they fail where a
+-- definition that both share is wrong.
 use Prim.Native.Nat.{ℕ}
 use native.Mathlib.Decide.{ℕ-discrete}
 use mathlib.Core.Path.{_≡_, refl}
-use mathlib.Core.Bool.{Bool, true, false, cond, not, _&&_, _||_}
+use mathlib.Core.Bool.{true, false, cond, not, _&&_}
 use mathlib.Core.List.{List, [], _∷_}
-use lib.Dec.{eqb, ltb, leb}
 use lib.ListN.{getD, length}
 use Rattle.sets.specs.Sets.{anyBelow, allBelow}
 use Rattle.theory.specs.Formula.{Entry, node, number, below, spelled, renumbered, same, free, lowest, those, highest}
@@ -12,7 +12,7 @@ use Rattle.theory.specs.Meaning.{holds, fromFirst}
 use Rattle.theory.specs.Terms.{Terms, firstSame}
 use Rattle.theory.specs.Moment.{Relations, affectAll}
 use Rattle.theory.specs.Limits.{leastTerms, leastState}
-use Rattle.theory.specs.Keeper.{Call, Step, Answer, firstBook, judge, keep, keepStep, keepSteps}
+use Rattle.theory.specs.Keeper.{Step, Answer, firstBook, judge, keep, keepStep, keepSteps}
 use Rattle.theory.specs.Keeper.Step.{call, revise, renumber}
 use Rattle.theory.specs.Keeper.Answer.{done, refused}
 use Rattle.theory.specs.Tables.{State, holdsNow, prevTables, sinceTables, opening, decideNow, made, advance, startTables, revised}
@@ -60,8 +60,8 @@ newer = with 5
     (line 0 0 0 ∷ line 4 0 0 ∷ line 7 0 1 ∷ line 6 0 0 ∷ line 7 0 3 ∷ line 2 0 0 ∷ line 2 5 0 ∷ line 6 6 0 ∷ [])
     (0 ∷ 3 ∷ 4 ∷ 7 ∷ 2 ∷ [])
 
--- With the new terms prev top goes on. Once prev top starts now, and its second operand holds now. prev not not top starts now and is false; so is once
--- event 0, which was before. One grant of event 0 later both hold.
+-- With the new terms prev top goes on. Once prev top starts now, and its second operand holds now. prev not not top
+-- starts now and is false; so is once event 0, which was before. One grant of event 0 later both hold.
 unfoldable pub season : List Step
 season = asks 0 0 1 ∷ asks 1 0 1 ∷ takes newer ∷ sees 1 0 0 ∷ sees 2 0 0 ∷ sees 3 0 0 ∷ sees 4 0 0 ∷ asks 0 0 1 ∷ sees 3 0 0 ∷ sees 4 0 0 ∷ []
 
@@ -83,7 +83,8 @@ pub carried-answers : (keepSteps (firstBook before nobody) carried .0 ≡ yes �
 unfolding keepSteps keepStep judge keep holds carried before newer spelled below node number anyBelow allBelow affectAll free those highest firstSame same renumbered lowest ℕ-discrete byTables holdsNow opening advance prevTables sinceTables revised startTables
 carried-answers = (refl, refl)
 
--- Terms of another size, words that no file yields and short memory are refused, and the old terms stay: under them event 1 is granted, under the new ones it would not be.
+-- Terms of another size, words that no file yields and short memory are refused, and the old terms stay: under them
+-- event 1 is granted, under the new ones it would not be.
 unfoldable pub refusals : List Step
 refusals =
     takes (with 4 [] []) ∷ revise (record { words = leastTerms; state = leastState; sound = false; terms = newer })
@@ -93,8 +94,8 @@ pub refusals-answered : keepSteps (firstBook before nobody) refusals .0 ≡ refu
 unfolding keepSteps keepStep judge keep holds refusals before newer spelled below node number anyBelow allBelow affectAll free those highest firstSame same renumbered lowest ℕ-discrete
 refusals-answered = refl
 
--- Were an entry judged over the record cut off at its start, entries inside included, once prev top would fail at the moment that it starts. This is
--- not the reading: the table must be what the second operand is at this moment.
+-- Were an entry judged over the record cut off at its start, entries inside included, once prev top would fail at the
+-- moment that it starts. This is not the reading: the table must be what the second operand is at this moment.
 cut-off : holds 2 fromFirst (λ j l a b. false) (spelled (newer .entry) 4) 0 (λ x. 0) 0 ≡ false
 unfolding holds newer spelled below node number anyBelow allBelow
 cut-off = refl

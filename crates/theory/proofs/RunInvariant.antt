@@ -1,4 +1,5 @@
--- The invariant of a run: the monitor's moment is the keeper's last, and its tables say what the past-time entries mean there, each from its start.
+-- The invariant of a run: the monitor's moment is the keeper's last, and its tables say what the past-time entries
+-- mean there, each from its start.
 use Prim.Native.Nat.{ℕ, suc, _≤_, _<_}
 use native.Mathlib.Omega.{arith}
 use mathlib.Core.Path.{_≡_, refl, sym, ap, _∙_}
@@ -37,7 +38,7 @@ pub record Kept (T : Terms) (s : Starts) (S : State) (Ms : List Moment) : Type 0
       SameAt (T .members) (columns (formula T n)) (S .table (number (T .entry) n)) (λ a b. keeperHolds T s Ms n (standing (formula T n) a b) (member (formula T n) a))
   pub unused : (t a b : ℕ) → number (T .entry) (T .entries) ≤ t → S .table t a b ≡ false
 
--- one moment more
+-- One moment more.
 module _ (Ms : List Moment) (M : Moment) (some : 0 < length Ms) where
   last-new : last (Ms ++ (M ∷ [])) ≡ suc (last Ms)
   last-new = rw length-append (omega arith)
@@ -53,7 +54,7 @@ module _ (Ms : List Moment) (M : Moment) (some : 0 < length Ms) where
     record-old j l a b h =
         ap (λ (L : Moment). graph T L l a b) (sym (List·getD-append Ms (M ∷ []) (first (λ k a b. false)) j (omega arith)))
 
-    -- what held at the last moment held one moment before the new one
+    -- What held at the last moment held one moment before the new one.
     held : (t : ℕ) → s t ≤ last Ms → (f : Formula) (g : Assignment) (m : ℕ) →
         holds (T .members) s (recordOf T Ms) f (last Ms) g m ≡ holds (T .members) s (recordOf T (Ms ++ (M ∷ []))) (prev t f) (last (Ms ++ (M ∷ []))) g m
     held t l f g m =
@@ -74,7 +75,7 @@ module _ (T : Terms) (good : Good T) (s : Starts) where
       Same (T .members) (graph T (S .now) l) (recordOf T Ms (last Ms) l)
   now-same S Ms kept l a b _ _ = ap (λ (M : Moment). graph T M l a b) (kept .now)
 
-  -- any entry, read from the tables, is what the record says
+  -- Any entry, read from the tables, is what the record says.
   pub entry-kept : (S : State) (Ms : List Moment) → Kept T s S Ms → (n u v : ℕ) → n < T .entries → u < T .members → v < T .members →
       holdsNow (T .members) (graph T (S .now)) (S .table) (formula T n) (target v) u ≡ keeperHolds T s Ms n (target v) u
   entry-kept S Ms kept n u v nl ul vl =
@@ -87,7 +88,7 @@ module _ (T : Terms) (good : Good T) (s : Starts) where
       decideNow T S j u v ≡ keeperHolds T s Ms (T .policy j) (target v) u
   decide-kept S Ms kept j u v jl ul vl = entry-kept S Ms kept (T .policy j) u v (good .policy-exists j jl) ul vl
 
-  -- any next moment, whatever made it
+  -- Any next moment, whatever made it.
   pub advance-kept : (S : State) (Ms : List Moment) → Kept T s S Ms → (M : Moment) → Kept T s (advance T S M) (Ms ++ (M ∷ []))
   unfolding advance
   advance-kept S Ms kept M = record {

@@ -1,13 +1,13 @@
--- Two entries have the same fully spelled-out formula exactly when their operators agree and their operands do; so the classes of entries follow from
--- those of their operands.
-use Prim.Native.Nat.{ℕ, zero, suc, _+_, _≤_, _<_}
+-- Two entries have the same fully spelled-out formula exactly when their operators agree and their operands do; so the
+-- classes of entries follow from those of their operands.
+use Prim.Native.Nat.{ℕ, zero, suc, _≤_, _<_}
 use native.Mathlib.Omega.{arith}
-use mathlib.Core.Path.{_≡_, refl, sym, ap, ap₂, _∙_, subst}
-use mathlib.Core.Bool.{Bool, true, false, _&&_}
+use mathlib.Core.Path.{_≡_, refl, sym, ap, ap₂, _∙_}
+use mathlib.Core.Bool.{true, _&&_}
 use lib.Dec.{eqb}
 use borrow.Author.Tests.{eqb-true, eq-eqb}
 use Rattle.sets.proofs.Finite.{bool-iff, and-left, and-right, and-both}
-use Rattle.theory.specs.Formula.{Formula, Entry, Operand, node, firstOperand, secondOperand, thirdOperand, number, isPast, renumbered, bare, same, lowest}
+use Rattle.theory.specs.Formula.{Formula, Operand, node, firstOperand, secondOperand, thirdOperand, number, renumbered, bare, same, lowest}
 use Rattle.theory.specs.Formula.Formula.{top, var, neg, or, out, into, prev, since, bind, at, reach, many}
 use Rattle.theory.specs.Formula.Operand.{unused, variable, binder, label, entry, count}
 use Rattle.theory.specs.Terms.{Terms, formula, firstSame}
@@ -34,7 +34,7 @@ operator (at x f) = 9
 operator (reach x f h) = 10
 operator (many l f k) = 11
 
--- the operand that is a number; the first and the second that is a formula
+-- The operand that is a number; the first and the second that is a formula.
 plain : Formula → ℕ
 plain top = 0
 plain (var x) = x
@@ -108,7 +108,7 @@ operator-node t f (suc (suc (suc (suc (suc (suc (suc (suc (suc (suc (suc zero)))
 operator-node t f (suc (suc (suc (suc (suc (suc (suc (suc (suc (suc (suc (suc n)))))))))))) a b c h = absurd (omega arith)
 
 -- Two operands agree: as formulas, or as numbers.
-abbrev pub SameOperand : (f h : ℕ → Formula) → Operand → (x y : ℕ) → Type 0
+abbrev SameOperand : (f h : ℕ → Formula) → Operand → (x y : ℕ) → Type 0
 SameOperand f h unused x y = Unit {0}
 SameOperand f h variable x y = x ≡ y
 SameOperand f h binder x y = x ≡ y
@@ -152,14 +152,14 @@ module _ (t t' : ℕ) (f h : ℕ → Formula) where
   node-alike (suc (suc (suc (suc (suc (suc (suc (suc (suc (suc (suc (suc n)))))))))))) a b c a' b' c' p q r = refl
 
 -- Two entries with the same formula: their operands agree.
-pub record AlikeEntries (T U : Terms) (k n : ℕ) : Type 0 where
+record AlikeEntries (T U : Terms) (k n : ℕ) : Type 0 where
   pub op : T .entry k .op ≡ U .entry n .op
   pub first : SameOperand (formula T) (formula U) (firstOperand (U .entry n .op)) (T .entry k .a) (U .entry n .a)
   pub second : SameOperand (formula T) (formula U) (secondOperand (U .entry n .op)) (T .entry k .b) (U .entry n .b)
   pub third : SameOperand (formula T) (formula U) (thirdOperand (U .entry n .op)) (T .entry k .c) (U .entry n .c)
 
 module _ (T U : Terms) (k n : ℕ) (old : GoodEntry T k) (new : GoodEntry U n) where
-  pub alike : bare (formula T k) ≡ bare (formula U n) → AlikeEntries T U k n
+  alike : bare (formula T k) ≡ bare (formula U n) → AlikeEntries T U k n
   alike e =
       let q : bare (node (number (T .entry) k) (formula T) (T .entry k .op) (T .entry k .a) (T .entry k .b) (T .entry k .c))
       ≡ bare (node (number (U .entry) n) (formula U) (U .entry n .op) (U .entry n .a) (U .entry n .b) (U .entry n .c)) =
@@ -171,7 +171,7 @@ module _ (T U : Terms) (k n : ℕ) (old : GoodEntry T k) (new : GoodEntry U n) w
       (ap (λ (x : ℕ). bare (node (number (T .entry) k) (formula T) x (T .entry k .a) (T .entry k .b) (T .entry k .c))) (sym o) ∙ q) in
       record { op = o; first = r .0; second = r .1; third = r .2 }
 
-  pub alike-same : AlikeEntries T U k n → bare (formula T k) ≡ bare (formula U n)
+  alike-same : AlikeEntries T U k n → bare (formula T k) ≡ bare (formula U n)
   alike-same s =
       ap bare (formula-node T k old)
       ∙ ap (λ (x : ℕ). bare (node (number (T .entry) k) (formula T) x (T .entry k .a) (T .entry k .b) (T .entry k .c))) (s .op)
@@ -188,14 +188,14 @@ oldClass T k = firstSame T (formula T k)
 abbrev pub newClass : Terms → Terms → ℕ → ℕ
 newClass T U n = firstSame T (formula U n)
 
--- classes are equal exactly when the formulas are, where one of the two is old
-pub class-same : (T U : Terms) (x y : ℕ) → x < T .entries → oldClass T x ≡ newClass T U y → bare (formula T x) ≡ bare (formula U y)
+-- Classes are equal exactly when the formulas are, where one of the two is old.
+class-same : (T U : Terms) (x y : ℕ) → x < T .entries → oldClass T x ≡ newClass T U y → bare (formula T x) ≡ bare (formula U y)
 class-same T U x y l e =
     let le : oldClass T x ≤ x = first-le T (formula T x) x l refl in
     sym (first-has T (formula T x) (omega arith)) ∙ ap (λ (c : ℕ). bare (formula T c)) e ∙ first-has T (formula U y) (omega arith)
 
 module _ (T U : Terms) (olds : (k : ℕ) → k < T .entries → GoodEntry T k) (news : (n : ℕ) → n < U .entries → GoodEntry U n) where
-  -- operands that agree, and the test of it by classes c and d that are right below k and n
+  -- Operands that agree, and the test of it by classes c and d that are right below k and n.
   module _ (k n : ℕ) (kl : k < T .entries) (nl : n < U .entries) (c d : ℕ → ℕ)
       (cs : (x : ℕ) → x < k → c x ≡ oldClass T x) (ds : (y : ℕ) → y < n → d y ≡ newClass T U y)
     where
@@ -219,8 +219,8 @@ module _ (T U : Terms) (olds : (k : ℕ) → k < T .entries → GoodEntry T k) (
           let xk : x < k = xl refl in
           class-same T U x y (omega arith) (sym (cs x xk) ∙ eqb-true (c x) (d y) s ∙ ds y (yl refl))
 
-      -- the test of two entries is that of their formulas
-      pub entry-law : same (formula T k) (formula U n) ≡ sameEntry c d (T .entry k) (U .entry n)
+      -- The test of two entries is that of their formulas.
+      entry-law : same (formula T k) (formula U n) ≡ sameEntry c d (T .entry k) (U .entry n)
       unfolding sameEntry
       entry-law = bool-iff _ _ into-test out-of-test
         where
@@ -267,7 +267,8 @@ module _ (T U : Terms) (olds : (k : ℕ) → k < T .entries → GoodEntry T k) (
       lowest-cong (T .entries) (λ k. same (formula T k) (formula U n)) (λ k. sameEntry c d (T .entry k) (U .entry n))
       (λ k kl. entry-law k n kl nl c d (λ x l. cs x (omega arith)) ds)
 
--- The same for the old entries among themselves: entry n is found at n at the latest, so that only those up to it are looked at.
+-- The same for the old entries among themselves: entry n is found at n at the latest, so that
+-- only those up to it are looked at.
 pub old-class : (T : Terms) → ((k : ℕ) → k < T .entries → GoodEntry T k) → (n : ℕ) → n < T .entries → (c : ℕ → ℕ) →
     ((x : ℕ) → x < n → c x ≡ oldClass T x) → oldClass T n ≡ lowest (suc n) (λ k. sameEntry c c (T .entry k) (T .entry n))
 unfolding firstSame

@@ -1,4 +1,5 @@
--- That no edge ever joins S to the rest follows from moment 0 and from where each call has its ends: effects and event edges join only the two ends of a call.
+-- That no edge ever joins S to the rest follows from moment 0 and from where each call has its ends: effects and event
+-- edges join only the two ends of a call.
 use Prim.Native.Nat.{ℕ, zero, suc, _+_, _-_, _<_}
 use mathlib.Core.Path.{_≡_, refl, sym, ap, subst, _∙_}
 use mathlib.Core.Logic.{_⊎_, inl, inr}
@@ -17,7 +18,7 @@ use Rattle.theory.proofs.CallByTests.{granted, counted, madeBy, judged}
 module _ (T : Terms) (S : Circle) where
   -- ---- the edges of a moment that a call from u to v makes
 
-  -- both on u's side
+  -- Both on u's side.
   abbrev Beside : (u a b : ℕ) → Type 0
   Beside u a b = (S a ≡ S u) × (S b ≡ S u)
 
@@ -47,7 +48,7 @@ module _ (T : Terms) (S : Circle) where
       go (inl p) false t = inl (p ∙ rw t)
       go (inr p) false t = inr p
 
-  -- it is an edge of the relations before, or between members beside the ends
+  -- It is an edge of the relations before, or between members beside the ends.
   pub made-edge : (M : Moment) (c : Call) (g : Bool) → S (c .from) ≡ S (c .to) → (l a b : ℕ) →
       (graph T (madeBy T M c g) l a b ≡ graph T (first (M .edge)) l a b) ⊎ Beside (c .from) a b
   made-edge M c g s l a b = go g (ltb l (T .relations))
@@ -62,7 +63,7 @@ module _ (T : Terms) (S : Circle) where
 
   -- ---- moments
 
-  -- no edge of the moment joins S to the rest
+  -- No edge of the moment joins S to the rest.
   abbrev Apart : Moment → Type 0
   Apart M = (l a b : ℕ) → a < T .members → b < T .members → graph T M l a b ≡ true → S a ≡ S b
 
@@ -77,7 +78,7 @@ module _ (T : Terms) (S : Circle) where
       go (inl q) = p l a b al bl (still (ltb l (T .relations)) (sym q ∙ e))
       go (inr q) = q .0 ∙ sym (q .1)
 
-  -- a moment without event edge
+  -- A moment without event edge.
   apart-first : (R : Relations) → SeparateFirst T S R → Apart (first R)
   apart-first R p l a b al bl = go (ltb l (T .relations)) refl
     where
@@ -117,11 +118,12 @@ module _ (T : Terms) (S : Circle) where
   separate-all [] Ms o p = p
   separate-all (c ∷ cs) Ms o p = separate-all cs (keep T fromFirst Ms c .1) (o .1) (separate-keep Ms c (o .0) p)
 
-  -- What a designer can check: no first edge joins S to the rest, and each call has both ends on one side. Then no edge ever does.
+  -- What a designer can check: no first edge joins S to the rest, and each call has both ends on
+  -- one side. Then no edge ever does.
   pub separate-first : (R : Relations) → SeparateFirst T S R → (cs : List Call) → OneSided S cs → Separate T S (keeper T R cs .1)
   separate-first R p cs o = separate-all cs (first R ∷ []) o (separate-start R p)
 
-  -- moment 0 stays at the head of the list
+  -- Moment 0 stays at the head of the list.
   begins : (cs : List Call) (M : Moment) (Ms : List Moment) → recordOf T (keepAll T fromFirst (M ∷ Ms) cs .1) 0 ≡ graph T M
   unfolding keepAll keep
   begins [] M Ms = refl

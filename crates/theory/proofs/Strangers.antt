@@ -1,4 +1,5 @@
--- Strangers have no say: two runs over the same terms without reach, that differ only outside S, answer every call inside S alike (docs/SCOPE.md, Strangers).
+-- Strangers have no say: two runs over the same terms without reach, that differ only outside S, answer every call
+-- inside S alike (docs/SCOPE.md, Strangers).
 use Prim.Native.Nat.{ℕ, zero, suc}
 use mathlib.Core.Path.{_≡_, refl, sym, ap, _∙_}
 use mathlib.Core.Logic.{_⊎_, inl, inr}
@@ -16,7 +17,7 @@ use Rattle.theory.proofs.Parallel.{Parallel, agree-first, parallel-appe
 use Rattle.theory.proofs.Parallel.Parallel.{done, more}
 
 module _ (T : Terms) (good : Good T) (without : WithoutReach T) (S : Circle) (c₀ : Call) (a₀ : Answer) where
-  -- from any two records that agree inside S and join it to nothing else
+  -- From any two records that agree inside S and join it to nothing else.
   strangers-from : (cs ds : List Call) (Ms Ns : List Moment) → Parallel T S Ms Ns → Separate T S Ms → Separate T S Ns → Paired T S Ms Ns cs ds →
       (n : ℕ) → Inside S (getD cs n c₀) → getD (keepAll T fromFirst Ms cs .0) n a₀ ≡ getD (keepAll T fromFirst Ns ds .0) n a₀
   unfolding keepAll keep
@@ -46,14 +47,16 @@ module _ (T : Terms) (good : Good T) (without : WithoutReach T) (S : Circle) (c�
           rest (parallel-outside T S Ms Ns al c d out) (out .left .0 ∙ sym (out .left .1)) (out .right .0 ∙ sym (out .right .1)) n i
 
   module _ (R Q : Relations) (agree : AgreeWithin T S R Q) where
-    -- What a designer can check. No first edge joins S to the rest; that none ever does follows, since the calls of the two lists have their ends on one side.
+    -- What a designer can check. No first edge joins S to the rest; that none ever does follows, since the calls of the
+    -- two lists have their ends on one side.
     pub strangers-first : SeparateFirst T S R → SeparateFirst T S Q → (cs ds : List Call) → Paired T S (first R ∷ []) (first Q ∷ []) cs ds →
         (n : ℕ) → Inside S (getD cs n c₀) → getD (keeper T R cs .0) n a₀ ≡ getD (keeper T Q ds .0) n a₀
     strangers-first p q cs ds pair =
         strangers-from cs ds (first R ∷ []) (first Q ∷ []) (more (agree-first T S R Q agree) done) (separate-start T S R p) (separate-start T S Q q) pair
 
-    -- As docs/SCOPE.md, Strangers, has it: in both runs no edge at any moment joins S to the rest, and the first relations inside S agree. Then call number n, a request or a
-    -- look inside S, gets the same answer in both. (Past the ends of the lists getD gives c₀ and a₀, whatever they are.)
+    -- As docs/SCOPE.md, Strangers, has it: in both runs no edge at any moment joins S to the rest, and the first
+    -- relations inside S agree. Then call number n, a request or a look inside S, gets the same answer in both. (Past
+    -- the ends of the lists getD gives c₀ and a₀, whatever they are.)
     pub strangers : (cs ds : List Call) → Separate T S (keeper T R cs .1) → Separate T S (keeper T Q ds .1) → Paired T S (first R ∷ []) (first Q ∷ []) cs ds →
         (n : ℕ) → Inside S (getD cs n c₀) → getD (keeper T R cs .0) n a₀ ≡ getD (keeper T Q ds .0) n a₀
     strangers cs ds p q = strangers-first (separate-began T S R cs p) (separate-began T S Q ds q) cs ds

@@ -26,7 +26,8 @@ use Rattle.theory.proofs.Strangers.{strangers-first}
 abbrev circle : Circle
 circle m = not (eqb m 1)
 
--- The same with the stranger owning himself, which joins nothing to the circle; and with the stranger owning 0, which does.
+-- The same with the stranger owning himself, which joins nothing to the circle; and with the
+-- stranger owning 0, which does.
 abbrev selfish : Relations
 selfish k a b = own k a b || (eqb a 1 && eqb b 1)
 
@@ -45,7 +46,8 @@ edges-sway : (keeper (small 2 (line 5 0 0 ∷ []) []) joining (looks 1 0 2 ∷ [
 unfolding own judge keep keepAll holds anyBelow allBelow node number below spelled affectAll
 edges-sway = (refl, refl)
 
--- Without "a moment in both or in neither" it is false: prev of top tells 0 whether the stranger made one, by a denied request that is kept; his look makes none.
+-- Without "a moment in both or in neither" it is false: prev of top tells 0 whether the stranger made one, by a denied
+-- request that is kept; his look makes none.
 moments-sway : (keeper (keeping 2 (line 6 0 0 ∷ []) []) own (requests 1 1 1 ∷ looks 1 0 2 ∷ []) .0 ≡ no ∷ yes ∷ [])
     × (keeper (keeping 2 (line 6 0 0 ∷ []) []) own (looks 1 1 1 ∷ looks 1 0 2 ∷ []) .0 ≡ no ∷ no ∷ [])
 unfolding own judge keep keepAll holds anyBelow allBelow node number below spelled affectAll
@@ -53,7 +55,8 @@ moments-sway = (refl, refl)
 
 -- ---- the theorem applied
 
--- Event 1 is kept, and granted where one moment ago I owned the target: entries are top, var 0, out 0 of that, prev of that. A grant adds an edge.
+-- Event 1 is kept, and granted where one moment ago I owned the target: entries are top, var 0, out 0 of that, prev
+-- of that. A grant adds an edge.
 abbrev before : Terms
 before = keeping 4 (line 1 0 0 ∷ line 4 0 1 ∷ line 6 2 0 ∷ []) (adds ∷ [])
 

@@ -1,4 +1,5 @@
--- Over two records that join S to nothing else and agree inside it, a formula without reach means the same at the members of S.
+-- Over two records that join S to nothing else and agree inside it, a formula without reach
+-- means the same at the members of S.
 use Prim.Native.Nat.{ℕ, suc, _-_, _<_}
 use mathlib.Core.Path.{_≡_, refl, sym, ap, ap₂, _∙_}
 use mathlib.Core.Bool.{Bool, true, false, cond, not, _&&_, _||_, false≢true, true≢false}
@@ -11,11 +12,11 @@ use Rattle.theory.specs.Meaning.{Record, Starts, Assignment, assign, hol
 use Rattle.theory.specs.Strangers.{Circle}
 use Rattle.theory.proofs.Unfolding.{EachReach}
 
--- a formula without reach
+-- A formula without reach.
 abbrev pub Reachless : Formula → Type 0
 Reachless = EachReach (λ x (f : Formula). ⊥)
 
--- a member of S
+-- A member of S.
 abbrev pub In : ℕ → Circle → ℕ → Type 0
 In N S m = (m < N) × (S m ≡ true)
 
@@ -30,7 +31,7 @@ and-both-ways true y p q e h = ap₂ _&&_ e (h refl)
 and-both-ways false y p q e h = ap (λ (z : Bool). z && q) e
 
 module _ (N : ℕ) (s : Starts) (S : Circle) (γ δ : Record) (tw : Twin N S γ δ) where
-  -- an edge with an end in S
+  -- An edge with an end in S.
   same-edge : (i l a b : ℕ) → a < N → b < N → S a || S b ≡ true → γ i l a b ≡ δ i l a b
   same-edge i l a b al bl = go (S a) (S b) refl refl
     where
@@ -43,7 +44,7 @@ module _ (N : ℕ) (s : Starts) (S : Circle) (γ δ : Record) (tw : Twin N S γ 
       go false true p q h = apart (λ e. false≢true (sym p ∙ e ∙ q))
       go false false p q h = absurd (false≢true h)
 
-  -- a member of S with the member at the other end of an edge
+  -- A member of S with the member at the other end of an edge.
   module _ (i l m : ℕ) (mi : In N S m) (p : ℕ → Bool) (q : ℕ → Bool) (same : (k : ℕ) → In N S k → p k ≡ q k) (k : ℕ) (kl : k < N) where
     outward : (γ i l m k && p k) ≡ (δ i l m k && q k)
     outward =
@@ -55,7 +56,7 @@ module _ (N : ℕ) (s : Starts) (S : Circle) (γ δ : Record) (tw : Twin N S γ 
         and-both-ways (γ i l k m) (δ i l k m) (p k) (q k) (same-edge i l k m kl (mi .0) (or-right (S k) (S m) (mi .1)))
         (λ e. same k (kl, tw .left i l k m kl (mi .0) e ∙ mi .1))
 
-  -- a bound variable stands for the member at hand
+  -- A bound variable stands for the member at hand.
   bound : (x m y : ℕ) (g : Assignment) → In N S m → (not (eqb y x) ≡ true → In N S (g y)) → In N S (assign g x m y)
   bound x m y g mi v = go (eqb y x) v
     where

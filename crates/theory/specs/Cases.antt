@@ -1,4 +1,5 @@
--- The marked cases of docs/SCOPE.md: one table of calls and the keeper's answers, and what is marked as holding always, or with where it holds.
+-- The marked cases of docs/SCOPE.md: one table of calls and the keeper's answers, and what is marked as holding
+-- always, or with where it holds.
 use Prim.Native.Nat.{ℕ, _-_, _<_}
 use mathlib.Core.Path.{_≡_}
 use mathlib.Core.Logic.{_↔_}
@@ -53,7 +54,7 @@ preset = record {
   kept = λ j. false;
 }
 
--- G 0 0 2
+-- G 0 0 2.
 unfoldable pub own : Relations
 own k a b = eqb k 0 && eqb a 0 && eqb b 2
 
@@ -84,7 +85,8 @@ pub record Case : Type 0 where
 abbrev pub case : Terms → List Call → List Answer → Case
 case T cs xs = record { terms = T; calls = cs; answers = xs }
 
--- Three members, one relation, n entries of which the first is top, two events: event 0 is always granted and has the effects fs, event 1 goes by the last entry.
+-- Three members, one relation, n entries of which the first is top, two events: event 0 is always granted and has the
+-- effects fs, event 1 goes by the last entry.
 abbrev pub small : (n : ℕ) → List Entry → List Effect → Terms
 small n es fs = record {
   members = 3;
@@ -97,7 +99,8 @@ small n es fs = record {
   kept = λ j. false;
 }
 
--- The same, where event 1 has the effects fs too and its denied requests are kept. Label 2 is event 1, label 4 event 1 denied.
+-- The same, where event 1 has the effects fs too and its denied requests are kept. Label 2 is
+-- event 1, label 4 event 1 denied.
 abbrev pub keeping : (n : ℕ) → List Entry → List Effect → Terms
 keeping n es fs = record {
   members = 3;
@@ -119,7 +122,7 @@ adds = effect true 0 false
 abbrev pub dels : Effect
 dels = effect false 0 false
 
--- event 1 looked at for all initiators and targets
+-- Event 1 looked at for all initiators and targets.
 abbrev pub everywhere : List Call
 everywhere = looks 1 0 0 ∷ looks 1 0 1 ∷ looks 1 0 2 ∷ looks 1 1 0 ∷ looks 1 1 1 ∷ looks 1 1 2 ∷ looks 1 2 0 ∷ looks 1 2 1 ∷ looks 1 2 2 ∷ []
 
@@ -128,56 +131,58 @@ always = replicate 9 yes
 
 unfoldable pub cases : List Case
 cases =
-    -- fresh preset terms: load 1 2 is denied
+    -- Fresh preset terms: load 1 2 is denied.
     case preset (looks 2 1 2 ∷ []) (no ∷ [])
-    -- after share 0 1: granted
+    -- After share 0 1: granted.
     ∷ case preset (requests 0 0 1 ∷ looks 2 1 2 ∷ []) (yes ∷ yes ∷ [])
-    -- after share 0 1, withdraw 0 1: denied
+    -- After share 0 1, withdraw 0 1: denied.
     ∷ case preset (requests 0 0 1 ∷ requests 1 0 1 ∷ looks 2 1 2 ∷ []) (yes ∷ yes ∷ no ∷ [])
-    -- after share 2 1 alone: denied
+    -- After share 2 1 alone: denied.
     ∷ case preset (requests 0 2 1 ∷ looks 2 1 2 ∷ []) (yes ∷ no ∷ [])
-    -- prev of top fails at moment 0, and holds after one grant
+    -- prev of top fails at moment 0, and holds after one grant.
     ∷ case (small 2 (line 6 0 0 ∷ []) []) everywhere (replicate 9 no)
     ∷ case (small 2 (line 6 0 0 ∷ []) []) (requests 0 0 1 ∷ everywhere) (yes ∷ always)
-    -- since(not top, top) holds at moments 0, 1 and 2
+    -- since(not top, top) holds at moments 0, 1 and 2.
     ∷ case (small 3 (line 2 0 0 ∷ line 7 1 0 ∷ []) []) everywhere always
     ∷ case (small 3 (line 2 0 0 ∷ line 7 1 0 ∷ []) []) (requests 0 0 1 ∷ everywhere) (yes ∷ always)
     ∷ case (small 3 (line 2 0 0 ∷ line 7 1 0 ∷ []) []) (requests 0 0 1 ∷ requests 0 1 1 ∷ everywhere) (yes ∷ yes ∷ always)
-    -- var 0 holds where initiator and target are the same member
+    -- var 0 holds where initiator and target are the same member.
     ∷ case (small 2 (line 1 0 0 ∷ []) []) everywhere (yes ∷ no ∷ no ∷ no ∷ yes ∷ no ∷ no ∷ no ∷ yes ∷ [])
-    -- bind 1 of var 1 always holds
+    -- bind 1 of var 1 always holds.
     ∷ case (small 3 (line 1 1 0 ∷ line 8 1 1 ∷ []) []) everywhere always
-    -- bind 1, at 0, bind 1, at 1, var 0 holds
+    -- bind 1, at 0, bind 1, at 1, var 0 holds.
     ∷ case (small 6 (line 1 0 0 ∷ line 9 1 1 ∷ line 8 1 2 ∷ line 9 0 3 ∷ line 8 1 4 ∷ []) []) everywhere always
-    -- effects add then del leave the edge absent, del then add present, where it was absent before (1 to 2) and present (0 to 2)
+    -- Effects add then del leave the edge absent, del then add present, where it was absent before
+    -- (1 to 2) and present (0 to 2).
     ∷ case (small 3 (line 1 0 0 ∷ line 4 0 1 ∷ []) (adds ∷ dels ∷ [])) (requests 0 1 2 ∷ looks 1 1 2 ∷ []) (yes ∷ no ∷ [])
     ∷ case (small 3 (line 1 0 0 ∷ line 4 0 1 ∷ []) (adds ∷ dels ∷ [])) (looks 1 0 2 ∷ requests 0 0 2 ∷ looks 1 0 2 ∷ []) (yes ∷ yes ∷ no ∷ [])
     ∷ case (small 3 (line 1 0 0 ∷ line 4 0 1 ∷ []) (dels ∷ adds ∷ [])) (looks 1 1 2 ∷ requests 0 1 2 ∷ looks 1 1 2 ∷ []) (no ∷ yes ∷ yes ∷ [])
     ∷ case (small 3 (line 1 0 0 ∷ line 4 0 1 ∷ []) (dels ∷ adds ∷ [])) (requests 0 0 2 ∷ looks 1 0 2 ∷ []) (yes ∷ yes ∷ [])
-    -- whoever I once shared with: nobody at first; after share 0 1 it is 1 for 0, and not 0 for 1
+    -- Whoever I once shared with: nobody at first; after share 0 1 it is 1 for 0, and not 0 for 1.
     ∷ case circle (looks 1 0 1 ∷ requests 0 0 1 ∷ looks 1 0 1 ∷ looks 1 1 0 ∷ looks 1 0 2 ∷ []) (no ∷ yes ∷ yes ∷ no ∷ no ∷ [])
-    -- after share 0 1, share 1 2 it still is; 2 is two such steps from 0, and 1 is not
+    -- After share 0 1, share 1 2 it still is; 2 is two such steps from 0, and 1 is not.
     ∷ case circle (requests 0 0 1 ∷ requests 0 1 2 ∷ looks 1 0 1 ∷ looks 1 0 2 ∷ looks 2 0 2 ∷ looks 2 0 1 ∷ []) (yes ∷ yes ∷ yes ∷ no ∷ yes ∷ no ∷ [])
-    -- at least one that 0 owns: at first it is 2; member 1 owns nobody
+    -- At least one that 0 owns: at first it is 2; member 1 owns nobody.
     ∷ case (small 2 (counting 0 0 1 ∷ []) []) (looks 1 0 1 ∷ looks 1 1 0 ∷ []) (yes ∷ no ∷ [])
-    -- at least two: not before a second is added
+    -- At least two: not before a second is added.
     ∷ case (small 2 (counting 0 0 2 ∷ []) (adds ∷ [])) (looks 1 0 1 ∷ requests 0 0 1 ∷ looks 1 0 1 ∷ []) (no ∷ yes ∷ yes ∷ [])
-    -- at least three: one that is added again counts once; the member itself is a third
+    -- At least three: one that is added again counts once; the member itself is a third.
     ∷ case (small 2 (counting 0 0 3 ∷ []) (adds ∷ [])) (requests 0 0 1 ∷ requests 0 0 1 ∷ looks 1 0 1 ∷ requests 0 0 0 ∷ looks 1 0 1 ∷ []) (yes ∷ yes ∷ no ∷ yes ∷ yes ∷ [])
-    -- at least four of three members: never
+    -- At least four of three members: never.
     ∷ case (small 2 (counting 0 0 4 ∷ []) (adds ∷ [])) (requests 0 0 1 ∷ requests 0 0 0 ∷ looks 1 0 1 ∷ []) (yes ∷ yes ∷ no ∷ [])
-    -- at least one, and at least two, that are the target
+    -- At least one, and at least two, that are the target.
     ∷ case (small 3 (line 1 0 0 ∷ counting 0 1 1 ∷ []) (adds ∷ [])) (looks 1 0 1 ∷ requests 0 0 1 ∷ looks 1 0 1 ∷ []) (no ∷ yes ∷ yes ∷ [])
     ∷ case (small 3 (line 1 0 0 ∷ counting 0 1 2 ∷ []) (adds ∷ [])) (requests 0 0 1 ∷ looks 1 0 1 ∷ []) (yes ∷ no ∷ [])
-    -- a denied request makes a moment where its event is kept, and none where it is not; a look makes none either way
+    -- A denied request makes a moment where its event is kept, and none where it is not; a look makes none either way.
     ∷ case (small 2 (line 6 0 0 ∷ []) []) (requests 1 0 1 ∷ looks 1 0 1 ∷ []) (no ∷ no ∷ [])
     ∷ case (keeping 2 (line 6 0 0 ∷ []) []) (looks 1 0 1 ∷ looks 1 0 1 ∷ requests 1 0 1 ∷ looks 1 0 1 ∷ []) (no ∷ no ∷ no ∷ yes ∷ [])
-    -- the event edge of that moment is from initiator to target under the label of event 1 denied, and not under that of event 1
+    -- The event edge of that moment is from initiator to target under the label of event 1 denied,
+    -- and not under that of event 1.
     ∷ case (keeping 3 (line 1 0 0 ∷ line 4 4 1 ∷ []) []) (requests 1 0 1 ∷ looks 1 0 1 ∷ looks 1 0 2 ∷ looks 1 1 0 ∷ []) (no ∷ yes ∷ no ∷ no ∷ [])
     ∷ case (keeping 2 (line 4 2 0 ∷ []) []) (requests 1 0 1 ∷ looks 1 0 1 ∷ []) (no ∷ no ∷ [])
-    -- it has no effects
+    -- It has no effects.
     ∷ case (keeping 3 (line 1 0 0 ∷ line 4 0 1 ∷ []) (adds ∷ [])) (requests 1 1 2 ∷ looks 1 1 2 ∷ requests 0 1 2 ∷ looks 1 1 2 ∷ []) (no ∷ no ∷ yes ∷ yes ∷ [])
-    -- at least one try ever: denied at first, then granted; a try by another counts for that one
+    -- At least one try ever: denied at first, then granted; a try by another counts for that one.
     ∷ case (keeping 3 (counting 4 0 1 ∷ line 7 0 1 ∷ []) []) (requests 1 0 1 ∷ requests 1 1 2 ∷ requests 0 2 2 ∷ looks 1 0 1 ∷ looks 1 1 0 ∷ looks 1 2 0 ∷ []) (no ∷ no ∷ yes ∷ yes ∷ yes ∷ no ∷ [])
     ∷ []
 
@@ -190,26 +195,27 @@ unfoldable pub expected : List Case → List (List Answer)
 expected [] = []
 expected (c ∷ cs) = c .answers ∷ expected cs
 
--- ---- always, and where: the same cases at any moment of any record, at any member, under any assignment; each entry starts at moment 0
+-- ---- always, and where
+-- The same cases at any moment of any record, at any member, under any assignment; each entry starts at moment 0.
 
 pub record Anywhere (N : ℕ) (γ : Record) (i : ℕ) (g : Assignment) (m : ℕ) : Type 0 where
-  -- prev of top: at each moment but the first
+  -- prev of top: at each moment but the first.
   pub prev-top : (t : ℕ) → (holds N fromFirst γ (prev t top) i g m ≡ true) ↔ (0 < i)
-  -- since(not top, top): at every moment
+  -- since(not top, top): at every moment.
   pub since-top : (t : ℕ) → holds N fromFirst γ (since t (neg top) top) i g m ≡ true
-  -- var 0: at the target, and nowhere else
+  -- var 0: at the target, and nowhere else.
   pub var-target : (holds N fromFirst γ (var 0) i g m ≡ true) ↔ (m ≡ g 0)
-  -- bind 1 of var 1: always
+  -- bind 1 of var 1: always.
   pub bind-var : holds N fromFirst γ (bind 1 (var 1)) i g m ≡ true
-  -- bind 1, at 0, bind 1, at 1, var 0: always
+  -- bind 1, at 0, bind 1, at 1, var 0: always.
   pub bind-again : holds N fromFirst γ (bind 1 (at 0 (bind 1 (at 1 (var 0))))) i g m ≡ true
 
 -- ---- effects: the same two cases for every relation, direction and pair of ends, whatever the relations were
 
 pub record AnyEnds (R : Relations) (k : ℕ) (back : Bool) (u v : ℕ) : Type 0 where
-  -- effects add then del leave the edge absent
+  -- Effects add then del leave the edge absent.
   pub add-del :
       affectAll u v (effect true k back ∷ effect false k back ∷ []) R k (cond back v u) (cond back u v) ≡ false
-  -- del then add leave it present
+  -- del then add leave it present.
   pub del-add :
       affectAll u v (effect false k back ∷ effect true k back ∷ []) R k (cond back v u) (cond back u v) ≡ true

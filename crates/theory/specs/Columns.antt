@@ -1,5 +1,5 @@
--- Where a past-time formula's table has its bits (docs/SCOPE.md, Memory), over the list of its columns: one of them, or two.
--- One: bit b of word a. Two: bit 16 × (b mod 4) + c of word 4a + b / 4. No other file says it.
+-- Where a past-time formula's table has its bits (docs/SCOPE.md, Memory), over the list of its columns: one of them, or
+-- two. One: bit b of word a. Two: bit 16 × (b mod 4) + c of word 4a + b / 4. No other file says it.
 use Prim.Native.Nat.{ℕ, _+_, _*_, _/_, _%_}
 use mathlib.Core.Bool.{Bool, true, false, _&&_}
 use mathlib.Core.List.{List, [], _∷_}

@@ -1,4 +1,5 @@
--- The most that there may be (docs/SCOPE.md, The terms file), and the least memory that is lent (docs/SCOPE.md, Memory).
+-- The most that there may be (docs/SCOPE.md, The terms file), and the least memory that
+-- is lent (docs/SCOPE.md, Memory).
 use Prim.Native.Nat.{ℕ}
 
 abbrev pub maxMembers : ℕ
@@ -13,30 +14,30 @@ maxEvents = 16
 abbrev pub maxEntries : ℕ
 maxEntries = 256
 
--- past-time entries, each with a table
+-- Past-time entries, each with a table.
 abbrev pub maxTables : ℕ
 maxTables = 32
 
--- effects of an event
+-- Effects of an event.
 abbrev pub maxEffects : ℕ
 maxEffects = 4
 
--- variables are numbered from 0 on
+-- Variables are numbered from 0 on.
 abbrev pub variables : ℕ
 variables = 16
 
--- members with which a past-time entry may have two free variables
+-- Members with which a past-time entry may have two free variables.
 abbrev pub pairMembers : ℕ
 pairMembers = 16
 
--- the most that `many` asks for
+-- The most that `many` asks for.
 abbrev pub maxCount : ℕ
 maxCount = 64
 
 abbrev pub scratchWords : ℕ
 scratchWords = 64
 
--- words of terms, and of a state
+-- Words of terms, and of a state.
 abbrev pub leastTerms : ℕ
 leastTerms = 1252
 

@@ -27,7 +27,8 @@ module _ (p q : ℕ → ℕ) where
 abbrev pub stateBy : Terms → (numbers : List ℕ) → State → State
 stateBy T p = renumberState (newNumber p) (oldNumber (T .members) p) T
 
--- p gives the new numbers of the members below N, q the old ones. What is no member keeps its number, so that both are total.
+-- p gives the new numbers of the members below N, q the old ones. What is no member keeps its
+-- number, so that both are total.
 pub record Renumbering (N : ℕ) (p q : ℕ → ℕ) : Type 0 where
   pub new : (m : ℕ) → m < N → p m < N
   pub old : (m : ℕ) → m < N → q m < N

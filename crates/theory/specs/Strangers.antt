@@ -1,4 +1,5 @@
--- Strangers have no say: what is said of two runs over the same terms, a set of members and the two lists of calls (docs/SCOPE.md, Strangers). The field's word is noninterference.
+-- Strangers have no say: what is said of two runs over the same terms, a set of members and the two lists of calls
+-- (docs/SCOPE.md, Strangers). The field's word is noninterference.
 use Prim.Native.Nat.{ℕ, _<_, _≤_}
 use mathlib.Core.Path.{_≡_}
 use mathlib.Core.Logic.{_⊎_}

@@ -1,4 +1,5 @@
--- What the program prints for a file with a record, of either form: the answers of the keeper, who goes on with that record.
+-- What the program prints for a file with a record, of either form: the answers of the
+-- keeper, who goes on with that record.
 use Prim.Native.Nat.{ℕ, _≤_}
 use mathlib.Core.Path.{_≡_, refl, sym, _∙_}
 use mathlib.Core.List.{List}

@@ -51,7 +51,7 @@ served-done terms state [] n h = refl
 served-done terms state (x ∷ t) n h = absurd (omega arith)
 
 module _ {terms before requests output state out room t : List ℕ} {n at : ℕ} (g : Going terms before requests output state out room t n at) where
-  -- a line that ends in a line feed
+  -- A line that ends in a line feed.
   pub going-next : {state' out' room' : List ℕ} {at' e : ℕ} {a : Answer} → e ≡ place 10 t → e < length t →
       a ≡ lineAnswer terms state (asked (split 9 (take e t))) → state' ≡ lineState terms state (asked (split 9 (take e t))) → room' ≡ scratch →
       Put out out' at at' (answerLine n a) →
@@ -70,12 +70,12 @@ module _ {terms before requests output state out room t : List ℕ} {n at : ℕ}
             ∙ sym (append-assoc (g .bytes) (answerLine n a) _);
       }
 
-  -- a last one that does not
+  -- A last one that does not.
   pub going-cut : {out' : List ℕ} {at' e : ℕ} → e ≡ place 10 t → length t ≤ e → 0 < length t →
       Put out out' at at' (answerLine n (refused 1 0)) → Put output out' 0 at' (served terms before 1 (lines requests))
   going-cut p h k w =
       rw (g .whole, served-cut terms state t n (omega (arith, place-le 10 t)) k) (put-then (g .put) w)
 
-  -- nothing is left
+  -- Nothing is left.
   pub going-done : length t ≤ 0 → Put output out 0 at (served terms before 1 (lines requests))
   going-done h = rw (g .whole, served-done terms state t n h, append-nil (g .bytes)) (g .put)

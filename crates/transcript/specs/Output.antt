@@ -1,5 +1,7 @@
--- What the program prints for a terms text and a requests text (docs/SCOPE.md, The program). For an old file that is made of the keeper's answers, for a stored file of those that its
--- tables give: of its text alone nobody can tell whether it has a record. Where it has one, these are the answers of the keeper who goes on with it (`output-recorded`).
+-- What the program prints for a terms text and a requests text (docs/SCOPE.md, The program). For an old
+-- file that is made of the keeper's answers, for a stored file of those that its tables give: of its text
+-- alone nobody can tell whether it has a record. Where it has one, these are the answers of the keeper who
+-- goes on with it (`output-recorded`).
 use Prim.Native.Nat.{ℕ}
 use mathlib.Core.Bool.{cond}
 use mathlib.Core.List.{List, _++_}
@@ -25,7 +27,8 @@ unfoldable pub output : (terms requests : List ℕ) → List ℕ
 output terms requests =
     cond (ltb longest (length terms)) (fileLine termsName 6 0) (afterTerms terms requests (reading terms))
 
--- What `transcript` gives and leaves: the count of bytes and the bytes, or 6 where the output is too short, and then nothing is written.
+-- What `transcript` gives and leaves: the count of bytes and the bytes, or 6 where the output is too
+-- short, and then nothing is written.
 unfoldable pub transcriptGives : (terms requests out : List ℕ) → Writing
 transcriptGives terms requests out =
     cond (ltb (length out) (length (output terms requests))) (unwritten 6 0) (bytes (length (output terms requests)))

@@ -1,4 +1,5 @@
--- The ways that writing a text ends: a refusal leaves the output as it was, a whole text fills it from its first byte. And those of asking for the size.
+-- The ways that writing a text ends: a refusal leaves the output as it was, a whole text fills it from its first byte.
+-- And those of asking for the size.
 use Prim.Native.Nat.{ℕ, zero, suc, _-_, _/_, _≤_, _<_}
 use mathlib.Core.Path.{_≡_, refl, ap, _∙_}
 use mathlib.Core.Logic.{⊎-elim}
@@ -23,7 +24,7 @@ use Rattle.fields.specs.private.Put.{Put}
 use Rattle.writer.specs.Write.{Writing, fitted, filledOut}
 use Rattle.writer.specs.Write.Writing.{bytes, unwritten}
 
--- what the check of terms and state gave, and the text
+-- What the check of terms and state gave, and the text.
 module _ (o : Outcome) (text : List ℕ) where
   pub size-unchecked : (n l : ℕ) → failed n l ≡ o → unwritten n l ≡ fitted false (length text) o
   size-unchecked n l e = rw (← e) refl
@@ -53,7 +54,7 @@ module _ (o : Outcome) (text : List ℕ) where
 
 -- ---- the event word of checked terms and state
 
--- an event that is named, granted or denied
+-- An event that is named, granted or denied.
 event-named : (j e : ℕ) → e < 17 → cond (ltb j 16) j (j - 16) < e → j < 32
 event-named j e h l =
     ⊎-elim (λ p. let m = ltb-true j 16 p in omega arith) (λ p. let m : j - 16 < e = rw p at l in omega arith) (true-or-false (ltb j 16))

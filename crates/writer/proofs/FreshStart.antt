@@ -11,7 +11,6 @@ use lib.Seq.{ext-getD, take-suc, drop-cons, set-at, length-take-le, getD-take}
 use borrow.Author.Tests.{eqb-true, le-ltb}
 use Rattle.sets.specs.Sets.{allBelow}
 use Rattle.sets.proofs.Finite.{all-out, all-cong}
-use Rattle.theory.specs.Terms.{Terms}
 use Rattle.theory.specs.Tables.{State, opening}
 use Rattle.memory.specs.Layout.{termsWords, stateWords, termsOf, stateOf, wordAt, tabulate, wordsOf}
 use Rattle.memory.specs.Checks.{stateTests, goodState}
@@ -46,7 +45,7 @@ fresh-words terms state long fresh =
     getD-take stateWords state i 0 il ∙ eqb-true (getD state i 0) (w i) (all-out stateWords (λ i. eqb (getD state i 0) (w i)) fresh i il)
     ∙ sym (getD-tabulate stateWords w i il))
 
--- a copy of checked memory opens, and what opening leaves is the fresh start of the state's own relations
+-- A copy of checked memory opens, and what opening leaves is the fresh start of the state's own relations.
 module _ (terms state : List ℕ) (e : passed ≡ checks terms state) where
   checked : Checked terms state
   checked = passed-checked terms state e

@@ -10,7 +10,7 @@ use Rattle.writer.specs.Write.{Writing, writtenText, filledOut, isFresh,
 use Rattle.writer.specs.Write.{oldSizeGives, oldWriteGives, oldWriteLeaves}
 use Rattle.writer.specs.Write.Writing.{unwritten}
 
--- what a test of freshness found
+-- What a test of freshness found.
 pub found : (terms state : List ℕ) {r b : Bool} → r ≡ b → r ≡ isFresh terms state → isFresh terms state ≡ b
 found terms state q h = sym h ∙ q
 

@@ -11,7 +11,7 @@ use Rattle.sets.specs.Sets.{bit}
 use Rattle.sets.proofs.Bits.{bit-zero}
 use Rattle.sets.proofs.Finite.{bool-iff}
 use Rattle.theory.specs.Formula.{number, isPast, columns}
-use Rattle.theory.specs.Terms.{Terms, formula, tables, pastEntry}
+use Rattle.theory.specs.Terms.{Terms, formula, pastEntry}
 use Rattle.theory.specs.Fit.{Good}
 use Rattle.theory.proofs.Past.{past-is}
 use Rattle.theory.proofs.Unfolding.{number-lt}
@@ -38,7 +38,7 @@ module _ (T : Terms) where
   abbrev two : ℕ → Bool
   two t = hasTwo (columns (formula T (pastEntry T t)))
 
-  -- the tables of the first n entries
+  -- The tables of the first n entries.
   abbrev pub PairedSo : (pairs n : ℕ) → Type 0
   PairedSo pairs n = (t : ℕ) → bit pairs t ≡ ltb t (number (T .entry) n) && two t
 
@@ -91,7 +91,7 @@ module _ (T : Terms) where
             (λ l. lt-ltb t _ (omega (arith, ltb-true t v l, more)))
             (λ l. lt-ltb t v (omega (arith, ltb-true t _ l, more, eqb-false t v q))))
 
--- the set with one table more, or as it was
+-- The set with one table more, or as it was.
 pub with-two : (pairs p r k : ℕ) (t : ℕ) {c : Bool} → c ≡ not (eqb (planFirst p) (planLast p)) → c ≡ true → k ≡ planTable p
     → bit r t ≡ bit pairs t || (ltb t 64 && eqb t k)
     → bit r t ≡ bit pairs t || (not (eqb (planFirst p) (planLast p)) && (ltb t 64 && eqb t (planTable p)))

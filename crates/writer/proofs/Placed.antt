@@ -59,7 +59,7 @@ kind-short (suc (suc (suc (suc (suc (suc (suc (suc (suc (suc k)))))))))) = omega
 pub put-at : {o p : List ℕ} {at m : ℕ} (ws : List (List ℕ)) (k n : ℕ) → n ≡ k → Put o p at m (getD ws k []) → Put o p at m (getD ws n [])
 put-at ws k n e f = rw e f
 
--- a number past the words has none
+-- A number past the words has none.
 pub put-past : (o : List ℕ) (at : ℕ) (ws : List (List ℕ)) (n : ℕ) → length ws ≤ n → Put o o at at (getD ws n [])
 put-past o at ws n h = rw (List·getD-eq-default ws [] h) (put-none o at)
 

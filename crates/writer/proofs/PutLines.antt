@@ -101,7 +101,7 @@ module _ (t : Bool) (s w i b : ℕ) (h : b < 64) where
   unfolding printedAll
   put-bit-none o at c e y = rw (bit-at t s w i b h, ← e, y) (put-none o at)
 
--- a table's bit is said by its columns
+-- A table's bit is said by its columns.
 module _ (s t i k : ℕ) {o p : List ℕ} {at m : ℕ} where
   pub put-one-said : (c : Bool) → c ≡ bit s t → c ≡ false → Put o p at m (printed (TableBit t i k) ++ (10 ∷ [])) → Put o p at m (printed (says true s t i k) ++ (10 ∷ []))
   put-one-said c e y x = rw (← e, y) x
@@ -110,7 +110,7 @@ module _ (s t i k : ℕ) {o p : List ℕ} {at m : ℕ} where
       → Put o p at m (printed (PairBit t (i / 4) (4 * (i % 4) + k / 16) (k % 16)) ++ (10 ∷ [])) → Put o p at m (printed (says true s t i k) ++ (10 ∷ []))
   put-two-said c e y x = rw (← e, y) x
 
--- a word without bits
+-- A word without bits.
 pub put-row-none : (o : List ℕ) (at : ℕ) (t : Bool) (s w i : ℕ) → w ≡ 0 → Put o o at at (printedAll (rowOf t s w i))
 unfolding printedAll
 put-row-none o at t s w i e =
@@ -119,11 +119,11 @@ put-row-none o at t s w i e =
 
 -- ---- lines past the end of an output
 
--- what is put into no output is put past the end of any
+-- What is put into no output is put past the end of any.
 pub put-skipped : {at m : ℕ} {bs : List ℕ} (o : List ℕ) → length o ≤ at → Put [] [] at m bs → Put o o at m bs
 put-skipped o h x = put-out o _ _ _ h (x .next)
 
--- the fields of a line have a tab or the line feed after each
+-- The fields of a line have a tab or the line feed after each.
 module _ (at r : ℕ) (k d e f : List ℕ) where
   pub skip-three : r ≡ at + 4 + length k + length d + length e + length f
       → Put [] [] at r (join 9 (k ∷ d ∷ e ∷ f ∷ []) ++ (10 ∷ []))

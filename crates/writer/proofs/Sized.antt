@@ -1,4 +1,5 @@
--- The size that is told is the room that is needed: an output of so many bytes is written, a shorter one refused; what refuses the size refuses the writing.
+-- The size that is told is the room that is needed: an output of so many bytes is written, a shorter one refused; what
+-- refuses the size refuses the writing.
 use Prim.Native.Nat.{ℕ, _≤_, _<_}
 use mathlib.Core.Path.{_≡_, refl}
 use mathlib.Core.Bool.{Bool, true, false}
@@ -14,17 +15,17 @@ use Rattle.writer.specs.Write.{oldSizeGives, oldWriteGives, storeSizeGiv
 use Rattle.writer.specs.Write.Writing.{bytes, unwritten}
 use Rattle.writer.proofs.Fitting.{gives}
 
--- what passes has the size of the text
+-- What passes has the size of the text.
 whole : (o : Outcome) (m n : ℕ) → fitted false m o ≡ bytes n → (o ≡ passed) × (m ≡ n)
 whole passed m n e = (refl, cc)
 whole (failed k l) m n e = let z : _≡_ {A = ℕ} 0 1 = cc in absurd (omega arith)
 
--- a refusal does not depend on the output
+-- A refusal does not depend on the output.
 same-refusal : (o : Outcome) (s : Bool) (m k l : ℕ) → fitted false m o ≡ unwritten k l → fitted s m o ≡ unwritten k l
 same-refusal passed s m k l e = let z : _≡_ {A = ℕ} 0 1 = cc in absurd (omega arith)
 same-refusal (failed i j) s m k l e = e
 
--- what the check of terms and state gave, the text and the output
+-- What the check of terms and state gave, the text and the output.
 module _ (o : Outcome) (text out : List ℕ) where
   enough : (n : ℕ) → fitted false (length text) o ≡ bytes n → n ≤ length out → gives o text out ≡ bytes n
   enough n e h = let w = whole o (length text) n e in rw (w .0, w .1, le-ltb (length out) n h) refl
@@ -43,7 +44,7 @@ module _ (terms state out : List ℕ) where
       × ((n : ℕ) → s ≡ bytes n → length out < n → w ≡ unwritten 6 0)
       × ((k l : ℕ) → s ≡ unwritten k l → w ≡ unwritten k l)
 
-  -- of a fresh start
+  -- Of a fresh start.
   size-told : Told (sizeGives terms state) (writeGives terms state out)
   unfolding sizeGives writeGives
   size-told =
@@ -51,7 +52,7 @@ module _ (terms state out : List ℕ) where
       let t = writtenText terms state in
       (enough o t out, short o t out, refused o t out)
 
-  -- of any state in the old form, with 12 among the refusals
+  -- Of any state in the old form, with 12 among the refusals.
   pub old-size-told : Told (oldSizeGives terms state) (oldWriteGives terms state out)
   unfolding oldSizeGives oldWriteGives
   old-size-told =

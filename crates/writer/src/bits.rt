@@ -1,4 +1,5 @@
-// Lines of set bits: the edges of the relations and the bits of the tables, word by word. Relations and tables are kept alike.
+// Lines of set bits: the edges of the relations and the bits of the tables, word by word.
+// Relations and tables are kept alike.
 use crate::kind;
 use crate::print::put_quad;
 use crate::print::put_triple;
@@ -19,7 +20,8 @@ ghost use Rattle.writer.specs.private.Kinds.{Paired, edgeLines, tableLin
 // The words of all tables.
 const TABLE_WORDS: usize = EVENT_AT - TABLES_AT;
 
-// Puts the G line, or T line, of bit b of word i of the relations, or tables, which is w, where it is set. A table of the set pairs has two columns.
+// Puts the G line, or T line, of bit b of word i of the relations, or tables, which is w, where it is set. A table of
+// the set pairs has two columns.
 fn put_bit(out: &mut [u8], at: usize, table: bool, pairs: u64, w: u64, i: usize, b: usize) -> usize
     requires { ⌜ (i < eventAt) × (b < 64) × (at < 2 ^ 58) ⌝ }
     ensures { λ r. ⌜ Put (now (out .entry)) (now (out .exit)) at r (printedAll (bitOf table pairs w i b)) ⌝ }

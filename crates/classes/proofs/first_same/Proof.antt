@@ -1,11 +1,10 @@
 -- The loop's invariant: no key below k is this one.
-use Prim.Native.Nat.{ℕ, suc, _-_, _≤_}
+use Prim.Native.Nat.{ℕ, _-_, _≤_}
 use native.Mathlib.Numerals.{add-one}
 use native.Mathlib.Omega.{arith}
-use mathlib.Core.Path.{_≡_, refl, sym, ap, subst, _∙_}
-use mathlib.Core.Bool.{Bool, true, false}
+use mathlib.Core.Path.{_≡_, refl, sym, subst}
+use mathlib.Core.Bool.{Bool}
 use mathlib.Core.List.{List}
-use borrow.Author.Needs.{needs}
 use borrow.Author.Tests.{eq-eqb, ne-eqb}
 use lib.Dec.{eqb}
 use lib.ListN.{getD}
@@ -22,13 +21,6 @@ Inv-loop keys limit key k₀ k = (lowest k (test keys key) ≡ k) × (k ≤ limi
 
 abbrev μ-loop : tie.MeasureT-loop
 μ-loop keys limit key k₀ k = limit - k
-
-loop-holds : tie.Need-loop-holds Inv-loop μ-loop
-unfolding lowest
-loop-holds c = (refl, omega arith)
-
-shared-slice-read-if1 : tie.Need-shared-slice-read-if1 Inv-loop μ-loop
-shared-slice-read-if1 c = omega (arith, c .before .loop-test .taken, c .before .before .before .pre)
 
 returns : tie.Need-returns Inv-loop μ-loop
 returns c =
@@ -59,9 +51,9 @@ first-same-spec =
     (tie.spec
     Inv-loop
     μ-loop
-    loop-holds
+    (λ c. unfold lowest in (refl, omega arith))
     (λ c. omega arith)
-    shared-slice-read-if1
+    (λ c. omega (arith, c .before .loop-test .taken, c .before .before .before .pre))
     returns
     (λ c. omega arith)
     (λ c. omega arith)

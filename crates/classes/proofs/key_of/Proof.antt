@@ -1,5 +1,6 @@
+-- `classes::key_of` meets its contract.
 use borrow.Author.Needs.{needs}
-use Prim.Native.Nat.{ℕ, _+_, _*_, _<_}
+use Prim.Native.Nat.{ℕ}
 use native.Mathlib.Omega.{arith}
 use mathlib.Core.Path.{_≡_, ap, ap₂, _∙_}
 use lib.ListN.{getD}
@@ -9,7 +10,7 @@ use Rattle.classes.specs.private.Keys.{normal, packed, keyOf}
 use Rattle.classes.proofs.key_of.Statement.{statement}
 use Rattle.classes.proofs.key_of.Tie as tie
 
--- what one operand counts for, from what was read: k is the kind that operator op has there
+-- What one operand counts for, from what was read: k is the kind that operator op has there.
 one : (f : ℕ → ℕ) (kind : ℕ → Operand) (k : Operand) (op o x x' r : ℕ) → k ≡ kind op → op ≡ o → x ≡ x' → r ≡ normal k f x → r ≡ normal (kind o) f x'
 one f kind k op o x x' r ek eo ex er = er ∙ ap (λ (z : Operand). normal z f x) (ek ∙ ap kind eo) ∙ ap (normal (kind o) f) ex
 

@@ -3,7 +3,7 @@ use Prim.Native.Nat.{ℕ, _-_, _≤_}
 use borrow.Author.Needs.{needs}
 use native.Mathlib.Omega.{arith}
 use mathlib.Core.Path.{_≡_, refl, sym, _∙_, subst}
-use lib.ListN.{length, set, length-set}
+use lib.ListN.{length, length-set}
 use Rattle.theory.specs.Limits.{maxEntries}
 use Rattle.memory.specs.Layout.{termsOf}
 use Rattle.classes.specs.private.Filled.{filled}
@@ -17,10 +17,6 @@ Inv-loop terms keys marks limit count classes₀ n₀ classes n =
 
 abbrev μ-loop : tie.MeasureT-loop
 μ-loop terms keys marks limit count classes₀ n₀ classes n = count - n
-
-loop-holds : tie.Need-loop-holds Inv-loop μ-loop
-unfolding filled
-loop-holds c = (refl, c .before .before .before .before .pre .0 .2, omega arith)
 
 lookup-requires : tie.Need-lookup-requires Inv-loop μ-loop
 lookup-requires c κs =
@@ -41,9 +37,6 @@ loop-again c =
       omega (arith, c .before .before .before .loop-test .taken),
     )
 
-same-length : tie.Need-same-length Inv-loop μ-loop
-same-length c = c .before .loop .inv .1 ∙ sym (c .before .before .before .before .before .before .pre .0 .2)
-
 returns : tie.Need-returns Inv-loop μ-loop
 returns c =
     let l = c .before .loop in
@@ -56,7 +49,7 @@ new-classes-spec =
     (tie.spec
     Inv-loop
     μ-loop
-    loop-holds
+    (λ c. unfold filled in (refl, c .before .before .before .before .pre .0 .2, omega arith))
     (λ c κs. search needs)
     lookup-requires
     cast-classes
@@ -65,5 +58,5 @@ new-classes-spec =
     (λ c. omega arith)
     (λ c. omega arith)
     loop-again
-    same-length
+    (λ c. c .before .loop .inv .1 ∙ sym (c .before .before .before .before .before .before .pre .0 .2))
     returns)

@@ -3,7 +3,7 @@ use Prim.Native.Nat.{ℕ, _-_, _≤_}
 use borrow.Author.Needs.{needs}
 use native.Mathlib.Omega.{arith}
 use mathlib.Core.Path.{_≡_, refl, sym, _∙_, subst}
-use lib.ListN.{length, set, length-set}
+use lib.ListN.{length, length-set}
 use Rattle.theory.specs.Limits.{maxEntries}
 use Rattle.memory.specs.Layout.{termsOf}
 use Rattle.classes.specs.private.Keys.{Marked}
@@ -41,9 +41,6 @@ slice-write-classes c = omega (arith, c .before .before .before .before .before 
 slice-write-keys : tie.Need-slice-write-keys Inv-loop μ-loop
 slice-write-keys c = omega (arith, c .before .before .before .before .before .loop-test .taken, c .before .before .before .before .before .before .loop .inv .4, c .before .before .before .before .before .before .before .before .before .before .before .pre .0)
 
-mark-requires : tie.Need-mark-requires Inv-loop μ-loop
-mark-requires c κs = c .before .before .before .before .before .before .before .loop .inv .5
-
 loop-again : tie.Need-loop-again Inv-loop μ-loop
 loop-again c =
     let l = c .before .before .before .before .before .before .before .before .before .before .loop in
@@ -60,15 +57,6 @@ loop-again c =
       m .ensures .0,
       omega (arith, less),
     )
-
-same-length : tie.Need-same-length Inv-loop μ-loop
-same-length c = c .before .loop .inv .3 ∙ sym (c .before .before .before .before .before .before .pre .1)
-
-same-length-2 : tie.Need-same-length-2 Inv-loop μ-loop
-same-length-2 c = c .before .loop .inv .4 ∙ sym (c .before .before .before .before .before .before .pre .2)
-
-same-length-3 : tie.Need-same-length-3 Inv-loop μ-loop
-same-length-3 c = c .before .loop .inv .5 ∙ sym (c .before .before .before .before .before .before .pre .3)
 
 returns : tie.Need-returns Inv-loop μ-loop
 returns c =
@@ -93,11 +81,11 @@ old-classes-spec =
     slice-write-classes
     (λ c. omega arith)
     slice-write-keys
-    mark-requires
+    (λ c κs. c .before .before .before .before .before .before .before .loop .inv .5)
     (λ c. omega arith)
     (λ c. omega arith)
     loop-again
-    same-length
-    same-length-2
-    same-length-3
+    (λ c. c .before .loop .inv .3 ∙ sym (c .before .before .before .before .before .before .pre .1))
+    (λ c. c .before .loop .inv .4 ∙ sym (c .before .before .before .before .before .before .pre .2))
+    (λ c. c .before .loop .inv .5 ∙ sym (c .before .before .before .before .before .before .pre .3))
     returns)

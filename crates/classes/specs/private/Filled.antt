@@ -1,4 +1,5 @@
--- The classes that are filled in for any words, good terms or not. Where both terms are good, they are the first old entries with the same fully spelled-out formulas (`classed`, proofs/Filling).
+-- The classes that are filled in for any words, good terms or not. Where both terms are good, they are the first old
+-- entries with the same fully spelled-out formulas (`classed`, proofs/Filling).
 use Prim.Native.Nat.{ℕ, zero, suc}
 use mathlib.Core.Bool.{cond}
 use mathlib.Core.List.{List}
@@ -22,7 +23,8 @@ found keys limit key = lowest limit (λ j. eqb (getD keys j 0) key)
 abbrev pub keyBy : Terms → (classes : List ℕ) → ℕ → ℕ
 keyBy T w n = keyOf (λ x. getD w x 0) (T .entry n)
 
--- Two lists after the classes and keys of the first n entries among themselves are filled in. An entry that is the same as none below it is the first of its class.
+-- Two lists after the classes and keys of the first n entries among themselves are filled in. An entry that is the same
+-- as none below it is the first of its class.
 unfoldable pub ownFilled : Terms → ℕ → (w ks : List ℕ) → List ℕ × List ℕ
 ownFilled T zero w ks = (w, ks)
 ownFilled T (suc n) w ks =

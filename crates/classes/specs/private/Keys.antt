@@ -1,4 +1,5 @@
--- An entry as one number, its key, so that two entries are the same exactly if their keys are; and a table of marks by which most keys that are not there are told at once.
+-- An entry as one number, its key, so that two entries are the same exactly if their keys are; and a table of marks by
+-- which most keys that are not there are told at once.
 use Prim.Native.Nat.{ℕ, _+_, _*_, _/_, _%_, _<_}
 use mathlib.Core.Path.{_≡_}
 use mathlib.Core.Bool.{Bool, true}
@@ -8,7 +9,8 @@ use Rattle.sets.specs.Sets.{bit}
 use Rattle.theory.specs.Formula.{Entry, Operand, firstOperand, secondOperand, thirdOperand}
 use Rattle.theory.specs.Formula.Operand.{unused, variable, binder, label, entry, count}
 
--- What an operand counts for when entries are compared: nothing where it is not used, the class of an entry, else the number itself.
+-- What an operand counts for when entries are compared: nothing where it is not used, the class of an
+-- entry, else the number itself.
 unfoldable pub normal : Operand → (class : ℕ → ℕ) → ℕ → ℕ
 normal unused c x = 0
 normal variable c x = x

@@ -3,31 +3,26 @@ use borrow.Author.Needs.{needs}
 use Rattle.cuckooormolu.proofs.answer_code.Statement.{statement}
 use Rattle.cuckooormolu.proofs.answer_code.Tie as tie
 
-enum-known-a : tie.Need-enum-known-a
-enum-known-a c = search needs
-
-enum-told : tie.Need-enum-told
-enum-told c = search needs
-
-enum-told-2 : tie.Need-enum-told-2
-enum-told-2 c = search needs
-
-enum-known-a-2 : tie.Need-enum-known-a-2
-enum-known-a-2 c = search needs
-
--- a grant
+-- A grant.
 returns : tie.Need-returns
 returns c = search needs
 
--- a denial
+-- A denial.
 returns-2 : tie.Need-returns-2
 returns-2 c = search needs
 
--- a refusal
+-- A refusal.
 returns-3 : tie.Need-returns-3
 returns-3 c = search needs
 
 pub answer-code-spec : {M : Type 1} → statement M
 answer-code-spec =
     tie.close
-    (tie.spec enum-known-a enum-told enum-told-2 enum-known-a-2 returns returns-2 returns-3)
+    (tie.spec
+    (λ c. search needs)
+    (λ c. search needs)
+    (λ c. search needs)
+    (λ c. search needs)
+    returns
+    returns-2
+    returns-3)

@@ -1,3 +1,4 @@
+-- `cuckooormolu::cuckooormolu_raw_renumber` meets its contract.
 use borrow.Author.Needs.{needs}
 use mathlib.Core.Path.{ap, _∙_}
 use Rattle.cuckooormolu.specs.Codes.{outcomeCode}
@@ -11,4 +12,9 @@ returns c =
 
 pub cuckooormolu-raw-renumber-spec : {M : Type 1} → statement M
 cuckooormolu-raw-renumber-spec =
-    tie.close (tie.spec (λ c κs. search needs) (λ c κs. search needs) (λ c. search needs) returns)
+    tie.close
+    (tie.spec
+    (λ c κs. search needs)
+    (λ c κs. search needs)
+    (λ c. search needs)
+    returns)

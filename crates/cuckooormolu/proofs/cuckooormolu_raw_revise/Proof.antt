@@ -1,17 +1,9 @@
+-- `cuckooormolu::cuckooormolu_raw_revise` meets its contract.
 use borrow.Author.Needs.{needs}
 use mathlib.Core.Path.{ap, _∙_}
 use Rattle.cuckooormolu.specs.Codes.{outcomeCode}
 use Rattle.cuckooormolu.proofs.cuckooormolu_raw_revise.Statement.{statement}
 use Rattle.cuckooormolu.proofs.cuckooormolu_raw_revise.Tie as tie
-
-revise-requires : tie.Need-revise-requires
-revise-requires c κs = search needs
-
-outcome-code-requires : tie.Need-outcome-code-requires
-outcome-code-requires c κs = search needs
-
-same-length : tie.Need-same-length
-same-length c = search needs
 
 returns : tie.Need-returns
 returns c =
@@ -20,4 +12,9 @@ returns c =
 
 pub cuckooormolu-raw-revise-spec : {M : Type 1} → statement M
 cuckooormolu-raw-revise-spec =
-    tie.close (tie.spec revise-requires outcome-code-requires same-length returns)
+    tie.close
+    (tie.spec
+    (λ c κs. search needs)
+    (λ c κs. search needs)
+    (λ c. search needs)
+    returns)

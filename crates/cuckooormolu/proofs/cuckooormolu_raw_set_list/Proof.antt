@@ -1,5 +1,6 @@
 -- `cuckooormolu_raw_set_list` meets its contract: a walk of its MIR, by hand, since it passes on a slice of structs.
--- The four slices are given to `set_list` and the count to `tell_listing`, each for good: at its own lifetime, share and name, so that nothing has to come back.
+-- The four slices are given to `set_list` and the count to `tell_listing`, each for good: at its own lifetime, share
+-- and name, so that nothing has to come back.
 use mathlib.Core.Path.{_≡_, refl, ap, _∙_}
 use Prim.Native.Nat.{ℕ}
 use mathlib.Core.List.{List, [], _∷_}
@@ -64,7 +65,7 @@ abbrev stayed : Stays (f.ended .signature .params) (f.ended .kept)
 stayed =
     (stay-dropped (shrSliceOf (0 ∷ []) tt (plain (λ _. u16))) yes, (gave-slice (1 ∷ []) tt (plain (λ _. u64)), (gave-slice (2 ∷ []) tt (plain (λ _. u64)), (gave-slice (3 ∷ []) tt (plain (λ _. R)), (gave-ref (4 ∷ []) tt (plain (λ _. usize)), tt)))))
 
--- the contracts that the proof cites
+-- The contracts that the proof cites.
 module _ {M : Type 1} (𝓤 : URA M) (H : Heap 𝓤) (A : Atoms 𝓤) (mem : Memory → SProp 𝓤) (run : Routine → Fun 𝓤) where
   abbrev Whole : Contract 𝓤
   Whole = tripleOf 𝓤 H A list.signature (list.spec 𝓤 H A mem run)
@@ -74,7 +75,7 @@ module _ {M : Type 1} (𝓤 : URA M) (H : Heap 𝓤) (A : Atoms 𝓤) (mem : Mem
 
 module _ {M : Type 1} (𝓤 : URA M) (H : Heap 𝓤) (A : Atoms 𝓤) (W : Given 𝓤 H A) (mem : Memory → SProp 𝓤) (run : Routine → Fun 𝓤) (κt κs κc κr κn : Lft) (qt qs qc qr qn : Share)
     (bt ot : ℕ) (γt : GName) (bs os : ℕ) (γs : GName) (bc oc : ℕ) (γc : GName) (br or : ℕ) (γr : GName) (bn on : ℕ) (γn : GName) (ts st sc : List ℕ) (rs : List Record) (n : ℕ) where
-  -- the five borrows' values, and the machine values
+  -- The five borrows' values, and the machine values.
   abbrev xt : RefT (List ℕ)
   xt = record { ptr = (bt, ot); name = γt; now = ts }
 
@@ -120,7 +121,7 @@ module _ {M : Type 1} (𝓤 : URA M) (H : Heap 𝓤) (A : Atoms 𝓤) (W : Given
   abbrev Post : Val → SProp 𝓤
   Post = walkOf 𝓤 H A f.ended stayed (f.clauses 𝓤 H A mem run) .post bound
 
-  -- what `set_list`'s triple binds outside, that what it asks is had, and what it says
+  -- What `set_list`'s triple binds outside, that what it asks is had, and what it says.
   abbrev asked : RefT (List ℕ) × (RefT (List ℕ) × (RefT (List ℕ) × (RefT (List Record) × Unit {0})))
   asked = (xt, (xs, (xc, (xr, tt))))
 
@@ -137,7 +138,7 @@ module _ {M : Type 1} (𝓤 : URA M) (H : Heap 𝓤) (A : Atoms 𝓤) (W : Given
   abbrev Said : Listed → List ℕ → List ℕ → List Record → Type 0
   Said r st′ sc′ rs′ = (listingOf r ≡ listed ts st sc rs) × (rs′ ≡ left ts st sc rs .records) × (st′ ≡ left ts st sc rs .state) × (sc′ ≡ left ts st sc rs .scratch)
 
-  -- likewise of `tell_listing`
+  -- Likewise of `tell_listing`.
   abbrev to-tell : Listed → Val → Tell 𝓤 H A mem run .Ghost
   to-tell r w = (((κn, tt), (qn, tt), tt, (r, (xn, tt)), (w ∷ [], (mn ∷ [], tt))), tt)
 
@@ -153,10 +154,11 @@ module _ {M : Type 1} (𝓤 : URA M) (H : Heap 𝓤) (A : Atoms 𝓤) (W : Given
       qed W (‵ (usize .own k (w ∷ [])) ∷ (‵ (flft κn qn) ⊛ ‵ ftrue) ∷ ‵ (fres γn (usize .coded .code n′)) ∷ (‵ (flft κt qt) ⊛ ‵ (flft κs qs) ⊛ ‵ (flft κc qc) ⊛ ‵ (flft κr qr) ⊛ ‵ ftrue) ∷ ‵ (finally R γr rs′) ∷ ‵ (finally u64 γc sc′) ∷ ‵ (finally u64 γs st′) ∷ []) ∵
       suffices ! _ (ends-at 𝓤 H A f.ended stayed (f.clauses 𝓤 H A mem run) W bound w k (tt, (st′, (sc′, (rs′, (n′, tt))))) (tt, (ls, (lc, (lr, (tt, tt)))))) $
       suffices ! _ (beside 𝓤 _ _ (also 𝓤 _ _ (e′ .0 ∙ ap listingCode (e .0)) (also 𝓤 _ _ (e′ .1 ∙ ap listingCount (e .0)) (also 𝓤 _ _ (e .1) (also 𝓤 _ _ (e .2) (factI 𝓤 _ (emp 𝓤) (e .3))))))) $
-      -- [the result; the count's token; its last value; the other tokens; records' last list; scratch's; state's]: the tokens
+      -- [the result; the count's token; its last value; the other tokens; records' last list;
+      -- scratch's; state's]: the tokens.
       move ! (3 ∷ []) $ split ! $ move ! (1 ∷ []) $ split ! $ move ! (1 ∷ []) $ split ! $ move ! (1 ∷ []) $ split ! $ move ! (1 ∷ []) $ drop ! $
       move ! (0 ∷ 5 ∷ []) $ join ! $ move ! (1 ∷ 0 ∷ []) $ join ! $ move ! (1 ∷ 0 ∷ []) $ join ! $ move ! (1 ∷ 0 ∷ []) $ join ! $ frame ! $
-      -- what is had of the parameters
+      -- What is had of the parameters.
       nothing ! $ move ! (2 ∷ 0 ∷ []) $ fjoin ! $ move ! (2 ∷ 0 ∷ []) $ fjoin ! $ move ! (2 ∷ 0 ∷ []) $ fjoin ! $ move ! (2 ∷ 0 ∷ []) $ fjoin ! $ nothing ! $ fjoin ! $ done !
 
   module _ (C : Calls 𝓤 H) (Λ : Loops 𝓤 H) (fm : FmC 𝓤 H (W .laws) C) (known-list : Triple 𝓤 (C #monitor·set-list) (Whole 𝓤 H A mem run)) (known-tell : Triple 𝓤 (C #cuckooormolu·tell-listing) (Tell 𝓤 H A mem run)) where
@@ -165,17 +167,18 @@ module _ {M : Type 1} (𝓤 : URA M) (H : Heap 𝓤) (A : Atoms 𝓤) (W : Given
         qed W ((‵ (flft κt qt) ⊛ ‵ (flft κs qs) ⊛ ‵ (flft κc qc) ⊛ ‵ (flft κr qr) ⊛ ‵ (flft κn qn) ⊛ ‵ ftrue) ∷ ‵ (owns (ShrSlice (named 0) κt u16 ∷ MutSlice (named 1) κs u64 ∷ MutSlice (named 2) κc u64 ∷ MutSlice (named 3) κr R ∷ MutRef (named 4) κn usize ∷ []) a at) ∷ []) ∵ enter ! C Λ code.function (mt ∷ ms ∷ mc ∷ mr ∷ mn ∷ []) _ $
         alloc1 ! (λ l₀. alloc1 ! (λ l₁. alloc1 ! (λ l₂. alloc1 ! (λ l₃. alloc1 ! (λ l₄. alloc1 ! (λ l₅. alloc1 ! (λ l₆. alloc1 ! (λ l₇. alloc1 ! (λ l₈. alloc1 ! (λ l₉. alloc1 ! (λ l₁₀. alloc1 ! (λ l₁₁. alloc1 ! (λ l₁₂. alloc1 ! (λ l₁₃. alloc0 ! $ params1 ! $
         pass1 ! (init ! 24 refl (tt, (tt, (record { fits = room-t .0 }, tt)))) $ pass1 ! (init ! 22 refl (tt, (tt, (record { fits = room-s .0 }, tt)))) $ pass1 ! (init ! 20 refl (tt, (tt, (record { fits = room-c .0 }, tt)))) $ pass1 ! (init ! 18 refl (tt, (tt, (record { fits = room-r .0 }, tt)))) $ pass1 ! (init ! 16 refl (tt, tt)) $ pass0 ! $
-        -- [_13; …; _12; …; .. ; room for _0; …; the tokens; what the five own]: the slices are made again
+        -- [_13; …; _12; …; .. ; room for _0; …; the tokens; what the five own]: the slices are made again.
         assigns ! (addr ! (from ! (fld ! refl (hop ! (look-in ! 22 (sub ! 0 refl (whole !))) (stop !))))) (from ! (stop !)) (init ! 12 refl (tt, tt)) $
         assigns ! (agg ! (and-then ! (load ! (from ! (stop !)) (look ! 12 refl)) (and-then ! (load ! (from ! (fld ! refl (stop !))) (look-in ! 22 (sub ! 1 refl (whole !)))) (no-more !)))) (from ! (stop !)) (init ! 10 refl (tt, (tt, (record { fits = room-s .0 }, tt)))) $
         assigns ! (addr ! (from ! (fld ! refl (hop ! (look-in ! 20 (sub ! 0 refl (whole !))) (stop !))))) (from ! (stop !)) (init ! 8 refl (tt, tt)) $
         assigns ! (agg ! (and-then ! (load ! (from ! (stop !)) (look ! 8 refl)) (and-then ! (load ! (from ! (fld ! refl (stop !))) (look-in ! 20 (sub ! 1 refl (whole !)))) (no-more !)))) (from ! (stop !)) (init ! 6 refl (tt, (tt, (record { fits = room-c .0 }, tt)))) $
         assigns ! (addr ! (from ! (fld ! refl (hop ! (look-in ! 18 (sub ! 0 refl (whole !))) (stop !))))) (from ! (stop !)) (init ! 4 refl (tt, tt)) $
         assigns ! (agg ! (and-then ! (load ! (from ! (stop !)) (look ! 4 refl)) (and-then ! (load ! (from ! (fld ! refl (stop !))) (look-in ! 18 (sub ! 1 refl (whole !)))) (no-more !)))) (from ! (stop !)) (init ! 2 refl (tt, (tt, (record { fits = room-r .0 }, tt)))) $
-        -- what each owns, and its token
+        -- What each owns, and its token.
         move ! (29 ∷ []) $ fsplit ! $ move ! (1 ∷ []) $ fsplit ! $ move ! (1 ∷ []) $ fsplit ! $ move ! (1 ∷ []) $ fsplit ! $ move ! (1 ∷ []) $ fsplit ! $ move ! (1 ∷ []) $ drop ! $
         move ! (33 ∷ []) $ split ! $ move ! (1 ∷ []) $ split ! $ move ! (1 ∷ []) $ split ! $ move ! (1 ∷ []) $ split ! $ move ! (1 ∷ []) $ split ! $ move ! (1 ∷ []) $ drop ! $
-        -- [the count's token; records'; scratch's; state's; terms'; what count owns; records; scratch; state; terms; _13; …]
+        -- [the count's token; records'; scratch's; state's; terms'; what count owns; records;
+        -- scratch; state; terms; _13; …].
         nothing ! $ move ! (2 ∷ 0 ∷ []) $ join ! $ move ! (2 ∷ 0 ∷ []) $ join ! $ move ! (2 ∷ 0 ∷ []) $ join ! $ move ! (2 ∷ 0 ∷ []) $ join ! $
         nothing ! $ move ! (4 ∷ 0 ∷ []) $ fjoin ! $ move ! (4 ∷ 0 ∷ []) $ fjoin ! $ move ! (4 ∷ 0 ∷ []) $ fjoin ! $ move ! (4 ∷ 0 ∷ []) $ fjoin ! $ move ! (1 ∷ 0 ∷ []) $
         use2 W (raw (Whole 𝓤 H A mem run .pre to-list)) goes-list $
@@ -183,7 +186,8 @@ module _ {M : Type 1} (𝓤 : URA M) (H : Heap 𝓤) (A : Atoms 𝓤) (W : Given
         use1 W (later (some (λ (r : Listed). ((‵ (flft κt qt) ⊛ ‵ (flft κs qs) ⊛ ‵ (flft κc qc) ⊛ ‵ (flft κr qr) ⊛ ‵ ftrue) ⊛ ‵ (S.the-row .own r (w ∷ []))) ⊛ raw (ensured 𝓤 H A list.ended (list.clauses 𝓤 H A mem run) κlist asked tt r)))) (id⊢ 𝓤 _) $ await ! tt $ pick ! (λ r. split ! $ move ! (1 ∷ []) $
         use1 W (some (λ (zs : Unit {0} × (List ℕ × (List ℕ × (List Record × Unit {0})))). ‵ (lasts list.ended κlist asked zs) ⊛ raw (fact 𝓤 (Said r (zs .1 .0) (zs .1 .1 .0) (zs .1 .1 .1 .0))))) (id⊢ 𝓤 _) $ pick ! (λ zs. split ! $ move ! (1 ∷ []) $ heard ! (Said r (zs .1 .0) (zs .1 .1 .0) (zs .1 .1 .1 .0)) (λ e.
         fsplit ! $ drop ! $ fsplit ! $ fsplit ! $ move ! (1 ∷ []) $ feqL ! (λ ls. move ! (1 ∷ []) $ fsplit ! $ fsplit ! $ move ! (1 ∷ []) $ feqL ! (λ lc. move ! (1 ∷ []) $ fsplit ! $ move ! (1 ∷ []) $ drop ! $ fsplit ! $ move ! (1 ∷ []) $ feqL ! (λ lr.
-        -- [records' last list; scratch's; state's; the tokens and the result; the count's token; what count owns; _13; …]
+        -- [records' last list; scratch's; state's; the tokens and the result; the count's
+        -- token; what count owns; _13; …].
         move ! (3 ∷ []) $ split ! $ move ! (1 ∷ []) $ peeks ! S.the-row (Is S.the-row) (shows 𝓤 H A S.the-row) r (w ∷ []) (λ is. land ! (from ! (stop !)) (init ! 21 refl (EL.lawful S.the-type S′.the-laws 𝓤 H A W tt .typed r _ is .0)) $
         assigns ! (addr ! (from ! (hop ! (look ! 23 refl) (stop !)))) (from ! (stop !)) (init ! 7 refl (tt, tt)) $
         nothing ! $ move ! (6 ∷ 0 ∷ []) $ join ! $ nothing ! $ move ! (7 ∷ 0 ∷ []) $ fjoin ! $ move ! (2 ∷ 0 ∷ []) $ fjoin ! $ move ! (1 ∷ 0 ∷ []) $
@@ -192,7 +196,8 @@ module _ {M : Type 1} (𝓤 : URA M) (H : Heap 𝓤) (A : Atoms 𝓤) (W : Given
         use1 W (later (some (λ (k : ℕ). ((‵ (flft κn qn) ⊛ ‵ ftrue) ⊛ ‵ (usize .own k (w′ ∷ []))) ⊛ raw (ensured 𝓤 H A tell.ended (tell.clauses 𝓤 H A mem run) (κn, tt) (r, (xn, tt)) tt k)))) (id⊢ 𝓤 _) $ await ! tt $ pick ! (λ k. split ! $ move ! (1 ∷ []) $
         use1 W (some (λ (ns : Unit {0} × (ℕ × Unit {0})). ‵ (lasts tell.ended (κn, tt) (r, (xn, tt)) ns) ⊛ raw (fact 𝓤 (Told r k (ns .1 .0))))) (id⊢ 𝓤 _) $ pick ! (λ ns. split ! $ move ! (1 ∷ []) $ heard ! (Told r k (ns .1 .0)) (λ e′. fsplit ! $ drop ! $ fsplit ! $ move ! (1 ∷ []) $ drop ! $
         move ! (1 ∷ []) $ split ! $ move ! (1 ∷ []) $ peeks ! usize (Is usize) (shows 𝓤 H A usize) k (w′ ∷ []) (λ is′. land ! (from ! (stop !)) (init ! 33 refl (uint-lawful 𝓤 H A W w64 .typed k _ is′ .0)) $
-        -- [the result; the count's token; its last value; the other tokens; records' last list; scratch's; state's; _13; …]
+        -- [the result; the count's token; its last value; the other tokens; records' last
+        -- list; scratch's; state's; _13; …].
         returns ! (look ! 33 refl) $ forget ! 33 refl $ forget ! 31 refl $ forget ! 29 refl $ forget ! 27 refl $ forget ! 25 refl $ forget ! 23 refl $ forget ! 21 refl $ forget ! 19 refl $ forget ! 17 refl $ forget ! 15 refl $ forget ! 13 refl $ forget ! 11 refl $ forget ! 9 refl $ forget ! 7 refl $
         move ! (33 ∷ 34 ∷ []) $ free1 ! $ move ! (31 ∷ 32 ∷ []) $ free1 ! $ move ! (29 ∷ 30 ∷ []) $ free1 ! $ move ! (27 ∷ 28 ∷ []) $ free1 ! $ move ! (25 ∷ 26 ∷ []) $ free1 ! $ move ! (23 ∷ 24 ∷ []) $ free1 ! $ move ! (21 ∷ 22 ∷ []) $ free1 ! $ move ! (19 ∷ 20 ∷ []) $ free1 ! $ move ! (17 ∷ 18 ∷ []) $ free1 ! $ move ! (15 ∷ 16 ∷ []) $ free1 ! $ move ! (13 ∷ 14 ∷ []) $ free1 ! $ move ! (11 ∷ 12 ∷ []) $ free1 ! $ move ! (9 ∷ 10 ∷ []) $ free1 ! $ move ! (7 ∷ 8 ∷ []) $ free1 ! $ free0 ! $
         by ! (exits r (zs .1 .0) (zs .1 .1 .0) (zs .1 .1 .1 .0) k (ns .1 .0) w′ e e′ ls lc lr))))))))))))))))))))))))))))

@@ -1,20 +1,9 @@
+-- `cuckooormolu::cuckooormolu_raw_store` meets its contract.
 use borrow.Author.Needs.{needs}
 use mathlib.Core.Path.{ap, _∙_}
 use Rattle.cuckooormolu.specs.Codes.{writingCode, writingCount}
 use Rattle.cuckooormolu.proofs.cuckooormolu_raw_store.Statement.{statement}
 use Rattle.cuckooormolu.proofs.cuckooormolu_raw_store.Tie as tie
-
-store-requires : tie.Need-store-requires
-store-requires c κs = search needs
-
-writing-count-requires : tie.Need-writing-count-requires
-writing-count-requires c κs = search needs
-
-writing-code-requires : tie.Need-writing-code-requires
-writing-code-requires c κs = search needs
-
-same-length : tie.Need-same-length
-same-length c = search needs
 
 returns : tie.Need-returns
 returns c =
@@ -27,4 +16,9 @@ returns c =
 pub cuckooormolu-raw-store-spec : {M : Type 1} → statement M
 cuckooormolu-raw-store-spec =
     tie.close
-    (tie.spec store-requires writing-count-requires writing-code-requires same-length returns)
+    (tie.spec
+    (λ c κs. search needs)
+    (λ c κs. search needs)
+    (λ c κs. search needs)
+    (λ c. search needs)
+    returns)

@@ -35,8 +35,9 @@ reads (at y f) x = eqb x y || reads f x
 reads (reach y f h) x = reads h x
 reads (many l f k) x = reads f x
 
--- The slot of entry k: 64 rows, two words whose bytes tell what 16 variables stood for, the set of members that have a row, a set of
--- variables, one of them as the column, and for each member the set of those whose bits in its row are known.
+-- The slot of entry k: 64 rows, two words whose bytes tell what 16 variables stood for, the set of members
+-- that have a row, a set of variables, one of them as the column, and for each member the set of those
+-- whose bits in its row are known.
 abbrev pub slotWords : ℕ
 slotWords = 133
 
@@ -75,11 +76,13 @@ pub record Slot (T : Terms) (rel past : List ℕ) (k : ℕ) (s : List ℕ) : Typ
   pub right : (g : Assignment) → Vars (T .members) g → Under s g → (a b : ℕ) → knows s a b ≡ true →
       bit (getD s a 0) b ≡ cell T rel past g (columnOf s) k a b
 
--- Bit b of a row is asked for, under g with x open: every bit where x is read, and else that of what the column stands for.
+-- Bit b of a row is asked for, under g with x open: every bit where x is read, and else that
+-- of what the column stands for.
 abbrev pub asks : List ℕ → Assignment → (x b : ℕ) → Bool
 asks s g x b = cond (bit (readsOf s) x) (ltb b maxMembers) (ltb b maxMembers && eqb b (g (columnOf s)))
 
--- What is asked for of the row w: its own bits, of those in all, or all or nothing, as it has what the column stands for.
+-- What is asked for of the row w: its own bits, of those in all, or all or nothing, as it
+-- has what the column stands for.
 abbrev pub shows : List ℕ → Assignment → (x all w : ℕ) → ℕ
 shows s g x all w = cond (bit (readsOf s) x) (bitAnd all w) (cond (bit w (g (columnOf s))) all 0)
 
@@ -106,7 +109,8 @@ pub record Apart (k : ℕ) (m m' : List ℕ) : Type 0 where
 pub record Fresh (N n : ℕ) (m : List ℕ) : Type 0 where
   pub none : (k : ℕ) → n ≤ k → k < N → slotWords * k + slotWords ≤ length m → haveOf (slotOf k m) ≡ 0
 
--- A slot that is made one for g with x open: need has those of want of whose rows something that is asked for is not known.
+-- A slot that is made one for g with x open: need has those of want of whose rows something
+-- that is asked for is not known.
 pub record Missing (g : Assignment) (x want need : ℕ) (s s' : List ℕ) : Type 0 where
   pub variables : readsOf s' ≡ readsOf s
   pub column : bit (readsOf s') x ≡ true → columnOf s' ≡ x

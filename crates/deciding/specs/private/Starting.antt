@@ -32,6 +32,6 @@ startBelow old state n U = tabled (stateOf state) (startTables (termsOf old) (st
 abbrev pub Begun : (old state new : List ℕ) → ℕ → (rest m : List ℕ) → Type 0
 Begun old state new n rest m = HasState (termsOf new) (startBelow old state n (termsOf new)) rest m
 
--- taken has, for each new entry, the first old one with the same formula.
+-- Taken has, for each new entry, the first old one with the same formula.
 abbrev pub Taken : (old new taken : List ℕ) → Type 0
 Taken old new taken = Classed (termsOf old) (termsOf new) (termsOf new .entries) taken

@@ -1,7 +1,7 @@
 -- The loop's invariant: the policies of the events below j are counted.
 use borrow.Author.Needs.{needs}
 use native.Mathlib.Omega.{arith}
-use Prim.Native.Nat.{ℕ, _-_, _≤_}
+use Prim.Native.Nat.{_-_, _≤_}
 use mathlib.Core.Path.{_≡_, _∙_, ap}
 use Rattle.memory.specs.Layout.{termsOf}
 use Rattle.effort.specs.Effort.{policies}
@@ -14,9 +14,6 @@ Inv-loop terms words₀ n j₀ words j = (words ≡ policies (termsOf terms) j) 
 
 abbrev μ-loop : tie.MeasureT-loop
 μ-loop terms words₀ n j₀ words j = n - j
-
-loop-holds : tie.Need-loop-holds Inv-loop μ-loop
-loop-holds c = (c .before .before .pre, omega arith)
 
 loop-again : tie.Need-loop-again Inv-loop μ-loop
 loop-again c =
@@ -37,7 +34,7 @@ add-policies-spec =
     Inv-loop
     μ-loop
     (λ c κs. search needs)
-    loop-holds
+    (λ c. (c .before .before .pre, omega arith))
     (λ c κs. search needs)
     (λ c κs. search needs)
     (λ c. omega arith)

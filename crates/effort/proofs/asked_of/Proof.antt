@@ -1,3 +1,4 @@
+-- `effort::asked_of` meets its contract.
 use borrow.Author.Needs.{needs}
 use borrow.Author.Tests.{eq-eqb, ne-eqb, lt-ltb, le-ltb}
 use native.Mathlib.Omega.{arith}
@@ -44,4 +45,13 @@ returns-5 c =
 
 pub asked-of-spec : {M : Type 1} → statement M
 asked-of-spec =
-    tie.close (tie.spec (λ c κs. search needs) mul-result returns returns-2 returns-3 (λ c κs. search needs) returns-4 returns-5)
+    tie.close
+    (tie.spec
+    (λ c κs. search needs)
+    mul-result
+    returns
+    returns-2
+    returns-3
+    (λ c κs. search needs)
+    returns-4
+    returns-5)

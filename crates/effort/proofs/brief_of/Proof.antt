@@ -1,3 +1,4 @@
+-- `effort::brief_of` meets its contract.
 use borrow.Author.Needs.{needs}
 use native.Mathlib.Omega.{arith}
 use native.Mathlib.Nat.{mul-le-mul}
@@ -15,13 +16,12 @@ mul-result-3 c =
     let p = mul-le-mul all few in
     record { fits = omega arith }
 
-returns : tie.Need-returns
-unfolding brief
-returns c = rw (lt-ltb 16 (c .before .args .n) (c .if1 .taken)) (omega arith)
-
-returns-2 : tie.Need-returns-2
-unfolding brief
-returns-2 c = rw (le-ltb 16 (c .before .args .n) (c .if1 .left))
-
 pub brief-of-spec : {M : Type 1} → statement M
-brief-of-spec = tie.close (tie.spec (λ c. search needs) (λ c. search needs) mul-result-3 returns returns-2)
+brief-of-spec =
+    tie.close
+    (tie.spec
+    (λ c. search needs)
+    (λ c. search needs)
+    mul-result-3
+    (λ c. unfold brief in rw (lt-ltb 16 (c .before .args .n) (c .if1 .taken)) (omega arith))
+    (λ c. unfold brief in rw (le-ltb 16 (c .before .args .n) (c .if1 .left))))

@@ -16,9 +16,6 @@ Inv-loop terms sets₀ n i₀ sets i = (sets ≡ setsOf (termsOf terms) i) × (i
 abbrev μ-loop : tie.MeasureT-loop
 μ-loop terms sets₀ n i₀ sets i = n - i
 
-loop-holds : tie.Need-loop-holds Inv-loop μ-loop
-loop-holds c = (c .before .before .pre .1, omega arith)
-
 loop-again : tie.Need-loop-again Inv-loop μ-loop
 loop-again c =
     let l = c .before .before .before .before .before .before .before .before .before .before .before .before .before .before .before .loop in
@@ -43,7 +40,7 @@ fill-sets-spec =
     Inv-loop
     μ-loop
     (λ c κs. search needs)
-    loop-holds
+    (λ c. (c .before .before .pre .1, omega arith))
     (λ c κs. search needs)
     (λ c κs. search needs)
     (λ c κs. search needs)

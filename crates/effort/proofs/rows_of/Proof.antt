@@ -1,3 +1,4 @@
+-- `effort::rows_of` meets its contract.
 use borrow.Author.Needs.{needs}
 use borrow.Author.Tests.{lt-ltb, le-ltb}
 use mathlib.Core.Path.{_≡_, _∙_, sym}
@@ -6,10 +7,6 @@ use Rattle.theory.specs.Formula.{isPast}
 use Rattle.effort.specs.Effort.{rowsOf}
 use Rattle.effort.proofs.rows_of.Statement.{statement}
 use Rattle.effort.proofs.rows_of.Tie as tie
-
-returns : tie.Need-returns
-unfolding rowsOf
-returns c = rw (lt-ltb _ 2 (c .if1 .taken))
 
 returns-2 : tie.Need-returns-2
 unfolding rowsOf
@@ -30,4 +27,12 @@ returns-4 c =
     rw (le-ltb _ 2 (c .before .before .before .if1 .left), p, c .if3 .left)
 
 pub rows-of-spec : {M : Type 1} → statement M
-rows-of-spec = tie.close (tie.spec returns (λ c κs. search needs) returns-2 (λ c κs. search needs) returns-3 returns-4)
+rows-of-spec =
+    tie.close
+    (tie.spec
+    (λ c. unfold rowsOf in rw (lt-ltb _ 2 (c .if1 .taken)))
+    (λ c κs. search needs)
+    returns-2
+    (λ c κs. search needs)
+    returns-3
+    returns-4)

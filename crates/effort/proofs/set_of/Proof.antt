@@ -1,9 +1,9 @@
+-- `effort::set_of` meets its contract.
 use borrow.Author.Needs.{needs}
 use borrow.Author.Tests.{eq-eqb, ne-eqb}
 use native.Mathlib.Omega.{arith}
 use mathlib.Core.Path.{_≡_, _∙_, sym}
 use mathlib.Core.Bool.{true, false}
-use lib.Dec.{eqb}
 use Rattle.theory.specs.Formula.{isPast}
 use Rattle.effort.proofs.CutSums.{set-is}
 use Rattle.effort.proofs.set_of.Statement.{statement}
@@ -28,4 +28,11 @@ returns-3 c =
     sym (set-is (f .result) _ _ _ _ _ (omega arith) (f .ensures) ∙ rw p)
 
 pub set-of-spec : {M : Type 1} → statement M
-set-of-spec = tie.close (tie.spec (λ c κs. search needs) (λ c κs. search needs) returns returns-2 returns-3)
+set-of-spec =
+    tie.close
+    (tie.spec
+    (λ c κs. search needs)
+    (λ c κs. search needs)
+    returns
+    returns-2
+    returns-3)

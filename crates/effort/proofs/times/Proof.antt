@@ -1,7 +1,6 @@
+-- `effort::times` meets its contract.
 use borrow.Author.Needs.{needs}
-use native.Mathlib.Omega.{arith}
 use Prim.Native.Nat.{_≤_}
-use mathlib.Core.Path.{sym, subst}
 use Rattle.effort.specs.Effort.{most}
 use Rattle.effort.proofs.CutSums.{cut-le, product-fits}
 use Rattle.effort.proofs.times.Statement.{statement}
@@ -14,4 +13,10 @@ mul-smaller c =
     record { fits = product-fits (a .args .n) (c .smaller .result) (a .pre) l }
 
 pub times-spec : {M : Type 1} → statement M
-times-spec = tie.close (tie.spec (λ c κs. search needs) mul-smaller (λ c κs. search needs) (λ c. cc))
+times-spec =
+    tie.close
+    (tie.spec
+    (λ c κs. search needs)
+    mul-smaller
+    (λ c κs. search needs)
+    (λ c. cc))

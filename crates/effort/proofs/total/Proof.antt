@@ -15,14 +15,6 @@ Inv-loop terms sets limit calls₀ asked₀ n rows₀ i₀ calls asked rows i = 
 abbrev μ-loop : tie.MeasureT-loop
 μ-loop terms sets limit calls₀ asked₀ n rows₀ i₀ calls asked rows i = n - i
 
-add-policies-requires : tie.Need-add-policies-requires Inv-loop μ-loop
-unfolding policies
-add-policies-requires c κs = refl
-
-add-policies-requires-2 : tie.Need-add-policies-requires-2 Inv-loop μ-loop
-unfolding policies
-add-policies-requires-2 c κs = refl
-
 loop-holds : tie.Need-loop-holds Inv-loop μ-loop
 loop-holds c =
     let a = c .before .before .before .before .before .before .args in
@@ -52,8 +44,8 @@ total-spec =
     (tie.spec
     Inv-loop
     μ-loop
-    add-policies-requires
-    add-policies-requires-2
+    (λ c κs. unfold policies in refl)
+    (λ c κs. unfold policies in refl)
     (λ c κs. search needs)
     loop-holds
     (λ c. omega arith)

@@ -1,3 +1,4 @@
+-- `memory::inspect_entry` meets its contract.
 use borrow.Author.Needs.{needs}
 use borrow.Author.Tests.{not-true}
 use mathlib.Core.Path.{_≡_, refl, sym, _∙_}
@@ -8,11 +9,11 @@ use Rattle.memory.proofs.Outcomes as outcomes
 use Rattle.memory.proofs.inspect_entry.Statement.{statement}
 use Rattle.memory.proofs.inspect_entry.Tie as tie
 
--- the function's entry, from the place where the lengths are looked at
+-- The function's entry, from the place where the lengths are looked at.
 abbrev start : tie.Else2 → tie.Start
 start c = c .before .before .before .before
 
--- the terms are looked at, and pass
+-- The terms are looked at, and pass.
 abbrev checked : tie.Else3 → tie.After-check-terms
 checked c = c .before .before .before
 
@@ -22,11 +23,11 @@ lengths c = c .before .before .before
 terms-good : (c : tie.Else3) → goodMemory (start (lengths (checked c)) .args .terms .now) ≡ true
 terms-good c = sym (checked c .check-terms .ensures .0) ∙ outcomes.not-false _ (c .if3 .left)
 
--- the state is looked at
+-- The state is looked at.
 abbrev passed : tie.After-check-state → tie.Else3
 passed c = c .before .before .before
 
--- terms and state pass
+-- Terms and state pass.
 all-passed : (c : tie.Else4) → outcomes.Checked (start (lengths (checked (passed (c .before)))) .args .terms .now) (start (lengths (checked (passed (c .before)))) .args .state .now)
 all-passed c =
     let k = passed (c .before) in
@@ -43,9 +44,6 @@ returns c = (outcomes.entry-unchecked _ _ _ _ _ (outcomes.check-short-terms _ _ 
 
 returns-2 : tie.Need-returns-2
 returns-2 c = (outcomes.entry-unchecked _ _ _ _ _ (outcomes.check-short-state _ _ (c .if2 .taken)), ((λ e. absurd (false≢true e)), (λ _. refl)))
-
-check-terms-requires : tie.Need-check-terms-requires
-check-terms-requires c κs = (search needs, search needs, refl)
 
 returns-3 : tie.Need-returns-3
 returns-3 c =
@@ -67,9 +65,6 @@ returns-4 c =
       outcomes.entry-unchecked _ _ _ _ _ (outcomes.check-bad-state _ _ (l .before .if1 .left) (l .if2 .left) (terms-good k) (sym (c .before .check-state .ensures) ∙ not-true _ (c .if4 .taken))),
       ((λ e. absurd (false≢true e)), (λ _. refl)),
     )
-
-slice-aggregate-is-askable : tie.Need-slice-aggregate-is-askable
-slice-aggregate-is-askable c = search needs
 
 is-askable-requires : tie.Need-is-askable-requires
 unfolding goodMemory
@@ -98,13 +93,13 @@ inspect-entry-spec =
     returns-2
     (λ c. search needs)
     (λ c. search needs)
-    check-terms-requires
+    (λ c κs. (search needs, search needs, refl))
     returns-3
     (λ c. search needs)
     (λ c. search needs)
     check-state-requires
     returns-4
-    slice-aggregate-is-askable
+    (λ c. search needs)
     is-askable-requires
     returns-5
     returns-6)

@@ -1,3 +1,4 @@
+-- `memory::inspect_revision` meets its contract.
 use borrow.Author.Needs.{needs}
 use borrow.Author.Tests.{not-true}
 use mathlib.Core.Path.{_≡_, refl, sym, _∙_}
@@ -7,11 +8,11 @@ use Rattle.memory.proofs.Outcomes as outcomes
 use Rattle.memory.proofs.inspect_revision.Statement.{statement}
 use Rattle.memory.proofs.inspect_revision.Tie as tie
 
--- the function's entry, from the place where the lengths are looked at
+-- The function's entry, from the place where the lengths are looked at.
 abbrev start : tie.Else4 → tie.Start
 start c = c .before .before .before .before .before .before .before .before
 
--- the new terms are looked at, and then the old
+-- The new terms are looked at, and then the old.
 abbrev lengths : tie.After-check-terms → tie.Else4
 lengths c = c .before .before .before
 
@@ -30,7 +31,7 @@ new-good c = sym (new-checked c .check-terms .ensures .0) ∙ outcomes.not-false
 old-good : (c : tie.Else6) → goodMemory (start (lengths (new-checked (new-passed (old-checked c)))) .args .old .now) ≡ true
 old-good c = sym (old-checked c .check-terms2 .ensures .0) ∙ outcomes.not-false _ (c .if6 .left)
 
--- and the state
+-- And the state.
 abbrev old-passed : tie.After-check-state → tie.Else6
 old-passed c = c .before .before .before
 
@@ -49,9 +50,6 @@ returns-3 c = (outcomes.revise-short-old _ _ _ _ (c .if3 .taken), ((λ e. absurd
 returns-4 : tie.Need-returns-4
 returns-4 c = (outcomes.revise-short-state _ _ _ _ (c .if4 .taken), ((λ e. absurd (false≢true e)), ((λ e. absurd (false≢true e)), (λ _. (refl, refl)))))
 
-check-terms-requires : tie.Need-check-terms-requires
-check-terms-requires c κs = (search needs, search needs, refl)
-
 returns-5 : tie.Need-returns-5
 returns-5 c =
     let k = c .before .before .before in
@@ -60,9 +58,6 @@ returns-5 c =
           (sym (k .check-terms .ensures .0) ∙ not-true _ (c .if5 .taken)),
       ((λ e. absurd (false≢true e)), ((λ e. absurd (false≢true e)), (λ _. (refl, refl)))),
     )
-
-check-terms-requires-2 : tie.Need-check-terms-requires-2
-check-terms-requires-2 c κs = (search needs, search needs, refl)
 
 returns-6 : tie.Need-returns-6
 returns-6 c =
@@ -88,10 +83,7 @@ returns-7 c =
       ((λ e. absurd (false≢true e)), ((λ e. absurd (false≢true e)), (λ _. (refl, refl)))),
     )
 
-is-same-size-requires : tie.Need-is-same-size-requires
-is-same-size-requires c κs = search needs
-
--- the sizes are looked at
+-- The sizes are looked at.
 abbrev state-passed : tie.After-is-same-size → tie.Else7
 state-passed c = c .before
 
@@ -131,16 +123,16 @@ inspect-revision-spec =
     returns-4
     (λ c. search needs)
     (λ c. search needs)
-    check-terms-requires
+    (λ c κs. (search needs, search needs, refl))
     returns-5
     (λ c. search needs)
     (λ c. search needs)
-    check-terms-requires-2
+    (λ c κs. (search needs, search needs, refl))
     returns-6
     (λ c. search needs)
     (λ c. search needs)
     check-state-requires
     returns-7
-    is-same-size-requires
+    (λ c κs. search needs)
     returns-8
     returns-9)

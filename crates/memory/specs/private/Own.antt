@@ -1,4 +1,5 @@
--- The tests of `goodState` that look at a bank's own words, by the words of its own: what the private functions of the check answer.
+-- The tests of `goodState` that look at a bank's own words, by the words of its own: what the private
+-- functions of the check answer.
 use Prim.Native.Nat.{ℕ, _+_, _*_}
 use mathlib.Core.Bool.{Bool}
 use mathlib.Core.List.{List, [], _∷_}

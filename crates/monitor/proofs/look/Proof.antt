@@ -1,3 +1,4 @@
+-- `monitor::look` meets its contract.
 use borrow.Author.Needs.{needs}
 use mathlib.Core.Path.{sym, ap, _∙_}
 use Rattle.memory.specs.Outcome.{outcomeOf, hasPassed}
@@ -6,23 +7,20 @@ use Rattle.calls.proofs.ListChecks.{list-ready, refused-alike}
 use Rattle.monitor.proofs.look.Statement.{statement}
 use Rattle.monitor.proofs.look.Tie as tie
 
--- the memory is looked at
+-- The memory is looked at.
 abbrev inspected : tie.After-enum-told → tie.After-inspect
 inspected c = c .before .before
 
 abbrev start : tie.After-inspect → tie.Start
 start c = c .before .before .before .before .before
 
--- it passes
+-- It passes.
 ready : (c : tie.After-enum-told) → let x = start (inspected c) .args in
     Passed (x .terms .now) (inspected c .inspect .last .1 .1 .1 .0) (x .state .now) (x .scratch .now)
 ready c =
     let i = inspected c .inspect .ensures in
     let e = ap outcomeOf (c .enum-told .given .1) in
     list-ready _ _ _ _ (sym e ∙ i .0) (i .1 (ap hasPassed e))
-
-slice-aggregate-look : tie.Need-slice-aggregate-look
-slice-aggregate-look c = sym (ready (c .before) .planned .long)
 
 look-requires : tie.Need-look-requires
 look-requires c κs =
@@ -34,9 +32,6 @@ returns c =
     let i = c .before .before .before in
     sym (refused-alike _ _ _ _ _ (sym (i .inspect .ensures .0) ∙ ap outcomeOf (c .before .checked .given .1)) _ _ _)
 
-returns-2 : tie.Need-returns-2
-returns-2 c = c .look .ensures _ (ready (c .before .before) .long-scratch)
-
 pub look-spec : {M : Type 1} → statement M
 look-spec =
     tie.close
@@ -44,7 +39,7 @@ look-spec =
     (λ c κs. search needs)
     (λ c. search needs)
     (λ c. search needs)
-    slice-aggregate-look
+    (λ c. sym (ready (c .before) .planned .long))
     look-requires
     returns
-    returns-2)
+    (λ c. c .look .ensures _ (ready (c .before .before) .long-scratch)))

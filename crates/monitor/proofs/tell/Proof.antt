@@ -1,7 +1,8 @@
+-- `monitor::tell` meets its contract.
 use borrow.Author.Needs.{needs}
 use borrow.Author.Tests.{not-true, ltb-true}
 use mathlib.Core.Path.{_≡_, sym, ap, _∙_}
-use mathlib.Core.Bool.{true, false}
+use mathlib.Core.Bool.{true}
 use lib.Dec.{ltb}
 use Rattle.sets.proofs.Finite.{and-left, and-right}
 use Rattle.memory.specs.Layout.{termsOf}
@@ -12,39 +13,30 @@ use Rattle.calls.proofs.Telling as telling
 use Rattle.monitor.proofs.tell.Statement.{statement}
 use Rattle.monitor.proofs.tell.Tie as tie
 
--- terms, state and entry are looked at
+-- Terms, state and entry are looked at.
 abbrev inspected : tie.After-enum-told → tie.After-inspect-entry
 inspected c = c .before .before
 
 abbrev start : tie.After-enum-told → tie.Start
 start c = inspected c .before .before .before .before
 
--- terms, state and entry pass
+-- Terms, state and entry pass.
 passes : (c : tie.After-enum-told) → outcomes.Checked (start c .args .terms .now) (start c .args .state .now) × (askable (termsOf (start c .args .terms .now)) (start c .args .entry) ≡ true)
 passes c = outcomes.passed-entry _ _ _ (sym (ap outcomeOf (c .enum-told .given .1)) ∙ inspected c .inspect-entry .ensures .0)
 
-inspect-entry-requires : tie.Need-inspect-entry-requires
-inspect-entry-requires c κs = search needs
-
-enum-known-checked : tie.Need-enum-known-checked
-enum-known-checked c = search needs
-
 enum-told : tie.Need-enum-told
 enum-told c = search needs
-
-are-members-requires : tie.Need-are-members-requires
-are-members-requires c κs = search needs
 
 returns : tie.Need-returns
 returns c =
     let k = c .before .before in
     telling.told-unpaired _ _ _ _ _ (passes k .0) (passes k .1) (sym (c .before .are-members .ensures) ∙ not-true _ (c .if1 .taken))
 
--- both are members
+-- Both are members.
 paired : (c : tie.Else1) → spec.paired (termsOf (start (c .before .before) .args .terms .now)) (start (c .before .before) .args .u) (start (c .before .before) .args .v) ≡ true
 paired c = sym (c .before .are-members .ensures) ∙ outcomes.not-false _ (c .if1 .left)
 
--- and the plan of the tables is left
+-- And the plan of the tables is left.
 planned : (k : tie.After-enum-told) → hasPassed (outcomeOf (inspected k .inspect-entry .result)) ≡ true
 planned k = ap hasPassed (ap outcomeOf (k .enum-told .given .1))
 
@@ -90,10 +82,10 @@ pub tell-spec : {M : Type 1} → statement M
 tell-spec =
     tie.close
     (tie.spec
-    inspect-entry-requires
-    enum-known-checked
+    (λ c κs. search needs)
+    (λ c. search needs)
     enum-told
-    are-members-requires
+    (λ c κs. search needs)
     returns
     slice-aggregate-is-so
     is-so-requires

@@ -1,3 +1,4 @@
+-- `plans::forced` meets its contract.
 use Rattle.memory.proofs.Outcomes.{Checked, passed-entry}
 use Rattle.plans.proofs.Rulings.{refusal-leaves, verdict-leaves, short-game, unchecked-game, no-game, unknown-game, judged-game, playable}
 use Rattle.memory.specs.Layout.{termsOf}
@@ -13,18 +14,18 @@ use borrow.Author.Needs.{needs}
 use Rattle.plans.proofs.forced.Statement.{statement}
 use Rattle.plans.proofs.forced.Tie as tie
 
--- scratch is long enough, and terms and state are looked at
+-- Scratch is long enough, and terms and state are looked at.
 abbrev inspected : tie.After-enum-told → tie.After-inspect-entry
 inspected c = c .before .before
 
 abbrev start : tie.After-enum-told → tie.Start
 start c = inspected c .before .before .before .before .before .before .before
 
--- terms, state and goal pass
+-- Terms, state and goal pass.
 passes : (c : tie.After-enum-told) → Checked (start c .args .terms .now) (start c .args .state .now) × (askable (termsOf (start c .args .terms .now)) (start c .args .goal) ≡ true)
 passes c = passed-entry _ _ _ (sym (ap outcomeOf (c .enum-told .given .1)) ∙ inspected c .inspect-entry .ensures .0)
 
--- the plan passes too
+-- The plan passes too.
 abbrev told : tie.Else3 → tie.After-enum-told
 told c = c .before .before .before .before
 
@@ -36,29 +37,14 @@ is-known : (c : tie.Else3) → every (knownTests (termsOf (start (told c) .args 
     (start (told c) .args .rival) (start (told c) .args .u) (start (told c) .args .v)) ≡ true
 is-known c = sym (c .before .is-known .ensures) ∙ not-false _ (c .if3 .left)
 
-returns : tie.Need-returns
-returns c = refusal-leaves _ _ _ _ _ _ _ _ _ 6 0 (short-game _ _ _ _ _ _ _ _ _ (c .if1 .taken))
-
-inspect-entry-requires : tie.Need-inspect-entry-requires
-inspect-entry-requires c κs = search needs
-
-enum-known-checked : tie.Need-enum-known-checked
-enum-known-checked c = search needs
-
 enum-told : tie.Need-enum-told
 enum-told c = search needs
-
-is-game-requires : tie.Need-is-game-requires
-is-game-requires c κs = search needs
 
 returns-2 : tie.Need-returns-2
 returns-2 c =
     let k = c .before .before in
     refusal-leaves _ _ _ _ _ _ _ _ _ 14 0
     (no-game _ _ _ _ _ _ _ _ _ (inspected k .before .before .if1 .left) (passes k .0) (passes k .1) (sym (c .before .is-game .ensures) ∙ not-true _ (c .if2 .taken)))
-
-is-known-requires : tie.Need-is-known-requires
-is-known-requires c κs = search needs
 
 returns-3 : tie.Need-returns-3
 returns-3 c =
@@ -68,15 +54,6 @@ returns-3 c =
     (unknown-game _ _ _ _ _ _ _ _ _ (inspected k .before .before .if1 .left) (passes k .0) (passes k .1) (sym (e .before .is-game .ensures) ∙ not-false _ (e .if2 .left))
     (sym (c .before .is-known .ensures) ∙ not-true _ (c .if3 .taken)))
 
-sub-play : tie.Need-sub-play
-sub-play c = search needs
-
-part-play-start : tie.Need-part-play-start
-part-play-start c = search needs
-
-part-play-end : tie.Need-part-play-end
-part-play-end c = search needs
-
 play-requires : tie.Need-play-requires
 play-requires c κs =
     let e = c .before in
@@ -85,9 +62,6 @@ play-requires c κs =
       playable (x .terms .now) (x .plan .now) (x .planner) (x .rival) (x .goal) (x .u) (x .v) (is-game e),
       (passes k .0 .long-state, length-take-le gameWords (x .scratch .now) (inspected k .before .before .if1 .left)),
     )
-
-same-length : tie.Need-same-length
-same-length c = search needs
 
 returns-4 : tie.Need-returns-4
 returns-4 c =
@@ -104,9 +78,6 @@ returns-5 c =
     refusal-leaves _ _ _ _ _ _ _ _ _ _ _
     (unchecked-game _ _ _ _ _ _ _ _ _ (i .before .before .if1 .left) _ _ (sym (ap outcomeOf (c .before .checked .given .1)) ∙ i .inspect-entry .ensures .0))
 
-same-length-2 : tie.Need-same-length-2
-same-length-2 c = search needs
-
 returns-6 : tie.Need-returns-6
 returns-6 c =
     let t = c .before .before .before in
@@ -120,20 +91,20 @@ pub forced-spec : {M : Type 1} → statement M
 forced-spec =
     tie.close
     (tie.spec
-    returns
-    inspect-entry-requires
-    enum-known-checked
+    (λ c. refusal-leaves _ _ _ _ _ _ _ _ _ 6 0 (short-game _ _ _ _ _ _ _ _ _ (c .if1 .taken)))
+    (λ c κs. search needs)
+    (λ c. search needs)
     enum-told
-    is-game-requires
+    (λ c κs. search needs)
     returns-2
-    is-known-requires
+    (λ c κs. search needs)
     returns-3
-    sub-play
-    part-play-start
-    part-play-end
+    (λ c. search needs)
+    (λ c. search needs)
+    (λ c. search needs)
     play-requires
-    same-length
+    (λ c. search needs)
     returns-4
     returns-5
-    same-length-2
+    (λ c. search needs)
     returns-6)

@@ -20,7 +20,8 @@ use Rattle.file.specs.declared.line.Line.the-variants.{Members, Labels, Entry, 
 abbrev pub tableWord : (state : List ℕ) → (t a : ℕ) → ℕ
 tableWord state t a = cond (ltb t maxTables && ltb a maxMembers) (getD state (tableAt t a) 0) 0
 
--- A line is a T line of a word that is not full, in a table without a free variable. masks has the sets of free variables, full has all bits of a word.
+-- A line is a T line of a word that is not full, in a table without a free variable. masks has the sets of free
+-- variables, full has all bits of a word.
 unfoldable pub partlyIn : (terms state masks : List ℕ) → (full : ℕ) → Line → Bool
 partlyIn terms state masks full (Members n) = false
 partlyIn terms state masks full (Labels r e) = false

@@ -1,4 +1,5 @@
--- The counters of the reader, in place of what the lines have said: before the first line, and after each that has passed.
+-- The counters of the reader, in place of what the lines have said: before the first line,
+-- and after each that has passed.
 use Prim.Native.Nat.{ℕ, suc, _+_, _<_}
 use mathlib.Core.Path.{_≡_}
 use mathlib.Core.Bool.{Bool, true, false, cond, _&&_}

@@ -50,7 +50,8 @@ risingPair c t a b d =
 abbrev pub isPair : Context → (m t : ℕ) → Bool
 isPair c m t = ltb t (c .tables) && not (eqb (restOf m) 0)
 
--- The tests of Reading, against counters. m is the set of the free variables of an F line's entry, or of a P line's, or of the entry of a T line's table; reaches says whether an F line's entry, if it is a reach, may be one.
+-- The tests of Reading, against counters. m is the set of the free variables of an F line's entry, or of a P line's, or
+-- of the entry of a T line's table; reaches says whether an F line's entry, if it is a reach, may be one.
 unfoldable pub contextTests : Context → (m : ℕ) → (reaches : Bool) → Line → List Test
 contextTests c m reaches (Members n) =
     test 1 (eqb (c .phase) 0)

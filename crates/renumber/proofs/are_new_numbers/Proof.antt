@@ -1,3 +1,4 @@
+-- `renumber::are_new_numbers` meets its contract.
 use borrow.Author.Needs.{needs}
 use native.Mathlib.Omega.{arith}
 use Prim.Native.Nat.{ℕ, _-_, _≤_}
@@ -14,9 +15,6 @@ abbrev μ-loop : tie.MeasureT-loop
 
 returns : tie.Need-returns Inv-loop μ-loop
 returns c = sym (listed.short (c .before .before .args .numbers .now) (c .before .before .args .n) (c .if1 .taken))
-
-loop-holds : tie.Need-loop-holds Inv-loop μ-loop
-loop-holds c = (omega arith, listed.seen-none (c .before .before .args .numbers .now))
 
 loop-again : tie.Need-loop-again Inv-loop μ-loop
 loop-again c =
@@ -38,7 +36,7 @@ are-new-numbers-spec =
     Inv-loop
     μ-loop
     returns
-    loop-holds
+    (λ c. (omega arith, listed.seen-none (c .before .before .args .numbers .now)))
     (λ c. search needs)
     (λ c κs. search needs)
     (λ c κs. search needs)

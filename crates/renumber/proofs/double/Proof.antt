@@ -14,9 +14,6 @@ Inv-loop part₀ n more v₀ part v = (v ≤ n) × Doubled part₀ n more part v
 abbrev μ-loop : tie.MeasureT-loop
 μ-loop part₀ n more v₀ part v = n - v
 
-loop-holds : tie.Need-loop-holds Inv-loop μ-loop
-loop-holds c = (omega arith, spreading.doubled-none _ _ _)
-
 slice-read-part : tie.Need-slice-read-part Inv-loop μ-loop
 slice-read-part c = omega (arith, c .before .before .before .pre .0, c .before .before .before .pre .1, c .before .before .loop .inv .1 .long)
 
@@ -32,9 +29,6 @@ loop-again c =
           (omega (arith, x .pre .0, x .pre .1, l .inv .1 .long)) (l .inv .1),
     )
 
-same-length : tie.Need-same-length Inv-loop μ-loop
-same-length c = c .before .loop .inv .1 .long
-
 returns : tie.Need-returns Inv-loop μ-loop
 returns c =
     let l = c .before .loop in
@@ -48,7 +42,7 @@ double-spec =
     (tie.spec
     Inv-loop
     μ-loop
-    loop-holds
+    (λ c. (omega arith, spreading.doubled-none _ _ _))
     (λ c. search needs)
     slice-read-part
     (λ c. omega (arith, c .before .before .before .pre .1))
@@ -57,5 +51,5 @@ double-spec =
     (λ c. search needs)
     (λ c. search needs)
     loop-again
-    same-length
+    (λ c. c .before .loop .inv .1 .long)
     returns)

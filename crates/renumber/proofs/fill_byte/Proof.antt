@@ -24,9 +24,6 @@ loop-holds c =
     let x = c .before .before in
     (omega arith, omega arith, simp length-set (x .pre .0), spreading.byte-begun (newNumber (x .args .numbers .now)) (x .args .b) (x .args .part .now) (omega (arith, x .pre .0)))
 
-add-new-number : tie.Need-add-new-number Inv-loop μ-loop
-add-new-number c = omega (arith, c .before .before .before .before .pre .1)
-
 double-requires : tie.Need-double-requires Inv-loop μ-loop
 double-requires c κs =
     let l = c .before .before .before .before .loop in
@@ -56,9 +53,6 @@ loop-again c =
           (r .new-number .ensures .0) (s .single .ensures) (d .double .ensures) (l .inv .3),
     )
 
-same-length : tie.Need-same-length Inv-loop μ-loop
-same-length c = omega (arith, c .before .loop .inv .2, c .before .before .before .before .pre .0)
-
 returns : tie.Need-returns Inv-loop μ-loop
 returns c =
     let l = c .before .loop in
@@ -75,7 +69,7 @@ fill-byte-spec =
     μ-loop
     (λ c. search needs)
     loop-holds
-    add-new-number
+    (λ c. omega (arith, c .before .before .before .before .pre .1))
     (λ c κs. search needs)
     (λ c κs. search needs)
     double-requires
@@ -83,5 +77,5 @@ fill-byte-spec =
     (λ c. search needs)
     (λ c. search needs)
     loop-again
-    same-length
+    (λ c. omega (arith, c .before .loop .inv .2, c .before .before .before .before .pre .0))
     returns)

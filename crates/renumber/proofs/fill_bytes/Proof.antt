@@ -1,3 +1,4 @@
+-- `renumber::fill_bytes` meets its contract.
 use borrow.Author.Needs.{needs}
 use native.Mathlib.Omega.{arith}
 use Prim.Native.Nat.{_-_, _≤_}
@@ -12,9 +13,6 @@ Inv-loop numbers bytes₀ i₀ bytes i = (i ≤ 8) × filled.FilledTo (newNumber
 
 abbrev μ-loop : tie.MeasureT-loop
 μ-loop numbers bytes₀ i₀ bytes i = 8 - i
-
-loop-holds : tie.Need-loop-holds Inv-loop μ-loop
-loop-holds c = (omega arith, (c .before .before .pre, λ i v m l _. absurd (omega arith)))
 
 loop-again : tie.Need-loop-again Inv-loop μ-loop
 loop-again c =
@@ -38,7 +36,7 @@ fill-bytes-spec =
     (tie.spec
     Inv-loop
     μ-loop
-    loop-holds
+    (λ c. (omega arith, (c .before .before .pre, λ i v m l _. absurd (omega arith))))
     (λ c. search needs)
     (λ c. search needs)
     (λ c. search needs)

@@ -1,3 +1,4 @@
+-- `renumber::move_rows` meets its contract.
 use borrow.Author.Needs.{needs}
 use native.Mathlib.Omega.{arith}
 use Prim.Native.Nat.{ℕ, _-_, _+_, _%_, _≤_}
@@ -15,25 +16,10 @@ Inv-loop state numbers bytes second₀ i₀ second i = (i ≤ eventAt) × Placed
 abbrev μ-loop : tie.MeasureT-loop
 μ-loop state numbers bytes second₀ i₀ second i = eventAt - i
 
-loop-holds : tie.Need-loop-holds Inv-loop μ-loop
-loop-holds c = (omega arith, placing.placed-none _ _ _)
-
-add-k : tie.Need-add-k Inv-loop μ-loop
-add-k c = omega (arith, c .new-number .ensures .1 (omega arith))
-
-mul-w : tie.Need-mul-w Inv-loop μ-loop
-mul-w c = omega (arith, c .new-number .ensures .1 (omega arith))
-
 shared-slice-read-w : tie.Need-shared-slice-read-w Inv-loop μ-loop
 shared-slice-read-w c =
     let i = c .before .before .before .before .before .before .before .before in
     omega (arith, i .pre .0 .0, c .before .new-number .ensures .0, i .pre .1 .1 .below (c .before .before .before .loop .i % 64) (omega arith))
-
-spread-requires : tie.Need-spread-requires Inv-loop μ-loop
-spread-requires c κs = c .before .before .before .before .before .before .before .before .pre .1 .0 .long
-
-mul-second : tie.Need-mul-second Inv-loop μ-loop
-mul-second c = omega (arith, c .before .before .new-number .ensures .1 (omega arith))
 
 slice-write-second : tie.Need-slice-write-second Inv-loop μ-loop
 slice-write-second c =
@@ -51,9 +37,6 @@ loop-again c =
           (λ m. c .spread .ensures (newNumber (i .args .numbers .now)) (i .pre .1 .0) m) (l .inv .1),
     )
 
-same-length : tie.Need-same-length Inv-loop μ-loop
-same-length c = c .before .loop .inv .1 .long
-
 returns : tie.Need-returns Inv-loop μ-loop
 returns c =
     let l = c .before .loop in
@@ -67,17 +50,17 @@ move-rows-spec =
     (tie.spec
     Inv-loop
     μ-loop
-    loop-holds
+    (λ c. (omega arith, placing.placed-none _ _ _))
     (λ c. search needs)
     (λ c κs. search needs)
-    add-k
-    mul-w
+    (λ c. omega (arith, c .new-number .ensures .1 (omega arith)))
+    (λ c. omega (arith, c .new-number .ensures .1 (omega arith)))
     shared-slice-read-w
-    spread-requires
-    mul-second
+    (λ c κs. c .before .before .before .before .before .before .before .before .pre .1 .0 .long)
+    (λ c. omega (arith, c .before .before .new-number .ensures .1 (omega arith)))
     slice-write-second
     (λ c. search needs)
     (λ c. search needs)
     loop-again
-    same-length
+    (λ c. c .before .loop .inv .1 .long)
     returns)

@@ -1,3 +1,4 @@
+-- `renumber::new_event` meets its contract.
 use native.Mathlib.Omega.{arith}
 use Prim.Native.Nat.{_-_}
 use Rattle.theory.specs.NewNumbers.{newNumber}

@@ -1,3 +1,4 @@
+-- `renumber::renumber` meets its contract.
 use borrow.Author.Needs.{needs}
 use borrow.Author.Tests.{not-true, not-false}
 use native.Mathlib.Omega.{arith}
@@ -21,7 +22,7 @@ returns c =
     let e = given.short-second (a .terms .now) (a .state .now) (a .numbers .now) (a .second .now) (omega arith) in
     (e, given.second-kept (a .terms .now) (a .state .now) (a .numbers .now) (a .second .now) 6 0 e)
 
--- terms and state pass
+-- Terms and state pass.
 abbrev start : tie.After-enum-told → tie.Start
 start c = c .before .before .before .before .before .before .before .before .before
 
@@ -31,10 +32,7 @@ says c = passed-checked _ _ (sym (ap outcomeOf (c .enum-told .given .1)) ∙ c .
 fine : (c : tie.After-enum-told) → Good (termsOf (start c .args .terms .now))
 fine c = good _ (says c .good-terms)
 
-are-new-numbers-requires : tie.Need-are-new-numbers-requires
-are-new-numbers-requires c κs = omega (arith, c .members .ensures .0, fine (c .before) .few-members)
-
--- what the list was found to be
+-- What the list was found to be.
 told : (c : tie.After-are-new-numbers) →
     c .are-new-numbers .result ≡ renumbers (termsOf (start (c .before .before) .args .terms .now) .members) (start (c .before .before) .args .numbers .now)
 told c = c .are-new-numbers .ensures ∙ ap (λ x. renumbers x (start (c .before .before) .args .numbers .now)) (c .before .members .ensures .0)
@@ -52,9 +50,6 @@ right c = sym (told (c .before)) ∙ not-false _ (c .if2 .left)
 
 plan-is : (c : tie.After-enum-told) → Planned (termsOf (start c .args .terms .now)) (c .before .before .inspect .last .1 .1 .0)
 plan-is c = c .before .before .inspect .ensures .1 .0 (ap hasPassed (ap outcomeOf (c .enum-told .given .1)))
-
-slice-aggregate-rewrite : tie.Need-slice-aggregate-rewrite
-slice-aggregate-rewrite c = sym (plan-is (c .before .before .before .before) .long)
 
 rewrite-requires : tie.Need-rewrite-requires
 rewrite-requires c κs =
@@ -99,9 +94,9 @@ renumber-spec =
     (λ c. search needs)
     (λ c. search needs)
     (λ c κs. search needs)
-    are-new-numbers-requires
+    (λ c κs. omega (arith, c .members .ensures .0, fine (c .before) .few-members))
     returns-2
-    slice-aggregate-rewrite
+    (λ c. sym (plan-is (c .before .before .before .before) .long))
     rewrite-requires
     returns-3
     (λ c. search needs)

@@ -1,3 +1,4 @@
+-- `renumber::rewrite` meets its contract.
 use borrow.Author.Needs.{needs}
 use native.Mathlib.Omega.{arith}
 use mathlib.Core.Path.{_∙_}
@@ -24,7 +25,7 @@ move-tables-requires c κs =
       ),
     )
 
--- the tables have been moved, and the event is renumbered
+-- The tables have been moved, and the event is renumbered.
 abbrev start : tie.After-new-event → tie.Start
 start c = c .before .before .before .before .before .before .before .before .before .before .before .before .before .before .before .before .before .before .before .before
 

@@ -1,11 +1,8 @@
+-- `renumber::spread` meets its contract.
 use native.Mathlib.Omega.{arith}
-use mathlib.Core.Path.{_≡_}
 use Rattle.renumber.proofs.ByBytes as by
 use Rattle.renumber.proofs.spread.Statement.{statement}
 use Rattle.renumber.proofs.spread.Tie as tie
-
-returns : tie.Need-returns
-returns c = λ p b m. by.none-spread p _ m (c .if1 .taken)
 
 returns-2 : tie.Need-returns-2
 returns-2 c = λ p b m.
@@ -16,7 +13,7 @@ pub spread-spec : {M : Type 1} → statement M
 spread-spec =
     tie.close
     (tie.spec
-    returns
+    (λ c p b m. by.none-spread p _ m (c .if1 .taken))
     (λ c κs. (c .before .before .pre, omega arith))
     (λ c κs. (c .before .before .before .pre, omega arith))
     (λ c κs. (c .before .before .before .before .pre, omega arith))

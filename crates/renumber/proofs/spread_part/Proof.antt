@@ -1,3 +1,4 @@
+-- `renumber::spread_part` meets its contract.
 use native.Mathlib.Omega.{arith}
 use Prim.Native.Nat.{_/_, _<_}
 use lib.Bits.{bitAnd, and-le-r}
@@ -5,7 +6,7 @@ use Rattle.renumber.proofs.ByBytes as by
 use Rattle.renumber.proofs.spread_part.Statement.{statement}
 use Rattle.renumber.proofs.spread_part.Tie as tie
 
--- the two bytes
+-- The two bytes.
 low : (c : tie.Start) → bitAnd (c .args .set) 255 < 256
 low c = omega (arith, and-le-r (c .args .set) 255)
 

@@ -1,4 +1,5 @@
--- How a table with two columns is renumbered, row by row. Row d is that of members a = d / 16 and b = d % 16: quarter d % 4 of word d / 4, with a bit for each c.
+-- How a table with two columns is renumbered, row by row. Row d is that of members a = d / 16 and b = d % 16: quarter d
+-- % 4 of word d / 4, with a bit for each c.
 use Prim.Native.Nat.{ℕ, _+_, _*_, _/_, _%_, _<_}
 use mathlib.Core.Path.{_≡_}
 use mathlib.Core.Bool.{Bool, true, false, _&&_}

@@ -41,7 +41,8 @@ pub record Apart (p : ℕ → ℕ) : Type 0 where
 abbrev pub placeOf : (p : ℕ → ℕ) → ℕ → ℕ
 placeOf p i = i - i % blockWords + p (i % blockWords)
 
--- The first n words have gone there, with each bit at its new number. The length is kept, and so are the words from the event word on.
+-- The first n words have gone there, with each bit at its new number. The length is kept, and so are
+-- the words from the event word on.
 pub record Placed (p : ℕ → ℕ) (state before after : List ℕ) (n : ℕ) : Type 0 where
   pub long : length after ≡ length before
   pub further : drop eventAt after ≡ drop eventAt before
@@ -51,7 +52,8 @@ pub record Placed (p : ℕ → ℕ) (state before after : List ℕ) (n : ℕ) : 
 abbrev pub newEvent : (p : ℕ → ℕ) → ℕ → ℕ
 newEvent p w = eventWord (renumberEvent p p (eventOf w))
 
--- All words of a state have been rewritten: rows by rows; tables with two columns by the rows in their quarters; the event word.
+-- All words of a state have been rewritten: rows by rows; tables with two columns by the rows in
+-- their quarters; the event word.
 pub record Rewritten (T : Terms) (p : ℕ → ℕ) (state before after : List ℕ) : Type 0 where
   pub long : length after ≡ length before
   pub further : drop stateWords after ≡ drop stateWords before

@@ -1,6 +1,6 @@
--- How the program finds the first old entry with the same fully spelled-out formula, without spelling out: entries are compared by operator, by
--- operands that are numbers, and by the classes of operands that are entries. The class of an entry is the first old entry with its formula, or the
--- number of old entries where there is none.
+-- How the program finds the first old entry with the same fully spelled-out formula, without spelling out: entries are
+-- compared by operator, by operands that are numbers, and by the classes of operands that are entries. The class of an
+-- entry is the first old entry with its formula, or the number of old entries where there is none.
 use Prim.Native.Nat.{ℕ, _<_}
 use mathlib.Core.Path.{_≡_}
 use mathlib.Core.List.{List}
@@ -25,6 +25,7 @@ sameEntry c d e f =
     eqb (e .op) (f .op)
     && (sameOperand (firstOperand (f .op)) c d (e .a) (f .a) && (sameOperand (secondOperand (f .op)) c d (e .b) (f .b) && sameOperand (thirdOperand (f .op)) c d (e .c) (f .c)))
 
--- The first n words are classes: of each entry of U the first entry of T with the same fully spelled-out formula, or the number of T's entries.
+-- The first n words are classes: of each entry of U the first entry of T with the same fully spelled-out
+-- formula, or the number of T's entries.
 pub record Classed (T U : Terms) (n : ℕ) (w : List ℕ) : Type 0 where
   pub here : (k : ℕ) → k < n → getD w k 0 ≡ firstSame T (formula U k)

@@ -63,7 +63,8 @@ abbrev pub says : (table : Bool) → (pairs k a b : ℕ) → Line
 says false pairs = Edge
 says true pairs = λ t i k. cond (bit pairs t) (PairBit t (pairMember i) (pairFirst i k) (pairLast k)) (TableBit t i k)
 
--- The line of bit b of word i of the relations or tables, where that word is w; the lines of all its bits; and those of n words from word `first` of a state on.
+-- The line of bit b of word i of the relations or tables, where that word is w; the lines of all its bits; and those of
+-- n words from word `first` of a state on.
 abbrev pub bitOf : (table : Bool) → (pairs w i b : ℕ) → List Line
 bitOf table pairs w i b = bitAt (says table pairs) (λ k a. bit w) (64 * i + b)
 

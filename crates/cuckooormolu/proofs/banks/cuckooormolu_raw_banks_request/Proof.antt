@@ -1,3 +1,4 @@
+-- `cuckooormolu::banks::cuckooormolu_raw_banks_request` meets its contract.
 use borrow.Author.Needs.{needs}
 use mathlib.Core.Path.{ap, _∙_}
 use Rattle.cuckooormolu.specs.Codes.{codeOf}

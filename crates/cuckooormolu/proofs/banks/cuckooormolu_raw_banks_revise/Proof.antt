@@ -1,3 +1,4 @@
+-- `cuckooormolu::banks::cuckooormolu_raw_banks_revise` meets its contract.
 use borrow.Author.Needs.{needs}
 use mathlib.Core.Path.{ap, _∙_}
 use Rattle.cuckooormolu.specs.Codes.{outcomeCode}
@@ -12,4 +13,10 @@ returns c =
 pub cuckooormolu-raw-banks-revise-spec : {M : Type 1} → statement M
 cuckooormolu-raw-banks-revise-spec =
     tie.close
-    (tie.spec (λ c κs. search needs) (λ c κs. search needs) (λ c. search needs) (λ c. search needs) (λ c. search needs) returns)
+    (tie.spec
+    (λ c κs. search needs)
+    (λ c κs. search needs)
+    (λ c. search needs)
+    (λ c. search needs)
+    (λ c. search needs)
+    returns)

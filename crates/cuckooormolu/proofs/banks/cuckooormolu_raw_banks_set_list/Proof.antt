@@ -1,6 +1,6 @@
--- `cuckooormolu_raw_banks_set_list` meets its contract: a walk of its MIR, by hand, since it passes on a slice of structs.
--- The seven slices are given to `set_list` and the count to `tell_listing`, each for good: at its own lifetime, share and
--- name, so that nothing has to come back.
+-- `cuckooormolu_raw_banks_set_list` meets its contract: a walk of its MIR, by hand, since it passes on a slice of
+-- structs. The seven slices are given to `set_list` and the count to `tell_listing`, each for good: at its own
+-- lifetime, share and name, so that nothing has to come back.
 use mathlib.Core.Path.{_≡_, refl, ap, _∙_}
 use Prim.Native.Nat.{ℕ}
 use mathlib.Core.List.{List, [], _∷_}
@@ -46,7 +46,7 @@ use Rattle.calls.proofs.Record as rec
 use Rattle.calls.proofs.Listed as S
 use Rattle.calls.proofs.Listed.Laws as S′
 use Rattle.monitor.proofs.Leases.{Lease, ref, val, Rooms}
-use Rattle.monitor.proofs.Locals.{Blocks, allocs-all, frees-all}
+use Rattle.monitor.proofs.Locals.{allocs-all, frees-all}
 use Rattle.monitor.proofs.BankListing.{Mem}
 use Rattle.monitor.proofs.bank_list.set_list as list
 use Rattle.monitor.proofs.bank_list.set_list.Symbol as list-def
@@ -81,7 +81,7 @@ stayed = (
   ),
 )
 
--- the contracts that the proof cites
+-- The contracts that the proof cites.
 module _ {M : Type 1} (𝓤 : URA M) (H : Heap 𝓤) (A : Atoms 𝓤) (mem : Memory → SProp 𝓤) (run : Routine → Fun 𝓤) where
   abbrev Whole : Contract 𝓤
   Whole = tripleOf 𝓤 H A list.signature (list.spec 𝓤 H A mem run)
@@ -89,7 +89,7 @@ module _ {M : Type 1} (𝓤 : URA M) (H : Heap 𝓤) (A : Atoms 𝓤) (mem : Mem
   abbrev Tell : Contract 𝓤
   Tell = tripleOf 𝓤 H A tell.signature (tell.spec 𝓤 H A mem run)
 
--- the types of the locals
+-- The types of the locals.
 abbrev word : Ty
 word = tyInt w64
 
@@ -106,7 +106,7 @@ tys =
 
 module _ {M : Type 1} (𝓤 : URA M) (H : Heap 𝓤) (A : Atoms 𝓤) (W : Given 𝓤 H A) (mem : Memory → SProp 𝓤) (run : Routine → Fun 𝓤) (T L₁ L₂ L₃ L₄ L₅ P N : Lease)
     (ts : List ℕ) (m : Mem) (rs : List Record) (n : ℕ) where
-  -- the borrows' values of terms, records and count, what they own, and the count's machine value
+  -- The borrows' values of terms, records and count, what they own, and the count's machine value.
   abbrev xt : RefT (List ℕ)
   xt = ref T (T .γ) ts
 
@@ -141,7 +141,7 @@ module _ {M : Type 1} (𝓤 : URA M) (H : Heap 𝓤) (A : Atoms 𝓤) (W : Given
   abbrev toks : Item 𝓤
   toks = ‵ (flft (T .κ) (T .q)) ⊛ ‵ (flft (L₁ .κ) (L₁ .q)) ⊛ ‵ (flft (L₂ .κ) (L₂ .q)) ⊛ ‵ (flft (L₃ .κ) (L₃ .q)) ⊛ ‵ (flft (L₄ .κ) (L₄ .q)) ⊛ ‵ (flft (L₅ .κ) (L₅ .q)) ⊛ ‵ (flft (P .κ) (P .q)) ⊛ ‵ ftrue
 
-  -- what is had on entry
+  -- What is had on entry.
   abbrev Given₀ : List (Item 𝓤)
   Given₀ = (‵ (flft (T .κ) (T .q)) ⊛ ‵ (flft (L₁ .κ) (L₁ .q)) ⊛ ‵ (flft (L₂ .κ) (L₂ .q)) ⊛ ‵ (flft (L₃ .κ) (L₃ .q)) ⊛ ‵ (flft (L₄ .κ) (L₄ .q)) ⊛ ‵ (flft (L₅ .κ) (L₅ .q)) ⊛ ‵ (flft (P .κ) (P .q)) ⊛ ‵ (flft (N .κ) (N .q)) ⊛ ‵ ftrue)
       ∷ ‵ (fsep (ShrSlice (named 0) (T .κ) u16 .own xt (val T ∷ [])) (fsep (MutSlice (named 1) (L₁ .κ) u64 .own (ref L₁ (L₁ .γ) (m .0)) (val L₁ ∷ [])) (fsep (MutSlice (named 2) (L₂ .κ) u64 .own (ref L₂ (L₂ .γ) (m .1 .0)) (val L₂ ∷ []))
@@ -160,7 +160,7 @@ module _ {M : Type 1} (𝓤 : URA M) (H : Heap 𝓤) (A : Atoms 𝓤) (W : Given
       move ! (3 ∷ 0 ∷ []) $ fjoin ! $ move ! (3 ∷ 0 ∷ []) $ fjoin ! $ move ! (3 ∷ 0 ∷ []) $ fjoin ! $ move ! (1 ∷ 0 ∷ []) $ join ! $ nothing ! $
       move ! (1 ∷ 0 ∷ []) $ join ! $ frame ! $ move ! (1 ∷ 0 ∷ []) $ done !
 
-  -- the lists that it leaves
+  -- The lists that it leaves.
   abbrev Left : Type 0
   Left = List ℕ × (List ℕ × (List ℕ × (List ℕ × (List ℕ × List Record))))
 
@@ -228,7 +228,7 @@ module _ {M : Type 1} (𝓤 : URA M) (H : Heap 𝓤) (A : Atoms 𝓤) (W : Given
         use1 W (later (some (λ (k : ℕ). ((‵ (flft (N .κ) (N .q)) ⊛ ‵ ftrue) ⊛ ‵ (usize .own k (w′ ∷ []))) ⊛ raw (ensured 𝓤 H A tell.ended (tell.clauses 𝓤 H A mem run) (N .κ, tt) (r, (xn, tt)) tt k)))) (id⊢ 𝓤 _) $ await ! tt $ pick ! (λ k. split ! $ move ! (1 ∷ []) $
         use1 W (some (λ (ns : Unit {0} × (ℕ × Unit {0})). ‵ (lasts tell.ended (N .κ, tt) (r, (xn, tt)) ns) ⊛ raw (fact 𝓤 (Told r k (ns .1 .0))))) (id⊢ 𝓤 _) $ pick ! (λ ns. split ! $ move ! (1 ∷ []) $ heard ! (Told r k (ns .1 .0)) (λ told.
         fsplit ! $ drop ! $ fsplit ! $ move ! (1 ∷ []) $ drop ! $ move ! (1 ∷ []) $ split ! $ split ! $ move ! (1 ∷ []) $ drop ! $
-        -- [the token; the result; the last value]
+        -- [the token; the result; the last value].
         at-once ! $ show ! Told-at (k, ns .1 .0) $ check ! told $ move ! (1 ∷ 0 ∷ []) $ done !)))
 
   -- ---- the end
@@ -257,7 +257,7 @@ module _ {M : Type 1} (𝓤 : URA M) (H : Heap 𝓤) (A : Atoms 𝓤) (W : Given
         pass1 ! (init ! 5 refl (tt, (tt, (record { fits = rms .1 .1 .1 .0 .0 }, tt)))) $
         pass1 ! (init ! 6 refl (tt, (tt, (record { fits = rms .1 .1 .1 .1 .0 .0 }, tt)))) $
         pass1 ! (init ! 7 refl (tt, (tt, (record { fits = room-r .0 }, tt)))) $ pass1 ! (init ! 8 refl (tt, tt)) $ pass0 ! $
-        -- the slices are made again
+        -- The slices are made again.
         assigns ! (addr ! (from ! (fld ! refl (hop ! (look-in ! 2 (sub ! 0 refl (whole !))) (stop !))))) (from ! (stop !)) (init ! 10 refl (tt, tt)) $
         assigns ! (agg ! (and-then ! (load ! (from ! (stop !)) (look ! 10 refl)) (and-then ! (load ! (from ! (fld ! refl (stop !))) (look-in ! 2 (sub ! 1 refl (whole !)))) (no-more !)))) (from ! (stop !)) (init ! 11 refl (tt, (tt, (record { fits = rms .0 .0 }, tt)))) $
         assigns ! (addr ! (from ! (fld ! refl (hop ! (look-in ! 3 (sub ! 0 refl (whole !))) (stop !))))) (from ! (stop !)) (init ! 12 refl (tt, tt)) $

@@ -1,3 +1,4 @@
+-- `cuckooormolu::plan::cuckooormolu_raw_plan` meets its contract.
 use borrow.Author.Needs.{needs}
 use Prim.Native.Nat.{ℕ}
 use mathlib.Core.Path.{_≡_, ap, _∙_}
@@ -20,4 +21,9 @@ returns c =
 
 pub cuckooormolu-raw-plan-spec : {M : Type 1} → statement M
 cuckooormolu-raw-plan-spec =
-    tie.close (tie.spec (λ c κs. search needs) (λ c κs. search needs) (λ c. search needs) returns)
+    tie.close
+    (tie.spec
+    (λ c κs. search needs)
+    (λ c κs. search needs)
+    (λ c. search needs)
+    returns)

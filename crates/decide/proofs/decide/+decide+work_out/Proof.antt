@@ -1,8 +1,8 @@
--- `decide` and `work_out` meet their contracts: the first calls the second on the same entry, the second the first on operands. The measure is
--- twice the number of the entry, and one more for `decide`.
+-- `decide` and `work_out` meet their contracts: the first calls the second on the same entry, the second the first on
+-- operands. The measure is twice the number of the entry, and one more for `decide`.
 use native.Mathlib.Omega.{arith}
 use mathlib.Core.Path.{_≡_, refl, sym, ap, _∙_, subst}
-use mathlib.Core.Bool.{Bool, true, false, _&&_}
+use mathlib.Core.Bool.{true, false, _&&_}
 use mathlib.Core.Logic.{inl, inr, ⊎-elim}
 use mathlib.Core.List.{List}
 use mir.Syntax.{w64}
@@ -183,7 +183,7 @@ callees-work-out t = (
   own-bits-reads.Learnt,
 )
 
--- a part of the account of each that the compiler gives, where t is the measure
+-- A part of the account of each that the compiler gives, where t is the measure.
 abbrev Part-decide : Type 1
 Part-decide = decide-lts.Claims → In 6 decide-kinds.ps → Out 6 decide-kinds.ps decide-kinds.r → Type 0
 
@@ -196,7 +196,7 @@ here-decide t part = part (callees-decide t) (decide-at t) decide.Post
 abbrev here-work-out : ℕ → Part-work-out → Type 0
 here-work-out t part = part (callees-work-out t) (work-out-at t) work-out.Post work-out-Inv-loop work-out-μ-loop
 
--- the function's entry, and the place from which every arm starts
+-- The function's entry, and the place from which every arm starts.
 abbrev start : (t : ℕ) → here-work-out t work-out-lts.After-mask → here-work-out t work-out-lts.Start
 start t c = c .before .before .before .before .before .before .before .before .before .before .before .before .before
 
@@ -214,7 +214,7 @@ site t c = record {
   all-is = sites.mask-is (start t c .pre .1 .0) (c .mask .result) (c .before .members .result) (c .mask .ensures) (c .before .members .ensures .0);
 }
 
--- the past-time operators
+-- The past-time operators.
 is-prev : (o : ℕ) → o ≡ 6 → isPast o ≡ true
 is-prev o e = or-left (eqb o 6) (eqb o 7) (eq-eqb o 6 e)
 
@@ -224,7 +224,7 @@ is-since o e = or-right (eqb o 6) (eqb o 7) (eq-eqb o 7 e)
 not-past : (o : ℕ) → (o ≡ 6 → ⊥) → (o ≡ 7 → ⊥) → isPast o ≡ false
 not-past o m n = is-false (isPast o) (λ p. ⊎-elim (λ e. m (eqb-true o 6 e)) (λ e. n (eqb-true o 7 e)) (or-cases (eqb o 6) (eqb o 7) p))
 
--- there is no arm but those of the operators
+-- There is no arm but those of the operators.
 no-other : (t : ℕ) (c : here-work-out t work-out-lts.At-match-rest) → ⊥
 no-other t c =
     let rest = c .match .rest in
@@ -246,13 +246,10 @@ in-bytes m l = omega arith
 as-word : (n : ℕ) → Fits w64 n → n < 2 ^ 64
 as-word n l = omega arith
 
--- what a variable stands for
+-- What a variable stands for.
 member-small : {terms plan rel past : List ℕ} {g : Assignment} {x i want o a b r all : ℕ} (s : sites.Site terms plan rel past g x i want o a b r all) (m : ℕ)
     → m ≡ g a → a < 16 → m < 64
 member-small {a = a} s m e l = subst (λ (y : ℕ). y < 64) (sym e) (sites.var-below s a l)
-
-decide-op-of-requires : (t : ℕ) → here-decide t decide-lts.Need-op-of-requires
-decide-op-of-requires t c κs = tt
 
 decide-has-slot-requires : (t : ℕ) → here-decide t decide-lts.Need-has-slot-requires
 decide-has-slot-requires t c κs = sites.entry-short (c .before .before .before .before .before .before .before .before .pre .1 .0) _ (c .before .before .before .before .before .before .before .before .pre .1 .1 .0 .exists)
@@ -265,12 +262,6 @@ decide-work-out-requires t c κs =
     let miss = c .before .before .before .before .missing in
     let kept = c .before .before .before .before .before .before .before .has-slot .result in
     (less _ t (c .before .before .before .before .before .before .before .before .before .before .before .before .before .before .before .before .pre .0), (c .before .before .before .before .before .before .before .before .before .before .before .before .before .before .before .before .pre .1 .0, (sites.asked-fewer (miss .result) (c .before .before .before .before .before .before .before .before .before .before .before .before .before .before .before .before .pre .1 .1 .0) (rem.needed kept (miss .ensures .0) (miss .ensures .1 .0)), (c .before .before .before .before .before .before .before .before .before .before .before .before .before .before .before .before .pre .1 .1 .1 .0, rem.memo-apart _ (c .before .before .before .before .before .before .before .before .before .before .before .before .before .before .before .before .pre .1 .1 .1 .1) (miss .ensures .1 .1)))))
-
-decide-members-requires : (t : ℕ) → here-decide t decide-lts.Need-members-requires
-decide-members-requires t c κs = tt
-
-decide-mask-requires : (t : ℕ) → here-decide t decide-lts.Need-mask-requires
-decide-mask-requires t c κs = tt
 
 decide-keep-requires : (t : ℕ) → here-decide t decide-lts.Need-keep-requires
 decide-keep-requires t c κs =
@@ -301,29 +292,8 @@ decide-returns t c =
 work-out-returns : (t : ℕ) → here-work-out t work-out-lts.Need-returns
 work-out-returns t c = (loops.no-rows _ (c .if1 .taken) (c .before .before .before .before .before .before .before .pre .1 .1 .1 .0), rem.grown-same (c .before .before .before .before .before .before .before .pre .1 .1 .1 .1))
 
-work-out-op-of-requires : (t : ℕ) → here-work-out t work-out-lts.Need-op-of-requires
-work-out-op-of-requires t c κs = tt
-
-work-out-first-of-requires : (t : ℕ) → here-work-out t work-out-lts.Need-first-of-requires
-work-out-first-of-requires t c κs = tt
-
-work-out-second-of-requires : (t : ℕ) → here-work-out t work-out-lts.Need-second-of-requires
-work-out-second-of-requires t c κs = tt
-
-work-out-relations-requires : (t : ℕ) → here-work-out t work-out-lts.Need-relations-requires
-work-out-relations-requires t c κs = tt
-
-work-out-members-requires : (t : ℕ) → here-work-out t work-out-lts.Need-members-requires
-work-out-members-requires t c κs = tt
-
-work-out-mask-requires : (t : ℕ) → here-work-out t work-out-lts.Need-mask-requires
-work-out-mask-requires t c κs = tt
-
 work-out-spread-requires : (t : ℕ) → here-work-out t work-out-lts.Need-spread-requires
 work-out-spread-requires t c κs = c .before .before .before .before .before .before .before .before .before .before .before .before .before .before .before .pre .1 .1 .1 .0
-
-work-out-same-length : (t : ℕ) → here-work-out t work-out-lts.Need-same-length
-work-out-same-length t c = c .before .before .spread .kept .0
 
 work-out-returns-2 : (t : ℕ) → here-work-out t work-out-lts.Need-returns-2
 work-out-returns-2 t c =
@@ -343,16 +313,10 @@ work-out-alone-requires t c κs =
     let s = site t (c .before .before .before .before .before) in
     (c .before .before .before .before .before .before .before .before .before .before .before .before .before .before .before .before .before .before .pre .1 .1 .1 .0, member-small s _ (c .member-of .ensures) (sites.a-variable s 1 (c .before .before .before .if3 .taken) refl))
 
-work-out-same-length-2 : (t : ℕ) → here-work-out t work-out-lts.Need-same-length-2
-work-out-same-length-2 t c = c .before .before .diagonal .kept .0
-
 work-out-returns-3 : (t : ℕ) → here-work-out t work-out-lts.Need-returns-3
 work-out-returns-3 t c =
     let s = site t (c .before .before .before .before .before .before .before) in
     (ops.decide-var-open s (c .before .before .before .before .before .if3 .taken) (c .before .before .before .before .if4 .taken) (c .before .before .diagonal .ensures), rem.grown-same (c .before .before .before .before .before .before .before .before .before .before .before .before .before .before .before .before .before .before .before .before .pre .1 .1 .1 .1))
-
-work-out-same-length-3 : (t : ℕ) → here-work-out t work-out-lts.Need-same-length-3
-work-out-same-length-3 t c = c .before .before .alone .kept .0
 
 work-out-returns-4 : (t : ℕ) → here-work-out t work-out-lts.Need-returns-4
 work-out-returns-4 t c =
@@ -365,9 +329,6 @@ work-out-recollect-requires t c κs =
     let s = site t (c .before .before .before .before) in
     (ops.recalling s (is-prev _ (c .before .if5 .taken)), c .before .before .before .before .before .before .before .before .before .before .before .before .before .before .before .before .before .pre .1 .1 .1 .0)
 
-work-out-same-length-4 : (t : ℕ) → here-work-out t work-out-lts.Need-same-length-4
-work-out-same-length-4 t c = c .before .before .recollect .kept .1 .1 .1 .1 .1 .1 .1 .0
-
 work-out-returns-5 : (t : ℕ) → here-work-out t work-out-lts.Need-returns-5
 work-out-returns-5 t c =
     let s = site t (c .before .before .before .before .before .before .before) in
@@ -377,9 +338,6 @@ work-out-recollect-requires-2 : (t : ℕ) → here-work-out t work-out-lts.Need-
 work-out-recollect-requires-2 t c κs =
     let s = site t (c .before .before .before .before .before) in
     (ops.recalling s (is-since _ (c .before .if6 .taken)), c .before .before .before .before .before .before .before .before .before .before .before .before .before .before .before .before .before .before .pre .1 .1 .1 .0)
-
-work-out-same-length-5 : (t : ℕ) → here-work-out t work-out-lts.Need-same-length-5
-work-out-same-length-5 t c = c .before .before .recollect2 .kept .1 .1 .1 .1 .1 .1 .1 .0
 
 work-out-returns-6 : (t : ℕ) → here-work-out t work-out-lts.Need-returns-6
 work-out-returns-6 t c =
@@ -391,9 +349,6 @@ work-out-decide-requires t c κs =
     let s = site t (c .before .before .before .before .before .before .before) in
     let q = sites.a-lower s 2 (c .before .before .if7 .taken) refl in
     (lower _ _ t (c .before .before .before .before .before .before .before .before .before .before .before .before .before .before .before .before .before .before .before .before .pre .0) q, (s .ready, (sites.operand-same s _ q, (c .before .before .before .before .before .before .before .before .before .before .before .before .before .before .before .before .before .before .before .before .pre .1 .1 .1 .0, rem.memo-lower (below _ _ q) (c .before .before .before .before .before .before .before .before .before .before .before .before .before .before .before .before .before .before .before .before .pre .1 .1 .1 .1)))))
-
-work-out-flip-requires : (t : ℕ) → here-work-out t work-out-lts.Need-flip-requires
-work-out-flip-requires t c κs = c .before .before .before .before .before .decide .ensures .0 .long
 
 work-out-same-length-6 : (t : ℕ) → here-work-out t work-out-lts.Need-same-length-6
 work-out-same-length-6 t c = c .before .before .before .before .before .before .before .before .decide .ensures .1 .above .long
@@ -411,14 +366,8 @@ work-out-event-of-requires t c κs =
     let s = site t (c .before .before .before .before .before) in
     (good _ (s .ready .good) .few-events, s .ready .long-past)
 
-work-out-is-absent-requires : (t : ℕ) → here-work-out t work-out-lts.Need-is-absent-requires
-work-out-is-absent-requires t c κs = tt
-
 work-out-clear-requires : (t : ℕ) → here-work-out t work-out-lts.Need-clear-requires
 work-out-clear-requires t c κs = c .before .before .before .before .before .before .before .before .before .before .before .before .before .before .before .before .before .before .before .before .before .before .pre .1 .1 .1 .0
-
-work-out-same-length-8 : (t : ℕ) → here-work-out t work-out-lts.Need-same-length-8
-work-out-same-length-8 t c = c .before .before .clear .kept .0
 
 work-out-returns-8 : (t : ℕ) → here-work-out t work-out-lts.Need-returns-8
 work-out-returns-8 t c =
@@ -432,9 +381,6 @@ work-out-decide-requires-2 t c κs =
     let q = sites.a-lower s 3 (c .before .before .match .keys1) refl in
     (lower _ _ t (c .before .before .before .before .before .before .before .before .before .before .before .before .before .before .before .before .before .before .before .before .before .before .before .before .pre .0) q, (s .ready, (sites.operand-same s _ q, (c .before .before .before .before .before .before .before .before .before .before .before .before .before .before .before .before .before .before .before .before .before .before .before .before .pre .1 .1 .1 .0, rem.memo-lower (below _ _ q) (c .before .before .before .before .before .before .before .before .before .before .before .before .before .before .before .before .before .before .before .before .before .before .before .before .pre .1 .1 .1 .1)))))
 
-work-out-slice-aggregate-decide : (t : ℕ) → here-work-out t work-out-lts.Need-slice-aggregate-decide
-work-out-slice-aggregate-decide t c = refl
-
 work-out-decide-requires-3 : (t : ℕ) → here-work-out t work-out-lts.Need-decide-requires-3
 work-out-decide-requires-3 t c κs =
     let s = site t (c .before .before .before .before .before .before .before .before .before .before .before .before .before .before .before .before .before .before) in
@@ -442,22 +388,13 @@ work-out-decide-requires-3 t c κs =
     let q = sites.b-lower s 3 (c .before .before .before .before .before .before .before .before .before .match .keys1) refl in
     (lower _ _ t (c .before .before .before .before .before .before .before .before .before .before .before .before .before .before .before .before .before .before .before .before .before .before .before .before .before .before .before .before .before .before .before .pre .0) q, (s .ready, (sites.operand-same s _ q, (refl, rem.memo-lower (below _ _ q) (g .memo)))))
 
-work-out-slice-aggregate-join : (t : ℕ) → here-work-out t work-out-lts.Need-slice-aggregate-join
-work-out-slice-aggregate-join t c = sym (c .before .before .before .before .before .decide3 .ensures .0 .long)
-
 work-out-join-requires : (t : ℕ) → here-work-out t work-out-lts.Need-join-requires
 work-out-join-requires t c κs = (c .before .before .before .before .before .before .before .before .before .before .before .before .decide2 .ensures .0 .long, c .before .before .before .before .before .decide3 .ensures .0 .long)
-
-work-out-senders-requires : (t : ℕ) → here-work-out t work-out-lts.Need-senders-requires
-work-out-senders-requires t c κs = tt
 
 work-out-ahead-requires : (t : ℕ) → here-work-out t work-out-lts.Need-ahead-requires
 work-out-ahead-requires t c κs =
     let s = site t (c .before .before .before .before .before .before .before .before .before .before) in
     (sites.few-relations s, s .ready .long-rel)
-
-work-out-slice-aggregate-decide-2 : (t : ℕ) → here-work-out t work-out-lts.Need-slice-aggregate-decide-2
-work-out-slice-aggregate-decide-2 t c = refl
 
 work-out-decide-requires-4 : (t : ℕ) → here-work-out t work-out-lts.Need-decide-requires-4
 work-out-decide-requires-4 t c κs =
@@ -467,30 +404,15 @@ work-out-decide-requires-4 t c κs =
     let q = sites.ahead-lower s e in
     (lower _ _ t (i .pre .0) q, (s .ready, (sites.operand-ahead s _ _ e (rw (c .before .before .before .before .before .before .before .event-of .ensures) at (c .before .before .ahead .ensures)), (refl, rem.memo-lower (below _ _ q) (i .pre .1 .1 .1 .1)))))
 
-work-out-third-of-requires : (t : ℕ) → here-work-out t work-out-lts.Need-third-of-requires
-work-out-third-of-requires t c κs = tt
-
-work-out-least-count-requires : (t : ℕ) → here-work-out t work-out-lts.Need-least-count-requires
-work-out-least-count-requires t c κs = tt
-
-work-out-slice-aggregate-gather : (t : ℕ) → here-work-out t work-out-lts.Need-slice-aggregate-gather
-work-out-slice-aggregate-gather t c = sym (c .before .before .before .before .before .before .before .decide4 .ensures .0 .long)
-
 work-out-gather-requires : (t : ℕ) → here-work-out t work-out-lts.Need-gather-requires
 work-out-gather-requires t c κs =
     let s = site t (c .before .before .before .before .before .before .before .before .before .before .before .before .before .before .before .before .before .before .before .before .before) in
     (c .before .before .before .before .before .before .before .before .before .before .before .before .before .before .before .before .before .before .before .before .before .before .before .before .before .before .before .before .before .before .before .before .before .before .pre .1 .1 .1 .0, c .before .before .before .before .before .before .before .decide4 .ensures .0 .long, sites.few-relations s, s .ready .long-rel)
 
-work-out-senders-requires-2 : (t : ℕ) → here-work-out t work-out-lts.Need-senders-requires-2
-work-out-senders-requires-2 t c κs = tt
-
 work-out-behind-requires : (t : ℕ) → here-work-out t work-out-lts.Need-behind-requires
 work-out-behind-requires t c κs =
     let s = site t (c .before .before .before .before .before .before .before .before .before .before) in
     (sites.few-relations s, s .ready .long-rel)
-
-work-out-slice-aggregate-decide-3 : (t : ℕ) → here-work-out t work-out-lts.Need-slice-aggregate-decide-3
-work-out-slice-aggregate-decide-3 t c = refl
 
 work-out-decide-requires-5 : (t : ℕ) → here-work-out t work-out-lts.Need-decide-requires-5
 work-out-decide-requires-5 t c κs =
@@ -498,22 +420,13 @@ work-out-decide-requires-5 t c κs =
     let q = sites.b-lower s 5 (c .before .before .before .before .match .keys3) refl in
     (lower _ _ t (c .before .before .before .before .before .before .before .before .before .before .before .before .before .before .before .before .before .before .before .before .before .before .before .before .before .before .pre .0) q, (s .ready, (sites.operand-behind s _ _ (c .before .before .before .before .match .keys3) (rw (c .before .before .before .before .before .before .before .event-of .ensures) at (c .before .before .before .senders2 .ensures)) (rw (c .before .before .before .before .before .before .before .event-of .ensures) at (c .before .before .behind .ensures)), (refl, rem.memo-lower (below _ _ q) (c .before .before .before .before .before .before .before .before .before .before .before .before .before .before .before .before .before .before .before .before .before .before .before .before .before .before .pre .1 .1 .1 .1)))))
 
-work-out-slice-aggregate-scatter : (t : ℕ) → here-work-out t work-out-lts.Need-slice-aggregate-scatter
-work-out-slice-aggregate-scatter t c = sym (c .before .before .before .before .before .decide5 .ensures .0 .long)
-
 work-out-scatter-requires : (t : ℕ) → here-work-out t work-out-lts.Need-scatter-requires
 work-out-scatter-requires t c κs =
     let s = site t (c .before .before .before .before .before .before .before .before .before .before .before .before .before .before .before .before .before .before .before) in
     (c .before .before .before .before .before .before .before .before .before .before .before .before .before .before .before .before .before .before .before .before .before .before .before .before .before .before .before .before .before .before .before .before .pre .1 .1 .1 .0, c .before .before .before .before .before .decide5 .ensures .0 .long, sites.few-relations s, s .ready .long-rel)
 
-work-out-open-under-requires : (t : ℕ) → here-work-out t work-out-lts.Need-open-under-requires
-work-out-open-under-requires t c κs = tt
-
 work-out-loop-holds : (t : ℕ) → here-work-out t work-out-lts.Need-loop-holds
 work-out-loop-holds t c = (loops.filling _ (as-word _ (c .before .before .before .before .before .before .before .before .before .before .before .before .before .before .before .before .before .before .before .before .before .before .before .fits .want)) (c .before .before .before .before .before .before .before .before .before .before .before .before .before .before .before .before .before .before .before .before .before .before .before .pre .1 .1 .1 .0), refl, rem.grown-same (c .before .before .before .before .before .before .before .before .before .before .before .before .before .before .before .before .before .before .before .before .before .before .before .pre .1 .1 .1 .1))
-
-work-out-least-of-requires : (t : ℕ) → here-work-out t work-out-lts.Need-least-of-requires
-work-out-least-of-requires t c κs = tt
 
 work-out-rebind-requires : (t : ℕ) → here-work-out t work-out-lts.Need-rebind-requires
 work-out-rebind-requires t c κs =
@@ -522,12 +435,6 @@ work-out-rebind-requires t c κs =
     let loop-test = c .before .before .loop-test in
     let least-of = c .before .least-of in
     (sites.a-binder s (c .before .before .before .before .before .match .keys4), loops.least-small (loop .inv .0 .upon) (loop-test .taken) (least-of .ensures))
-
-work-out-single-requires : (t : ℕ) → here-work-out t work-out-lts.Need-single-requires
-work-out-single-requires t c κs = tt
-
-work-out-slice-aggregate-decide-4 : (t : ℕ) → here-work-out t work-out-lts.Need-slice-aggregate-decide-4
-work-out-slice-aggregate-decide-4 t c = sym (c .before .before .before .before .before .before .loop .inv .1)
 
 work-out-decide-requires-6 : (t : ℕ) → here-work-out t work-out-lts.Need-decide-requires-6
 work-out-decide-requires-6 t c κs =
@@ -576,9 +483,6 @@ work-out-slice-write-out t c =
     let least-of = c .before .before .before .before .before .before .before .before .least-of in
     subst (λ (n : ℕ). least-of .result < n) (sym (loop .inv .0 .long)) (loops.least-small (loop .inv .0 .upon) (loop-test .taken) (least-of .ensures))
 
-work-out-rest-of-requires : (t : ℕ) → here-work-out t work-out-lts.Need-rest-of-requires
-work-out-rest-of-requires t c κs = tt
-
 work-out-loop-less : (t : ℕ) → here-work-out t work-out-lts.Need-loop-less
 work-out-loop-less t c = loops.rest-less (c .before .before .before .before .before .before .before .before .before .before .before .loop .inv .0 .upon) (c .before .before .before .before .before .before .before .before .before .before .loop-test .taken) (c .rest-of .ensures)
 
@@ -597,9 +501,6 @@ work-out-loop-again t c =
       rem.grown-then (loop .inv .2) (rem.grown-up (below _ _ (sites.b-lower s 8 (c .before .before .before .before .before .before .before .before .before .before .before .before .before .match .keys4) refl)) (loop .inv .2 .memo) (decide6 .ensures .1)),
     )
 
-work-out-third-of-requires-2 : (t : ℕ) → here-work-out t work-out-lts.Need-third-of-requires-2
-work-out-third-of-requires-2 t c κs = tt
-
 work-out-decide-requires-7 : (t : ℕ) → here-work-out t work-out-lts.Need-decide-requires-7
 work-out-decide-requires-7 t c κs =
     let s = site t (c .before .before .before .before .before .before .before .before .before .before .before .before) in
@@ -607,12 +508,6 @@ work-out-decide-requires-7 t c κs =
     let i = c .before .before .before .before .before .before .before .before .before .before .before .before .before .before .before .before .before .before .before .before .before .before .before .before .before in
     let q = sites.b-lower s 10 e refl in
     (lower _ _ t (i .pre .0) q, (s .ready, (sites.operand-zeros s e, (i .pre .1 .1 .1 .0, rem.memo-lower (below _ _ q) (i .pre .1 .1 .1 .1)))))
-
-work-out-together-requires : (t : ℕ) → here-work-out t work-out-lts.Need-together-requires
-work-out-together-requires t c κs = c .before .before .before .before .before .decide7 .ensures .0 .long
-
-work-out-slice-aggregate-decide-5 : (t : ℕ) → here-work-out t work-out-lts.Need-slice-aggregate-decide-5
-work-out-slice-aggregate-decide-5 t c = refl
 
 work-out-decide-requires-8 : (t : ℕ) → here-work-out t work-out-lts.Need-decide-requires-8
 work-out-decide-requires-8 t c κs =
@@ -626,14 +521,8 @@ work-out-decide-requires-8 t c κs =
     let q = sites.c-lower s _ 10 z e refl in
     (lower _ _ t (i .pre .0) q, (s .ready, (ops.reached-asked s _ (together .result) z e (d .0) (together .ensures), (refl, rem.memo-lower (below _ _ q) (g .memo)))))
 
-work-out-slice-aggregate-follow : (t : ℕ) → here-work-out t work-out-lts.Need-slice-aggregate-follow
-work-out-slice-aggregate-follow t c = sym (c .before .before .before .before .before .decide8 .ensures .0 .long)
-
 work-out-follow-requires : (t : ℕ) → here-work-out t work-out-lts.Need-follow-requires
 work-out-follow-requires t c κs = (c .before .before .before .before .before .before .before .before .before .before .before .before .before .before .decide7 .ensures .0 .long, c .before .before .before .before .before .decide8 .ensures .0 .long)
-
-work-out-slice-aggregate-decide-6 : (t : ℕ) → here-work-out t work-out-lts.Need-slice-aggregate-decide-6
-work-out-slice-aggregate-decide-6 t c = refl
 
 work-out-decide-requires-9 : (t : ℕ) → here-work-out t work-out-lts.Need-decide-requires-9
 work-out-decide-requires-9 t c κs =
@@ -642,12 +531,6 @@ work-out-decide-requires-9 t c κs =
     let q = sites.b-lower s 9 e refl in
     (lower _ _ t (c .before .before .before .before .before .before .before .before .before .before .before .before .before .before .before .before .before .before .before .before .before .before .before .before .before .pre .0) q, (s .ready, (sites.operand-all s _ q, (refl, rem.memo-lower (below _ _ q) (c .before .before .before .before .before .before .before .before .before .before .before .before .before .before .before .before .before .before .before .before .before .before .before .before .before .pre .1 .1 .1 .1)))))
 
-work-out-slice-aggregate-own-bits : (t : ℕ) → here-work-out t work-out-lts.Need-slice-aggregate-own-bits
-work-out-slice-aggregate-own-bits t c = sym (c .before .before .before .before .before .decide9 .ensures .0 .long)
-
-work-out-own-bits-requires : (t : ℕ) → here-work-out t work-out-lts.Need-own-bits-requires
-work-out-own-bits-requires t c κs = c .before .before .before .before .before .decide9 .ensures .0 .long
-
 work-out-spread-requires-2 : (t : ℕ) → here-work-out t work-out-lts.Need-spread-requires-2
 work-out-spread-requires-2 t c κs = c .before .before .before .before .before .before .before .before .before .before .before .before .before .before .before .before .before .before .before .before .before .before .before .before .before .before .before .before .before .before .before .before .pre .1 .1 .1 .0
 
@@ -655,12 +538,6 @@ work-out-member-of-requires-2 : (t : ℕ) → here-work-out t work-out-lts.Need-
 work-out-member-of-requires-2 t c κs =
     let s = site t (c .before .before .before .before .before .before .before .before .before .before) in
     sites.a-variable s 9 (c .before .match .keys6) refl
-
-work-out-single-requires-2 : (t : ℕ) → here-work-out t work-out-lts.Need-single-requires-2
-work-out-single-requires-2 t c κs = tt
-
-work-out-slice-aggregate-decide-7 : (t : ℕ) → here-work-out t work-out-lts.Need-slice-aggregate-decide-7
-work-out-slice-aggregate-decide-7 t c = refl
 
 work-out-decide-requires-10 : (t : ℕ) → here-work-out t work-out-lts.Need-decide-requires-10
 work-out-decide-requires-10 t c κs =
@@ -712,9 +589,6 @@ work-out-returns-9 t c =
 work-out-same-length-11 : (t : ℕ) → here-work-out t work-out-lts.Need-same-length-11
 work-out-same-length-11 t c = c .before .before .before .before .before .before .before .before .before .before .decide4 .ensures .1 .above .long
 
-work-out-same-length-12 : (t : ℕ) → here-work-out t work-out-lts.Need-same-length-12
-work-out-same-length-12 t c = c .before .before .gather .kept .0
-
 work-out-returns-10 : (t : ℕ) → here-work-out t work-out-lts.Need-returns-10
 work-out-returns-10 t c =
     let s = site t (c .before .before .before .before .before .before .before .before .before .before .before .before .before .before .before .before .before .before .before .before .before .before .before .before) in
@@ -734,9 +608,6 @@ work-out-returns-10 t c =
 work-out-same-length-13 : (t : ℕ) → here-work-out t work-out-lts.Need-same-length-13
 work-out-same-length-13 t c = c .before .before .before .before .before .before .before .before .decide5 .ensures .1 .above .long
 
-work-out-same-length-14 : (t : ℕ) → here-work-out t work-out-lts.Need-same-length-14
-work-out-same-length-14 t c = c .before .before .scatter .kept .0
-
 work-out-returns-11 : (t : ℕ) → here-work-out t work-out-lts.Need-returns-11
 work-out-returns-11 t c =
     let s = site t (c .before .before .before .before .before .before .before .before .before .before .before .before .before .before .before .before .before .before .before .before .before .before) in
@@ -747,14 +618,8 @@ work-out-returns-11 t c =
       rem.grown-up (below _ _ (sites.b-lower s 5 (c .before .before .before .before .before .before .before .before .before .before .before .before .before .match .keys3) refl)) (c .before .before .before .before .before .before .before .before .before .before .before .before .before .before .before .before .before .before .before .before .before .before .before .before .before .before .before .before .before .before .before .before .before .before .before .pre .1 .1 .1 .1) (c .before .before .before .before .before .before .before .before .decide5 .ensures .1),
     )
 
-work-out-same-length-15 : (t : ℕ) → here-work-out t work-out-lts.Need-same-length-15
-work-out-same-length-15 t c = c .before .loop .inv .2 .above .long
-
 work-out-same-length-16 : (t : ℕ) → here-work-out t work-out-lts.Need-same-length-16
 work-out-same-length-16 t c = c .before .loop .inv .0 .long ∙ sym (c .before .before .before .before .before .before .before .before .before .before .before .before .before .before .before .before .before .before .before .before .before .before .before .before .before .pre .1 .1 .1 .0)
-
-work-out-returns-12 : (t : ℕ) → here-work-out t work-out-lts.Need-returns-12
-work-out-returns-12 t c = (loops.filled (c .before .loop .inv .0) (c .loop-test .left), c .before .loop .inv .2)
 
 work-out-same-length-17 : (t : ℕ) → here-work-out t work-out-lts.Need-same-length-17
 work-out-same-length-17 t c = c .before .before .before .before .before .before .before .before .decide8 .ensures .1 .above .long ∙ c .before .before .before .before .before .before .before .before .before .before .before .before .before .before .before .before .before .decide7 .ensures .1 .above .long
@@ -780,9 +645,6 @@ work-out-returns-13 t c =
 work-out-same-length-19 : (t : ℕ) → here-work-out t work-out-lts.Need-same-length-19
 work-out-same-length-19 t c = c .before .before .before .before .before .before .before .before .before .decide9 .ensures .1 .above .long
 
-work-out-same-length-20 : (t : ℕ) → here-work-out t work-out-lts.Need-same-length-20
-work-out-same-length-20 t c = c .before .before .spread2 .kept .0
-
 work-out-returns-14 : (t : ℕ) → here-work-out t work-out-lts.Need-returns-14
 work-out-returns-14 t c =
     let s = site t (c .before .before .before .before .before .before .before .before .before .before .before .before .before .before .before .before .before .before .before .before .before .before) in
@@ -791,12 +653,6 @@ work-out-returns-14 t c =
       ops.decide-at-open s (own-bits .result) e (c .before .before .before .before .before .before .before .before .before .before .before .before .if9 .taken) (c .before .before .before .before .before .before .before .before .before .decide9 .ensures .0) (own-bits .ensures) (c .before .before .spread2 .ensures),
       rem.grown-up (below _ _ (sites.b-lower s 9 e refl)) (c .before .before .before .before .before .before .before .before .before .before .before .before .before .before .before .before .before .before .before .before .before .before .before .before .before .before .before .before .before .before .before .before .before .before .before .pre .1 .1 .1 .1) (c .before .before .before .before .before .before .before .before .before .decide9 .ensures .1),
     )
-
-work-out-same-length-21 : (t : ℕ) → here-work-out t work-out-lts.Need-same-length-21
-work-out-same-length-21 t c = c .before .before .before .before .before .before .before .decide10 .ensures .1 .above .long
-
-work-out-same-length-22 : (t : ℕ) → here-work-out t work-out-lts.Need-same-length-22
-work-out-same-length-22 t c = c .before .before .spread3 .kept .0
 
 work-out-returns-15 : (t : ℕ) → here-work-out t work-out-lts.Need-returns-15
 work-out-returns-15 t c =
@@ -810,12 +666,6 @@ work-out-returns-15 t c =
           (c .before .before .before .before .before .before .before .decide10 .ensures .0) (c .before .before .spread3 .ensures),
       rem.grown-up (below _ _ (sites.b-lower s 9 e refl)) (c .before .before .before .before .before .before .before .before .before .before .before .before .before .before .before .before .before .before .before .before .before .before .before .before .before .before .before .before .before .before .before .before .before .before .before .pre .1 .1 .1 .1) (c .before .before .before .before .before .before .before .decide10 .ensures .1),
     )
-
-work-out-same-length-23 : (t : ℕ) → here-work-out t work-out-lts.Need-same-length-23
-work-out-same-length-23 t c = c .before .before .clear2 .kept .0
-
-work-out-returns-16 : (t : ℕ) → here-work-out t work-out-lts.Need-returns-16
-work-out-returns-16 t c = absurd (no-other t (c .before .before .before .before))
 
 pub +decide+work-out-spec : {M : Type 1} → statement M
 +decide+work-out-spec = close μ-decide μ-work-out (λ t. decide-lts.spec (
@@ -836,12 +686,12 @@ pub +decide+work-out-spec : {M : Type 1} → statement M
 )
     (decide-at t)
     decide.Post
-    (decide-op-of-requires t)
+    (λ c κs. tt)
     (decide-has-slot-requires t)
     (decide-missing-requires t)
     (decide-work-out-requires t)
-    (decide-members-requires t)
-    (decide-mask-requires t)
+    (λ c κs. tt)
+    (λ c κs. tt)
     (decide-keep-requires t)
     (decide-same-length t)
     (decide-same-length-2 t)
@@ -850,86 +700,86 @@ pub +decide+work-out-spec : {M : Type 1} → statement M
     work-out-Inv-loop
     work-out-μ-loop
     (work-out-returns t)
-    (work-out-op-of-requires t)
-    (work-out-first-of-requires t)
-    (work-out-second-of-requires t)
-    (work-out-relations-requires t)
-    (work-out-members-requires t)
-    (work-out-mask-requires t)
+    (λ c κs. tt)
+    (λ c κs. tt)
+    (λ c κs. tt)
+    (λ c κs. tt)
+    (λ c κs. tt)
+    (λ c κs. tt)
     (work-out-spread-requires t)
-    (work-out-same-length t)
+    (λ c. c .before .before .spread .kept .0)
     (work-out-returns-2 t)
     (work-out-diagonal-requires t)
     (work-out-member-of-requires t)
     (work-out-alone-requires t)
-    (work-out-same-length-2 t)
+    (λ c. c .before .before .diagonal .kept .0)
     (work-out-returns-3 t)
-    (work-out-same-length-3 t)
+    (λ c. c .before .before .alone .kept .0)
     (work-out-returns-4 t)
     (work-out-recollect-requires t)
-    (work-out-same-length-4 t)
+    (λ c. c .before .before .recollect .kept .1 .1 .1 .1 .1 .1 .1 .0)
     (work-out-returns-5 t)
     (work-out-recollect-requires-2 t)
-    (work-out-same-length-5 t)
+    (λ c. c .before .before .recollect2 .kept .1 .1 .1 .1 .1 .1 .1 .0)
     (work-out-returns-6 t)
     (work-out-decide-requires t)
-    (work-out-flip-requires t)
+    (λ c κs. c .before .before .before .before .before .decide .ensures .0 .long)
     (work-out-same-length-6 t)
     (work-out-same-length-7 t)
     (work-out-returns-7 t)
     (work-out-event-of-requires t)
-    (work-out-is-absent-requires t)
+    (λ c κs. tt)
     (work-out-clear-requires t)
-    (work-out-same-length-8 t)
+    (λ c. c .before .before .clear .kept .0)
     (work-out-returns-8 t)
     (work-out-decide-requires-2 t)
-    (work-out-slice-aggregate-decide t)
+    (λ c. refl)
     (work-out-decide-requires-3 t)
-    (work-out-slice-aggregate-join t)
+    (λ c. sym (c .before .before .before .before .before .decide3 .ensures .0 .long))
     (work-out-join-requires t)
-    (work-out-senders-requires t)
+    (λ c κs. tt)
     (work-out-ahead-requires t)
-    (work-out-slice-aggregate-decide-2 t)
+    (λ c. refl)
     (work-out-decide-requires-4 t)
-    (work-out-third-of-requires t)
-    (work-out-least-count-requires t)
-    (work-out-slice-aggregate-gather t)
+    (λ c κs. tt)
+    (λ c κs. tt)
+    (λ c. sym (c .before .before .before .before .before .before .before .decide4 .ensures .0 .long))
     (work-out-gather-requires t)
-    (work-out-senders-requires-2 t)
+    (λ c κs. tt)
     (work-out-behind-requires t)
-    (work-out-slice-aggregate-decide-3 t)
+    (λ c. refl)
     (work-out-decide-requires-5 t)
-    (work-out-slice-aggregate-scatter t)
+    (λ c. sym (c .before .before .before .before .before .decide5 .ensures .0 .long))
     (work-out-scatter-requires t)
-    (work-out-open-under-requires t)
+    (λ c κs. tt)
     (work-out-loop-holds t)
-    (work-out-least-of-requires t)
+    (λ c κs. tt)
     (work-out-rebind-requires t)
-    (work-out-single-requires t)
-    (work-out-slice-aggregate-decide-4 t)
+    (λ c κs. tt)
+    (λ c. sym (c .before .before .before .before .before .before .loop .inv .1))
     (work-out-decide-requires-6 t)
     (work-out-mul-out t)
     (work-out-array-read-out t)
     (work-out-mul-out-2 t)
     (work-out-slice-write-out t)
-    (work-out-rest-of-requires t)
+    (λ c κs. tt)
     (work-out-loop-less t)
     (work-out-loop-again t)
-    (work-out-third-of-requires-2 t)
+    (λ c κs. tt)
     (work-out-decide-requires-7 t)
-    (work-out-together-requires t)
-    (work-out-slice-aggregate-decide-5 t)
+    (λ c κs. c .before .before .before .before .before .decide7 .ensures .0 .long)
+    (λ c. refl)
     (work-out-decide-requires-8 t)
-    (work-out-slice-aggregate-follow t)
+    (λ c. sym (c .before .before .before .before .before .decide8 .ensures .0 .long))
     (work-out-follow-requires t)
-    (work-out-slice-aggregate-decide-6 t)
+    (λ c. refl)
     (work-out-decide-requires-9 t)
-    (work-out-slice-aggregate-own-bits t)
-    (work-out-own-bits-requires t)
+    (λ c. sym (c .before .before .before .before .before .decide9 .ensures .0 .long))
+    (λ c κs. c .before .before .before .before .before .decide9 .ensures .0 .long)
     (work-out-spread-requires-2 t)
     (work-out-member-of-requires-2 t)
-    (work-out-single-requires-2 t)
-    (work-out-slice-aggregate-decide-7 t)
+    (λ c κs. tt)
+    (λ c. refl)
     (work-out-decide-requires-10 t)
     (work-out-mul-spread t)
     (work-out-array-read-spread t)
@@ -939,22 +789,22 @@ pub +decide+work-out-spec : {M : Type 1} → statement M
     (work-out-same-length-10 t)
     (work-out-returns-9 t)
     (work-out-same-length-11 t)
-    (work-out-same-length-12 t)
+    (λ c. c .before .before .gather .kept .0)
     (work-out-returns-10 t)
     (work-out-same-length-13 t)
-    (work-out-same-length-14 t)
+    (λ c. c .before .before .scatter .kept .0)
     (work-out-returns-11 t)
-    (work-out-same-length-15 t)
+    (λ c. c .before .loop .inv .2 .above .long)
     (work-out-same-length-16 t)
-    (work-out-returns-12 t)
+    (λ c. (loops.filled (c .before .loop .inv .0) (c .loop-test .left), c .before .loop .inv .2))
     (work-out-same-length-17 t)
     (work-out-same-length-18 t)
     (work-out-returns-13 t)
     (work-out-same-length-19 t)
-    (work-out-same-length-20 t)
+    (λ c. c .before .before .spread2 .kept .0)
     (work-out-returns-14 t)
-    (work-out-same-length-21 t)
-    (work-out-same-length-22 t)
+    (λ c. c .before .before .before .before .before .before .before .decide10 .ensures .1 .above .long)
+    (λ c. c .before .before .spread3 .kept .0)
     (work-out-returns-15 t)
-    (work-out-same-length-23 t)
-    (work-out-returns-16 t)
+    (λ c. c .before .before .clear2 .kept .0)
+    (λ c. absurd (no-other t (c .before .before .before .before)))

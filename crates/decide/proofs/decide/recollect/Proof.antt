@@ -1,3 +1,4 @@
+-- `decide::decide::recollect` meets its contract.
 use borrow.Author.Needs.{needs}
 use native.Mathlib.Omega.{arith}
 use Prim.Native.Nat.{ℕ, _<_}
@@ -7,7 +8,6 @@ use mathlib.Core.List.{List, []}
 use borrow.Author.Tests.{ltb-true}
 use lib.Dec.{eqb}
 use lib.ListN.{getD}
-use Rattle.sets.specs.Sets.{bit}
 use Rattle.theory.specs.Columns.{columnsFit}
 use Rattle.theory.specs.Meaning.{Assignment}
 use Rattle.memory.specs.Plan.{planTable, planFirst, planLast, planColumns}
@@ -16,16 +16,10 @@ use Rattle.deciding.specs.private.Rows.{Recalled}
 use Rattle.decide.proofs.decide.recollect.Statement.{statement}
 use Rattle.decide.proofs.decide.recollect.Tie as tie
 
--- a table with two columns has few members
+-- A table with two columns has few members.
 few : {plan past : List ℕ} {g : Assignment} {entry want all : ℕ} (r : Recalled plan past g entry want all) (p : ℕ) → p ≡ getD plan entry 0 →
     not (eqb (planFirst p) (planLast p)) ≡ true → r .members < 17
 few r p e two = two-few (r .members) p [] 0 two (ap (λ (k : ℕ). columnsFit (r .members) (planColumns k)) e ∙ r .fit)
-
-word-requires : tie.Need-word-requires
-word-requires c κs = search needs
-
-is-pair-requires : tie.Need-is-pair-requires
-is-pair-requires c κs = search needs
 
 recollect-pair-requires : tie.Need-recollect-pair-requires
 recollect-pair-requires c κs =
@@ -54,14 +48,8 @@ recollect-one-requires c κs =
     let r = i .pre .0 in
     ((subst (λ (k : ℕ). planTable k < 32) (sym (word .ensures .0)) (r .exists), r .long, sym (c .before .before .is-pair .ensures) ∙ c .before .if1 .left), i .pre .1)
 
-same-length : tie.Need-same-length
-same-length c = search needs
-
 returns : tie.Need-returns
 returns c = rw (c .before .before .before .before .before .before .word .ensures .0) at (c .before .before .recollect-pair .ensures)
-
-same-length-2 : tie.Need-same-length-2
-same-length-2 c = search needs
 
 returns-2 : tie.Need-returns-2
 returns-2 c = rw (c .before .before .before .before .before .before .word .ensures .0) at (c .before .before .recollect-one .ensures)
@@ -70,11 +58,11 @@ pub recollect-spec : {M : Type 1} → statement M
 recollect-spec =
     tie.close
     (tie.spec
-    word-requires
-    is-pair-requires
+    (λ c κs. search needs)
+    (λ c κs. search needs)
     recollect-pair-requires
     recollect-one-requires
-    same-length
+    (λ c. search needs)
     returns
-    same-length-2
+    (λ c. search needs)
     returns-2)

@@ -1,3 +1,4 @@
+-- `decide::decide::recollect_pair` meets its contract.
 use borrow.Author.Needs.{needs}
 use native.Mathlib.Omega.{arith}
 use mathlib.Core.Path.{ap, _∙_}
@@ -5,24 +6,6 @@ use Rattle.deciding.specs.private.Rows.{assigned}
 use Rattle.deciding.proofs.Assignments as assignments
 use Rattle.decide.proofs.decide.recollect_pair.Statement.{statement}
 use Rattle.decide.proofs.decide.recollect_pair.Tie as tie
-
-first-of-requires : tie.Need-first-of-requires
-first-of-requires c κs = search needs
-
-last-of-requires : tie.Need-last-of-requires
-last-of-requires c κs = search needs
-
-table-of-requires : tie.Need-table-of-requires
-table-of-requires c κs = search needs
-
-member-of-requires : tie.Need-member-of-requires
-member-of-requires c κs = search needs
-
-member-of-requires-2 : tie.Need-member-of-requires-2
-member-of-requires-2 c κs = search needs
-
-open-column-requires : tie.Need-open-column-requires
-open-column-requires c κs = search needs
 
 recall-requires : tie.Need-recall-requires
 recall-requires c κs =
@@ -40,9 +23,6 @@ recall-requires c κs =
       ),
       (i .pre .1 .1 .1 .0, i .pre .1 .1 .1 .1),
     )
-
-same-length : tie.Need-same-length
-same-length c = search needs
 
 returns : tie.Need-returns
 returns c =
@@ -63,12 +43,12 @@ pub recollect-pair-spec : {M : Type 1} → statement M
 recollect-pair-spec =
     tie.close
     (tie.spec
-    first-of-requires
-    last-of-requires
-    table-of-requires
-    member-of-requires
-    member-of-requires-2
-    open-column-requires
+    (λ c κs. search needs)
+    (λ c κs. search needs)
+    (λ c κs. search needs)
+    (λ c κs. search needs)
+    (λ c κs. search needs)
+    (λ c κs. search needs)
     recall-requires
-    same-length
+    (λ c. search needs)
     returns)

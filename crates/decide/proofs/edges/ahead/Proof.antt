@@ -1,3 +1,4 @@
+-- `decide::edges::ahead` meets its contract.
 use native.Mathlib.Omega.{arith}
 use lib.ListN.{set}
 use Rattle.deciding.specs.private.Rows.{edge}
@@ -11,17 +12,8 @@ Inv-loop relations r event l set s₀ rest₀ s rest = loops.Adding set (edge r 
 abbrev μ-loop : tie.MeasureT-loop
 μ-loop relations r event l set s₀ rest₀ s rest = rest
 
-loop-holds : tie.Need-loop-holds Inv-loop μ-loop
-loop-holds c = loops.adding _ _ (omega arith)
-
-least-of-requires : tie.Need-least-of-requires Inv-loop μ-loop
-least-of-requires c κs = tt
-
 row-requires : tie.Need-row-requires Inv-loop μ-loop
 row-requires c κs = omega (arith, loops.least-small (c .before .before .loop .inv .upon) (c .before .loop-test .taken) (c .least-of .ensures))
-
-rest-of-requires : tie.Need-rest-of-requires Inv-loop μ-loop
-rest-of-requires c κs = tt
 
 loop-less : tie.Need-loop-less Inv-loop μ-loop
 loop-less c = loops.rest-less (c .before .before .before .before .loop .inv .upon) (c .before .before .before .loop-test .taken) (c .rest-of .ensures)
@@ -32,19 +24,16 @@ loop-again c =
     loops.adding-more _ (loop .inv) (loops.turn (loop .inv .upon) (c .before .before .before .loop-test .taken) (c .before .before .least-of .ensures)
     (c .rest-of .ensures)) (c .before .row .ensures)
 
-returns : tie.Need-returns Inv-loop μ-loop
-returns c = loops.adding-all (c .before .loop .inv) (c .loop-test .left)
-
 pub ahead-spec : {M : Type 1} → statement M
 ahead-spec =
     tie.close
     (tie.spec
     Inv-loop
     μ-loop
-    loop-holds
-    least-of-requires
+    (λ c. loops.adding _ _ (omega arith))
+    (λ c κs. tt)
     row-requires
-    rest-of-requires
+    (λ c κs. tt)
     loop-less
     loop-again
-    returns)
+    (λ c. loops.adding-all (c .before .loop .inv) (c .loop-test .left)))

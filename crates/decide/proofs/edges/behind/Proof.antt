@@ -1,3 +1,4 @@
+-- `decide::edges::behind` meets its contract.
 use borrow.Author.Needs.{needs}
 use Prim.Native.Nat.{_+_, _-_, _*_}
 use native.Mathlib.Omega.{arith}
@@ -5,30 +6,6 @@ use mathlib.Core.Path.{_∙_}
 use Rattle.deciding.proofs.EdgeLaws as edges
 use Rattle.decide.proofs.edges.behind.Statement.{statement}
 use Rattle.decide.proofs.edges.behind.Tie as tie
-
-mul-k : tie.Need-mul-k
-mul-k c = search needs
-
-add-meeting : tie.Need-add-meeting
-add-meeting c = search needs
-
-mul-meeting : tie.Need-mul-meeting
-mul-meeting c = search needs
-
-sub-meeting : tie.Need-sub-meeting
-sub-meeting c = search needs
-
-part-meeting-start : tie.Need-part-meeting-start
-part-meeting-start c = search needs
-
-part-meeting-end : tie.Need-part-meeting-end
-part-meeting-end c = search needs
-
-meeting-requires : tie.Need-meeting-requires
-meeting-requires c κs = search needs
-
-behind-event-requires : tie.Need-behind-event-requires
-behind-event-requires c κs = search needs
 
 returns : tie.Need-returns
 returns c =
@@ -47,13 +24,13 @@ pub behind-spec : {M : Type 1} → statement M
 behind-spec =
     tie.close
     (tie.spec
-    mul-k
-    add-meeting
-    mul-meeting
-    sub-meeting
-    part-meeting-start
-    part-meeting-end
-    meeting-requires
-    behind-event-requires
+    (λ c. search needs)
+    (λ c. search needs)
+    (λ c. search needs)
+    (λ c. search needs)
+    (λ c. search needs)
+    (λ c. search needs)
+    (λ c κs. search needs)
+    (λ c κs. search needs)
     returns
     returns-2)

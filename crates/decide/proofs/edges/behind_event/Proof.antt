@@ -1,3 +1,4 @@
+-- `decide::edges::behind_event` meets its contract.
 use borrow.Author.Needs.{needs}
 use Prim.Native.Nat.{ℕ}
 use mathlib.Core.Path.{refl, ap, _∙_}
@@ -5,24 +6,6 @@ use Rattle.sets.specs.Sets.{bit}
 use Rattle.deciding.proofs.EdgeLaws as edges
 use Rattle.decide.proofs.edges.behind_event.Statement.{statement}
 use Rattle.decide.proofs.edges.behind_event.Tie as tie
-
-returns : tie.Need-returns
-returns c = edges.behind-none _ _ _ _ (c .if1 .taken)
-
-sub-a : tie.Need-sub-a
-sub-a c = search needs
-
-fired-row-requires : tie.Need-fired-row-requires
-fired-row-requires c κs = tt
-
-meet-requires : tie.Need-meet-requires
-meet-requires c κs = tt
-
-single-requires : tie.Need-single-requires
-single-requires c κs = tt
-
-only-requires : tie.Need-only-requires
-only-requires c κs = tt
 
 returns-2 : tie.Need-returns-2
 returns-2 c =
@@ -36,10 +19,10 @@ pub behind-event-spec : {M : Type 1} → statement M
 behind-event-spec =
     tie.close
     (tie.spec
-    returns
-    sub-a
-    fired-row-requires
-    meet-requires
-    single-requires
-    only-requires
+    (λ c. edges.behind-none _ _ _ _ (c .if1 .taken))
+    (λ c. search needs)
+    (λ c κs. tt)
+    (λ c κs. tt)
+    (λ c κs. tt)
+    (λ c κs. tt)
     returns-2)

@@ -1,3 +1,4 @@
+-- `decide::edges::is_absent` meets its contract.
 use borrow.Author.Needs.{needs}
 use mathlib.Core.Path.{sym}
 use mathlib.Core.Bool.{true≢false}
@@ -6,18 +7,15 @@ use Rattle.deciding.proofs.EdgeLaws as edges
 use Rattle.decide.proofs.edges.is_absent.Statement.{statement}
 use Rattle.decide.proofs.edges.is_absent.Tie as tie
 
-returns : tie.Need-returns
-returns c = λ e. absurd (true≢false (sym e))
-
-returns-2 : tie.Need-returns-2
-returns-2 c = λ e. edges.absent _ _ _ (c .before .if1 .left) (λ a. edges.fired-no-event _ _ a (c .if2 .taken))
-
-sub-result : tie.Need-sub-result
-sub-result c = search needs
-
 returns-3 : tie.Need-returns-3
 returns-3 c =
     λ e. edges.absent _ _ _ (c .before .if1 .left) (λ a. edges.fired-other-event _ _ a (c .if2 .left) (eqb-false _ _ (not-true _ e)))
 
 pub is-absent-spec : {M : Type 1} → statement M
-is-absent-spec = tie.close (tie.spec returns returns-2 sub-result returns-3)
+is-absent-spec =
+    tie.close
+    (tie.spec
+    (λ c e. absurd (true≢false (sym e)))
+    (λ c e. edges.absent _ _ _ (c .before .if1 .left) (λ a. edges.fired-no-event _ _ a (c .if2 .taken)))
+    (λ c. search needs)
+    returns-3)

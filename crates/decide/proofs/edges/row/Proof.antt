@@ -1,23 +1,9 @@
+-- `decide::edges::row` meets its contract.
 use borrow.Author.Needs.{needs}
 use mathlib.Core.Path.{_∙_}
 use Rattle.deciding.proofs.EdgeLaws as edges
 use Rattle.decide.proofs.edges.row.Statement.{statement}
 use Rattle.decide.proofs.edges.row.Tie as tie
-
-mul-result : tie.Need-mul-result
-mul-result c = search needs
-
-add-result : tie.Need-add-result
-add-result c = search needs
-
-mul-result-2 : tie.Need-mul-result-2
-mul-result-2 c = search needs
-
-shared-slice-read-result : tie.Need-shared-slice-read-result
-shared-slice-read-result c = search needs
-
-fired-row-requires : tie.Need-fired-row-requires
-fired-row-requires c κs = tt
 
 returns : tie.Need-returns
 returns c =
@@ -33,10 +19,10 @@ pub row-spec : {M : Type 1} → statement M
 row-spec =
     tie.close
     (tie.spec
-    mul-result
-    add-result
-    mul-result-2
-    shared-slice-read-result
-    fired-row-requires
+    (λ c. search needs)
+    (λ c. search needs)
+    (λ c. search needs)
+    (λ c. search needs)
+    (λ c κs. tt)
     returns
     returns-2)

@@ -1,3 +1,4 @@
+-- `decide::memo::asked` meets its contract.
 use mathlib.Core.Path.{_≡_, refl, sym, ap, _∙_}
 use mathlib.Core.Bool.{Bool, true, false, cond, _&&_}
 use lib.Dec.{eqb, ltb}
@@ -7,12 +8,6 @@ use Rattle.decide.proofs.memo.asked.Tie as tie
 both : (x : Bool) → (x && x) ≡ x
 both true = refl
 both false = refl
-
-mask-requires : tie.Need-mask-requires
-mask-requires c κs = tt
-
-single-requires : tie.Need-single-requires
-single-requires c κs = tt
 
 returns : tie.Need-returns
 returns c = λ b.
@@ -25,4 +20,4 @@ returns-2 c = λ b.
     ∙ sym (ap (λ (t : Bool). cond t (ltb b 64) (ltb b 64 && eqb b (c .before .before .args .c))) (c .before .if1 .left))
 
 pub asked-spec : {M : Type 1} → statement M
-asked-spec = tie.close (tie.spec mask-requires single-requires returns returns-2)
+asked-spec = tie.close (tie.spec (λ c κs. tt) (λ c κs. tt) returns returns-2)

@@ -1,3 +1,4 @@
+-- `decide::memo::claim` meets its contract.
 use Prim.Native.Nat.{ℕ, _+_, _-_, _/_, _%_, _<_, _≤_}
 use native.Mathlib.Omega.{arith}
 use mathlib.Core.Path.{_≡_, ap, ap₂, _∙_}
@@ -13,7 +14,7 @@ use Rattle.deciding.specs.private.Memo.{byteOf, valueOf, haveOf, readsOf, colum
 use Rattle.decide.proofs.memo.claim.Statement.{statement}
 use Rattle.decide.proofs.memo.claim.Tie as tie
 
--- what is left of slot s, where p and q have the variables
+-- What is left of slot s, where p and q have the variables.
 module _ (s : List ℕ) (z p q : ℕ) (long : length s ≡ 133) where
   abbrev s₁ : List ℕ
   s₁ = set s 66 0

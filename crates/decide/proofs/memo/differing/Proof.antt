@@ -1,3 +1,4 @@
+-- `decide::memo::differing` meets its contract.
 use Prim.Native.Nat.{ℕ, _<_}
 use mathlib.Core.Path.{_≡_, sym, ap, _∙_}
 use mathlib.Core.Bool.{Bool, true, not, _&&_, and-not-self}
@@ -22,18 +23,6 @@ Inv-loop slot vars rest₀ rest = loops.Going rest₀ rest × ((k : ℕ) → loo
 abbrev μ-loop : tie.MeasureT-loop
 μ-loop slot vars rest₀ rest = rest
 
-shared-slice-read-without : tie.Need-shared-slice-read-without Inv-loop μ-loop
-shared-slice-read-without c = omega (arith, c .before .before .pre)
-
-mask-requires : tie.Need-mask-requires Inv-loop μ-loop
-mask-requires c κs = tt
-
-shared-slice-read-without-2 : tie.Need-shared-slice-read-without-2 Inv-loop μ-loop
-shared-slice-read-without-2 c = omega (arith, c .before .before .before .before .pre)
-
-without-requires : tie.Need-without-requires Inv-loop μ-loop
-without-requires c κs = tt
-
 loop-holds : tie.Need-loop-holds Inv-loop μ-loop
 loop-holds c =
     let s = c .before .before .before .before .before .args .slot .now in
@@ -45,9 +34,6 @@ loop-holds c =
           (bit-and (getD s 67 0) (m .result) k ∙ ap (λ (t : Bool). bit (getD s 67 0) k && t) (m .ensures k ∙ and-implied (ltb k 64) (ltb k 16) (λ e. lt-ltb k 64 (let l : k < 16 = ltb-true k 16 e in omega arith)))),
     )
 
-least-of-requires : tie.Need-least-of-requires Inv-loop μ-loop
-least-of-requires c κs = tt
-
 small : (c : tie.After-least-of Inv-loop μ-loop) → c .least-of .result < 16
 small c =
     let l = c .before .before .loop in
@@ -55,18 +41,6 @@ small c =
     let y = c .least-of .result in
     let s = c .before .before .before .before .before .before .before .before .args .slot .now in
     ltb-true y 16 (and-right (bit (getD s 67 0) y) (ltb y 16) (and-left (bit (getD s 67 0) y && ltb y 16) _ (sym (l .inv .2 y) ∙ w)))
-
-value-of-requires : tie.Need-value-of-requires Inv-loop μ-loop
-value-of-requires c κs = (c .before .before .before .before .before .before .before .before .pre, small c)
-
-element-copy-out-wide : tie.Need-element-copy-out-wide Inv-loop μ-loop
-element-copy-out-wide c = let l = small (c .before) in search needs
-
-returns : tie.Need-returns Inv-loop μ-loop
-returns c = λ e. absurd (let z : ⊥ = omega (arith, e, small (c .before .before .before .before)) in z)
-
-rest-of-requires : tie.Need-rest-of-requires Inv-loop μ-loop
-rest-of-requires c κs = tt
 
 loop-less : tie.Need-loop-less Inv-loop μ-loop
 loop-less c = loops.rest-less (c .before .before .before .before .before .before .before .loop .inv .0) (c .before .before .before .before .before .before .loop-test .taken) (c .rest-of .ensures)
@@ -95,17 +69,17 @@ differing-spec =
     (tie.spec
     Inv-loop
     μ-loop
-    shared-slice-read-without
-    mask-requires
-    shared-slice-read-without-2
-    without-requires
+    (λ c. omega (arith, c .before .before .pre))
+    (λ c κs. tt)
+    (λ c. omega (arith, c .before .before .before .before .pre))
+    (λ c κs. tt)
     loop-holds
-    least-of-requires
-    value-of-requires
-    element-copy-out-wide
+    (λ c κs. tt)
+    (λ c κs. (c .before .before .before .before .before .before .before .before .pre, small c))
+    (λ c. let l = small (c .before) in search needs)
     (λ c κs. search needs)
-    returns
-    rest-of-requires
+    (λ c e. absurd (let z : ⊥ = omega (arith, e, small (c .before .before .before .before)) in z))
+    (λ c κs. tt)
     loop-less
     loop-again
     returns-2)

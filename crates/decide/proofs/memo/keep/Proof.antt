@@ -1,3 +1,4 @@
+-- `decide::memo::keep` meets its contract.
 use borrow.Author.Needs.{needs}
 use native.Mathlib.Omega.{arith}
 use mathlib.Core.Path.{refl}
@@ -38,9 +39,6 @@ returns c =
       ((λ e. absurd (not-both _ (c .before .before .before .before .before .before .before .if1 .taken) e)), copy.lent-back (i .args .entry) (i .args .memo .now) fits (k .last .0) (k .kept .0) .1),
     )
 
-returns-2 : tie.Need-returns-2
-returns-2 c = ((λ e. absurd (not-both _ e (c .if1 .left))), ((λ e. (refl, refl)), copy.apart-same _ _))
-
 pub keep-spec : {M : Type 1} → statement M
 keep-spec =
     tie.close
@@ -55,4 +53,4 @@ keep-spec =
     (λ c. search needs)
     (λ c. search needs)
     returns
-    returns-2)
+    (λ c. ((λ e. absurd (not-both _ e (c .if1 .left))), ((λ e. (refl, refl)), copy.apart-same _ _))))

@@ -1,3 +1,4 @@
+-- `decide::memo::keep_in` meets its contract.
 use Prim.Native.Nat.{ℕ}
 use mathlib.Core.Path.{ap₂, _∙_}
 use mathlib.Core.Bool.{Bool, cond, _&&_}
@@ -11,21 +12,6 @@ use native.Mathlib.Omega.{arith}
 use borrow.Author.Needs.{needs}
 use Rattle.decide.proofs.memo.keep_in.Statement.{statement}
 use Rattle.decide.proofs.memo.keep_in.Tie as tie
-
-slice-read-has : tie.Need-slice-read-has
-slice-read-has c = omega (arith, c .before .before .before .pre .0)
-
-has-requires : tie.Need-has-requires
-has-requires c κs = tt
-
-slice-read-standing : tie.Need-slice-read-standing
-slice-read-standing c = omega (arith, c .before .before .before .before .before .before .pre .0)
-
-standing-requires : tie.Need-standing-requires
-standing-requires c κs = tt
-
-asked-requires : tie.Need-asked-requires
-asked-requires c κs = tt
 
 put-requires : tie.Need-put-requires
 put-requires c κs = (c .before .before .before .before .before .before .before .before .before .before .pre .0, omega (arith, c .before .before .before .before .before .before .before .before .before .before .pre .1))
@@ -55,11 +41,11 @@ pub keep-in-spec : {M : Type 1} → statement M
 keep-in-spec =
     tie.close
     (tie.spec
-    slice-read-has
-    has-requires
-    slice-read-standing
-    standing-requires
-    asked-requires
+    (λ c. omega (arith, c .before .before .before .pre .0))
+    (λ c κs. tt)
+    (λ c. omega (arith, c .before .before .before .before .before .before .pre .0))
+    (λ c κs. tt)
+    (λ c κs. tt)
     put-requires
     show-requires
     (λ c. search needs)

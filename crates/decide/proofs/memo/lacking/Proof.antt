@@ -1,3 +1,4 @@
+-- `decide::memo::lacking` meets its contract.
 use lib.Bits.{and-le-l}
 use lib.ListN.{getD}
 use native.Mathlib.Omega.{arith}
@@ -12,16 +13,10 @@ Inv-loop slot ask want had need₀ rest₀ need rest = copy.Lacking slot ask wan
 abbrev μ-loop : tie.MeasureT-loop
 μ-loop slot ask want had need₀ rest₀ need rest = rest
 
-shared-slice-read-had : tie.Need-shared-slice-read-had Inv-loop μ-loop
-shared-slice-read-had c = omega (arith, c .before .before .pre)
-
 loop-holds : tie.Need-loop-holds Inv-loop μ-loop
 loop-holds c =
     let i = c .before .before in
     copy.lacking _ _ _ (omega (arith, and-le-l (i .args .want) (getD (i .args .slot .now) 66 0), i .fits .want))
-
-least-of-requires : tie.Need-least-of-requires Inv-loop μ-loop
-least-of-requires c κs = tt
 
 add-unless-known : tie.Need-add-unless-known Inv-loop μ-loop
 add-unless-known c = omega (arith, loops.least-small (c .before .before .loop .inv .upon) (c .before .loop-test .taken) (c .least-of .ensures))
@@ -31,12 +26,6 @@ mul-unless-known c = omega (arith, loops.least-small (c .before .before .loop .i
 
 shared-slice-read-unless-known : tie.Need-shared-slice-read-unless-known Inv-loop μ-loop
 shared-slice-read-unless-known c = omega (arith, loops.least-small (c .before .before .before .loop .inv .upon) (c .before .before .loop-test .taken) (c .before .least-of .ensures), c .before .before .before .before .before .before .pre)
-
-unless-known-requires : tie.Need-unless-known-requires Inv-loop μ-loop
-unless-known-requires c κs = tt
-
-rest-of-requires : tie.Need-rest-of-requires Inv-loop μ-loop
-rest-of-requires c κs = tt
 
 loop-less : tie.Need-loop-less Inv-loop μ-loop
 loop-less c = loops.rest-less (c .before .before .before .before .before .loop .inv .upon) (c .before .before .before .before .loop-test .taken) (c .rest-of .ensures)
@@ -48,23 +37,20 @@ loop-again c =
     copy.lacking-more (u .result) (l .inv) (loops.turn (l .inv .upon) (c .before .before .before .before .loop-test .taken) (c .before .before .before .least-of .ensures) (c .rest-of .ensures))
     (u .ensures .0) (u .ensures .1 (loops.least-small (l .inv .upon) (c .before .before .before .before .loop-test .taken) (c .before .before .before .least-of .ensures)))
 
-returns : tie.Need-returns Inv-loop μ-loop
-returns c = (c .before .loop .inv .within, copy.lacked (c .before .loop .inv) (c .loop-test .left))
-
 pub lacking-spec : {M : Type 1} → statement M
 lacking-spec =
     tie.close
     (tie.spec
     Inv-loop
     μ-loop
-    shared-slice-read-had
+    (λ c. omega (arith, c .before .before .pre))
     loop-holds
-    least-of-requires
+    (λ c κs. tt)
     add-unless-known
     mul-unless-known
     shared-slice-read-unless-known
-    unless-known-requires
-    rest-of-requires
+    (λ c κs. tt)
+    (λ c κs. tt)
     loop-less
     loop-again
-    returns)
+    (λ c. (c .before .loop .inv .within, copy.lacked (c .before .loop .inv) (c .loop-test .left))))

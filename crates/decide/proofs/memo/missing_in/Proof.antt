@@ -1,3 +1,4 @@
+-- `decide::memo::missing_in` meets its contract.
 use Prim.Native.Nat.{ℕ}
 use borrow.Author.Needs.{needs}
 use borrow.Author.Tests.{eqb-true}
@@ -12,38 +13,17 @@ use Rattle.deciding.proofs.Copying as copy
 use Rattle.decide.proofs.memo.missing_in.Statement.{statement}
 use Rattle.decide.proofs.memo.missing_in.Tie as tie
 
--- what is not read, or is the column
+-- What is not read, or is the column.
 is-column : (w t : Bool) → (w && not t) ≡ false → w ≡ true → t ≡ true
 is-column true true e q = refl
 is-column true false e q = absurd (true≢false e)
 is-column false t e q = absurd (true≢false (sym q))
-
-slice-read-has : tie.Need-slice-read-has
-slice-read-has c = omega (arith, c .before .before .pre)
-
-has-requires : tie.Need-has-requires
-has-requires c κs = tt
-
-slice-read-z : tie.Need-slice-read-z
-slice-read-z c = omega (arith, c .before .before .before .before .pre)
-
-claim-requires : tie.Need-claim-requires
-claim-requires c κs = c .before .before .before .before .before .before .pre
 
 returns : tie.Need-returns
 returns c =
     let i = c .before .before .before .before .before .before .before .before .before in
     let k = c .before .before .claim in
     copy.missing-all (assigned (i .args .vars .now)) (i .args .x) (i .args .want) (i .args .slot .now) (k .last .0) (k .ensures .0 .0) (k .ensures .0 .1) (λ e. k .ensures .0 .2) (k .ensures .1)
-
-differing-requires : tie.Need-differing-requires
-differing-requires c κs = c .before .before .before .before .before .before .pre
-
-standing-requires : tie.Need-standing-requires
-standing-requires c κs = tt
-
-asked-requires : tie.Need-asked-requires
-asked-requires c κs = tt
 
 lacking-requires : tie.Need-lacking-requires
 lacking-requires c κs = c .before .before .before .before .before .before .before .before .before .before .before .before .pre
@@ -59,17 +39,11 @@ returns-2 c =
     (λ b. c .before .asked .ensures b ∙ ap₂ (λ (t : Bool) (n : ℕ). cond t (ltb b 64) (ltb b 64 && eqb b n)) (whole .ensures) (c .before .before .standing .ensures))
     (c .lacking .ensures .0) (c .lacking .ensures .1)
 
-claim-requires-2 : tie.Need-claim-requires-2
-claim-requires-2 c κs = c .before .before .before .before .before .before .before .before .before .before .pre
-
 returns-3 : tie.Need-returns-3
 returns-3 c =
     let i = c .before .before .before .before .before .before .before .before .before .before .before .before .before in
     let k = c .before .before .claim2 in
     copy.missing-all (assigned (i .args .vars .now)) (i .args .x) (i .args .want) (i .args .slot .now) (k .last .0) (k .ensures .0 .0) (k .ensures .0 .1) (λ e. k .ensures .0 .2) (k .ensures .1)
-
-claim-requires-3 : tie.Need-claim-requires-3
-claim-requires-3 c κs = c .before .before .before .before .before .before .before .before .before .before .pre
 
 returns-4 : tie.Need-returns-4
 returns-4 c =
@@ -82,21 +56,21 @@ pub missing-in-spec : {M : Type 1} → statement M
 missing-in-spec =
     tie.close
     (tie.spec
-    slice-read-has
-    has-requires
-    slice-read-z
-    claim-requires
+    (λ c. omega (arith, c .before .before .pre))
+    (λ c κs. tt)
+    (λ c. omega (arith, c .before .before .before .before .pre))
+    (λ c κs. c .before .before .before .before .before .before .pre)
     (λ c. search needs)
     returns
-    differing-requires
-    standing-requires
-    asked-requires
+    (λ c κs. c .before .before .before .before .before .before .pre)
+    (λ c κs. tt)
+    (λ c κs. tt)
     lacking-requires
     (λ c. search needs)
     returns-2
-    claim-requires-2
+    (λ c κs. c .before .before .before .before .before .before .before .before .before .before .pre)
     (λ c. search needs)
     returns-3
-    claim-requires-3
+    (λ c κs. c .before .before .before .before .before .before .before .before .before .before .pre)
     (λ c. search needs)
     returns-4)

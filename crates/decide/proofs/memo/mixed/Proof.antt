@@ -1,3 +1,4 @@
+-- `decide::memo::mixed` meets its contract.
 use mathlib.Core.Path.{_≡_, refl, ap₂, _∙_}
 use mathlib.Core.Bool.{Bool, true, false, cond, not, _&&_, _||_}
 use lib.Bits.{bitAnd, bitXor}

@@ -1,7 +1,7 @@
+-- `decide::memo::prepare` meets its contract.
 use native.Mathlib.Omega.{arith}
 use Prim.Native.Nat.{ℕ, _-_, _<_}
 use mathlib.Core.Path.{_≡_, refl, sym, ap, _∙_, subst}
-use mathlib.Core.Bool.{Bool, true, false, cond, _&&_}
 use lib.ListN.{length, getD}
 use Rattle.memory.specs.Layout.{termsOf}
 use Rattle.memory.specs.Plan.{planColumns}
@@ -17,47 +17,8 @@ Inv-loop terms plan memo₀ n reads₀ i₀ memo reads i = sets.Preparing (terms
 abbrev μ-loop : tie.MeasureT-loop
 μ-loop terms plan memo₀ n reads₀ i₀ memo reads i = n - i
 
-entries-requires : tie.Need-entries-requires Inv-loop μ-loop
-entries-requires c κs = tt
-
-loop-holds : tie.Need-loop-holds Inv-loop μ-loop
-loop-holds c = (sets.preparing _ _ _ refl, refl)
-
-first-of-requires : tie.Need-first-of-requires Inv-loop μ-loop
-first-of-requires c κs = tt
-
-op-of-requires : tie.Need-op-of-requires Inv-loop μ-loop
-op-of-requires c κs = tt
-
-word-requires : tie.Need-word-requires Inv-loop μ-loop
-word-requires c κs = tt
-
-slice-aggregate-set-at : tie.Need-slice-aggregate-set-at Inv-loop μ-loop
-slice-aggregate-set-at c = sym (c .before .before .before .before .before .loop .inv .0 .long)
-
-set-at-requires : tie.Need-set-at-requires Inv-loop μ-loop
-set-at-requires c κs = tt
-
-slice-aggregate-set-at-2 : tie.Need-slice-aggregate-set-at-2 Inv-loop μ-loop
-slice-aggregate-set-at-2 c = sym (c .before .before .before .before .before .before .before .loop .inv .0 .long)
-
-second-of-requires : tie.Need-second-of-requires Inv-loop μ-loop
-second-of-requires c κs = tt
-
-set-at-requires-2 : tie.Need-set-at-requires-2 Inv-loop μ-loop
-set-at-requires-2 c κs = tt
-
 slice-aggregate-set-at-3 : tie.Need-slice-aggregate-set-at-3 Inv-loop μ-loop
 slice-aggregate-set-at-3 c = sym (c .before .before .before .before .before .before .before .before .before .before .loop .inv .0 .long)
-
-third-of-requires : tie.Need-third-of-requires Inv-loop μ-loop
-third-of-requires c κs = tt
-
-set-at-requires-3 : tie.Need-set-at-requires-3 Inv-loop μ-loop
-set-at-requires-3 c κs = tt
-
-reads-of-requires : tie.Need-reads-of-requires Inv-loop μ-loop
-reads-of-requires c κs = tt
 
 mul-reads : tie.Need-mul-reads Inv-loop μ-loop
 mul-reads c = omega (arith, c .before .before .before .before .before .before .before .before .before .before .before .before .loop-test .taken, c .before .before .before .before .before .before .before .before .before .before .before .before .before .before .entries .ensures .0, good (c .before .before .before .before .before .before .before .before .before .before .before .before .before .before .before .before .before .before .args .terms .now) (c .before .before .before .before .before .before .before .before .before .before .before .before .before .before .before .before .before .before .pre .0) .few-entries)
@@ -96,9 +57,6 @@ loop-again c =
       c .before .before .give .ensures .0 .long ∙ l .inv .1,
     )
 
-same-length : tie.Need-same-length Inv-loop μ-loop
-same-length c = c .before .loop .inv .1
-
 returns : tie.Need-returns Inv-loop μ-loop
 returns c =
     let i = c .before .before .before .before .before .before in
@@ -115,25 +73,25 @@ prepare-spec =
     (tie.spec
     Inv-loop
     μ-loop
-    entries-requires
-    loop-holds
-    first-of-requires
-    op-of-requires
-    word-requires
-    slice-aggregate-set-at
-    set-at-requires
-    slice-aggregate-set-at-2
-    second-of-requires
-    set-at-requires-2
+    (λ c κs. tt)
+    (λ c. (sets.preparing _ _ _ refl, refl))
+    (λ c κs. tt)
+    (λ c κs. tt)
+    (λ c κs. tt)
+    (λ c. sym (c .before .before .before .before .before .loop .inv .0 .long))
+    (λ c κs. tt)
+    (λ c. sym (c .before .before .before .before .before .before .before .loop .inv .0 .long))
+    (λ c κs. tt)
+    (λ c κs. tt)
     slice-aggregate-set-at-3
-    third-of-requires
-    set-at-requires-3
-    reads-of-requires
+    (λ c κs. tt)
+    (λ c κs. tt)
+    (λ c κs. tt)
     mul-reads
     array-write-reads
     give-requires
     add-i
     loop-less
     loop-again
-    same-length
+    (λ c. c .before .loop .inv .1)
     returns)

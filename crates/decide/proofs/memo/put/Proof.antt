@@ -1,3 +1,4 @@
+-- `decide::memo::put` meets its contract.
 use Prim.Native.Nat.{ℕ, _+_}
 use mathlib.Core.Path.{_≡_, refl, ap, _∙_}
 use mathlib.Core.Bool.{Bool, _&&_, _||_}
@@ -15,15 +16,6 @@ Inv-loop slot₀ rows ask need have rest₀ slot rest = copy.Putting ask need ro
 abbrev μ-loop : tie.MeasureT-loop
 μ-loop slot₀ rows ask need have rest₀ slot rest = rest
 
-slice-read-have : tie.Need-slice-read-have Inv-loop μ-loop
-slice-read-have c = omega (arith, c .before .before .before .pre .0)
-
-loop-holds : tie.Need-loop-holds Inv-loop μ-loop
-loop-holds c = (copy.putting _ _ _ _ (omega arith), refl)
-
-least-of-requires : tie.Need-least-of-requires Inv-loop μ-loop
-least-of-requires c κs = tt
-
 mul-mixed : tie.Need-mul-mixed Inv-loop μ-loop
 mul-mixed c = omega (arith, loops.least-small (c .before .before .loop .inv .0 .upon) (c .before .loop-test .taken) (c .least-of .ensures))
 
@@ -36,9 +28,6 @@ mul-mixed-2 c = omega (arith, loops.least-small (c .before .before .before .loop
 shared-slice-read-mixed : tie.Need-shared-slice-read-mixed Inv-loop μ-loop
 shared-slice-read-mixed c = omega (arith, loops.least-small (c .before .before .before .before .loop .inv .0 .upon) (c .before .before .before .loop-test .taken) (c .before .before .least-of .ensures), c .before .before .before .before .before .before .before .before .pre .1)
 
-mixed-requires : tie.Need-mixed-requires Inv-loop μ-loop
-mixed-requires c κs = tt
-
 add-known-too : tie.Need-add-known-too Inv-loop μ-loop
 add-known-too c = omega (arith, loops.least-small (c .before .before .before .before .before .loop .inv .0 .upon) (c .before .before .before .before .loop-test .taken) (c .before .before .before .least-of .ensures))
 
@@ -47,12 +36,6 @@ mul-known-too c = omega (arith, loops.least-small (c .before .before .before .be
 
 slice-read-known-too : tie.Need-slice-read-known-too Inv-loop μ-loop
 slice-read-known-too c = omega (arith, loops.least-small (c .before .before .before .before .before .before .loop .inv .0 .upon) (c .before .before .before .before .before .loop-test .taken) (c .before .before .before .before .least-of .ensures), c .before .before .before .before .before .before .loop .inv .0 .long, c .before .before .before .before .before .before .before .before .before .before .pre .0)
-
-has-requires : tie.Need-has-requires Inv-loop μ-loop
-has-requires c κs = tt
-
-known-too-requires : tie.Need-known-too-requires Inv-loop μ-loop
-known-too-requires c κs = tt
 
 mul-slot : tie.Need-mul-slot Inv-loop μ-loop
 mul-slot c = omega (arith, loops.least-small (c .before .before .before .before .before .before .before .before .loop .inv .0 .upon) (c .before .before .before .before .before .before .before .loop-test .taken) (c .before .before .before .before .before .before .least-of .ensures))
@@ -68,9 +51,6 @@ mul-slot-2 c = omega (arith, loops.least-small (c .before .before .before .befor
 
 slice-write-slot-2 : tie.Need-slice-write-slot-2 Inv-loop μ-loop
 slice-write-slot-2 c = rw (length-set (c .before .before .before .before .before .before .before .before .loop .slot) (c .before .before .before .before .before .before .least-of .result) (c .before .before .before .mixed .result)) (omega (arith, loops.least-small (c .before .before .before .before .before .before .before .before .loop .inv .0 .upon) (c .before .before .before .before .before .before .before .loop-test .taken) (c .before .before .before .before .before .before .least-of .ensures), c .before .before .before .before .before .before .before .before .loop .inv .0 .long, c .before .before .before .before .before .before .before .before .before .before .before .before .pre .0))
-
-rest-of-requires : tie.Need-rest-of-requires Inv-loop μ-loop
-rest-of-requires c κs = tt
 
 loop-less : tie.Need-loop-less Inv-loop μ-loop
 loop-less c = loops.rest-less (c .before .before .before .before .before .before .before .before .before .loop .inv .0 .upon) (c .before .before .before .before .before .before .before .before .loop-test .taken) (c .rest-of .ensures)
@@ -91,9 +71,6 @@ loop-again c =
 slice-write-slot-3 : tie.Need-slice-write-slot-3 Inv-loop μ-loop
 slice-write-slot-3 c = omega (arith, c .before .loop .inv .0 .long, c .before .before .before .before .before .pre .0)
 
-same-length : tie.Need-same-length Inv-loop μ-loop
-same-length c = length-set (c .before .loop .slot) 66 _ ∙ c .before .loop .inv .0 .long
-
 returns : tie.Need-returns Inv-loop μ-loop
 returns c = copy.put-all (c .before .loop .inv .0) (c .loop-test .left) (c .before .before .before .before .before .pre .0)
 
@@ -103,27 +80,27 @@ put-spec =
     (tie.spec
     Inv-loop
     μ-loop
-    slice-read-have
-    loop-holds
-    least-of-requires
+    (λ c. omega (arith, c .before .before .before .pre .0))
+    (λ c. (copy.putting _ _ _ _ (omega arith), refl))
+    (λ c κs. tt)
     mul-mixed
     slice-read-mixed
     mul-mixed-2
     shared-slice-read-mixed
-    mixed-requires
+    (λ c κs. tt)
     add-known-too
     mul-known-too
     slice-read-known-too
-    has-requires
-    known-too-requires
+    (λ c κs. tt)
+    (λ c κs. tt)
     mul-slot
     slice-write-slot
     add-slot
     mul-slot-2
     slice-write-slot-2
-    rest-of-requires
+    (λ c κs. tt)
     loop-less
     loop-again
     slice-write-slot-3
-    same-length
+    (λ c. length-set (c .before .loop .slot) 66 _ ∙ c .before .loop .inv .0 .long)
     returns)

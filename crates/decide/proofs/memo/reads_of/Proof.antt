@@ -1,3 +1,4 @@
+-- `decide::memo::reads_of` meets its contract.
 use borrow.Author.Needs.{needs}
 use mathlib.Core.Path.{sym, ap, _∙_}
 use Prim.Native.Nat.{ℕ}
@@ -8,24 +9,6 @@ use Rattle.memory.proofs.FreeSets.{free-entry}
 use Rattle.deciding.proofs.ReadSets as sets
 use Rattle.decide.proofs.memo.reads_of.Statement.{statement}
 use Rattle.decide.proofs.memo.reads_of.Tie as tie
-
-is-past-requires : tie.Need-is-past-requires
-is-past-requires c κs = search needs
-
-first-of-requires : tie.Need-first-of-requires
-first-of-requires c κs = search needs
-
-single-requires : tie.Need-single-requires
-single-requires c κs = search needs
-
-last-of-requires : tie.Need-last-of-requires
-last-of-requires c κs = search needs
-
-with-requires : tie.Need-with-requires
-with-requires c κs = search needs
-
-free-of-requires : tie.Need-free-of-requires
-free-of-requires c κs = search needs
 
 returns : tie.Need-returns
 returns c =
@@ -44,11 +27,11 @@ pub reads-of-spec : {M : Type 1} → statement M
 reads-of-spec =
     tie.close
     (tie.spec
-    is-past-requires
-    first-of-requires
-    single-requires
-    last-of-requires
-    with-requires
-    free-of-requires
+    (λ c κs. search needs)
+    (λ c κs. search needs)
+    (λ c κs. search needs)
+    (λ c κs. search needs)
+    (λ c κs. search needs)
+    (λ c κs. search needs)
     returns
     returns-2)

@@ -1,3 +1,4 @@
+-- `decide::memo::row_of` meets its contract.
 use Prim.Native.Nat.{ℕ}
 use mathlib.Core.Path.{sym, ap, _∙_}
 use mathlib.Core.Bool.{Bool, cond}
@@ -5,12 +6,6 @@ use lib.Bits.{bitAnd}
 use Rattle.sets.specs.Sets.{bit}
 use Rattle.decide.proofs.memo.row_of.Statement.{statement}
 use Rattle.decide.proofs.memo.row_of.Tie as tie
-
-has-requires : tie.Need-has-requires
-has-requires c κs = tt
-
-only-requires : tie.Need-only-requires
-only-requires c κs = tt
 
 returns : tie.Need-returns
 returns c =
@@ -24,4 +19,4 @@ returns-2 c =
     ∙ sym (ap (λ (t : Bool). cond {A = ℕ} t (bitAnd (i .all) (i .w)) (cond (bit (i .w) (i .c)) (i .all) 0)) (c .before .before .if1 .left))
 
 pub row-of-spec : {M : Type 1} → statement M
-row-of-spec = tie.close (tie.spec has-requires only-requires returns returns-2)
+row-of-spec = tie.close (tie.spec (λ c κs. tt) (λ c κs. tt) returns returns-2)

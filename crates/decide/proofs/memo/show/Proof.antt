@@ -1,3 +1,4 @@
+-- `decide::memo::show` meets its contract.
 use mathlib.Core.Bool.{cond}
 use lib.Bits.{bitAnd}
 use lib.ListN.{getD}
@@ -15,29 +16,17 @@ Inv-loop out₀ slot whole c all set rest₀ out rest = copy.Showing set (λ a. 
 abbrev μ-loop : tie.MeasureT-loop
 μ-loop out₀ slot whole c all set rest₀ out rest = rest
 
-loop-holds : tie.Need-loop-holds Inv-loop μ-loop
-loop-holds c = copy.showing _ _ _ (omega arith)
-
-least-of-requires : tie.Need-least-of-requires Inv-loop μ-loop
-least-of-requires c κs = tt
-
 mul-row-of : tie.Need-mul-row-of Inv-loop μ-loop
 mul-row-of c = omega (arith, loops.least-small (c .before .before .loop .inv .upon) (c .before .loop-test .taken) (c .least-of .ensures))
 
 shared-slice-read-row-of : tie.Need-shared-slice-read-row-of Inv-loop μ-loop
 shared-slice-read-row-of c = omega (arith, loops.least-small (c .before .before .before .loop .inv .upon) (c .before .before .loop-test .taken) (c .before .least-of .ensures), c .before .before .before .before .before .before .pre .1)
 
-row-of-requires : tie.Need-row-of-requires Inv-loop μ-loop
-row-of-requires c κs = tt
-
 mul-out : tie.Need-mul-out Inv-loop μ-loop
 mul-out c = omega (arith, loops.least-small (c .before .before .before .before .loop .inv .upon) (c .before .before .before .loop-test .taken) (c .before .before .least-of .ensures))
 
 slice-write-out : tie.Need-slice-write-out Inv-loop μ-loop
 slice-write-out c = omega (arith, loops.least-small (c .before .before .before .before .loop .inv .upon) (c .before .before .before .loop-test .taken) (c .before .before .least-of .ensures), c .before .before .before .before .loop .inv .long, c .before .before .before .before .before .before .before .pre .0)
-
-rest-of-requires : tie.Need-rest-of-requires Inv-loop μ-loop
-rest-of-requires c κs = tt
 
 loop-less : tie.Need-loop-less Inv-loop μ-loop
 loop-less c = loops.rest-less (c .before .before .before .before .before .loop .inv .upon) (c .before .before .before .before .loop-test .taken) (c .rest-of .ensures)
@@ -48,24 +37,21 @@ loop-again c =
     copy.showing-more (c .before .row-of .result) (loop .inv) (loops.turn (loop .inv .upon) (c .before .before .before .before .loop-test .taken) (c .before .before .before .least-of .ensures) (c .rest-of .ensures))
     (c .before .before .before .before .before .before .before .before .pre .0) (c .before .row-of .ensures)
 
-returns : tie.Need-returns Inv-loop μ-loop
-returns c = copy.shown (c .before .loop .inv) (c .loop-test .left)
-
 pub show-spec : {M : Type 1} → statement M
 show-spec =
     tie.close
     (tie.spec
     Inv-loop
     μ-loop
-    loop-holds
-    least-of-requires
+    (λ c. copy.showing _ _ _ (omega arith))
+    (λ c κs. tt)
     mul-row-of
     shared-slice-read-row-of
-    row-of-requires
+    (λ c κs. tt)
     mul-out
     slice-write-out
-    rest-of-requires
+    (λ c κs. tt)
     loop-less
     loop-again
     (λ c. search needs)
-    returns)
+    (λ c. copy.shown (c .before .loop .inv) (c .loop-test .left)))

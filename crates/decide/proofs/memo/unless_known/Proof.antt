@@ -1,3 +1,4 @@
+-- `decide::memo::unless_known` meets its contract.
 use Prim.Native.Nat.{ℕ}
 use mathlib.Core.Path.{refl, sym, ap, _∙_}
 use lib.Dec.{eqb, ltb}
@@ -7,9 +8,6 @@ use Rattle.sets.proofs.Finite.{not-both, and-left, and-right, and-both}
 use Rattle.sets.proofs.Bits.{bit-zero, bit-and}
 use Rattle.decide.proofs.memo.unless_known.Statement.{statement}
 use Rattle.decide.proofs.memo.unless_known.Tie as tie
-
-single-requires : tie.Need-single-requires
-single-requires c κs = tt
 
 returns : tie.Need-returns
 returns c =
@@ -26,4 +24,4 @@ returns-2 c =
     )
 
 pub unless-known-spec : {M : Type 1} → statement M
-unless-known-spec = tie.close (tie.spec single-requires returns returns-2)
+unless-known-spec = tie.close (tie.spec (λ c κs. tt) returns returns-2)

@@ -1,5 +1,4 @@
 -- `left_after` meets its contract: it calls itself with less left, and that is the measure.
-use borrow.Author.Needs.{needs}
 use native.Mathlib.Omega.{arith}
 use Prim.Native.Nat.{ℕ, _<_}
 use borrow.Fn.Kinds.{In, Out}
@@ -49,35 +48,8 @@ Part = left-after-lts.Claims → In 1 left-after-kinds.ps → Out 1 left-after-k
 abbrev here : ℕ → Part → Type 0
 here t part = part (callees t) (left-after-at t) left-after.Post
 
-left-after-op-of-requires : (t : ℕ) → here t left-after-lts.Need-op-of-requires
-left-after-op-of-requires t c κs = tt
-
-left-after-is-past-requires : (t : ℕ) → here t left-after-lts.Need-is-past-requires
-left-after-is-past-requires t c κs = tt
-
-left-after-returns : (t : ℕ) → here t left-after-lts.Need-returns
-left-after-returns t c = omega arith
-
-left-after-cost-requires : (t : ℕ) → here t left-after-lts.Need-cost-requires
-left-after-cost-requires t c κs = tt
-
-left-after-returns-2 : (t : ℕ) → here t left-after-lts.Need-returns-2
-left-after-returns-2 t c = omega arith
-
-left-after-first-of-requires : (t : ℕ) → here t left-after-lts.Need-first-of-requires
-left-after-first-of-requires t c κs = tt
-
 left-after-left-after-requires : (t : ℕ) → here t left-after-lts.Need-left-after-requires
 left-after-left-after-requires t c κs = (omega (arith, c .before .before .before .before .before .before .before .before .pre .0, c .before .before .before .cost .ensures, c .before .before .if2 .left), tt)
-
-left-after-returns-3 : (t : ℕ) → here t left-after-lts.Need-returns-3
-left-after-returns-3 t c = omega (arith, c .left-after .ensures)
-
-left-after-second-of-requires : (t : ℕ) → here t left-after-lts.Need-second-of-requires
-left-after-second-of-requires t c κs = tt
-
-left-after-first-of-requires-2 : (t : ℕ) → here t left-after-lts.Need-first-of-requires-2
-left-after-first-of-requires-2 t c κs = tt
 
 left-after-left-after-requires-2 : (t : ℕ) → here t left-after-lts.Need-left-after-requires-2
 left-after-left-after-requires-2 t c κs = (omega (arith, c .before .before .before .before .before .before .before .before .before .before .pre .0, c .before .before .before .before .before .cost .ensures, c .before .before .before .before .if2 .left), tt)
@@ -85,57 +57,39 @@ left-after-left-after-requires-2 t c κs = (omega (arith, c .before .before .bef
 left-after-left-after-requires-3 : (t : ℕ) → here t left-after-lts.Need-left-after-requires-3
 left-after-left-after-requires-3 t c κs = (omega (arith, c .before .before .before .before .before .before .before .before .before .before .before .pre .0, c .before .before .before .before .before .before .cost .ensures, c .before .before .before .before .before .if2 .left, c .left-after2 .ensures), tt)
 
-left-after-returns-4 : (t : ℕ) → here t left-after-lts.Need-returns-4
-left-after-returns-4 t c = omega (arith, c .left-after3 .ensures, c .before .left-after2 .ensures)
-
 left-after-left-after-requires-4 : (t : ℕ) → here t left-after-lts.Need-left-after-requires-4
 left-after-left-after-requires-4 t c κs = (omega (arith, c .before .before .before .before .before .before .before .before .before .before .pre .0, c .before .before .before .before .before .cost .ensures, c .before .before .before .before .if2 .left), tt)
-
-left-after-third-of-requires : (t : ℕ) → here t left-after-lts.Need-third-of-requires
-left-after-third-of-requires t c κs = tt
 
 left-after-left-after-requires-5 : (t : ℕ) → here t left-after-lts.Need-left-after-requires-5
 left-after-left-after-requires-5 t c κs = (omega (arith, c .before .before .before .before .before .before .before .before .before .before .before .before .pre .0, c .before .before .before .before .before .before .before .cost .ensures, c .before .before .before .before .before .before .if2 .left, c .before .left-after4 .ensures), tt)
 
-left-after-returns-5 : (t : ℕ) → here t left-after-lts.Need-returns-5
-left-after-returns-5 t c = omega (arith, c .left-after5 .ensures, c .before .before .left-after4 .ensures)
-
-left-after-returns-6 : (t : ℕ) → here t left-after-lts.Need-returns-6
-left-after-returns-6 t c = omega arith
-
 left-after-left-after-requires-6 : (t : ℕ) → here t left-after-lts.Need-left-after-requires-6
 left-after-left-after-requires-6 t c κs = (omega (arith, c .before .before .before .before .before .before .before .before .before .before .before .before .pre .0, c .before .before .before .before .before .before .before .cost .ensures, c .before .before .before .before .before .before .if2 .left), tt)
-
-left-after-returns-7 : (t : ℕ) → here t left-after-lts.Need-returns-7
-left-after-returns-7 t c = omega (arith, c .left-after6 .ensures)
 
 left-after-left-after-requires-7 : (t : ℕ) → here t left-after-lts.Need-left-after-requires-7
 left-after-left-after-requires-7 t c κs = (omega (arith, c .before .before .before .before .before .before .before .before .before .before .before .pre .0, c .before .before .before .before .before .before .cost .ensures, c .before .before .before .before .before .if2 .left), tt)
 
-left-after-returns-8 : (t : ℕ) → here t left-after-lts.Need-returns-8
-left-after-returns-8 t c = omega (arith, c .left-after7 .ensures)
-
 pub +left-after-spec : {M : Type 1} → statement M
 +left-after-spec = close μ-left-after λ t. left-after-lts.spec (callees t) (left-after-at t) left-after.Post
-    (left-after-op-of-requires t)
-    (left-after-is-past-requires t)
-    (left-after-returns t)
-    (left-after-cost-requires t)
-    (left-after-returns-2 t)
-    (left-after-first-of-requires t)
+    (λ c κs. tt)
+    (λ c κs. tt)
+    (λ c. omega arith)
+    (λ c κs. tt)
+    (λ c. omega arith)
+    (λ c κs. tt)
     (left-after-left-after-requires t)
-    (left-after-returns-3 t)
-    (left-after-second-of-requires t)
-    (left-after-first-of-requires-2 t)
+    (λ c. omega (arith, c .left-after .ensures))
+    (λ c κs. tt)
+    (λ c κs. tt)
     (left-after-left-after-requires-2 t)
     (left-after-left-after-requires-3 t)
-    (left-after-returns-4 t)
+    (λ c. omega (arith, c .left-after3 .ensures, c .before .left-after2 .ensures))
     (left-after-left-after-requires-4 t)
-    (left-after-third-of-requires t)
+    (λ c κs. tt)
     (left-after-left-after-requires-5 t)
-    (left-after-returns-5 t)
-    (left-after-returns-6 t)
+    (λ c. omega (arith, c .left-after5 .ensures, c .before .before .left-after4 .ensures))
+    (λ c. omega arith)
     (left-after-left-after-requires-6 t)
-    (left-after-returns-7 t)
+    (λ c. omega (arith, c .left-after6 .ensures))
     (left-after-left-after-requires-7 t)
-    (left-after-returns-8 t)
+    (λ c. omega (arith, c .left-after7 .ensures))

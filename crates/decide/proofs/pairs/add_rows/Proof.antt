@@ -18,39 +18,6 @@ Inv-loop table₀ rows n b a₀ table a = pairs.Putting n b rows table₀ table 
 abbrev μ-loop : tie.MeasureT-loop
 μ-loop table₀ rows n b a₀ table a = n - a
 
-loop-holds : tie.Need-loop-holds Inv-loop μ-loop
-loop-holds c = pairs.putting _ _ _ _ (c .before .before .pre .0)
-
-mul-i : tie.Need-mul-i Inv-loop μ-loop
-mul-i c = omega arith
-
-add-i : tie.Need-add-i Inv-loop μ-loop
-add-i c = omega arith
-
-mul-with-quarter : tie.Need-mul-with-quarter Inv-loop μ-loop
-mul-with-quarter c = omega arith
-
-slice-read-with-quarter : tie.Need-slice-read-with-quarter Inv-loop μ-loop
-slice-read-with-quarter c = omega arith
-
-mul-with-quarter-2 : tie.Need-mul-with-quarter-2 Inv-loop μ-loop
-mul-with-quarter-2 c = omega arith
-
-shared-slice-read-with-quarter : tie.Need-shared-slice-read-with-quarter Inv-loop μ-loop
-shared-slice-read-with-quarter c = omega arith
-
-mul-table : tie.Need-mul-table Inv-loop μ-loop
-mul-table c = omega arith
-
-slice-write-table : tie.Need-slice-write-table Inv-loop μ-loop
-slice-write-table c = omega arith
-
-add-a : tie.Need-add-a Inv-loop μ-loop
-add-a c = omega arith
-
-loop-less : tie.Need-loop-less Inv-loop μ-loop
-loop-less c = omega arith
-
 loop-again : tie.Need-loop-again Inv-loop μ-loop
 loop-again c =
     let i = c .before .before .before .before .before .before .before in
@@ -61,9 +28,6 @@ loop-again c =
     ∙ ap (λ (y : Bool). bit (getD (l .table) (4 * l .a + x .b / 4) 0) k || y) (in-quarter (x .b % 4) k (bit (bitAnd (getD (x .rows .now) (l .a) 0) 65535) (k % 16)) (omega arith))
     ∙ ap (λ (y : Bool). bit (getD (l .table) (4 * l .a + x .b / 4) 0) k || (eqb (k / 16) (x .b % 4) && y)) (pairs.cut-row (getD (x .rows .now) (l .a) 0) k))
 
-same-length : tie.Need-same-length Inv-loop μ-loop
-same-length c = omega (arith, c .before .loop .inv .long, c .before .before .before .before .pre .0)
-
 returns : tie.Need-returns Inv-loop μ-loop
 returns c = pairs.putting-all (c .before .before .before .before .pre .0) (λ l. omega arith) (c .before .loop .inv)
 
@@ -73,18 +37,18 @@ add-rows-spec =
     (tie.spec
     Inv-loop
     μ-loop
-    loop-holds
-    mul-i
-    add-i
-    mul-with-quarter
-    slice-read-with-quarter
-    mul-with-quarter-2
-    shared-slice-read-with-quarter
+    (λ c. pairs.putting _ _ _ _ (c .before .before .pre .0))
+    (λ c. omega arith)
+    (λ c. omega arith)
+    (λ c. omega arith)
+    (λ c. omega arith)
+    (λ c. omega arith)
+    (λ c. omega arith)
     (λ c κs. tt)
-    mul-table
-    slice-write-table
-    add-a
-    loop-less
+    (λ c. omega arith)
+    (λ c. omega arith)
+    (λ c. omega arith)
+    (λ c. omega arith)
     loop-again
-    same-length
+    (λ c. omega (arith, c .before .loop .inv .long, c .before .before .before .before .pre .0))
     returns)

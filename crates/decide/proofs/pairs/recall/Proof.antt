@@ -1,6 +1,7 @@
+-- `decide::pairs::recall` meets its contract.
 use borrow.Author.Needs.{needs}
 use native.Mathlib.Omega.{arith}
-use mathlib.Core.Path.{_≡_, refl}
+use mathlib.Core.Path.{refl}
 use mathlib.Core.Bool.{_&&_}
 use Rattle.sets.specs.Sets.{bit}
 use Rattle.deciding.specs.private.Rows.{pairCell}
@@ -14,15 +15,6 @@ Inv-loop out₀ past t b c free want all rest₀ out rest = loops.Filling want (
 
 abbrev μ-loop : tie.MeasureT-loop
 μ-loop out₀ past t b c free want all rest₀ out rest = rest
-
-loop-holds : tie.Need-loop-holds Inv-loop μ-loop
-loop-holds c = loops.filling _ (omega arith) (c .before .before .pre .0 .0)
-
-least-of-requires : tie.Need-least-of-requires Inv-loop μ-loop
-least-of-requires c κs = tt
-
-mul-row-of : tie.Need-mul-row-of Inv-loop μ-loop
-mul-row-of c = omega (arith, c .before .before .before .before .before .pre .0)
 
 mul-row-of-2 : tie.Need-mul-row-of-2 Inv-loop μ-loop
 mul-row-of-2 c = omega (arith, loops.least-small (c .before .before .loop .inv .upon) (c .before .loop-test .taken) (c .least-of .ensures))
@@ -44,9 +36,6 @@ slice-write-out : tie.Need-slice-write-out Inv-loop μ-loop
 slice-write-out c =
     omega (arith, loops.least-small (c .before .before .before .loop .inv .upon) (c .before .before .loop-test .taken) (c .before .least-of .ensures), c .before .before .before .loop .inv .long)
 
-rest-of-requires : tie.Need-rest-of-requires Inv-loop μ-loop
-rest-of-requires c κs = tt
-
 loop-less : tie.Need-loop-less Inv-loop μ-loop
 loop-less c = loops.rest-less (c .before .before .before .before .loop .inv .upon) (c .before .before .before .loop-test .taken) (c .rest-of .ensures)
 
@@ -59,28 +48,22 @@ loop-again c =
     loops.filling-more _ (loop .inv) (loops.turn (loop .inv .upon) (c .before .before .before .loop-test .taken) (least-of .ensures) (c .rest-of .ensures))
     (pairs.pair-read (x .past .now) (x .t) (x .b) (x .c) (x .free) (least-of .result) (x .all) (c .before .row-of .result) _ (i .pre .1 .1) (c .before .row-of .ensures) refl)
 
-same-length : tie.Need-same-length Inv-loop μ-loop
-same-length c = search needs
-
-returns : tie.Need-returns Inv-loop μ-loop
-returns c = loops.filled (c .before .loop .inv) (c .loop-test .left)
-
 pub recall-spec : {M : Type 1} → statement M
 recall-spec =
     tie.close
     (tie.spec
     Inv-loop
     μ-loop
-    loop-holds
-    least-of-requires
-    mul-row-of
+    (λ c. loops.filling _ (omega arith) (c .before .before .pre .0 .0))
+    (λ c κs. tt)
+    (λ c. omega (arith, c .before .before .before .before .before .pre .0))
     mul-row-of-2
     add-row-of
     row-of-requires
     mul-out
     slice-write-out
-    rest-of-requires
+    (λ c κs. tt)
     loop-less
     loop-again
-    same-length
-    returns)
+    (λ c. search needs)
+    (λ c. loops.filled (c .before .loop .inv) (c .loop-test .left)))

@@ -1,3 +1,4 @@
+-- `decide::pairs::row_of` meets its contract.
 use borrow.Author.Needs.{needs}
 use borrow.Author.Tests.{lt-ltb}
 use Prim.Native.Nat.{_+_, _*_, _/_, _%_}
@@ -11,9 +12,6 @@ use Rattle.deciding.proofs.Pairs as pairs
 use Rattle.decide.proofs.pairs.row_of.Statement.{statement}
 use Rattle.decide.proofs.pairs.row_of.Tie as tie
 
-stripe-requires : tie.Need-stripe-requires
-stripe-requires c κs = search needs
-
 returns : tie.Need-returns
 returns c =
     let x = c .before .before .before .args in
@@ -22,34 +20,10 @@ returns c =
     ∙ ap₂ (λ (p q : Bool). p && (q && (ltb v 16 && bit (getD (x .past .now) (x .at + v / 4) 0) (16 * (v % 4) + x .c))))
     (lt-ltb (x .at + 3) (length (x .past .now)) (omega arith)) (lt-ltb (x .c) 16 (omega arith)))
 
-add-w : tie.Need-add-w
-add-w c = search needs
-
-mul-w : tie.Need-mul-w
-mul-w c = search needs
-
-shared-slice-read-w : tie.Need-shared-slice-read-w
-shared-slice-read-w c = search needs
-
-quarter-requires : tie.Need-quarter-requires
-quarter-requires c κs = search needs
-
 returns-2 : tie.Need-returns-2
 returns-2 c =
     let x = c .before .before .before .before .before .args in
     pairs.row-second (x .past .now) (x .at) (x .b) (x .c) (x .free) (c .quarter .result) (c .before .before .before .if1 .left) (c .before .if2 .taken) (c .quarter .ensures)
-
-mul-has : tie.Need-mul-has
-mul-has c = search needs
-
-add-has : tie.Need-add-has
-add-has c = search needs
-
-has-requires : tie.Need-has-requires
-has-requires c κs = search needs
-
-only-requires : tie.Need-only-requires
-only-requires c κs = search needs
 
 returns-3 : tie.Need-returns-3
 returns-3 c =
@@ -61,15 +35,15 @@ pub row-of-spec : {M : Type 1} → statement M
 row-of-spec =
     tie.close
     (tie.spec
-    stripe-requires
+    (λ c κs. search needs)
     returns
-    add-w
-    mul-w
-    shared-slice-read-w
-    quarter-requires
+    (λ c. search needs)
+    (λ c. search needs)
+    (λ c. search needs)
+    (λ c κs. search needs)
     returns-2
-    mul-has
-    add-has
-    has-requires
-    only-requires
+    (λ c. search needs)
+    (λ c. search needs)
+    (λ c κs. search needs)
+    (λ c κs. search needs)
     returns-3)

@@ -51,15 +51,6 @@ here-settle t part = part (callees t) (settle-at t) settle.Post
 settle-holds-shared-requires : (t : ℕ) → here-settle t settle-lts.Need-holds-shared-requires
 settle-holds-shared-requires t c κs = (c .before .before .before .before .before .pre .1 .0, c .before .before .before .before .before .pre .1 .1)
 
-settle-returns : (t : ℕ) → here-settle t settle-lts.Need-returns
-settle-returns t c = c .holds-shared .ensures
-
-settle-op-of-requires : (t : ℕ) → here-settle t settle-lts.Need-op-of-requires
-settle-op-of-requires t c κs = tt
-
-settle-first-of-requires : (t : ℕ) → here-settle t settle-lts.Need-first-of-requires
-settle-first-of-requires t c κs = tt
-
 settle-settle-requires : (t : ℕ) → here-settle t settle-lts.Need-settle-requires
 settle-settle-requires t c κs =
     let i = c .before .before .before .before .before .before .before .before in
@@ -89,9 +80,6 @@ settle-returns-3 t c =
     (c .before .before .before .before .before .op-of .ensures .0) (c .before .before .before .before .first-of .ensures .0) (c .before .before .if3 .taken)
     (c .before .settle2 .ensures) (c .if4 .taken)
 
-settle-second-of-requires : (t : ℕ) → here-settle t settle-lts.Need-second-of-requires
-settle-second-of-requires t c κs = tt
-
 settle-settle-requires-3 : (t : ℕ) → here-settle t settle-lts.Need-settle-requires-3
 settle-settle-requires-3 t c κs =
     let i = c .before .before .before .before .before .before .before .before .before .before .before .before in
@@ -107,28 +95,22 @@ settle-returns-4 t c =
     (c .before .before .before .before .before .before .before .op-of .ensures .0) (c .before .before .before .before .before .before .first-of .ensures .0) (c .before .second-of .ensures .0) (c .before .before .before .before .if3 .taken)
     (c .before .before .before .settle2 .ensures) (c .before .before .if4 .left) (c .settle3 .ensures)
 
-settle-slice-aggregate-holds-at : (t : ℕ) → here-settle t settle-lts.Need-slice-aggregate-holds-at
-settle-slice-aggregate-holds-at t c = search needs
-
 settle-holds-at-requires : (t : ℕ) → here-settle t settle-lts.Need-holds-at-requires
 settle-holds-at-requires t c κs = (c .before .before .before .before .before .before .before .before .before .before .pre .1 .0, (c .before .before .before .before .before .before .before .before .before .before .pre .1 .1, rem.no-slots _ (omega arith)))
-
-settle-returns-5 : (t : ℕ) → here-settle t settle-lts.Need-returns-5
-settle-returns-5 t c = c .before .holds-at .ensures
 
 pub +settle-spec : {M : Type 1} → statement M
 +settle-spec = close μ-settle λ t. settle-lts.spec (callees t) (settle-at t) settle.Post
     (settle-holds-shared-requires t)
-    (settle-returns t)
-    (settle-op-of-requires t)
-    (settle-first-of-requires t)
+    (λ c. c .holds-shared .ensures)
+    (λ c κs. tt)
+    (λ c κs. tt)
     (settle-settle-requires t)
     (settle-returns-2 t)
     (settle-settle-requires-2 t)
     (settle-returns-3 t)
-    (settle-second-of-requires t)
+    (λ c κs. tt)
     (settle-settle-requires-3 t)
     (settle-returns-4 t)
-    (settle-slice-aggregate-holds-at t)
+    (λ c. search needs)
     (settle-holds-at-requires t)
-    (settle-returns-5 t)
+    (λ c. c .before .holds-at .ensures)

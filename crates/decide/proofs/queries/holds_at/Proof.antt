@@ -1,10 +1,9 @@
+-- `decide::queries::holds_at` meets its contract.
 use borrow.Author.Needs.{needs}
 use native.Mathlib.Omega.{arith}
-use mathlib.Core.Path.{_≡_, refl, sym, ap, _∙_, subst}
-use mathlib.Core.Bool.{Bool, true, false, cond, _&&_}
+use mathlib.Core.Path.{refl, _∙_}
 use Rattle.memory.specs.Layout.{termsOf}
 use Rattle.deciding.specs.private.Rows.{assigned}
-use Rattle.deciding.proofs.Remembering as rem
 use Rattle.deciding.proofs.AtEntry as sites
 use Rattle.deciding.proofs.Requests as requests
 use Rattle.deciding.proofs.Counting as counting
@@ -13,12 +12,6 @@ use Rattle.decide.proofs.queries.holds_at.Tie as tie
 
 rebind-requires : tie.Need-rebind-requires
 rebind-requires c κs = (omega arith, omega (arith, sites.member-short (c .before .before .before .before .before .pre .0) _ (c .before .before .before .before .before .pre .1 .0 .2)))
-
-single-requires : tie.Need-single-requires
-single-requires c κs = tt
-
-slice-aggregate-decide : tie.Need-slice-aggregate-decide
-slice-aggregate-decide c = search needs
 
 decide-requires : tie.Need-decide-requires
 decide-requires c κs =
@@ -38,12 +31,6 @@ mul-has c = omega (arith, sites.member-short (c .before .before .before .before 
 array-read-has : tie.Need-array-read-has
 array-read-has c = omega (arith, sites.member-short (c .before .before .before .before .before .before .before .before .before .before .before .before .before .pre .0) _ (c .before .before .before .before .before .before .before .before .before .before .before .before .before .pre .1 .0 .1), c .before .before .before .decide .ensures .0 .long)
 
-has-requires : tie.Need-has-requires
-has-requires c κs = tt
-
-same-length : tie.Need-same-length
-same-length c = search needs
-
 returns : tie.Need-returns
 returns c =
     let single = c .before .before .before .before .before .before .single in
@@ -59,11 +46,11 @@ holds-at-spec =
     tie.close
     (tie.spec
     rebind-requires
-    single-requires
-    slice-aggregate-decide
+    (λ c κs. tt)
+    (λ c. search needs)
     decide-requires
     mul-has
     array-read-has
-    has-requires
-    same-length
+    (λ c κs. tt)
+    (λ c. search needs)
     returns)

@@ -1,3 +1,4 @@
+-- `decide::rows::add_to` meets its contract.
 use native.Mathlib.Omega.{arith}
 use lib.ListN.{set}
 use Rattle.deciding.proofs.Loops as loops
@@ -9,12 +10,6 @@ Inv-loop out₀ set w rest₀ out rest = loops.Joining set w out₀ rest out
 
 abbrev μ-loop : tie.MeasureT-loop
 μ-loop out₀ set w rest₀ out rest = rest
-
-loop-holds : tie.Need-loop-holds Inv-loop μ-loop
-loop-holds c = loops.joining _ _ _ (omega arith)
-
-least-of-requires : tie.Need-least-of-requires Inv-loop μ-loop
-least-of-requires c κs = tt
 
 mul-out : tie.Need-mul-out Inv-loop μ-loop
 mul-out c = omega (arith, loops.least-small (c .before .before .loop .inv .upon) (c .before .loop-test .taken) (c .least-of .ensures))
@@ -31,9 +26,6 @@ slice-write-out : tie.Need-slice-write-out Inv-loop μ-loop
 slice-write-out c =
     omega (arith, loops.least-small (c .before .before .before .loop .inv .upon) (c .before .before .loop-test .taken) (c .before .least-of .ensures))
 
-rest-of-requires : tie.Need-rest-of-requires Inv-loop μ-loop
-rest-of-requires c κs = tt
-
 loop-less : tie.Need-loop-less Inv-loop μ-loop
 loop-less c = loops.rest-less (c .before .before .before .before .loop .inv .upon) (c .before .before .before .loop-test .taken) (c .rest-of .ensures)
 
@@ -43,26 +35,20 @@ loop-again c =
     loops.joining-more (loop .inv) (loops.turn (loop .inv .upon) (c .before .before .before .loop-test .taken) (c .before .before .least-of .ensures)
     (c .rest-of .ensures)) (c .before .before .before .before .before .before .pre)
 
-same-length : tie.Need-same-length Inv-loop μ-loop
-same-length c = c .before .loop .inv .long
-
-returns : tie.Need-returns Inv-loop μ-loop
-returns c = loops.joining-all (c .before .loop .inv) (c .loop-test .left)
-
 pub add-to-spec : {M : Type 1} → statement M
 add-to-spec =
     tie.close
     (tie.spec
     Inv-loop
     μ-loop
-    loop-holds
-    least-of-requires
+    (λ c. loops.joining _ _ _ (omega arith))
+    (λ c κs. tt)
     mul-out
     slice-read-out
     mul-out-2
     slice-write-out
-    rest-of-requires
+    (λ c κs. tt)
     loop-less
     loop-again
-    same-length
-    returns)
+    (λ c. c .before .loop .inv .long)
+    (λ c. loops.joining-all (c .before .loop .inv) (c .loop-test .left)))

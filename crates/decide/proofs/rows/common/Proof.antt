@@ -1,4 +1,5 @@
--- `monitor::rows::common` meets its contract: at least one of the rows is some of them, and a row has no number from 64 up.
+-- `monitor::rows::common` meets its contract: at least one of the rows is some of them, and
+-- a row has no number from 64 up.
 use Prim.Native.Nat.{ℕ}
 use native.Mathlib.Omega.{arith}
 use mathlib.Core.Path.{sym, ap, _∙_}
@@ -13,12 +14,6 @@ use Rattle.deciding.specs.private.Rows.{inRow, ahead}
 use Rattle.decide.proofs.rows.common.Statement.{statement}
 use Rattle.decide.proofs.rows.common.Tie as tie
 
-together-requires : tie.Need-together-requires
-together-requires c κs = search needs
-
-shared-requires : tie.Need-shared-requires
-shared-requires c κs = tt
-
 returns : tie.Need-returns
 returns c b =
     let x = c .before .before .before .args in
@@ -28,8 +23,11 @@ returns c b =
     ∙ sym (and-implied (ltb b 64) some (λ e. lt-ltb b 64 (bit-below (c .together .result) 64 b (omega (arith, c .together .ok)) (c .together .ensures b ∙ e))))
     ∙ ap (_&&_ (ltb b 64)) (sym (count-some 64 (λ m. bit (x .set) m && inRow (x .f .now) m b)) ∙ ap (λ (k : ℕ). leb k n) (sym (c .before .if1 .taken)))
 
-returns-2 : tie.Need-returns-2
-returns-2 c = c .shared .ensures
-
 pub common-spec : {M : Type 1} → statement M
-common-spec = tie.close (tie.spec together-requires shared-requires returns returns-2)
+common-spec =
+    tie.close
+    (tie.spec
+    (λ c κs. search needs)
+    (λ c κs. tt)
+    returns
+    (λ c. c .shared .ensures))

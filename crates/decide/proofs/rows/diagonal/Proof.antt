@@ -1,3 +1,4 @@
+-- `decide::rows::diagonal` meets its contract.
 use borrow.Author.Needs.{needs}
 use native.Mathlib.Omega.{arith}
 use lib.Dec.{eqb}
@@ -12,15 +13,6 @@ Inv-loop out₀ want rest₀ out rest = loops.Filling want (λ a b. eqb b a) out
 abbrev μ-loop : tie.MeasureT-loop
 μ-loop out₀ want rest₀ out rest = rest
 
-loop-holds : tie.Need-loop-holds Inv-loop μ-loop
-loop-holds c = loops.filling _ (omega arith) (c .before .pre)
-
-least-of-requires : tie.Need-least-of-requires Inv-loop μ-loop
-least-of-requires c κs = tt
-
-single-requires : tie.Need-single-requires Inv-loop μ-loop
-single-requires c κs = tt
-
 mul-out : tie.Need-mul-out Inv-loop μ-loop
 mul-out c =
     omega (arith, loops.least-small (c .before .before .before .loop .inv .upon) (c .before .before .loop-test .taken) (c .before .least-of .ensures))
@@ -28,9 +20,6 @@ mul-out c =
 slice-write-out : tie.Need-slice-write-out Inv-loop μ-loop
 slice-write-out c =
     omega (arith, loops.least-small (c .before .before .before .loop .inv .upon) (c .before .before .loop-test .taken) (c .before .least-of .ensures))
-
-rest-of-requires : tie.Need-rest-of-requires Inv-loop μ-loop
-rest-of-requires c κs = tt
 
 loop-less : tie.Need-loop-less Inv-loop μ-loop
 loop-less c = loops.rest-less (c .before .before .before .before .loop .inv .upon) (c .before .before .before .loop-test .taken) (c .rest-of .ensures)
@@ -43,25 +32,19 @@ loop-again c =
     loops.filling-more _ (loop .inv) (loops.turn (loop .inv .upon) (loop-test .taken) (least-of .ensures) (c .rest-of .ensures))
     (counting.single-is _ _ (c .before .single .ensures) (loops.least-small (loop .inv .upon) (loop-test .taken) (least-of .ensures)))
 
-same-length : tie.Need-same-length Inv-loop μ-loop
-same-length c = search needs
-
-returns : tie.Need-returns Inv-loop μ-loop
-returns c = loops.filled (c .before .loop .inv) (c .loop-test .left)
-
 pub diagonal-spec : {M : Type 1} → statement M
 diagonal-spec =
     tie.close
     (tie.spec
     Inv-loop
     μ-loop
-    loop-holds
-    least-of-requires
-    single-requires
+    (λ c. loops.filling _ (omega arith) (c .before .pre))
+    (λ c κs. tt)
+    (λ c κs. tt)
     mul-out
     slice-write-out
-    rest-of-requires
+    (λ c κs. tt)
     loop-less
     loop-again
-    same-length
-    returns)
+    (λ c. search needs)
+    (λ c. loops.filled (c .before .loop .inv) (c .loop-test .left)))

@@ -1,3 +1,4 @@
+-- `decide::rows::follow` meets its contract.
 use borrow.Author.Needs.{needs}
 use native.Mathlib.Omega.{arith}
 use mathlib.Core.Path.{ap, _∙_}
@@ -15,29 +16,17 @@ Inv-loop out₀ f want rest₀ out rest = loops.Filling want (λ a b. ahead (inR
 abbrev μ-loop : tie.MeasureT-loop
 μ-loop out₀ f want rest₀ out rest = rest
 
-loop-holds : tie.Need-loop-holds Inv-loop μ-loop
-loop-holds c = loops.filling _ (omega arith) (c .before .before .pre .0)
-
-least-of-requires : tie.Need-least-of-requires Inv-loop μ-loop
-least-of-requires c κs = tt
-
 mul-together : tie.Need-mul-together Inv-loop μ-loop
 mul-together c = omega (arith, loops.least-small (c .before .before .loop .inv .upon) (c .before .loop-test .taken) (c .least-of .ensures))
 
 slice-read-together : tie.Need-slice-read-together Inv-loop μ-loop
 slice-read-together c = omega (arith, loops.least-small (c .before .before .before .loop .inv .upon) (c .before .before .loop-test .taken) (c .before .least-of .ensures), c .before .before .before .loop .inv .long)
 
-together-requires : tie.Need-together-requires Inv-loop μ-loop
-together-requires c κs = c .before .before .before .before .before .before .pre .1
-
 mul-out : tie.Need-mul-out Inv-loop μ-loop
 mul-out c = omega (arith, loops.least-small (c .before .before .before .before .loop .inv .upon) (c .before .before .before .loop-test .taken) (c .before .before .least-of .ensures))
 
 slice-write-out : tie.Need-slice-write-out Inv-loop μ-loop
 slice-write-out c = omega (arith, loops.least-small (c .before .before .before .before .loop .inv .upon) (c .before .before .before .loop-test .taken) (c .before .before .least-of .ensures), c .before .before .before .before .loop .inv .long)
-
-rest-of-requires : tie.Need-rest-of-requires Inv-loop μ-loop
-rest-of-requires c κs = tt
 
 loop-less : tie.Need-loop-less Inv-loop μ-loop
 loop-less c = loops.rest-less (c .before .before .before .before .before .loop .inv .upon) (c .before .before .before .before .loop-test .taken) (c .rest-of .ensures)
@@ -50,27 +39,21 @@ loop-again c =
     loops.filling-more _ (loop .inv) t (λ b. c .before .together .ensures b
     ∙ any-cong 64 (λ k _. ap (λ (x : Bool). x && inRow (i .args .f .now) k b) (loops.filling-next (loop .inv) t k)))
 
-same-length : tie.Need-same-length Inv-loop μ-loop
-same-length c = search needs
-
-returns : tie.Need-returns Inv-loop μ-loop
-returns c = loops.filled (c .before .loop .inv) (c .loop-test .left)
-
 pub follow-spec : {M : Type 1} → statement M
 follow-spec =
     tie.close
     (tie.spec
     Inv-loop
     μ-loop
-    loop-holds
-    least-of-requires
+    (λ c. loops.filling _ (omega arith) (c .before .before .pre .0))
+    (λ c κs. tt)
     mul-together
     slice-read-together
-    together-requires
+    (λ c κs. c .before .before .before .before .before .before .pre .1)
     mul-out
     slice-write-out
-    rest-of-requires
+    (λ c κs. tt)
     loop-less
     loop-again
-    same-length
-    returns)
+    (λ c. search needs)
+    (λ c. loops.filled (c .before .loop .inv) (c .loop-test .left)))

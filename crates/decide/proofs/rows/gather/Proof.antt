@@ -1,3 +1,4 @@
+-- `decide::rows::gather` meets its contract.
 use borrow.Author.Needs.{needs}
 use native.Mathlib.Omega.{arith}
 use Prim.Native.Nat.{ℕ}
@@ -16,15 +17,6 @@ Inv-loop out₀ relations r event l f want k rest₀ out rest = loops.Filling wa
 
 abbrev μ-loop : tie.MeasureT-loop
 μ-loop out₀ relations r event l f want k rest₀ out rest = rest
-
-clear-requires : tie.Need-clear-requires Inv-loop μ-loop
-clear-requires c κs = search needs
-
-loop-holds : tie.Need-loop-holds Inv-loop μ-loop
-loop-holds c = loops.filling-empty _ (omega arith) (c .before .before .clear .ensures)
-
-least-of-requires : tie.Need-least-of-requires Inv-loop μ-loop
-least-of-requires c κs = tt
 
 row-requires : tie.Need-row-requires Inv-loop μ-loop
 row-requires c κs = omega (arith, loops.least-small (c .before .before .loop .inv .upon) (c .before .loop-test .taken) (c .least-of .ensures))
@@ -49,9 +41,6 @@ slice-write-out c =
           (c .before .before .least-of .ensures),
     )
 
-rest-of-requires : tie.Need-rest-of-requires Inv-loop μ-loop
-rest-of-requires c κs = tt
-
 loop-less : tie.Need-loop-less Inv-loop μ-loop
 loop-less c =
     loops.rest-less (c .before .before .before .before .before .loop .inv .upon) (c .before .before .before .before .loop-test .taken)
@@ -67,27 +56,21 @@ loop-again c =
     (c .rest-of .ensures)) (λ b. c .before .common .ensures b ∙ ap (λ (n : ℕ). ltb b 64 && leb (i .args .k) n) (edges.gathered-row (row .result)
     (edge (i .args .r) (i .args .relations .now) (i .args .event) (i .args .l) (least-of .result)) (λ m. inRow (i .args .f .now) m b) (row .ensures)))
 
-same-length : tie.Need-same-length Inv-loop μ-loop
-same-length c = search needs
-
-returns : tie.Need-returns Inv-loop μ-loop
-returns c = loops.filled-only (c .before .loop .inv) (c .loop-test .left)
-
 pub gather-spec : {M : Type 1} → statement M
 gather-spec =
     tie.close
     (tie.spec
     Inv-loop
     μ-loop
-    clear-requires
-    loop-holds
-    least-of-requires
+    (λ c κs. search needs)
+    (λ c. loops.filling-empty _ (omega arith) (c .before .before .clear .ensures))
+    (λ c κs. tt)
     row-requires
     common-requires
     mul-out
     slice-write-out
-    rest-of-requires
+    (λ c κs. tt)
     loop-less
     loop-again
-    same-length
-    returns)
+    (λ c. search needs)
+    (λ c. loops.filled-only (c .before .loop .inv) (c .loop-test .left)))

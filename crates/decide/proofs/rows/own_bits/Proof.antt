@@ -1,3 +1,4 @@
+-- `decide::rows::own_bits` meets its contract.
 use borrow.Author.Needs.{needs}
 use Prim.Native.Nat.{_-_}
 use native.Mathlib.Omega.{arith}
@@ -12,24 +13,6 @@ Inv-loop f set s₀ a₀ s a = counting.Sweeping (λ b. inRow f b b) s a
 
 abbrev μ-loop : tie.MeasureT-loop
 μ-loop f set s₀ a₀ s a = 64 - a
-
-loop-holds : tie.Need-loop-holds Inv-loop μ-loop
-loop-holds c = counting.sweeping _
-
-single-requires : tie.Need-single-requires Inv-loop μ-loop
-single-requires c κs = tt
-
-mul-s : tie.Need-mul-s Inv-loop μ-loop
-mul-s c = search needs
-
-shared-slice-read-s : tie.Need-shared-slice-read-s Inv-loop μ-loop
-shared-slice-read-s c = search needs
-
-add-a : tie.Need-add-a Inv-loop μ-loop
-add-a c = search needs
-
-loop-less : tie.Need-loop-less Inv-loop μ-loop
-loop-less c = search needs
 
 loop-again : tie.Need-loop-again Inv-loop μ-loop
 loop-again c =
@@ -48,11 +31,11 @@ own-bits-spec =
     (tie.spec
     Inv-loop
     μ-loop
-    loop-holds
-    single-requires
-    mul-s
-    shared-slice-read-s
-    add-a
-    loop-less
+    (λ c. counting.sweeping _)
+    (λ c κs. tt)
+    (λ c. search needs)
+    (λ c. search needs)
+    (λ c. search needs)
+    (λ c. search needs)
     loop-again
     returns)

@@ -1,3 +1,4 @@
+-- `decide::rows::recall` meets its contract.
 use borrow.Author.Needs.{needs}
 use native.Mathlib.Omega.{arith}
 use mathlib.Core.Bool.{_&&_}
@@ -13,12 +14,6 @@ Inv-loop out₀ past t want all rest₀ out rest = loops.Filling want (λ a b. b
 
 abbrev μ-loop : tie.MeasureT-loop
 μ-loop out₀ past t want all rest₀ out rest = rest
-
-loop-holds : tie.Need-loop-holds Inv-loop μ-loop
-loop-holds c = loops.filling _ (omega arith) (c .before .before .pre .0)
-
-least-of-requires : tie.Need-least-of-requires Inv-loop μ-loop
-least-of-requires c κs = tt
 
 mul-out : tie.Need-mul-out Inv-loop μ-loop
 mul-out c = omega (arith, loops.least-small (c .before .before .loop .inv .upon) (c .before .loop-test .taken) (c .least-of .ensures))
@@ -41,9 +36,6 @@ slice-write-out : tie.Need-slice-write-out Inv-loop μ-loop
 slice-write-out c =
     omega (arith, loops.least-small (c .before .before .before .loop .inv .upon) (c .before .before .loop-test .taken) (c .before .least-of .ensures))
 
-rest-of-requires : tie.Need-rest-of-requires Inv-loop μ-loop
-rest-of-requires c κs = tt
-
 loop-less : tie.Need-loop-less Inv-loop μ-loop
 loop-less c = loops.rest-less (c .before .before .before .before .loop .inv .upon) (c .before .before .before .loop-test .taken) (c .rest-of .ensures)
 
@@ -55,28 +47,22 @@ loop-again c =
     loops.filling-more _ (loop .inv) (loops.turn (loop .inv .upon) (c .before .before .before .loop-test .taken) (c .before .before .least-of .ensures)
     (c .rest-of .ensures)) (bit-and (i .args .all) _)
 
-same-length : tie.Need-same-length Inv-loop μ-loop
-same-length c = search needs
-
-returns : tie.Need-returns Inv-loop μ-loop
-returns c = loops.filled (c .before .loop .inv) (c .loop-test .left)
-
 pub recall-spec : {M : Type 1} → statement M
 recall-spec =
     tie.close
     (tie.spec
     Inv-loop
     μ-loop
-    loop-holds
-    least-of-requires
+    (λ c. loops.filling _ (omega arith) (c .before .before .pre .0))
+    (λ c κs. tt)
     mul-out
     add-out
     mul-out-2
     shared-slice-read-out
     mul-out-3
     slice-write-out
-    rest-of-requires
+    (λ c κs. tt)
     loop-less
     loop-again
-    same-length
-    returns)
+    (λ c. search needs)
+    (λ c. loops.filled (c .before .loop .inv) (c .loop-test .left)))

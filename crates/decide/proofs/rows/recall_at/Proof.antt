@@ -1,3 +1,4 @@
+-- `decide::rows::recall_at` meets its contract.
 use borrow.Author.Needs.{needs}
 use Prim.Native.Nat.{ℕ}
 use native.Mathlib.Omega.{arith}
@@ -16,12 +17,6 @@ Inv-loop out₀ past t k want all rest₀ out rest = loops.Filling want (λ a b.
 abbrev μ-loop : tie.MeasureT-loop
 μ-loop out₀ past t k want all rest₀ out rest = rest
 
-loop-holds : tie.Need-loop-holds Inv-loop μ-loop
-loop-holds c = loops.filling _ (omega arith) (c .before .before .pre .0)
-
-least-of-requires : tie.Need-least-of-requires Inv-loop μ-loop
-least-of-requires c κs = tt
-
 mul-has : tie.Need-mul-has Inv-loop μ-loop
 mul-has c = omega (arith, loops.least-small (c .before .before .loop .inv .upon) (c .before .loop-test .taken) (c .least-of .ensures))
 
@@ -34,12 +29,6 @@ mul-has-2 c = omega (arith, loops.least-small (c .before .before .loop .inv .upo
 shared-slice-read-has : tie.Need-shared-slice-read-has Inv-loop μ-loop
 shared-slice-read-has c =
     omega (arith, loops.least-small (c .before .before .before .loop .inv .upon) (c .before .before .loop-test .taken) (c .before .least-of .ensures))
-
-has-requires : tie.Need-has-requires Inv-loop μ-loop
-has-requires c κs = tt
-
-only-requires : tie.Need-only-requires Inv-loop μ-loop
-only-requires c κs = tt
 
 mul-out : tie.Need-mul-out Inv-loop μ-loop
 mul-out c =
@@ -57,9 +46,6 @@ slice-write-out c =
           (c .before .before .before .least-of .ensures),
     )
 
-rest-of-requires : tie.Need-rest-of-requires Inv-loop μ-loop
-rest-of-requires c κs = tt
-
 loop-less : tie.Need-loop-less Inv-loop μ-loop
 loop-less c =
     loops.rest-less (c .before .before .before .before .before .before .loop .inv .upon) (c .before .before .before .before .before .loop-test .taken)
@@ -75,30 +61,24 @@ loop-again c =
     (λ b. ap (λ (w : ℕ). bit w b) (c .before .only .ensures ∙ ap (λ (t : Bool). cond t (i .args .all) 0) (c .before .before .has .ensures))
     ∙ counting.only-is _ (i .args .all) b)
 
-same-length : tie.Need-same-length Inv-loop μ-loop
-same-length c = search needs
-
-returns : tie.Need-returns Inv-loop μ-loop
-returns c = loops.filled (c .before .loop .inv) (c .loop-test .left)
-
 pub recall-at-spec : {M : Type 1} → statement M
 recall-at-spec =
     tie.close
     (tie.spec
     Inv-loop
     μ-loop
-    loop-holds
-    least-of-requires
+    (λ c. loops.filling _ (omega arith) (c .before .before .pre .0))
+    (λ c κs. tt)
     mul-has
     add-has
     mul-has-2
     shared-slice-read-has
-    has-requires
-    only-requires
+    (λ c κs. tt)
+    (λ c κs. tt)
     mul-out
     slice-write-out
-    rest-of-requires
+    (λ c κs. tt)
     loop-less
     loop-again
-    same-length
-    returns)
+    (λ c. search needs)
+    (λ c. loops.filled (c .before .loop .inv) (c .loop-test .left)))

@@ -1,3 +1,4 @@
+-- `decide::rows::scatter` meets its contract.
 use borrow.Author.Needs.{needs}
 use native.Mathlib.Omega.{arith}
 use mathlib.Core.Bool.{_&&_}
@@ -15,15 +16,6 @@ Inv-loop out₀ relations r event l f from want rest₀ out rest =
 
 abbrev μ-loop : tie.MeasureT-loop
 μ-loop out₀ relations r event l f from want rest₀ out rest = rest
-
-clear-requires : tie.Need-clear-requires Inv-loop μ-loop
-clear-requires c κs = search needs
-
-loop-holds : tie.Need-loop-holds Inv-loop μ-loop
-loop-holds c = loops.scattering _ (omega arith) (c .before .before .clear .ensures)
-
-least-of-requires : tie.Need-least-of-requires Inv-loop μ-loop
-least-of-requires c κs = tt
 
 row-requires : tie.Need-row-requires Inv-loop μ-loop
 row-requires c κs =
@@ -45,12 +37,6 @@ shared-slice-read-add-to c =
           (c .before .before .before .least-of .ensures),
     )
 
-add-to-requires : tie.Need-add-to-requires Inv-loop μ-loop
-add-to-requires c κs = c .before .before .before .before .before .loop .inv .long
-
-rest-of-requires : tie.Need-rest-of-requires Inv-loop μ-loop
-rest-of-requires c κs = tt
-
 loop-less : tie.Need-loop-less Inv-loop μ-loop
 loop-less c =
     loops.rest-less (c .before .before .before .before .before .before .before .before .before .loop .inv .upon)
@@ -69,9 +55,6 @@ loop-again c =
     (add-to .ensures) (edges.scattered-row (x .want) (row .result) (getD (x .f .now) (least-of .result) 0)
     (edge (x .r) (x .relations .now) (x .event) (x .l) (least-of .result)) (row .ensures))
 
-same-length : tie.Need-same-length Inv-loop μ-loop
-same-length c = search needs
-
 returns : tie.Need-returns Inv-loop μ-loop
 returns c =
     let i = c .before .before .before .before .before .before .before .before .before in
@@ -85,15 +68,15 @@ scatter-spec =
     (tie.spec
     Inv-loop
     μ-loop
-    clear-requires
-    loop-holds
-    least-of-requires
+    (λ c κs. search needs)
+    (λ c. loops.scattering _ (omega arith) (c .before .before .clear .ensures))
+    (λ c κs. tt)
     row-requires
     mul-add-to
     shared-slice-read-add-to
-    add-to-requires
-    rest-of-requires
+    (λ c κs. c .before .before .before .before .before .loop .inv .long)
+    (λ c κs. tt)
     loop-less
     loop-again
-    same-length
+    (λ c. search needs)
     returns)

@@ -1,3 +1,4 @@
+-- `decide::rows::spread` meets its contract.
 use borrow.Author.Needs.{needs}
 use native.Mathlib.Omega.{arith}
 use mathlib.Core.Path.{refl}
@@ -12,20 +13,11 @@ Inv-loop out₀ want w rest₀ out rest = loops.Filling want (λ a b. bit w b) o
 abbrev μ-loop : tie.MeasureT-loop
 μ-loop out₀ want w rest₀ out rest = rest
 
-loop-holds : tie.Need-loop-holds Inv-loop μ-loop
-loop-holds c = loops.filling _ (omega arith) (c .before .pre)
-
-least-of-requires : tie.Need-least-of-requires Inv-loop μ-loop
-least-of-requires c κs = tt
-
 mul-out : tie.Need-mul-out Inv-loop μ-loop
 mul-out c = omega (arith, loops.least-small (c .before .before .loop .inv .upon) (c .before .loop-test .taken) (c .least-of .ensures))
 
 slice-write-out : tie.Need-slice-write-out Inv-loop μ-loop
 slice-write-out c = omega (arith, loops.least-small (c .before .before .loop .inv .upon) (c .before .loop-test .taken) (c .least-of .ensures))
-
-rest-of-requires : tie.Need-rest-of-requires Inv-loop μ-loop
-rest-of-requires c κs = tt
 
 loop-less : tie.Need-loop-less Inv-loop μ-loop
 loop-less c = loops.rest-less (c .before .before .before .loop .inv .upon) (c .before .before .loop-test .taken) (c .rest-of .ensures)
@@ -36,24 +28,18 @@ loop-again c =
     loops.filling-more _ (loop .inv) (loops.turn (loop .inv .upon) (c .before .before .loop-test .taken) (c .before .least-of .ensures)
     (c .rest-of .ensures)) (λ b. refl)
 
-same-length : tie.Need-same-length Inv-loop μ-loop
-same-length c = search needs
-
-returns : tie.Need-returns Inv-loop μ-loop
-returns c = loops.filled (c .before .loop .inv) (c .loop-test .left)
-
 pub spread-spec : {M : Type 1} → statement M
 spread-spec =
     tie.close
     (tie.spec
     Inv-loop
     μ-loop
-    loop-holds
-    least-of-requires
+    (λ c. loops.filling _ (omega arith) (c .before .pre))
+    (λ c κs. tt)
     mul-out
     slice-write-out
-    rest-of-requires
+    (λ c κs. tt)
     loop-less
     loop-again
-    same-length
-    returns)
+    (λ c. search needs)
+    (λ c. loops.filled (c .before .loop .inv) (c .loop-test .left)))

@@ -25,15 +25,6 @@ Inv-loop terms plan relations past memo₀ x y operand out₀ n all f₀ b₀ me
 abbrev μ-loop : tie.MeasureT-loop
 μ-loop terms plan relations past memo₀ x y operand out₀ n all f₀ b₀ memo out f b = n - b
 
-members-requires : tie.Need-members-requires Inv-loop μ-loop
-members-requires c κs = tt
-
-mask-requires : tie.Need-mask-requires Inv-loop μ-loop
-mask-requires c κs = tt
-
-clear-requires : tie.Need-clear-requires Inv-loop μ-loop
-clear-requires c κs = c .before .before .before .before .before .before .before .before .before .pre .1 .0 .5
-
 loop-holds : tie.Need-loop-holds Inv-loop μ-loop
 loop-holds c =
     let i = c .before .before .before .before .before .before .before .before .before .before .before .before in
@@ -44,9 +35,6 @@ rebind-requires : tie.Need-rebind-requires Inv-loop μ-loop
 rebind-requires c κs =
     let i = c .before .before .before .before .before .before .before .before .before .before .before .before .before .before in
     (i .pre .1 .0 .2, omega (arith, c .loop-test .taken, c .before .before .before .before .before .before .before .members .ensures .0, i .pre .1 .0 .1))
-
-slice-aggregate-decide : tie.Need-slice-aggregate-decide Inv-loop μ-loop
-slice-aggregate-decide c = sym (c .before .before .before .before .loop .inv .2)
 
 decide-requires : tie.Need-decide-requires Inv-loop μ-loop
 decide-requires c κs =
@@ -67,9 +55,6 @@ decide-requires c κs =
         (l .inv .2, l .inv .3 .memo),
       ),
     )
-
-slice-aggregate-add-rows : tie.Need-slice-aggregate-add-rows Inv-loop μ-loop
-slice-aggregate-add-rows c = sym (c .before .before .before .before .before .decide .ensures .0 .long)
 
 add-rows-requires : tie.Need-add-rows-requires Inv-loop μ-loop
 add-rows-requires c κs =
@@ -102,9 +87,6 @@ loop-again c =
       rem.grown-then (l .inv .3) (decide .ensures .1),
     )
 
-same-length : tie.Need-same-length Inv-loop μ-loop
-same-length c = c .before .loop .inv .3 .above .long
-
 same-length-2 : tie.Need-same-length-2 Inv-loop μ-loop
 same-length-2 c = c .before .loop .inv .1 .long ∙ sym (c .before .before .before .before .before .before .before .before .before .before .before .before .before .before .pre .1 .0 .5)
 
@@ -126,18 +108,18 @@ pair-rows-spec =
     (tie.spec
     Inv-loop
     μ-loop
-    members-requires
-    mask-requires
-    clear-requires
+    (λ c κs. tt)
+    (λ c κs. tt)
+    (λ c κs. c .before .before .before .before .before .before .before .before .before .pre .1 .0 .5)
     loop-holds
     rebind-requires
-    slice-aggregate-decide
+    (λ c. sym (c .before .before .before .before .loop .inv .2))
     decide-requires
-    slice-aggregate-add-rows
+    (λ c. sym (c .before .before .before .before .before .decide .ensures .0 .long))
     add-rows-requires
     add-b
     loop-less
     loop-again
-    same-length
+    (λ c. c .before .loop .inv .3 .above .long)
     same-length-2
     returns)

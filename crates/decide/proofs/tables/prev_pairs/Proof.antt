@@ -1,29 +1,18 @@
+-- `decide::tables::prev_pairs` meets its contract.
 use borrow.Author.Needs.{needs}
 use borrow.Author.Tests.{not-true}
 use native.Mathlib.Omega.{arith}
 use Prim.Native.Nat.{ℕ}
-use mathlib.Core.Path.{_≡_, refl, sym, ap, ap₂, _∙_}
-use mathlib.Core.Bool.{true, not}
+use mathlib.Core.Path.{refl, ap, ap₂, _∙_}
+use mathlib.Core.Bool.{not}
 use lib.Dec.{eqb}
 use Rattle.memory.specs.Plan.{planFirst, planLast}
 use Rattle.memory.proofs.Accepted.{good}
-use Rattle.theory.proofs.Good.{first-lower, second-lower}
+use Rattle.theory.proofs.Good.{first-lower}
 use Rattle.deciding.proofs.Remembering as rem
 use Rattle.deciding.proofs.Requests as requests
 use Rattle.decide.proofs.tables.prev_pairs.Statement.{statement}
 use Rattle.decide.proofs.tables.prev_pairs.Tie as tie
-
-word-requires : tie.Need-word-requires
-word-requires c κs = tt
-
-first-of-requires : tie.Need-first-of-requires
-first-of-requires c κs = tt
-
-last-of-requires : tie.Need-last-of-requires
-last-of-requires c κs = tt
-
-first-of-requires-2 : tie.Need-first-of-requires-2
-first-of-requires-2 c κs = tt
 
 pair-rows-requires : tie.Need-pair-rows-requires
 pair-rows-requires c κs =
@@ -47,12 +36,6 @@ pair-rows-requires c κs =
       ),
     )
 
-same-length : tie.Need-same-length
-same-length c = search needs
-
-same-length-2 : tie.Need-same-length-2
-same-length-2 c = search needs
-
 returns : tie.Need-returns
 returns c =
     let i = c .before .before .before .before .before .before .before .before .before .before .before .before .before .before .before .before .before in
@@ -71,11 +54,11 @@ pub prev-pairs-spec : {M : Type 1} → statement M
 prev-pairs-spec =
     tie.close
     (tie.spec
-    word-requires
-    first-of-requires
-    last-of-requires
-    first-of-requires-2
+    (λ c κs. tt)
+    (λ c κs. tt)
+    (λ c κs. tt)
+    (λ c κs. tt)
     pair-rows-requires
-    same-length
-    same-length-2
+    (λ c. search needs)
+    (λ c. search needs)
     returns)

@@ -1,3 +1,4 @@
+-- `decide::tables::prev_table` meets its contract.
 use borrow.Author.Needs.{needs}
 use Prim.Native.Nat.{ℕ}
 use mathlib.Core.Path.{sym, ap, _∙_}
@@ -6,12 +7,6 @@ use lib.Dec.{eqb}
 use Rattle.memory.specs.Plan.{planFirst, planLast}
 use Rattle.decide.proofs.tables.prev_table.Statement.{statement}
 use Rattle.decide.proofs.tables.prev_table.Tie as tie
-
-word-requires : tie.Need-word-requires
-word-requires c κs = tt
-
-is-pair-requires : tie.Need-is-pair-requires
-is-pair-requires c κs = tt
 
 prev-pairs-requires : tie.Need-prev-pairs-requires
 prev-pairs-requires c κs =
@@ -33,35 +28,17 @@ prev-rows-requires c κs =
       ),
     )
 
-same-length : tie.Need-same-length
-same-length c = search needs
-
-same-length-2 : tie.Need-same-length-2
-same-length-2 c = search needs
-
-returns : tie.Need-returns
-returns c = c .before .before .before .before .prev-pairs .ensures
-
-same-length-3 : tie.Need-same-length-3
-same-length-3 c = search needs
-
-same-length-4 : tie.Need-same-length-4
-same-length-4 c = search needs
-
-returns-2 : tie.Need-returns-2
-returns-2 c = c .before .before .before .before .prev-rows .ensures
-
 pub prev-table-spec : {M : Type 1} → statement M
 prev-table-spec =
     tie.close
     (tie.spec
-    word-requires
-    is-pair-requires
+    (λ c κs. tt)
+    (λ c κs. tt)
     prev-pairs-requires
     prev-rows-requires
-    same-length
-    same-length-2
-    returns
-    same-length-3
-    same-length-4
-    returns-2)
+    (λ c. search needs)
+    (λ c. search needs)
+    (λ c. c .before .before .before .before .prev-pairs .ensures)
+    (λ c. search needs)
+    (λ c. search needs)
+    (λ c. c .before .before .before .before .prev-rows .ensures))

@@ -1,9 +1,10 @@
+-- `decide::tables::since_pairs` meets its contract.
 use borrow.Author.Needs.{needs}
 use borrow.Author.Tests.{not-true}
 use native.Mathlib.Omega.{arith}
 use Prim.Native.Nat.{ℕ}
-use mathlib.Core.Path.{_≡_, refl, sym, ap, ap₂, _∙_}
-use mathlib.Core.Bool.{true, not}
+use mathlib.Core.Path.{refl, ap, ap₂, _∙_}
+use mathlib.Core.Bool.{not}
 use lib.Dec.{eqb}
 use Rattle.memory.specs.Plan.{planFirst, planLast}
 use Rattle.memory.proofs.Accepted.{good}
@@ -12,21 +13,6 @@ use Rattle.deciding.proofs.Remembering as rem
 use Rattle.deciding.proofs.Requests as requests
 use Rattle.decide.proofs.tables.since_pairs.Statement.{statement}
 use Rattle.decide.proofs.tables.since_pairs.Tie as tie
-
-word-requires : tie.Need-word-requires
-word-requires c κs = tt
-
-first-of-requires : tie.Need-first-of-requires
-first-of-requires c κs = tt
-
-last-of-requires : tie.Need-last-of-requires
-last-of-requires c κs = tt
-
-first-of-requires-2 : tie.Need-first-of-requires-2
-first-of-requires-2 c κs = tt
-
-second-of-requires : tie.Need-second-of-requires
-second-of-requires c κs = tt
 
 pair-rows-requires : tie.Need-pair-rows-requires
 pair-rows-requires c κs =
@@ -74,9 +60,6 @@ pair-rows-requires-2 c κs =
       ),
     )
 
-table-of-requires : tie.Need-table-of-requires
-table-of-requires c κs = tt
-
 join-kept-requires : tie.Need-join-kept-requires
 join-kept-requires c κs =
     let i = c .before .before .before .before .before .before .before .before .before .before .before .before .before .before .before .before .before .before .before .before .before .before .before .before .before .before .before .before .before in
@@ -86,15 +69,6 @@ join-kept-requires c κs =
       omega (arith, c .table-of .ensures, requests.table-small (i .pre .0) (i .pre .1 .0 .0) (i .pre .1 .0 .1) refl (word .result) (word .ensures .0)),
       omega (arith, i .pre .0 .long-past),
     )
-
-same-length : tie.Need-same-length
-same-length c = search needs
-
-same-length-2 : tie.Need-same-length-2
-same-length-2 c = search needs
-
-same-length-3 : tie.Need-same-length-3
-same-length-3 c = search needs
 
 returns : tie.Need-returns
 returns c =
@@ -119,16 +93,16 @@ pub since-pairs-spec : {M : Type 1} → statement M
 since-pairs-spec =
     tie.close
     (tie.spec
-    word-requires
-    first-of-requires
-    last-of-requires
-    first-of-requires-2
-    second-of-requires
+    (λ c κs. tt)
+    (λ c κs. tt)
+    (λ c κs. tt)
+    (λ c κs. tt)
+    (λ c κs. tt)
     pair-rows-requires
     pair-rows-requires-2
-    table-of-requires
+    (λ c κs. tt)
     join-kept-requires
-    same-length
-    same-length-2
-    same-length-3
+    (λ c. search needs)
+    (λ c. search needs)
+    (λ c. search needs)
     returns)

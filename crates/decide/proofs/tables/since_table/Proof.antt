@@ -1,3 +1,4 @@
+-- `decide::tables::since_table` meets its contract.
 use borrow.Author.Needs.{needs}
 use Prim.Native.Nat.{ℕ}
 use mathlib.Core.Path.{sym, ap, _∙_}
@@ -6,12 +7,6 @@ use lib.Dec.{eqb}
 use Rattle.memory.specs.Plan.{planFirst, planLast}
 use Rattle.decide.proofs.tables.since_table.Statement.{statement}
 use Rattle.decide.proofs.tables.since_table.Tie as tie
-
-word-requires : tie.Need-word-requires
-word-requires c κs = tt
-
-is-pair-requires : tie.Need-is-pair-requires
-is-pair-requires c κs = tt
 
 since-pairs-requires : tie.Need-since-pairs-requires
 since-pairs-requires c κs =
@@ -33,43 +28,19 @@ since-rows-requires c κs =
       ),
     )
 
-same-length : tie.Need-same-length
-same-length c = search needs
-
-same-length-2 : tie.Need-same-length-2
-same-length-2 c = search needs
-
-same-length-3 : tie.Need-same-length-3
-same-length-3 c = search needs
-
-returns : tie.Need-returns
-returns c = c .before .before .before .before .before .before .since-pairs .ensures
-
-same-length-4 : tie.Need-same-length-4
-same-length-4 c = search needs
-
-same-length-5 : tie.Need-same-length-5
-same-length-5 c = search needs
-
-same-length-6 : tie.Need-same-length-6
-same-length-6 c = search needs
-
-returns-2 : tie.Need-returns-2
-returns-2 c = c .before .before .before .before .before .before .since-rows .ensures
-
 pub since-table-spec : {M : Type 1} → statement M
 since-table-spec =
     tie.close
     (tie.spec
-    word-requires
-    is-pair-requires
+    (λ c κs. tt)
+    (λ c κs. tt)
     since-pairs-requires
     since-rows-requires
-    same-length
-    same-length-2
-    same-length-3
-    returns
-    same-length-4
-    same-length-5
-    same-length-6
-    returns-2)
+    (λ c. search needs)
+    (λ c. search needs)
+    (λ c. search needs)
+    (λ c. c .before .before .before .before .before .before .since-pairs .ensures)
+    (λ c. search needs)
+    (λ c. search needs)
+    (λ c. search needs)
+    (λ c. c .before .before .before .before .before .before .since-rows .ensures))

@@ -1,4 +1,5 @@
--- `fields::field::piece` meets its contract: each turn drops the first field, so that field `left` of t is field k of s.
+-- `fields::field::piece` meets its contract: each turn drops the first field, so that
+-- field `left` of t is field k of s.
 use Prim.Native.Nat.{_≤_}
 use mathlib.Core.Path.{_≡_, sym, _∙_}
 use mathlib.Core.List.{[]}
@@ -17,38 +18,11 @@ Inv-loop s c k t₀ left₀ t left = (length t ≤ length s) × (getD (split c t
 abbrev μ-loop : tie.MeasureT-loop
 μ-loop s c k t₀ left₀ t left = left
 
-loop-holds : tie.Need-loop-holds Inv-loop μ-loop
-loop-holds c = search needs
-
-find-requires : tie.Need-find-requires Inv-loop μ-loop
-find-requires c κs = search needs
-
-slice-aggregate-result : tie.Need-slice-aggregate-result Inv-loop μ-loop
-slice-aggregate-result c = search needs
-
 returns : tie.Need-returns Inv-loop μ-loop
 returns c =
     let t = c .before .before .before .before .loop .t .now in
     let e = piece-none _ t _ _ (c .before .before .find .ensures) (c .before .if1 .taken) (c .before .before .before .loop-test .taken) in
     sym (sym (c .before .before .before .before .loop .inv .1) ∙ e)
-
-add-t : tie.Need-add-t Inv-loop μ-loop
-add-t c = search needs
-
-sub-t : tie.Need-sub-t Inv-loop μ-loop
-sub-t c = search needs
-
-part-t-start : tie.Need-part-t-start Inv-loop μ-loop
-part-t-start c = search needs
-
-part-t-end : tie.Need-part-t-end Inv-loop μ-loop
-part-t-end c = search needs
-
-sub-left : tie.Need-sub-left Inv-loop μ-loop
-sub-left c = search needs
-
-loop-less : tie.Need-loop-less Inv-loop μ-loop
-loop-less c = search needs
 
 loop-again : tie.Need-loop-again Inv-loop μ-loop
 loop-again c =
@@ -56,9 +30,6 @@ loop-again c =
     let n = c .before .before .find .result in
     let e = piece-next _ t n _ (c .before .before .find .ensures) (c .before .if1 .left) (c .before .before .before .loop-test .taken) in
     (omega (arith, rest-shorter n t), sym e ∙ c .before .before .before .before .loop .inv .1)
-
-find-requires-2 : tie.Need-find-requires-2 Inv-loop μ-loop
-find-requires-2 c κs = search needs
 
 slice-aggregate-result-2 : tie.Need-slice-aggregate-result-2 Inv-loop μ-loop
 slice-aggregate-result-2 c =
@@ -74,17 +45,17 @@ piece-spec =
     (tie.spec
     Inv-loop
     μ-loop
-    loop-holds
-    find-requires
-    slice-aggregate-result
+    (λ c. search needs)
+    (λ c κs. search needs)
+    (λ c. search needs)
     returns
-    add-t
-    sub-t
-    part-t-start
-    part-t-end
-    sub-left
-    loop-less
+    (λ c. search needs)
+    (λ c. search needs)
+    (λ c. search needs)
+    (λ c. search needs)
+    (λ c. search needs)
+    (λ c. search needs)
     loop-again
-    find-requires-2
+    (λ c κs. search needs)
     slice-aggregate-result-2
     returns-2)

@@ -6,18 +6,14 @@ use Rattle.fields.proofs.Numeral.{number-empty, number-long, number-dig
 use Rattle.fields.proofs.number.read_number.Statement.{statement}
 use Rattle.fields.proofs.number.read_number.Tie as tie
 
-returns : tie.Need-returns
-returns c = sym (number-empty _ (c .if1 .taken))
-
-returns-2 : tie.Need-returns-2
-returns-2 c = let h = c .if2 .taken in sym (number-long _ (omega arith))
-
-value-requires : tie.Need-value-requires
-value-requires c κs = search needs
-
 returns-3 : tie.Need-returns-3
 returns-3 c = c .value .ensures ∙ sym (number-digits _ (c .before .before .if1 .left) (c .before .if2 .left))
 
 pub read-number-spec : {M : Type 1} → statement M
 read-number-spec =
-    tie.close (tie.spec returns returns-2 value-requires returns-3)
+    tie.close
+    (tie.spec
+    (λ c. sym (number-empty _ (c .if1 .taken)))
+    (λ c. let h = c .if2 .taken in sym (number-long _ (omega arith)))
+    (λ c κs. search needs)
+    returns-3)

@@ -1,4 +1,5 @@
--- `fields::number::value` meets its contract: the digits of the rest at i, read on from v, give what all of f gives; v has at most i digits.
+-- `fields::number::value` meets its contract: the digits of the rest at i, read on from v, give what all of f
+-- gives; v has at most i digits.
 use Prim.Native.Nat.{_-_, _^_, _≤_, _<_}
 use mathlib.Core.Path.{_≡_, refl, sym, _∙_}
 use native.Mathlib.Omega.{arith}
@@ -15,12 +16,6 @@ Inv-loop f v₀ i₀ v i = (i ≤ length f) × ((v < 10 ^ i) × ((allDigits (dro
 abbrev μ-loop : tie.MeasureT-loop
 μ-loop f v₀ i₀ v i = length f - i
 
-loop-holds : tie.Need-loop-holds Inv-loop μ-loop
-loop-holds c = (omega arith, (omega arith, (refl, unfold valueOf in refl)))
-
-shared-slice-read-d : tie.Need-shared-slice-read-d Inv-loop μ-loop
-shared-slice-read-d c = search needs
-
 returns : tie.Need-returns Inv-loop μ-loop
 returns c = rw (sym (c .before .before .before .loop .inv .1 .1 .0) ∙ digit-below _ _ (c .before .before .loop-test .taken) (c .if1 .taken)) refl
 
@@ -34,19 +29,10 @@ mul-v c =
     let l = c .before .before .before .before .loop in
     omega (arith, ten-few (l .v) (l .i) (l .inv .1 .0) (omega arith))
 
-cast-v : tie.Need-cast-v Inv-loop μ-loop
-cast-v c = omega arith
-
 add-v : tie.Need-add-v Inv-loop μ-loop
 add-v c =
     let l = c .before .before .before .before .loop in
     omega (arith, ten-few (l .v) (l .i) (l .inv .1 .0) (omega arith))
-
-add-i : tie.Need-add-i Inv-loop μ-loop
-add-i c = search needs
-
-loop-less : tie.Need-loop-less Inv-loop μ-loop
-loop-less c = search needs
 
 loop-again : tie.Need-loop-again Inv-loop μ-loop
 loop-again c =
@@ -72,14 +58,14 @@ value-spec =
     (tie.spec
     Inv-loop
     μ-loop
-    loop-holds
-    shared-slice-read-d
+    (λ c. (omega arith, (omega arith, (refl, unfold valueOf in refl))))
+    (λ c. search needs)
     returns
     returns-2
     mul-v
-    cast-v
+    (λ c. omega arith)
     add-v
-    add-i
-    loop-less
+    (λ c. search needs)
+    (λ c. search needs)
     loop-again
     returns-3)

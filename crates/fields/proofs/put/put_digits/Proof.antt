@@ -1,4 +1,5 @@
--- `fields::put::put_digits` meets its contract: the digits of v and the places of d from i on are together the digits of n.
+-- `fields::put::put_digits` meets its contract: the digits of v and the places of d from i
+-- on are together the digits of n.
 use Prim.Native.Nat.{ℕ, _+_, _-_, _^_, _≤_, _<_}
 use mathlib.Core.Path.{_≡_, refl, sym, ap, subst, _∙_}
 use mathlib.Core.List.{_++_, append-nil}
@@ -22,21 +23,6 @@ abbrev μ-loop : tie.MeasureT-loop
 loop-holds : tie.Need-loop-holds Inv-loop μ-loop
 loop-holds c = (omega arith, (omega arith, (c .before .pre .0, (omega arith, (refl, unfold digits in sym (append-nil _))))))
 
-sub-i : tie.Need-sub-i Inv-loop μ-loop
-sub-i c = search needs
-
-cast-d : tie.Need-cast-d Inv-loop μ-loop
-cast-d c = search needs
-
-add-d : tie.Need-add-d Inv-loop μ-loop
-add-d c = search needs
-
-array-write-d : tie.Need-array-write-d Inv-loop μ-loop
-array-write-d c = search needs
-
-loop-less : tie.Need-loop-less Inv-loop μ-loop
-loop-less c = search needs
-
 loop-again : tie.Need-loop-again Inv-loop μ-loop
 loop-again c =
     let l = c .before .loop in
@@ -58,34 +44,10 @@ loop-again c =
       ),
     )
 
-sub-i-2 : tie.Need-sub-i-2 Inv-loop μ-loop
-sub-i-2 c = search needs
-
-cast-d-2 : tie.Need-cast-d-2 Inv-loop μ-loop
-cast-d-2 c = search needs
-
-add-d-2 : tie.Need-add-d-2 Inv-loop μ-loop
-add-d-2 c = search needs
-
-array-write-d-2 : tie.Need-array-write-d-2 Inv-loop μ-loop
-array-write-d-2 c = search needs
-
-sub-put-word : tie.Need-sub-put-word Inv-loop μ-loop
-sub-put-word c = search needs
-
-part-put-word-start : tie.Need-part-put-word-start Inv-loop μ-loop
-part-put-word-start c = search needs
-
 part-put-word-end : tie.Need-part-put-word-end Inv-loop μ-loop
 part-put-word-end c =
     let l = c .before .before .before .loop in
     le-of-eq (sym (length-set (l .d) (l .i - 1) (48 + l .v) ∙ l .inv .1 .1 .1 .1 .0))
-
-put-word-requires : tie.Need-put-word-requires Inv-loop μ-loop
-put-word-requires c κs = search needs
-
-same-length : tie.Need-same-length Inv-loop μ-loop
-same-length c = search needs
 
 returns : tie.Need-returns Inv-loop μ-loop
 returns c =
@@ -104,19 +66,19 @@ put-digits-spec =
     Inv-loop
     μ-loop
     loop-holds
-    sub-i
-    cast-d
-    add-d
-    array-write-d
-    loop-less
+    (λ c. search needs)
+    (λ c. search needs)
+    (λ c. search needs)
+    (λ c. search needs)
+    (λ c. search needs)
     loop-again
-    sub-i-2
-    cast-d-2
-    add-d-2
-    array-write-d-2
-    sub-put-word
-    part-put-word-start
+    (λ c. search needs)
+    (λ c. search needs)
+    (λ c. search needs)
+    (λ c. search needs)
+    (λ c. search needs)
+    (λ c. search needs)
     part-put-word-end
-    put-word-requires
-    same-length
+    (λ c κs. search needs)
+    (λ c. search needs)
     returns)

@@ -8,9 +8,6 @@ use Rattle.fields.proofs.Output.{put-then}
 use Rattle.fields.proofs.put.put_number.Statement.{statement}
 use Rattle.fields.proofs.put.put_number.Tie as tie
 
-returns : tie.Need-returns
-returns c = subst (Put _ _ _ _) (digits-single _ (omega arith)) (c .before .before .put .ensures)
-
 returns-2 : tie.Need-returns-2
 returns-2 c =
     let q = c .before .before in
@@ -25,7 +22,7 @@ put-number-spec =
     (λ c. search needs)
     (λ c κs. search needs)
     (λ c. search needs)
-    returns
+    (λ c. subst (Put _ _ _ _) (digits-single _ (omega arith)) (c .before .before .put .ensures))
     (λ c. search needs)
     (λ c. search needs)
     (λ c κs. search needs)

@@ -4,14 +4,10 @@ use borrow.Author.Needs.{needs}
 use Rattle.fields.proofs.word.pick.Statement.{statement}
 use Rattle.fields.proofs.word.pick.Tie as tie
 
-same-requires : tie.Need-same-requires
-same-requires c κs = search needs
-
-returns : tie.Need-returns
-returns c = rw (sym (c .before .same .ensures) ∙ c .if1 .taken)
-
-returns-2 : tie.Need-returns-2
-returns-2 c = rw (sym (c .before .same .ensures) ∙ c .if1 .left)
-
 pub pick-spec : {M : Type 1} → statement M
-pick-spec = tie.close (tie.spec same-requires returns returns-2)
+pick-spec =
+    tie.close
+    (tie.spec
+    (λ c κs. search needs)
+    (λ c. rw (sym (c .before .same .ensures) ∙ c .if1 .taken))
+    (λ c. rw (sym (c .before .same .ensures) ∙ c .if1 .left)))

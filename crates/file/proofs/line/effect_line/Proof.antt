@@ -10,18 +10,9 @@ use borrow.Author.Needs.{needs}
 use Rattle.file.proofs.line.effect_line.Statement.{statement}
 use Rattle.file.proofs.line.effect_line.Tie as tie
 
-pieces-requires : tie.Need-pieces-requires
-pieces-requires c κs = search needs
-
 returns : tie.Need-returns
 unfolding effectLine
 returns c = malformed _ _ 0 (ne-eqb _ _ (λ e. c .if1 .taken (c .before .pieces .ensures ∙ e)))
-
-number-at-requires : tie.Need-number-at-requires
-number-at-requires c κs = search needs
-
-enum-known-j : tie.Need-enum-known-j
-enum-known-j c = search needs
 
 enum-told : tie.Need-enum-told
 enum-told c = search needs
@@ -30,34 +21,13 @@ returns-2 : tie.Need-returns-2
 unfolding effectLine
 returns-2 c = malformed _ _ 1 (number-none _ (sym (c .before .before .number-at .ensures) ∙ c .enum-told .given .1))
 
-piece-requires : tie.Need-piece-requires
-piece-requires c κs = search needs
-
-read-action-requires : tie.Need-read-action-requires
-read-action-requires c κs = search needs
-
 returns-3 : tie.Need-returns-3
 unfolding effectLine
 returns-3 c = malformed _ _ 2 (rw (sym (c .before .read-action .ensures ∙ ap actionOf (c .before .before .piece .ensures))) (le-ltb _ _ (c .if2 .taken)))
 
-number-at-requires-2 : tie.Need-number-at-requires-2
-number-at-requires-2 c κs = search needs
-
-enum-known-k : tie.Need-enum-known-k
-enum-known-k c = search needs
-
-enum-told-2 : tie.Need-enum-told-2
-enum-told-2 c = search needs
-
 returns-4 : tie.Need-returns-4
 unfolding effectLine
 returns-4 c = malformed _ _ 3 (number-none _ (sym (c .before .before .number-at2 .ensures) ∙ c .enum-told2 .given .1))
-
-piece-requires-2 : tie.Need-piece-requires-2
-piece-requires-2 c κs = search needs
-
-read-direction-requires : tie.Need-read-direction-requires
-read-direction-requires c κs = search needs
 
 returns-5 : tie.Need-returns-5
 unfolding effectLine
@@ -97,20 +67,20 @@ pub effect-line-spec : {M : Type 1} → statement M
 effect-line-spec =
     tie.close
     (tie.spec
-    pieces-requires
+    (λ c κs. search needs)
     returns
-    number-at-requires
-    enum-known-j
+    (λ c κs. search needs)
+    (λ c. search needs)
     enum-told
     returns-2
-    piece-requires
-    read-action-requires
+    (λ c κs. search needs)
+    (λ c κs. search needs)
     returns-3
-    number-at-requires-2
-    enum-known-k
-    enum-told-2
+    (λ c κs. search needs)
+    (λ c. search needs)
+    (λ c. search needs)
     returns-4
-    piece-requires-2
-    read-direction-requires
+    (λ c κs. search needs)
+    (λ c κs. search needs)
     returns-5
     returns-6)

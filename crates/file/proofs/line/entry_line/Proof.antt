@@ -12,18 +12,6 @@ use Rattle.file.proofs.line.entry_line.Tie as tie
 operator : (c : tie.After-read-operator) → c .read-operator .result ≡ operatorOf (getD (split 9 (c .before .before .before .args .l .now)) 2 [])
 operator c = c .read-operator .ensures ∙ ap operatorOf (c .before .piece .ensures)
 
-piece-requires : tie.Need-piece-requires
-piece-requires c κs = search needs
-
-read-operator-requires : tie.Need-read-operator-requires
-read-operator-requires c κs = search needs
-
-long-entry-line-requires : tie.Need-long-entry-line-requires
-long-entry-line-requires c κs = operator (c .before)
-
-short-entry-line-requires : tie.Need-short-entry-line-requires
-short-entry-line-requires c κs = operator (c .before)
-
 returns : tie.Need-returns
 unfolding entryLine
 returns c = let e = operator (c .before .before) in rw (← e, c .before .if1 .taken) (c .long-entry-line .ensures)
@@ -35,4 +23,10 @@ returns-2 c = let e = operator (c .before .before) in rw (← e, c .before .if1 
 pub entry-line-spec : {M : Type 1} → statement M
 entry-line-spec =
     tie.close
-    (tie.spec piece-requires read-operator-requires long-entry-line-requires short-entry-line-requires returns returns-2)
+    (tie.spec
+    (λ c κs. search needs)
+    (λ c κs. search needs)
+    (λ c κs. operator (c .before))
+    (λ c κs. operator (c .before))
+    returns
+    returns-2)

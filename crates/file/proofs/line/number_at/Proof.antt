@@ -5,14 +5,10 @@ use borrow.Author.Needs.{needs}
 use Rattle.file.proofs.line.number_at.Statement.{statement}
 use Rattle.file.proofs.line.number_at.Tie as tie
 
-piece-requires : tie.Need-piece-requires
-piece-requires c κs = search needs
-
-read-number-requires : tie.Need-read-number-requires
-read-number-requires c κs = search needs
-
-returns : tie.Need-returns
-returns c = c .read-number .ensures ∙ ap numberOf (c .before .piece .ensures)
-
 pub number-at-spec : {M : Type 1} → statement M
-number-at-spec = tie.close (tie.spec piece-requires read-number-requires returns)
+number-at-spec =
+    tie.close
+    (tie.spec
+    (λ c κs. search needs)
+    (λ c κs. search needs)
+    (λ c. c .read-number .ensures ∙ ap numberOf (c .before .piece .ensures)))

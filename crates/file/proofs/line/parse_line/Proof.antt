@@ -18,7 +18,7 @@ use Rattle.file.proofs.line.parse_line.Tie as tie
 kind : (c : tie.After-read-kind) → c .read-kind .result ≡ kindOf (getD (split 9 (c .before .before .before .args .l .now)) 0 [])
 kind c = c .read-kind .ensures ∙ ap kindOf (c .before .piece .ensures)
 
--- a T line that is not of five fields
+-- A T line that is not of five fields.
 not-five : {k n m : ℕ} → k ≡ 7 → n ≡ m → (eqb k 7 && eqb n 5) ≡ false → eqb m 5 ≡ false
 not-five p q h = ap₂ (λ (k n : ℕ). eqb k 7 && eqb n 5) (sym p) (sym q) ∙ h
 

@@ -9,18 +9,9 @@ use borrow.Author.Needs.{needs}
 use Rattle.file.proofs.line.policy_line.Statement.{statement}
 use Rattle.file.proofs.line.policy_line.Tie as tie
 
-pieces-requires : tie.Need-pieces-requires
-pieces-requires c κs = search needs
-
 returns : tie.Need-returns
 unfolding policyLine
 returns c = malformed _ _ 0 (ne-eqb _ _ (λ e. c .if1 .taken (c .before .pieces .ensures ∙ e)))
-
-number-at-requires : tie.Need-number-at-requires
-number-at-requires c κs = search needs
-
-enum-known-j : tie.Need-enum-known-j
-enum-known-j c = search needs
 
 enum-told : tie.Need-enum-told
 enum-told c = search needs
@@ -28,15 +19,6 @@ enum-told c = search needs
 returns-2 : tie.Need-returns-2
 unfolding policyLine
 returns-2 c = malformed _ _ 1 (number-none _ (sym (c .before .before .number-at .ensures) ∙ c .enum-told .given .1))
-
-number-at-requires-2 : tie.Need-number-at-requires-2
-number-at-requires-2 c κs = search needs
-
-enum-known-n : tie.Need-enum-known-n
-enum-known-n c = search needs
-
-enum-told-2 : tie.Need-enum-told-2
-enum-told-2 c = search needs
 
 returns-3 : tie.Need-returns-3
 unfolding policyLine
@@ -59,14 +41,14 @@ pub policy-line-spec : {M : Type 1} → statement M
 policy-line-spec =
     tie.close
     (tie.spec
-    pieces-requires
+    (λ c κs. search needs)
     returns
-    number-at-requires
-    enum-known-j
+    (λ c κs. search needs)
+    (λ c. search needs)
     enum-told
     returns-2
-    number-at-requires-2
-    enum-known-n
-    enum-told-2
+    (λ c κs. search needs)
+    (λ c. search needs)
+    (λ c. search needs)
     returns-3
     returns-4)

@@ -13,18 +13,9 @@ use borrow.Author.Needs.{needs}
 use Rattle.file.proofs.line.single_line.Statement.{statement}
 use Rattle.file.proofs.line.single_line.Tie as tie
 
-pieces-requires : tie.Need-pieces-requires
-pieces-requires c κs = search needs
-
 returns : tie.Need-returns
 unfolding singleLine
 returns c = let t = ne-eqb _ _ (λ e. c .if1 .taken (c .before .pieces .ensures ∙ e)) in (λ z. malformed _ _ 0 t, λ z. malformed _ _ 0 t, λ z. malformed _ _ 0 t)
-
-number-at-requires : tie.Need-number-at-requires
-number-at-requires c κs = search needs
-
-enum-known-n : tie.Need-enum-known-n
-enum-known-n c = search needs
 
 enum-told : tie.Need-enum-told
 enum-told c = search needs
@@ -34,7 +25,7 @@ unfolding singleLine
 returns-2 c = let t = number-none _ (sym (c .before .before .number-at .ensures) ∙ c .enum-told .given .1) in
     (λ z. malformed _ _ 1 t, λ z. malformed _ _ 1 t, λ z. malformed _ _ 1 t)
 
--- the number of a line of two fields
+-- The number of a line of two fields.
 says : (c : tie.After-known-told) (line : ℕ → Line) → line (c .before .n .given .0 .0) ≡ singleLine line (split 9 (c .before .before .before .before .before .before .before .args .l .now))
 says c line =
     let k1 = c .before in
@@ -57,10 +48,10 @@ pub single-line-spec : {M : Type 1} → statement M
 single-line-spec =
     tie.close
     (tie.spec
-    pieces-requires
+    (λ c κs. search needs)
     returns
-    number-at-requires
-    enum-known-n
+    (λ c κs. search needs)
+    (λ c. search needs)
     enum-told
     returns-2
     returns-3

@@ -18,12 +18,6 @@ returns : tie.Need-returns
 unfolding tripleLine
 returns c = let t = ne-eqb _ _ (λ e. c .if1 .taken (c .before .before .pre ∙ e)) in (λ z. malformed _ _ 0 t, λ z. malformed _ _ 0 t, λ z. malformed _ _ 0 t)
 
-number-at-requires : tie.Need-number-at-requires
-number-at-requires c κs = search needs
-
-enum-known-k : tie.Need-enum-known-k
-enum-known-k c = search needs
-
 enum-told : tie.Need-enum-told
 enum-told c = search needs
 
@@ -32,35 +26,17 @@ unfolding tripleLine
 returns-2 c = let t = number-none _ (sym (c .before .before .number-at .ensures) ∙ c .enum-told .given .1) in
     (λ z. malformed _ _ 1 t, λ z. malformed _ _ 1 t, λ z. malformed _ _ 1 t)
 
-number-at-requires-2 : tie.Need-number-at-requires-2
-number-at-requires-2 c κs = search needs
-
-enum-known-a : tie.Need-enum-known-a
-enum-known-a c = search needs
-
-enum-told-2 : tie.Need-enum-told-2
-enum-told-2 c = search needs
-
 returns-3 : tie.Need-returns-3
 unfolding tripleLine
 returns-3 c = let t = number-none _ (sym (c .before .before .number-at2 .ensures) ∙ c .enum-told2 .given .1) in
     (λ z. malformed _ _ 2 t, λ z. malformed _ _ 2 t, λ z. malformed _ _ 2 t)
-
-number-at-requires-3 : tie.Need-number-at-requires-3
-number-at-requires-3 c κs = search needs
-
-enum-known-b : tie.Need-enum-known-b
-enum-known-b c = search needs
-
-enum-told-3 : tie.Need-enum-told-3
-enum-told-3 c = search needs
 
 returns-4 : tie.Need-returns-4
 unfolding tripleLine
 returns-4 c = let t = number-none _ (sym (c .before .before .number-at3 .ensures) ∙ c .enum-told3 .given .1) in
     (λ z. malformed _ _ 3 t, λ z. malformed _ _ 3 t, λ z. malformed _ _ 3 t)
 
--- the three numbers of a line of four fields
+-- The three numbers of a line of four fields.
 abbrev first : tie.After-known-told3 → ℕ
 first c = c .before .before .before .before .before .before .before .before .before .k .given .0 .0
 
@@ -101,17 +77,17 @@ triple-line-spec =
     tie.close
     (tie.spec
     returns
-    number-at-requires
-    enum-known-k
+    (λ c κs. search needs)
+    (λ c. search needs)
     enum-told
     returns-2
-    number-at-requires-2
-    enum-known-a
-    enum-told-2
+    (λ c κs. search needs)
+    (λ c. search needs)
+    (λ c. search needs)
     returns-3
-    number-at-requires-3
-    enum-known-b
-    enum-told-3
+    (λ c κs. search needs)
+    (λ c. search needs)
+    (λ c. search needs)
     returns-4
     returns-5
     returns-6

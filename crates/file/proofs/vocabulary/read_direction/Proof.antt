@@ -5,18 +5,6 @@ use Rattle.file.proofs.Words.{picked, picked-none}
 use Rattle.file.proofs.vocabulary.read_direction.Statement.{statement}
 use Rattle.file.proofs.vocabulary.read_direction.Tie as tie
 
-slice-aggregate-pick : tie.Need-slice-aggregate-pick
-slice-aggregate-pick c = search needs
-
-pick-requires : tie.Need-pick-requires
-pick-requires c κs = search needs
-
-slice-aggregate-pick-2 : tie.Need-slice-aggregate-pick-2
-slice-aggregate-pick-2 c = search needs
-
-pick-requires-2 : tie.Need-pick-requires-2
-pick-requires-2 c κs = search needs
-
 returns : tie.Need-returns
 unfolding directionOf directionWords
 returns c =
@@ -26,4 +14,9 @@ returns c =
 pub read-direction-spec : {M : Type 1} → statement M
 read-direction-spec =
     tie.close
-    (tie.spec slice-aggregate-pick pick-requires slice-aggregate-pick-2 pick-requires-2 returns)
+    (tie.spec
+    (λ c. search needs)
+    (λ c κs. search needs)
+    (λ c. search needs)
+    (λ c κs. search needs)
+    returns)

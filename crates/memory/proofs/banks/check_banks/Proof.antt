@@ -1,11 +1,9 @@
+-- `memory::banks::check_banks` meets its contract.
 use Rattle.memory.specs.Layout.{termsOf}
 use Rattle.memory.proofs.Accepted.{good}
 use Rattle.memory.proofs.OwnTests.{good-banks}
 use Rattle.memory.proofs.banks.check_banks.Statement.{statement}
 use Rattle.memory.proofs.banks.check_banks.Tie as tie
-
-check-relations-requires : tie.Need-check-relations-requires
-check-relations-requires c κs = let x = c .before .before .before .before .before .before in (x .pre .0 .0, x .pre .0 .1)
 
 check-own-requires : tie.Need-check-own-requires
 check-own-requires c κs = let x = c .before .before .before .before .before .before .before in ((x .pre .0 .0, x .pre .0 .2), x .pre .1)
@@ -21,4 +19,10 @@ returns c =
     (c .before .before .check-relations .ensures) (c .before .check-own .ensures) (c .check-own2 .ensures)
 
 pub check-banks-spec : {M : Type 1} → statement M
-check-banks-spec = tie.close (tie.spec check-relations-requires check-own-requires check-own-requires-2 returns)
+check-banks-spec =
+    tie.close
+    (tie.spec
+    (λ c κs. let x = c .before .before .before .before .before .before in (x .pre .0 .0, x .pre .0 .1))
+    check-own-requires
+    check-own-requires-2
+    returns)

@@ -1,3 +1,4 @@
+-- `memory::banks::inspect` meets its contract.
 use borrow.Author.Needs.{needs}
 use borrow.Author.Tests.{not-true, not-false}
 use Prim.Native.Nat.{_≤_}
@@ -36,9 +37,6 @@ long c = let x = start c .args in outcomes.banks-long (x .terms .now) (x .relati
 returns : tie.Need-returns
 returns c = (outcomes.check-short _ _ _ _ (sym (c .before .is-short .ensures) ∙ c .if1 .taken), ((λ e. absurd (false≢true e)), (λ _. refl)))
 
-check-terms-requires : tie.Need-check-terms-requires
-check-terms-requires c κs = (long (c .before .before) .0, search needs, refl)
-
 returns-2 : tie.Need-returns-2
 returns-2 c =
     let k = checked (c .before) in
@@ -72,7 +70,7 @@ inspect-spec =
     returns
     (λ c. search needs)
     (λ c. search needs)
-    check-terms-requires
+    (λ c κs. (long (c .before .before) .0, search needs, refl))
     returns-2
     (λ c. search needs)
     (λ c. search needs)

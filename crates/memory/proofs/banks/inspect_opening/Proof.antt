@@ -1,3 +1,4 @@
+-- `memory::banks::inspect_opening` meets its contract.
 use borrow.Author.Needs.{needs}
 use borrow.Author.Tests.{not-true, not-false}
 use Prim.Native.Nat.{_≤_}
@@ -33,16 +34,10 @@ long c = let x = start c .args in outcomes.banks-long (x .terms .now) (x .relati
 returns : tie.Need-returns
 returns c = (outcomes.open-short _ _ _ _ (sym (c .before .is-short .ensures) ∙ c .if1 .taken), ((λ e. absurd (false≢true e)), (λ _. refl)))
 
-check-terms-requires : tie.Need-check-terms-requires
-check-terms-requires c κs = (long (c .before .before) .0, search needs, refl)
-
 returns-2 : tie.Need-returns-2
 returns-2 c =
     let k = checked (c .before) in
     (outcomes.open-bad-terms _ _ _ _ (lengths (looked k)) (sym (k .check-terms .ensures .0) ∙ not-true _ (c .if2 .taken)), ((λ e. absurd (false≢true e)), (λ _. refl)))
-
-check-relations-requires : tie.Need-check-relations-requires
-check-relations-requires c κs = (terms-good c, long (looked (checked (c .before))) .1)
 
 returns-3 : tie.Need-returns-3
 returns-3 c =
@@ -66,8 +61,8 @@ inspect-opening-spec =
     returns
     (λ c. search needs)
     (λ c. search needs)
-    check-terms-requires
+    (λ c κs. (long (c .before .before) .0, search needs, refl))
     returns-2
-    check-relations-requires
+    (λ c κs. (terms-good c, long (looked (checked (c .before))) .1))
     returns-3
     returns-4)

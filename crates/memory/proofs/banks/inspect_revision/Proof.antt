@@ -1,3 +1,4 @@
+-- `memory::banks::inspect_revision` meets its contract.
 use borrow.Author.Needs.{needs}
 use borrow.Author.Tests.{not-true, not-false}
 use Prim.Native.Nat.{_≤_}
@@ -10,7 +11,7 @@ use Rattle.memory.proofs.BankOutcomes as outcomes
 use Rattle.memory.proofs.banks.inspect_revision.Statement.{statement}
 use Rattle.memory.proofs.banks.inspect_revision.Tie as tie
 
--- the lengths of both memories are looked at
+-- The lengths of both memories are looked at.
 abbrev start : tie.Else2 → tie.Start
 start c = c .before .before .before .before .before .before .before .before .before .before .before .before
 
@@ -22,7 +23,7 @@ second : (c : tie.Else2) → let x = start c .args in
     outcomes.short (x .new .now) (x .edges .now) (x .third .now) (x .fourth .now) ≡ false
 second c = sym (c .before .is-short2 .ensures) ∙ c .if2 .left
 
--- the new terms are looked at, and then the old
+-- The new terms are looked at, and then the old.
 abbrev looked : tie.After-check-terms → tie.Else2
 looked c = c .before .before .before
 
@@ -62,9 +63,6 @@ returns-2 c =
       ((λ e. absurd (false≢true e)), ((λ e. absurd (false≢true e)), (λ _. (refl, refl)))),
     )
 
-check-terms-requires : tie.Need-check-terms-requires
-check-terms-requires c κs = (new-long (c .before .before), search needs, refl)
-
 returns-3 : tie.Need-returns-3
 returns-3 c =
     let k = c .before .before .before in
@@ -72,9 +70,6 @@ returns-3 c =
       outcomes.revise-bad-new _ _ _ _ _ _ _ _ (lengths l) (second l) (sym (k .check-terms .ensures .0) ∙ not-true _ (c .if3 .taken)),
       ((λ e. absurd (false≢true e)), ((λ e. absurd (false≢true e)), (λ _. (refl, refl)))),
     )
-
-check-terms-requires-2 : tie.Need-check-terms-requires-2
-check-terms-requires-2 c κs = (long (looked (new-checked (c .before .before))) .0, search needs, refl)
 
 returns-4 : tie.Need-returns-4
 returns-4 c =
@@ -134,11 +129,11 @@ inspect-revision-spec =
     returns-2
     (λ c. search needs)
     (λ c. search needs)
-    check-terms-requires
+    (λ c κs. (new-long (c .before .before), search needs, refl))
     returns-3
     (λ c. search needs)
     (λ c. search needs)
-    check-terms-requires-2
+    (λ c κs. (long (looked (new-checked (c .before .before))) .0, search needs, refl))
     returns-4
     (λ c. search needs)
     (λ c. search needs)

@@ -1,3 +1,4 @@
+-- `memory::check_state::check_own` meets its contract.
 use borrow.Author.Needs.{needs}
 use Rattle.memory.specs.Layout.{termsOf}
 use Rattle.memory.proofs.OwnTests.{own-tests}

@@ -1,3 +1,4 @@
+-- `memory::check_state::event_of` meets its contract.
 use Prim.Native.Nat.{_-_}
 use mathlib.Core.Path.{sym, ap}
 use mathlib.Core.Bool.{Bool, cond}

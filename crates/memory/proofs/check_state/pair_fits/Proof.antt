@@ -1,5 +1,5 @@
 -- The loop's invariant: off is 0 where the words of the members passed have bits at members only.
-use Prim.Native.Nat.{ℕ, _+_, _-_, _*_, _≤_}
+use Prim.Native.Nat.{_+_, _-_, _*_, _≤_}
 use native.Mathlib.Omega.{arith}
 use mathlib.Core.Path.{_≡_, sym, ap, _∙_}
 use lib.Dec.{eqb}
@@ -16,9 +16,6 @@ Inv-loop ws n first second third fourth off₀ a₀ off a = (a ≤ n) × (eqb of
 
 abbrev μ-loop : tie.MeasureT-loop
 μ-loop ws n first second third fourth off₀ a₀ off a = n - a
-
-loop-holds : tie.Need-loop-holds Inv-loop μ-loop
-loop-holds c = (omega arith, sym (all-none _))
 
 loop-again : tie.Need-loop-again Inv-loop μ-loop
 loop-again c =
@@ -56,7 +53,7 @@ pair-fits-spec =
     (λ c κs. omega arith)
     (λ c κs. omega arith)
     (λ c κs. omega arith)
-    loop-holds
+    (λ c. (omega arith, sym (all-none _)))
     (λ c. omega arith)
     (λ c. omega arith)
     (λ c. omega arith)

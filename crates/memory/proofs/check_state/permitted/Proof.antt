@@ -16,27 +16,6 @@ Inv-loop n i all s₀ q₀ s q = pairs.Permitting n i s q
 abbrev μ-loop : tie.MeasureT-loop
 μ-loop n i all s₀ q₀ s q = 4 - q
 
-mask-requires : tie.Need-mask-requires Inv-loop μ-loop
-mask-requires c κs = search needs
-
-loop-holds : tie.Need-loop-holds Inv-loop μ-loop
-loop-holds c = pairs.permitting _ _
-
-mul-there : tie.Need-mul-there Inv-loop μ-loop
-mul-there c = omega arith
-
-add-there : tie.Need-add-there Inv-loop μ-loop
-add-there c = omega arith
-
-only-requires : tie.Need-only-requires Inv-loop μ-loop
-only-requires c κs = search needs
-
-add-q : tie.Need-add-q Inv-loop μ-loop
-add-q c = omega arith
-
-loop-less : tie.Need-loop-less Inv-loop μ-loop
-loop-less c = omega arith
-
 loop-again : tie.Need-loop-again Inv-loop μ-loop
 loop-again c =
     pairs.permitting-more _ _ _ _ _ _ _ (c .before .before .loop-test .taken) (c .before .before .before .loop .inv) (c .before .before .before .before .mask .ensures)
@@ -44,22 +23,19 @@ loop-again c =
     (λ k. c .with-quarter .ensures k
     ∙ ap (λ (x : Bool). bit (c .before .before .before .loop .s) k || x) (in-quarter (c .before .before .before .loop .q) k (bit (c .before .only .result) (k % 16)) (c .before .before .loop-test .taken)))
 
-returns : tie.Need-returns Inv-loop μ-loop
-returns c = pairs.permitting-all _ _ _ _ (λ l. omega arith) (c .before .loop .inv)
-
 pub permitted-spec : {M : Type 1} → statement M
 permitted-spec =
     tie.close
     (tie.spec
     Inv-loop
     μ-loop
-    mask-requires
-    loop-holds
-    mul-there
-    add-there
-    only-requires
     (λ c κs. search needs)
-    add-q
-    loop-less
+    (λ c. pairs.permitting _ _)
+    (λ c. omega arith)
+    (λ c. omega arith)
+    (λ c κs. search needs)
+    (λ c κs. search needs)
+    (λ c. omega arith)
+    (λ c. omega arith)
     loop-again
-    returns)
+    (λ c. pairs.permitting-all _ _ _ _ (λ l. omega arith) (c .before .loop .inv)))

@@ -1,3 +1,4 @@
+-- `memory::check_state::table_fits` meets its contract.
 use Prim.Native.Nat.{ℕ, _+_, _-_, _*_}
 use native.Mathlib.Omega.{arith}
 use mathlib.Core.Path.{_≡_, sym, _∙_}

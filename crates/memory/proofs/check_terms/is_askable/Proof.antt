@@ -1,3 +1,4 @@
+-- `memory::check_terms::is_askable` meets its contract.
 use mathlib.Core.Path.{_≡_, ap, _∙_}
 use mathlib.Core.Bool.{_&&_}
 use lib.Dec.{ltb}
@@ -11,12 +12,6 @@ use Rattle.memory.proofs.Scanning.{policy-set}
 use Rattle.memory.proofs.check_terms.is_askable.Statement.{statement}
 use Rattle.memory.proofs.check_terms.is_askable.Tie as tie
 
-entries-requires : tie.Need-entries-requires
-entries-requires c κs = tt
-
-set-at-requires : tie.Need-set-at-requires
-set-at-requires c κs = tt
-
 returns : tie.Need-returns
 returns c =
     let x = c .before .before .before .before in
@@ -29,9 +24,4 @@ returns c =
     ∙ ap (_&&_ (ltb p (termsOf w .entries))) (and-true (onlyFree 0 (formula (termsOf w) p)))
 
 pub is-askable-spec : {M : Type 1} → statement M
-is-askable-spec =
-    tie.close
-    (tie.spec
-    entries-requires
-    set-at-requires
-    returns)
+is-askable-spec = tie.close (tie.spec (λ c κs. tt) (λ c κs. tt) returns)

@@ -1,3 +1,4 @@
+-- `memory::check_terms::marks_fit` meets its contract.
 use Prim.Native.Nat.{ℕ, _-_}
 use native.Mathlib.Omega.{arith}
 use mathlib.Core.Path.{ap₂, _∙_}
@@ -15,35 +16,11 @@ Inv-loop terms e ok₀ j₀ ok j = Testing 16 (λ j. ltb (getD terms (markAt j) 
 abbrev μ-loop : tie.MeasureT-loop
 μ-loop terms e ok₀ j₀ ok j = 16 - j
 
-events-requires : tie.Need-events-requires Inv-loop μ-loop
-events-requires c κs = tt
-
-loop-holds : tie.Need-loop-holds Inv-loop μ-loop
-loop-holds c = testing-none _ _
-
-add-word : tie.Need-add-word Inv-loop μ-loop
-add-word c = omega arith
-
-word-requires : tie.Need-word-requires Inv-loop μ-loop
-word-requires c κs = tt
-
-mark-fits-requires : tie.Need-mark-fits-requires Inv-loop μ-loop
-mark-fits-requires c κs = tt
-
-add-j : tie.Need-add-j Inv-loop μ-loop
-add-j c = omega arith
-
-loop-less : tie.Need-loop-less Inv-loop μ-loop
-loop-less c = omega arith
-
 loop-again : tie.Need-loop-again Inv-loop μ-loop
 loop-again c =
     let k = c .before .before .before in
     testing-more (k .loop .inv) (omega arith) (c .mark-fits .result)
     (c .mark-fits .ensures ∙ ap₂ (λ (w e : ℕ). ltb w (cond (ltb (k .loop .j) e) 2 1)) (c .before .word .ensures .0) (k .before .events .ensures .0))
-
-returns : tie.Need-returns Inv-loop μ-loop
-returns c = testing-all (c .before .loop .inv) (omega arith)
 
 pub marks-fit-spec : {M : Type 1} → statement M
 marks-fit-spec =
@@ -51,12 +28,12 @@ marks-fit-spec =
     (tie.spec
     Inv-loop
     μ-loop
-    events-requires
-    loop-holds
-    add-word
-    word-requires
-    mark-fits-requires
-    add-j
-    loop-less
+    (λ c κs. tt)
+    (λ c. testing-none _ _)
+    (λ c. omega arith)
+    (λ c κs. tt)
+    (λ c κs. tt)
+    (λ c. omega arith)
+    (λ c. omega arith)
     loop-again
-    returns)
+    (λ c. testing-all (c .before .loop .inv) (omega arith)))

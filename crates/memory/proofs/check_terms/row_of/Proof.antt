@@ -16,7 +16,7 @@ use Rattle.memory.proofs.FreeSets.{each-operator, none-in-free}
 use Rattle.memory.proofs.check_terms.row_of.Statement.{statement}
 use Rattle.memory.proofs.check_terms.row_of.Tie as tie
 
--- a number that is none of the twelve operators
+-- A number that is none of the twelve operators.
 abbrev None : ℕ → Type 0
 None op =
     (op ≡ 0 → ⊥) → (op ≡ 1 → ⊥) → ((op ≡ 2) ⊎ (op ≡ 6) → ⊥) → ((op ≡ 3) ⊎ (op ≡ 7) → ⊥) → (op ≡ 4 → ⊥) → (op ≡ 5 → ⊥) → (op ≡ 8 → ⊥) → (op ≡ 9 → ⊥) →
@@ -39,16 +39,12 @@ none =
     (λ a b c d e f g h i j. absurd (j refl))
     (λ k a b c d e f g h i j. omega arith)
 
--- the same set has the same bits
+-- The same set has the same bits.
 of-set : {v w : ℕ} → v ≡ w → (x : ℕ) → bit v x ≡ bit w x
 of-set e x = ap (λ (w : ℕ). bit w x) e
 
 of-sets : {s t v w : ℕ} → s ≡ t → v ≡ w → (x : ℕ) → bit (bitOr s v) x ≡ bit t x || bit w x
 of-sets {s} {v = v} e f x = bit-or s v x ∙ ap₂ _||_ (of-set e x) (of-set f x)
-
-returns : tie.Need-returns
-unfolding operandFits inFree
-returns c = rw (c .match .keys1) (refl, (bit-zero, omega arith))
 
 returns-2 : tie.Need-returns-2
 unfolding operandFits inFree
@@ -134,7 +130,7 @@ row-of-spec =
     (λ c κs. search needs)
     (λ c κs. search needs)
     (λ c κs. search needs)
-    returns
+    (λ c. unfold operandFits inFree in rw (c .match .keys1) (refl, (bit-zero, omega arith)))
     returns-2
     returns-3
     returns-4

@@ -1,3 +1,4 @@
+-- `memory::layout::entry_of` meets its contract.
 use borrow.Author.Needs.{needs}
 use Rattle.memory.specs.Layout.{termsOf}
 use Rattle.memory.proofs.layout.entry_of.Statement.{statement}

@@ -1,3 +1,4 @@
+-- `memory::operands::operands_of` meets its contract.
 use Prim.Native.Nat.{ℕ}
 use mathlib.Core.Path.{_≡_, refl}
 use mathlib.Core.Logic.{_⊎_, inl, inr, ⊎-elim}
@@ -8,7 +9,7 @@ use Rattle.memory.proofs.FreeSets.{each-operator}
 use Rattle.memory.proofs.operands.operands_of.Statement.{statement}
 use Rattle.memory.proofs.operands.operands_of.Tie as tie
 
--- a number that is none of the twelve operators
+-- A number that is none of the twelve operators.
 abbrev None : ℕ → Type 0
 None op =
     (op ≡ 0 → ⊥) → (op ≡ 1 → ⊥) → ((op ≡ 2) ⊎ (op ≡ 6) → ⊥) → ((op ≡ 3) ⊎ (op ≡ 7) → ⊥) → (op ≡ 4 → ⊥) → (op ≡ 5 → ⊥) → (op ≡ 8 → ⊥) → (op ≡ 9 → ⊥) →
@@ -31,36 +32,6 @@ none =
     (λ a b c d e f g h i j. absurd (j refl))
     (λ k a b c d e f g h i j. (refl, (refl, refl)))
 
-returns : tie.Need-returns
-returns c = search needs
-
-returns-2 : tie.Need-returns-2
-returns-2 c = search needs
-
-returns-3 : tie.Need-returns-3
-returns-3 c = ⊎-elim (λ e. rw e (refl, (refl, refl))) (λ e. rw e (refl, (refl, refl))) (c .match .keys3)
-
-returns-4 : tie.Need-returns-4
-returns-4 c = ⊎-elim (λ e. rw e (refl, (refl, refl))) (λ e. rw e (refl, (refl, refl))) (c .match .keys4)
-
-returns-5 : tie.Need-returns-5
-returns-5 c = search needs
-
-returns-6 : tie.Need-returns-6
-returns-6 c = search needs
-
-returns-7 : tie.Need-returns-7
-returns-7 c = search needs
-
-returns-8 : tie.Need-returns-8
-returns-8 c = search needs
-
-returns-9 : tie.Need-returns-9
-returns-9 c = search needs
-
-returns-10 : tie.Need-returns-10
-returns-10 c = search needs
-
 returns-11 : tie.Need-returns-11
 returns-11 c =
     let r = c .match .rest in
@@ -68,4 +39,16 @@ returns-11 c =
 
 pub operands-of-spec : {M : Type 1} → statement M
 operands-of-spec =
-    tie.close (tie.spec returns returns-2 returns-3 returns-4 returns-5 returns-6 returns-7 returns-8 returns-9 returns-10 returns-11)
+    tie.close
+    (tie.spec
+    (λ c. search needs)
+    (λ c. search needs)
+    (λ c. ⊎-elim (λ e. rw e (refl, (refl, refl))) (λ e. rw e (refl, (refl, refl))) (c .match .keys3))
+    (λ c. ⊎-elim (λ e. rw e (refl, (refl, refl))) (λ e. rw e (refl, (refl, refl))) (c .match .keys4))
+    (λ c. search needs)
+    (λ c. search needs)
+    (λ c. search needs)
+    (λ c. search needs)
+    (λ c. search needs)
+    (λ c. search needs)
+    returns-11)

@@ -1,3 +1,4 @@
+-- `memory::plan::columns_fit` meets its contract.
 use borrow.Author.Needs.{needs}
 use Prim.Native.Nat.{ℕ}
 use native.Mathlib.Omega.{arith}
@@ -10,12 +11,6 @@ use Rattle.memory.specs.Plan.{restOf}
 use Rattle.memory.proofs.plan.columns_fit.Statement.{statement}
 use Rattle.memory.proofs.plan.columns_fit.Tie as tie
 
-rest-of-requires : tie.Need-rest-of-requires
-rest-of-requires c κs = search needs
-
-rest-of-requires-2 : tie.Need-rest-of-requires-2
-rest-of-requires-2 c κs = search needs
-
 up-to : (n : ℕ) → leb n 16 ≡ ltb n 17
 up-to n = bool-iff _ _ (λ e. lt-ltb n 17 (omega (arith, leb-true n 16 e))) (λ e. le-leb n 16 (omega (arith, ltb-true n 17 e)))
 
@@ -26,4 +21,4 @@ returns c =
     ∙ ap (λ (b : Bool). eqb (restOf (c .before .before .args .free)) 0 || (eqb (restOf (restOf (c .before .before .args .free))) 0 && b)) (up-to n)
 
 pub columns-fit-spec : {M : Type 1} → statement M
-columns-fit-spec = tie.close (tie.spec rest-of-requires rest-of-requires-2 returns)
+columns-fit-spec = tie.close (tie.spec (λ c κs. search needs) (λ c κs. search needs) returns)

@@ -1,3 +1,4 @@
+-- `memory::plan::plan_of` meets its contract.
 use borrow.Author.Needs.{needs}
 use borrow.Author.Tests.{not-true, not-false}
 use Prim.Native.Nat.{ℕ, _+_, _*_, _%_}
@@ -7,9 +8,6 @@ use lib.Dec.{eqb}
 use Rattle.sets.specs.Sets.{least}
 use Rattle.memory.proofs.plan.plan_of.Statement.{statement}
 use Rattle.memory.proofs.plan.plan_of.Tie as tie
-
-returns : tie.Need-returns
-returns c = rw (← c .before .is-past .ensures, not-true (c .before .is-past .result) (c .if1 .taken))
 
 returns-2 : tie.Need-returns-2
 returns-2 c =
@@ -24,7 +22,7 @@ plan-of-spec =
     tie.close
     (tie.spec
     (λ c κs. search needs)
-    returns
+    (λ c. rw (← c .before .is-past .ensures, not-true (c .before .is-past .result) (c .if1 .taken)))
     (λ c κs. search needs)
     (λ c. search needs)
     (λ c. search needs)

@@ -48,15 +48,6 @@ Part = move-on-lts.Claims → In 6 move-on-kinds.ps → Out 6 move-on-kinds.ps m
 abbrev here : ℕ → Part → Type 0
 here t part = part (callees t) (move-on-at t) move-on.Post
 
-sub-move-on : (t : ℕ) → here t move-on-lts.Need-sub-move-on
-sub-move-on t c = omega arith
-
-part-move-on-start : (t : ℕ) → here t move-on-lts.Need-part-move-on-start
-part-move-on-start t c = search needs
-
-part-move-on-end : (t : ℕ) → here t move-on-lts.Need-part-move-on-end
-part-move-on-end t c = omega (arith, c .before .before .before .if1 .taken)
-
 move-on-requires : (t : ℕ) → here t move-on-lts.Need-move-on-requires
 move-on-requires t c κs =
     let i = c .before .before .before .before .before .before .before .before .before .before .before in
@@ -65,10 +56,7 @@ move-on-requires t c κs =
     let long : length (take blockWords s) ≡ blockWords = length-take-le blockWords s (p .1 .0 .3) in
     (omega (arith, c .before .before .before .before .if1 .taken, i .pre .0, long), (p .0, ((p .1 .0 .0, p .1 .0 .1, p .1 .0 .2, omega (arith, long)), p .1 .1)))
 
-clear-requires : (t : ℕ) → here t move-on-lts.Need-clear-requires
-clear-requires t c κs = tt
-
--- the words that were lent are as many, when the first of them came back
+-- The words that were lent are as many, when the first of them came back.
 lent : (t : ℕ) (c : move-on-lts.After-move-on (callees t) (move-on-at t) move-on.Post) → let s = c .before .before .before .before .before .before .before .before .before .before .before .before .args .scratch .now in length (c .move-on .last .1 .1 .1 .1 .1 .0 ++ drop blockWords s) ≡ length s
 lent t c =
     let i = c .before .before .before .before .before .before .before .before .before .before .before .before in
@@ -95,12 +83,6 @@ returns t c =
     let m = c .before .before .before .before .before .before .before .before .before .before .before .before in
     (m .move-on .ensures .0, (m .move-on .ensures .1 .0, λ h. c .before .before .clear .ensures ∙ ap (λ (n : ℕ). replicate n 0) (lent t m)))
 
-are-brief-requires : (t : ℕ) → here t move-on-lts.Need-are-brief-requires
-are-brief-requires t c κs = tt
-
-slice-aggregate-move-both : (t : ℕ) → here t move-on-lts.Need-slice-aggregate-move-both
-slice-aggregate-move-both t c = search needs
-
 move-both-requires : (t : ℕ) → here t move-on-lts.Need-move-both-requires
 move-both-requires t c κs =
     let p = c .before .before .before .before .before .before .before .before .before .before .before .before .before .before .pre .1 in
@@ -111,34 +93,10 @@ move-shared-requires t c κs =
     let p = c .before .before .before .before .before .before .before .before .before .before .before .before .before .pre .1 in
     (p .0, ((p .1 .0 .0, p .1 .0 .1, p .1 .0 .2, omega (arith, c .before .before .before .before .before .before .if1 .left, p .1 .0 .3)), p .1 .1))
 
-same-length-5 : (t : ℕ) → here t move-on-lts.Need-same-length-5
-same-length-5 t c = search needs
-
-same-length-6 : (t : ℕ) → here t move-on-lts.Need-same-length-6
-same-length-6 t c = search needs
-
-same-length-7 : (t : ℕ) → here t move-on-lts.Need-same-length-7
-same-length-7 t c = search needs
-
-same-length-8 : (t : ℕ) → here t move-on-lts.Need-same-length-8
-same-length-8 t c = search needs
-
 returns-2 : (t : ℕ) → here t move-on-lts.Need-returns-2
 returns-2 t c =
     let e = c .before .before .before .before .before .before .before .before .before .move-both .ensures in
     (e .0, (e .1, λ h. absurd (let z : ⊥ = omega (arith, c .before .before .before .before .before .before .before .before .before .before .before .before .before .before .before .before .before .if1 .left, h) in z)))
-
-same-length-9 : (t : ℕ) → here t move-on-lts.Need-same-length-9
-same-length-9 t c = search needs
-
-same-length-10 : (t : ℕ) → here t move-on-lts.Need-same-length-10
-same-length-10 t c = search needs
-
-same-length-11 : (t : ℕ) → here t move-on-lts.Need-same-length-11
-same-length-11 t c = search needs
-
-same-length-12 : (t : ℕ) → here t move-on-lts.Need-same-length-12
-same-length-12 t c = search needs
 
 returns-3 : (t : ℕ) → here t move-on-lts.Need-returns-3
 returns-3 t c =
@@ -147,27 +105,27 @@ returns-3 t c =
 
 pub +move-on-spec : {M : Type 1} → statement M
 +move-on-spec = close μ-move-on λ t. move-on-lts.spec (callees t) (move-on-at t) move-on.Post
-    (sub-move-on t)
-    (part-move-on-start t)
-    (part-move-on-end t)
+    (λ c. omega arith)
+    (λ c. search needs)
+    (λ c. omega (arith, c .before .before .before .if1 .taken))
     (move-on-requires t)
-    (clear-requires t)
+    (λ c κs. tt)
     (same-length t)
     (same-length-2 t)
     (same-length-3 t)
     (same-length-4 t)
     (returns t)
-    (are-brief-requires t)
-    (slice-aggregate-move-both t)
+    (λ c κs. tt)
+    (λ c. search needs)
     (move-both-requires t)
     (move-shared-requires t)
-    (same-length-5 t)
-    (same-length-6 t)
-    (same-length-7 t)
-    (same-length-8 t)
+    (λ c. search needs)
+    (λ c. search needs)
+    (λ c. search needs)
+    (λ c. search needs)
     (returns-2 t)
-    (same-length-9 t)
-    (same-length-10 t)
-    (same-length-11 t)
-    (same-length-12 t)
+    (λ c. search needs)
+    (λ c. search needs)
+    (λ c. search needs)
+    (λ c. search needs)
     (returns-3 t)

@@ -1,3 +1,4 @@
+-- `moments::beside::enter` meets its contract.
 use borrow.Author.Needs.{needs}
 use mathlib.Core.Path.{_≡_, refl, sym, ap, subst, _∙_}
 use mathlib.Core.List.{List, _++_}
@@ -12,7 +13,7 @@ use Rattle.moments.proofs.Hushed.{affectedIf, made-effects, no-effects,
 use Rattle.moments.proofs.beside.enter.Statement.{statement}
 use Rattle.moments.proofs.beside.enter.Tie as tie
 
--- the relations keep their length, and get the effects if the request is granted
+-- The relations keep their length, and get the effects if the request is granted.
 same-long : (c : tie.Joined1) → length (c .if1 .relations) ≡ length (c .before .before .before .before .before .args .relations .now)
 same-long c = ⊎-elim (λ w. ap length (w .5) ∙ w .2 .kept .1 .0) (λ w. ap length (w .1)) (c .if1 .came)
 
@@ -25,9 +26,6 @@ affected c own =
     (λ w. subst P (sym (w .5)) (made-effects (x .event) (x .from) (x .to) (w .0 .taken) (w .2 .ensures own)))
     (λ w. subst P (sym (w .1)) (no-effects (x .event) (x .from) (x .to) (w .0 .left)))
     (c .if1 .came)
-
-same-length : tie.Need-same-length
-same-length c = same-long (c .before .before .before .before)
 
 returns : tie.Need-returns
 returns c =
@@ -47,7 +45,7 @@ enter-spec =
     (λ c κs. search needs)
     (λ c κs. search needs)
     (λ c. search needs)
-    same-length
+    (λ c. same-long (c .before .before .before .before))
     (λ c. search needs)
     (λ c. search needs)
     returns)

@@ -1,3 +1,4 @@
+-- `moments::beside::first_moment` meets its contract.
 use borrow.Author.Needs.{needs}
 use Prim.Native.Nat.{ℕ}
 use mathlib.Core.Path.{_≡_, ap, _∙_}
@@ -15,7 +16,7 @@ use Rattle.deciding.proofs.Parts as parts
 use Rattle.moments.proofs.beside.first_moment.Statement.{statement}
 use Rattle.moments.proofs.beside.first_moment.Tie as tie
 
--- the own words are cleared
+-- The own words are cleared.
 zeros : (c : tie.After-clear) → c .clear .last .0 ≡ replicate ownWords 0
 zeros c = let i = c .before .before .before .before .before .before in c .clear .ensures ∙ ap (λ (n : ℕ). replicate n 0) (length-take-le ownWords (i .args .own .now) (i .pre .1 .1))
 
@@ -32,7 +33,7 @@ has : (c : tie.After-clear) → let x = c .before .before .before .before .befor
     [] (take relationWords (x .relations .now) ++ take ownWords (putMid 0 ownWords (x .own .now) (c .clear .last .0)))
 has c = let i = c .before .before .before .before .before .before in parts.cleared-apart (termsOf (i .args .terms .now)) (i .args .relations .now) (i .pre .1 .0) (i .pre .1 .2) (lent c ∙ zeros c)
 
--- the tables can be moved on
+-- The tables can be moved on.
 ready : (c : tie.After-clear) → let x = c .before .before .before .before .before .before .args in Movable (x .terms .now) (x .plan .now) (take relationWords (x .relations .now) ++ take ownWords (putMid 0 ownWords (x .own .now) (c .clear .last .0)))
 ready c = let i = c .before .before .before .before .before .before in record { long-terms = i .pre .0 .0; good = i .pre .0 .1; planned = i .pre .0 .2; state = _; rest = []; has = has c }
 
@@ -48,7 +49,7 @@ open-shared-requires c κs =
     let i = k .before .before .before .before .before .before in
     (ready k, length-take-le relationWords (i .args .relations .now) (i .pre .1 .0), lent-long k, omega arith)
 
--- the words at moment 0
+-- The words at moment 0.
 opened : (c : tie.After-clear) (r : List ℕ) → let x = c .before .before .before .before .before .before .args in
     let m = take relationWords (x .relations .now) ++ take ownWords (putMid 0 ownWords (x .own .now) (c .clear .last .0)) in
     length r ≡ ownWords → Becomes (x .terms .now) sinceMoved m (take relationWords (x .relations .now) ++ r) →

@@ -1,3 +1,4 @@
+-- `moments::beside::is_granted` meets its contract.
 use borrow.Author.Needs.{needs}
 use native.Mathlib.Omega.{arith}
 use mathlib.Core.Path.{_≡_}

@@ -1,3 +1,4 @@
+-- `moments::beside::move_both` meets its contract.
 use mathlib.Core.Path.{_≡_, _∙_}
 use mathlib.Core.List.{_++_}
 use lib.ListN.{length}
@@ -20,7 +21,8 @@ returns c =
       stepped-quietly (x .granted) (x .event) (x .from) (x .to) (prev2 .move-prev2 .ensures) (moment .enter .ensures .1) (since2 .move-since2 .ensures),
     )
 
--- after the prev tables of the bank, of the other, after the moment itself, and after the since tables of the bank: lengths
+-- After the prev tables of the bank, of the other, after the moment itself, and after the
+-- since tables of the bank: lengths.
 rows-1 : (c : tie.After-move-prev) → length (c .move-prev .last .1 .1 .1 .1 .1 .0) ≡ blockWords
 rows-1 c = c .move-prev .kept .1 .1 .1 .1 .1 .0 ∙ c .before .before .before .before .before .before .before .before .before .before .before .before .pre .1 .0 .3
 
@@ -45,7 +47,7 @@ own-2 c = c .enter .kept .1 .1 .0 ∙ own-1 (c .before .before .before .before .
 other-2 : (c : tie.After-enter) → length (c .enter .last .1 .1 .1 .0) ≡ ownWords
 other-2 c = c .enter .kept .1 .1 .1 .0 ∙ other-1 (c .before .before .before .before .before .before .before .before .before .before)
 
--- the tables of both can be moved on after the moment
+-- The tables of both can be moved on after the moment.
 own-movable : (c : tie.After-enter) → let x = c .before .before .before .before .before .before .before .before .before .before .before .before .before .before .before .before .before .before .before .before .before .before .before .before .before .before .before .before .before .before .before .before .before .args in Movable (x .terms .now) (x .plan .now) (c .enter .last .1 .0 ++ c .enter .last .1 .1 .0)
 own-movable c = moves.moved (moves.moved (c .before .before .before .before .before .before .before .before .before .before .before .before .before .before .before .before .before .before .before .before .before .before .before .before .before .before .before .before .before .before .before .before .before .pre .0 .0) (c .before .before .before .before .before .before .before .before .before .before .before .before .before .before .before .before .before .before .before .before .before .move-prev .ensures)) (c .enter .ensures .0)
 

@@ -1,12 +1,10 @@
+-- `moments::beside::move_shared` meets its contract.
 use borrow.Author.Needs.{needs}
 use Rattle.moments.proofs.beside.move_shared.Statement.{statement}
 use Rattle.moments.proofs.beside.move_shared.Tie as tie
 
 move-both-requires : tie.Need-move-both-requires
 move-both-requires c κs = c .before .before .before .before .before .before .before .before .before .before .before .pre
-
-returns : tie.Need-returns
-returns c = c .before .before .before .before .before .before .before .before .before .move-both .ensures
 
 pub move-shared-spec : {M : Type 1} → statement M
 move-shared-spec =
@@ -18,4 +16,4 @@ move-shared-spec =
     (λ c. search needs)
     (λ c. search needs)
     (λ c. search needs)
-    returns)
+    (λ c. c .before .before .before .before .before .before .before .before .before .move-both .ensures))

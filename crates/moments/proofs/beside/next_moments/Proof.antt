@@ -1,3 +1,4 @@
+-- `moments::beside::next_moments` meets its contract.
 use borrow.Author.Needs.{needs}
 use native.Mathlib.Omega.{arith}
 use mathlib.Core.Path.{_≡_, _∙_}
@@ -13,7 +14,7 @@ use Rattle.deciding.proofs.Stored.{cleared-front}
 use Rattle.moments.proofs.beside.next_moments.Statement.{statement}
 use Rattle.moments.proofs.beside.next_moments.Tie as tie
 
--- what was lent came back as long
+-- What was lent came back as long.
 relations-long : (c : tie.After-move-on) → length (c .move-on .last .1 .1 .0) ≡ relationWords
 relations-long c = let i = c .before .before .before .before .before .before .before .before .before .before .before .before in c .move-on .kept .1 .1 .0 ∙ length-take-le relationWords (i .args .relations .now) (i .pre .1 .0 .0)
 
@@ -46,7 +47,7 @@ move-on-requires c κs =
       ),
     )
 
--- the scratch is used, and lent again to be cleared
+-- The scratch is used, and lent again to be cleared.
 abbrev moved : tie.After-clear → tie.After-move-on
 moved c = c .before .before .before .before .before .before .before .before .before .before
 

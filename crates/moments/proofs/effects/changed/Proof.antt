@@ -20,12 +20,6 @@ deleted : (c x : Bool) → (x && not c) ≡ cond c false x
 deleted true x = and-false x
 deleted false x = and-true x
 
-with-requires : tie.Need-with-requires
-with-requires c κs = search needs
-
-without-requires : tie.Need-without-requires
-without-requires c κs = search needs
-
 returns : tie.Need-returns
 returns c m =
     let x = c .before .before .args in
@@ -37,4 +31,4 @@ returns-2 c m =
     c .without .ensures m ∙ deleted (eqb m (x .b)) (bit (x .w) m) ∙ rw (c .before .if1 .left)
 
 pub changed-spec : {M : Type 1} → statement M
-changed-spec = tie.close (tie.spec with-requires without-requires returns returns-2)
+changed-spec = tie.close (tie.spec (λ c κs. search needs) (λ c κs. search needs) returns returns-2)

@@ -17,7 +17,7 @@ use Rattle.deciding.proofs.Apart.{past-long, becomes-front, becomes-behind}
 use Rattle.moments.proofs.effects.enter.Statement.{statement}
 use Rattle.moments.proofs.effects.enter.Tie as tie
 
--- the state after the effects
+-- The state after the effects.
 same : (c : tie.Joined1) → length (c .if1 .state) ≡ length (c .before .before .before .args .state .now)
 same c =
     ⊎-elim

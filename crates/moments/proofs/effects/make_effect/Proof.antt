@@ -18,12 +18,6 @@ place c =
     let member = end-member (termsOf w .members) (eqb (c .before .before .word .result) 1) (i .pre .1 .1) (i .pre .1 .0) in
     omega (arith, c .end .ensures, member, c .before .word2 .ensures .0, i .pre .0 .2, g .few-members, g .few-relations)
 
-add-i : tie.Need-add-i
-add-i c = omega (arith, place c)
-
-mul-changed : tie.Need-mul-changed
-mul-changed c = omega (arith, place c)
-
 slice-read-changed : tie.Need-slice-read-changed
 slice-read-changed c = let i = c .before .before .before .before .before .before in omega (arith, place (c .before), i .pre .1 .2)
 
@@ -33,9 +27,6 @@ changed-requires c κs =
     let w = i .args .terms .now in
     let member = end-member (termsOf w .members) (eqb (c .before .before .before .before .before .word .result) 1) (i .pre .1 .0) (i .pre .1 .1) in
     omega (arith, c .end2 .ensures, member, good w (i .pre .0 .0) .few-members)
-
-mul-relations : tie.Need-mul-relations
-mul-relations c = omega (arith, place (c .before .before .before .before))
 
 slice-write-relations : tie.Need-slice-write-relations
 slice-write-relations c = let i = c .before .before .before .before .before .before .before .before .before in omega (arith, place (c .before .before .before .before), i .pre .1 .2)
@@ -64,13 +55,13 @@ make-effect-spec =
     (λ c κs. search needs)
     (λ c. search needs)
     (λ c κs. search needs)
-    add-i
-    mul-changed
+    (λ c. omega (arith, place c))
+    (λ c. omega (arith, place c))
     slice-read-changed
     (λ c κs. search needs)
     (λ c κs. search needs)
     changed-requires
-    mul-relations
+    (λ c. omega (arith, place (c .before .before .before .before)))
     slice-write-relations
     (λ c. search needs)
     returns)

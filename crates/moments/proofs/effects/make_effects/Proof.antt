@@ -33,9 +33,6 @@ there c e = eqb-false _ 0 (not-true _ (c .if1 .taken)) (c .before .word .ensures
 loop-holds : tie.Need-loop-holds Inv-loop μ-loop
 loop-holds c = let i = c .before .before in (omega arith, refl, λ own. effecting (good (i .args .terms .now) (i .pre .0)) (call i .event))
 
-effect-at-requires : tie.Need-effect-at-requires Inv-loop μ-loop
-effect-at-requires c κs = (call (c .before .before .before .before) .small .0, c .loop-test .taken)
-
 effect-at-requires-2 : tie.Need-effect-at-requires-2 Inv-loop μ-loop
 effect-at-requires-2 c κs = (call (c .before .before .before .before .before .before .before .before) .small .0, c .before .before .before .before .loop-test .taken)
 
@@ -60,20 +57,11 @@ loop-again c =
     let made = c .before .before .make-effect .ensures in
     (omega (arith, less), search needs, λ own. effect-more (l .i) less (there (c .before .before .before .before .before)) (l .inv .2 own) (rw (c .before .before .before .effect-at2 .ensures) at (made own)))
 
-same-length : tie.Need-same-length Inv-loop μ-loop
-same-length c = c .before .before .before .before .loop .inv .1
-
 returns : tie.Need-returns Inv-loop μ-loop
 returns c own =
     let l = c .before .before .before .before .loop in
     let none = sym (c .before .word .ensures .0) ∙ eqb-true _ 0 (not-false _ (c .if1 .left)) in
     fewer-made (l .i) (l .inv .2 own) (c .before .before .before .loop-test .taken) (rw (c .before .before .effect-at .ensures) at none)
-
-same-length-2 : tie.Need-same-length-2 Inv-loop μ-loop
-same-length-2 c = c .before .loop .inv .1
-
-returns-2 : tie.Need-returns-2 Inv-loop μ-loop
-returns-2 c own = let l = c .before .loop in four-made (l .i) (l .inv .2 own) (c .loop-test .left)
 
 pub make-effects-spec : {M : Type 1} → statement M
 make-effects-spec =
@@ -82,14 +70,14 @@ make-effects-spec =
     Inv-loop
     μ-loop
     loop-holds
-    effect-at-requires
+    (λ c κs. (call (c .before .before .before .before) .small .0, c .loop-test .taken))
     (λ c κs. search needs)
     effect-at-requires-2
     make-effect-requires
     add-i
     loop-less
     loop-again
-    same-length
+    (λ c. c .before .before .before .before .loop .inv .1)
     returns
-    same-length-2
-    returns-2)
+    (λ c. c .before .loop .inv .1)
+    (λ c own. let l = c .before .loop in four-made (l .i) (l .inv .2 own) (c .loop-test .left)))

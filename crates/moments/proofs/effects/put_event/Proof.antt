@@ -19,7 +19,7 @@ use Rattle.moments.proofs.effects.put_event.Tie as tie
 call : (c : tie.Start) → Named (termsOf (c .args .terms .now)) (c .args .event) (c .args .from) (c .args .to)
 call c = let x = c .args in all-named (termsOf (x .terms .now)) (good (x .terms .now) (c .pre .0)) (x .event) (x .from) (x .to) (c .pre .1)
 
--- the word that holds the event, and what it names
+-- The word that holds the event, and what it names.
 word-is : (g : Bool) (j u v : ℕ) → 1 + cond g j (16 + j) * 4096 + u * 64 + v ≡ eventWord (occurring g j u v)
 word-is true j u v = refl
 word-is false j u v = refl

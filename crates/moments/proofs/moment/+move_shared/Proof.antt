@@ -1,4 +1,5 @@
--- `moment::move_shared` meets its contract: it calls itself once, with the rows alone, and the measure is how much is lent.
+-- `moment::move_shared` meets its contract: it calls itself once, with the rows alone, and
+-- the measure is how much is lent.
 use borrow.Author.Needs.{needs}
 use native.Mathlib.Omega.{arith}
 use mathlib.Core.Path.{_≡_}
@@ -46,12 +47,6 @@ move-all-requires t c κs =
     let p = c .before .before .before .before .before .before .before .before .pre .1 in
     ((p .0 .0, omega (arith, c .before .before .before .if1 .left, p .0 .1)), p .1)
 
-returns : (t : ℕ) → here t move-shared-lts.Need-returns
-returns t c = c .before .before .before .before .move-shared .ensures
-
-returns-2 : (t : ℕ) → here t move-shared-lts.Need-returns-2
-returns-2 t c = c .before .before .before .before .before .move-all .ensures
-
 pub +move-shared-spec : {M : Type 1} → statement M
 +move-shared-spec = close μ-move-shared λ t. move-shared-lts.spec (callees t) (move-shared-at t) move-shared.Post
     (λ c. omega arith)
@@ -60,9 +55,9 @@ pub +move-shared-spec : {M : Type 1} → statement M
     (move-shared-requires t)
     (λ c. search needs)
     (λ c. search needs)
-    (returns t)
+    (λ c. c .before .before .before .before .move-shared .ensures)
     (λ c. search needs)
     (move-all-requires t)
     (λ c. search needs)
     (λ c. search needs)
-    (returns-2 t)
+    (λ c. c .before .before .before .before .before .move-all .ensures)

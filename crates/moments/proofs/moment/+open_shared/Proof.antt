@@ -1,4 +1,5 @@
--- `moment::open_shared` meets its contract: it calls itself once, with the rows alone, and the measure is how much is lent.
+-- `moment::open_shared` meets its contract: it calls itself once, with the rows alone, and
+-- the measure is how much is lent.
 use borrow.Author.Needs.{needs}
 use native.Mathlib.Omega.{arith}
 use mathlib.Core.Path.{_≡_}
@@ -46,12 +47,6 @@ move-since-requires t c κs =
     let p = c .before .before .before .before .before .before .before .before .pre .1 in
     (p .0, omega (arith, c .before .before .before .if1 .left, p .1))
 
-returns : (t : ℕ) → here t open-shared-lts.Need-returns
-returns t c = c .before .before .before .before .open-shared .ensures
-
-returns-2 : (t : ℕ) → here t open-shared-lts.Need-returns-2
-returns-2 t c = c .before .before .before .before .before .move-since .ensures
-
 pub +open-shared-spec : {M : Type 1} → statement M
 +open-shared-spec = close μ-open-shared λ t. open-shared-lts.spec (callees t) (open-shared-at t) open-shared.Post
     (λ c. omega arith)
@@ -60,9 +55,9 @@ pub +open-shared-spec : {M : Type 1} → statement M
     (open-shared-requires t)
     (λ c. search needs)
     (λ c. search needs)
-    (returns t)
+    (λ c. c .before .before .before .before .open-shared .ensures)
     (λ c. search needs)
     (move-since-requires t)
     (λ c. search needs)
     (λ c. search needs)
-    (returns-2 t)
+    (λ c. c .before .before .before .before .before .move-since .ensures)

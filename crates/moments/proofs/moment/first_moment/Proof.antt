@@ -7,7 +7,7 @@ use Rattle.memory.specs.Layout.{termsOf}
 use Rattle.moments.proofs.moment.first_moment.Statement.{statement}
 use Rattle.moments.proofs.moment.first_moment.Tie as tie
 
--- the function's entry, from where the tables are cleared
+-- The function's entry, from where the tables are cleared.
 abbrev start : tie.After-clear → tie.Start
 start k = k .before .before .before .before .before
 

@@ -1,3 +1,4 @@
+-- `moments::moment::is_granted` meets its contract.
 use Prim.Native.Nat.{ℕ}
 use mathlib.Core.Path.{ap, _∙_}
 use Rattle.memory.specs.Layout.{termsOf, stateOf}
@@ -9,9 +10,6 @@ use Rattle.moments.proofs.moment.is_granted.Tie as tie
 
 call : (c : tie.Start) → Named (termsOf (c .args .terms .now)) (c .args .event) (c .args .from) (c .args .to)
 call c = let x = c .args in all-named (termsOf (x .terms .now)) (good (x .terms .now) (c .pre .0 .1)) (x .event) (x .from) (x .to) (c .pre .1 .2)
-
-policy-of-requires : tie.Need-policy-of-requires
-policy-of-requires c κs = tt
 
 is-so-requires : tie.Need-is-so-requires
 is-so-requires c κs =
@@ -27,9 +25,4 @@ returns c =
     ∙ ap (λ (n : ℕ). holdsAt (termsOf (x .terms .now)) (stateOf (x .state .now)) n (x .from) (x .to)) (c .before .policy-of .ensures .0)
 
 pub is-granted-spec : {M : Type 1} → statement M
-is-granted-spec =
-    tie.close
-    (tie.spec
-    policy-of-requires
-    is-so-requires
-    returns)
+is-granted-spec = tie.close (tie.spec (λ c κs. tt) is-so-requires returns)

@@ -1,3 +1,4 @@
+-- `moments::moment::is_so` meets its contract.
 use borrow.Author.Needs.{needs}
 use mathlib.Core.Path.{_∙_}
 use Rattle.memory.specs.Layout.{termsOf}
@@ -5,27 +6,6 @@ use Rattle.deciding.proofs.MomentSteps as moves
 use Rattle.memory.proofs.Accepted.{good}
 use Rattle.moments.proofs.moment.is_so.Statement.{statement}
 use Rattle.moments.proofs.moment.is_so.Tie as tie
-
-is-brief-requires : tie.Need-is-brief-requires
-is-brief-requires c κs = tt
-
-sub-settle : tie.Need-sub-settle
-sub-settle c = search needs
-
-part-settle-start : tie.Need-part-settle-start
-part-settle-start c = search needs
-
-part-settle-end : tie.Need-part-settle-end
-part-settle-end c = search needs
-
-sub-settle-2 : tie.Need-sub-settle-2
-sub-settle-2 c = search needs
-
-part-settle-start-2 : tie.Need-part-settle-start-2
-part-settle-start-2 c = search needs
-
-part-settle-end-2 : tie.Need-part-settle-end-2
-part-settle-end-2 c = search needs
 
 settle-requires : tie.Need-settle-requires
 settle-requires c κs =
@@ -46,12 +26,12 @@ pub is-so-spec : {M : Type 1} → statement M
 is-so-spec =
     tie.close
     (tie.spec
-    is-brief-requires
-    sub-settle
-    part-settle-start
-    part-settle-end
-    sub-settle-2
-    part-settle-start-2
-    part-settle-end-2
+    (λ c κs. tt)
+    (λ c. search needs)
+    (λ c. search needs)
+    (λ c. search needs)
+    (λ c. search needs)
+    (λ c. search needs)
+    (λ c. search needs)
     settle-requires
     returns)

@@ -5,9 +5,6 @@ use Rattle.deciding.proofs.MomentSteps as moves
 use Rattle.moments.proofs.moment.move_all.Statement.{statement}
 use Rattle.moments.proofs.moment.move_all.Tie as tie
 
-move-prev-requires : tie.Need-move-prev-requires
-move-prev-requires c κs = c .before .before .before .before .before .before .before .before .pre .0
-
 enter-requires : tie.Need-enter-requires
 enter-requires c κs =
     let prev = c .before .before .before .before .before .before .before in
@@ -33,7 +30,7 @@ pub move-all-spec : {M : Type 1} → statement M
 move-all-spec =
     tie.close
     (tie.spec
-    move-prev-requires
+    (λ c κs. c .before .before .before .before .before .before .before .before .pre .0)
     enter-requires
     move-since-requires
     (λ c. search needs)

@@ -11,39 +11,12 @@ use native.Mathlib.Omega.{arith}
 use Rattle.moments.proofs.moment.next_moment.Statement.{statement}
 use Rattle.moments.proofs.moment.next_moment.Tie as tie
 
-sub-move-on : tie.Need-sub-move-on
-sub-move-on c = search needs
-
-part-move-on-start : tie.Need-part-move-on-start
-part-move-on-start c = search needs
-
-part-move-on-end : tie.Need-part-move-on-end
-part-move-on-end c = search needs
-
 move-on-requires : tie.Need-move-on-requires
 move-on-requires c κs =
     let i = c .before .before .before .before .before .before in
     let x = i .args in
     let m = movable (x .terms .now) (x .plan .now) (x .state .now) (i .pre .0 .0) (i .pre .0 .1) (i .pre .0 .2) (i .pre .1 .0 .0) (i .pre .1 .0 .1) in
     ((m, length-take-le 64 (x .scratch .now) (omega (arith, i .pre .1 .1))), i .pre .1 .0 .2)
-
-sub-clear : tie.Need-sub-clear
-sub-clear c = search needs
-
-part-clear-start : tie.Need-part-clear-start
-part-clear-start c = search needs
-
-part-clear-end : tie.Need-part-clear-end
-part-clear-end c = search needs
-
-clear-requires : tie.Need-clear-requires
-clear-requires c κs = search needs
-
-same-length : tie.Need-same-length
-same-length c = search needs
-
-same-length-2 : tie.Need-same-length-2
-same-length-2 c = search needs
 
 returns : tie.Need-returns
 returns c =
@@ -61,14 +34,14 @@ pub next-moment-spec : {M : Type 1} → statement M
 next-moment-spec =
     tie.close
     (tie.spec
-    sub-move-on
-    part-move-on-start
-    part-move-on-end
+    (λ c. search needs)
+    (λ c. search needs)
+    (λ c. search needs)
     move-on-requires
-    sub-clear
-    part-clear-start
-    part-clear-end
-    clear-requires
-    same-length
-    same-length-2
+    (λ c. search needs)
+    (λ c. search needs)
+    (λ c. search needs)
+    (λ c κs. search needs)
+    (λ c. search needs)
+    (λ c. search needs)
     returns)

@@ -14,34 +14,10 @@ Inv-loop part₀ rows a₀ part a = (length part ≡ 64) × (a ≤ 64) × (take 
 abbrev μ-loop : tie.MeasureT-loop
 μ-loop part₀ rows a₀ part a = 64 - a
 
-loop-holds : tie.Need-loop-holds Inv-loop μ-loop
-loop-holds c = (c .pre .0, omega arith, refl)
-
-mul-part : tie.Need-mul-part Inv-loop μ-loop
-mul-part c = omega arith
-
-shared-slice-read-part : tie.Need-shared-slice-read-part Inv-loop μ-loop
-shared-slice-read-part c = omega arith
-
-mul-part-2 : tie.Need-mul-part-2 Inv-loop μ-loop
-mul-part-2 c = omega arith
-
-slice-write-part : tie.Need-slice-write-part Inv-loop μ-loop
-slice-write-part c = omega arith
-
-add-a : tie.Need-add-a Inv-loop μ-loop
-add-a c = omega arith
-
-loop-less : tie.Need-loop-less Inv-loop μ-loop
-loop-less c = omega arith
-
 loop-again : tie.Need-loop-again Inv-loop μ-loop
 loop-again c =
     let l = c .before .before .loop in
     (simp length-set (l .inv .0), omega arith, copied (l .a) (l .part) (c .before .before .before .args .rows .now) (omega arith) (omega arith) (l .inv .2))
-
-same-length : tie.Need-same-length Inv-loop μ-loop
-same-length c = c .before .loop .inv .0 ∙ sym (c .before .before .pre .0)
 
 returns : tie.Need-returns Inv-loop μ-loop
 returns c =
@@ -55,13 +31,13 @@ store-table-spec =
     (tie.spec
     Inv-loop
     μ-loop
-    loop-holds
-    mul-part
-    shared-slice-read-part
-    mul-part-2
-    slice-write-part
-    add-a
-    loop-less
+    (λ c. (c .pre .0, omega arith, refl))
+    (λ c. omega arith)
+    (λ c. omega arith)
+    (λ c. omega arith)
+    (λ c. omega arith)
+    (λ c. omega arith)
+    (λ c. omega arith)
     loop-again
-    same-length
+    (λ c. c .before .loop .inv .0 ∙ sym (c .before .before .pre .0))
     returns)

@@ -1,3 +1,4 @@
+-- `monitor::bank_list::inspect` meets its contract.
 use borrow.Author.Needs.{needs}
 use Prim.Native.Nat.{ℕ}
 use mathlib.Core.Path.{_≡_, sym, _∙_}
@@ -17,11 +18,10 @@ list-checked : (terms relations own other scratch spare : List ℕ) → (ltb (le
 unfolding bankListChecks
 list-checked terms relations own other scratch spare e = rw e
 
-returns : tie.Need-returns
-returns c = sym (list-short _ _ _ _ _ _ (c .if1 .taken))
-
-returns-2 : tie.Need-returns-2
-returns-2 c = c .inspect .ensures .0 ∙ list-checked _ _ _ _ _ _ (c .before .before .if1 .left)
-
 pub inspect-spec : {M : Type 1} → statement M
-inspect-spec = tie.close (tie.spec returns (λ c κs. search needs) returns-2)
+inspect-spec =
+    tie.close
+    (tie.spec
+    (λ c. sym (list-short _ _ _ _ _ _ (c .if1 .taken)))
+    (λ c κs. search needs)
+    (λ c. c .inspect .ensures .0 ∙ list-checked _ _ _ _ _ _ (c .before .before .if1 .left)))

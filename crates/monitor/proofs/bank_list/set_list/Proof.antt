@@ -1,12 +1,13 @@
--- `bank_list::set_list` meets its contract: a walk of its MIR, by hand, since no rule covers a slice of structs. The borrow of the records is opened once, before
--- the loop, and closed once, after it. Each turn takes one record out of the row, copies it, calls `step` with terms copied and the five slices of memory lent
--- again for the call, stores the answer and counts it. What the loop keeps of the values is `BankListing`'s, with no program in it.
+-- `bank_list::set_list` meets its contract: a walk of its MIR, by hand, since no rule covers a slice of structs. The
+-- borrow of the records is opened once, before the loop, and closed once, after it. Each turn takes one record out of
+-- the row, copies it, calls `step` with terms copied and the five slices of memory lent again for the call, stores the
+-- answer and counts it. What the loop keeps of the values is `BankListing`'s, with no program in it.
 use mathlib.Core.Path.{_≡_, refl, sym, ap, _∙_, subst}
 use Prim.Native.Nat.{ℕ, zero, suc, _+_, _*_, _<_, _^_}
 use native.Mathlib.Nat.{add-zero, zero-add, lt-suc-self, lt-of-le-of-lt, lt-of-lt-of-le, le-of-lt, le-refl}
 use native.Mathlib.Omega.{arith}
 use mathlib.Core.Bool.{Bool}
-use mathlib.Core.List.{List, [], _∷_, _++_}
+use mathlib.Core.List.{List, [], _∷_}
 use lib.Dec.{lit<}
 use lib.ListN.{length, getD, set}
 use lib.WfN.{Nat·lt-wfRel}
@@ -28,7 +29,6 @@ use types.Run.{look, init, store, forget, stop, hop, fld, from, load, lit, addr,
 use sound.Loop.{loop-rule}
 use sound.WpLaws.{FmC, fmOf, WpFn-mono}
 use borrow.Author.Tests.{lt-ltb, le-ltb}
-use denote.RattleType.{owns}
 use denote.Shadow.{pureI}
 use denote.Memory.{mem as mem-of, cellAt, pointee}
 use denote.Laws.{Is, shows}
@@ -66,7 +66,7 @@ use Rattle.memory.proofs.Outcome.Laws as O′
 use Rattle.monitor.proofs.Records.{R, val as val-of, vals, tells, scaled, at-place, put-answer, with-answer}
 use Rattle.monitor.proofs.Leases.{Lease, ref, val, Names, Tokens, Holds, Long, Rooms, Toks, Owns, Lent, Kept, Lasts, again, kept-again, shared, kept-shared, lends-all, lend-again, gives-all, lend-shared, shared-back-all, holds-all, held-all}
 use Rattle.monitor.proofs.Locals as locals
-use Rattle.monitor.proofs.Locals.{Blocks, dies, env, rooms, allocs-all, frees-all}
+use Rattle.monitor.proofs.Locals.{Blocks, dies, env, allocs-all, frees-all}
 use Rattle.monitor.proofs.Listing.{next-fits, count-below, turns-within}
 use Rattle.monitor.proofs.BankListing as listing-of
 use Rattle.monitor.proofs.BankListing.{Mem, Said}
@@ -111,7 +111,7 @@ stayed = (
   ),
 )
 
--- the contracts that the proof cites
+-- The contracts that the proof cites.
 module _ {M : Type 1} (𝓤 : URA M) (H : Heap 𝓤) (A : Atoms 𝓤) (mem : Memory → SProp 𝓤) (run : Routine → Fun 𝓤) where
   abbrev Inspect : Contract 𝓤
   Inspect = tripleOf 𝓤 H A inspect.signature (inspect.spec 𝓤 H A mem run)
@@ -128,14 +128,14 @@ module _ {M : Type 1} (𝓤 : URA M) (H : Heap 𝓤) (A : Atoms 𝓤) (mem : Mem
   abbrev Finish : Contract 𝓤
   Finish = tripleOf 𝓤 H A finish.signature (finish.spec 𝓤 H A mem run)
 
--- the types of the locals
+-- The types of the locals.
 abbrev word : Ty
 word = tyInt w64
 
 abbrev words : ℕ → Ty
 words j = sliceTy (tyRef (named j) mut word)
 
--- a reference and a slice for each slice that is lent to a call
+-- A reference and a slice for each slice that is lent to a call.
 abbrev reborrows : Ty → List Ty → List Ty
 reborrows r ts = r ∷ sliceTy r ∷ r ∷ sliceTy r ∷ r ∷ sliceTy r ∷ r ∷ sliceTy r ∷ r ∷ sliceTy r ∷ ts
 
@@ -155,7 +155,7 @@ module _ {M : Type 1} (𝓤 : URA M) (H : Heap 𝓤) (A : Atoms 𝓤) (W : Given
   abbrev n₀ : ℕ
   n₀ = length ys₀
 
-  -- the values of the borrows of terms and records, and their machine values
+  -- The values of the borrows of terms and records, and their machine values.
   abbrev xt : RefT (List ℕ)
   xt = ref T (T .γ) ts
 
@@ -180,14 +180,14 @@ module _ {M : Type 1} (𝓤 : URA M) (H : Heap 𝓤) (A : Atoms 𝓤) (W : Given
   abbrev Post : Val → SProp 𝓤
   Post = walkOf 𝓤 H A f.ended stayed (f.clauses 𝓤 H A at-mem run) .post (((T .κ, (L₁ .κ, (L₂ .κ, (L₃ .κ, (L₄ .κ, (L₅ .κ, (P .κ, tt))))))), (T .q, (L₁ .q, (L₂ .q, (L₃ .q, (L₄ .q, (L₅ .q, (P .q, tt))))))), tt, a, at), tt)
 
-  -- what the borrow of the terms owns, and what is held of terms and memory
+  -- What the borrow of the terms owns, and what is held of terms and memory.
   abbrev own-t : Fml
   own-t = ShrSlice (named 0) (T .κ) u16 .own xt (mt ∷ [])
 
   abbrev held : Mem → Item 𝓤
   held m = ‵ own-t ⊛ (‵ (flft (T .κ) (T .q)) ⊛ ‵ (Holds u64 Ls m))
 
-  -- what comes after the memory: the records' token, and what their borrow owns
+  -- What comes after the memory: the records' token, and what their borrow owns.
   abbrev tok-r : Fml
   tok-r = fsep (flft (P .κ) (P .q)) ftrue
 
@@ -199,7 +199,7 @@ module _ {M : Type 1} (𝓤 : URA M) (H : Heap 𝓤) (A : Atoms 𝓤) (W : Given
 
   -- ---- what each callee's triple binds outside, that what it requires is had, and what it says
 
-  -- for a call that is lent the memory m under the names p: lifetimes and shares, arguments, machine values
+  -- For a call that is lent the memory m under the names p: lifetimes and shares, arguments, machine values.
   abbrev lives : Names Ls → Lft × (Lft × (Lft × (Lft × (Lft × (Lft × Unit {0})))))
   lives p = (T .κ, (p .0 .0 ∷ [], (p .1 .0 .0 ∷ [], (p .1 .1 .0 .0 ∷ [], (p .1 .1 .1 .0 .0 ∷ [], (p .1 .1 .1 .1 .0 .0 ∷ [], tt))))))
 
@@ -218,7 +218,7 @@ module _ {M : Type 1} (𝓤 : URA M) (H : Heap 𝓤) (A : Atoms 𝓤) (W : Given
   abbrev to-step : Names Ls → Mem → Record → Step 𝓤 H A at-mem run .Ghost
   to-step p m e = ((lives p, shares, tt, asked p m (e, tt), passed (vals e, tt)), tt)
 
-  -- terms are copied, and the memory is lent
+  -- Terms are copied, and the memory is lent.
   module _ (lent kept : Lease → ℕ × GName → List ℕ → Fml)
       (lend : (L : Lease) (ys : List ℕ) → length ys ≡ L .n →
       ent 𝓤 (sep 𝓤 ⟦ MutSlice (named 0) (L .κ) u64 .own (ref L (L .γ) ys) (val L ∷ []) ⟧ (A .lft (L .κ) (L .q)))
@@ -233,7 +233,7 @@ module _ {M : Type 1} (𝓤 : URA M) (H : Heap 𝓤) (A : Atoms 𝓤) (W : Given
           qed W (held m ∷ ‵ Z ∷ []) ∵ updating ! $ split ! $ use1 W (‵ own-t ⊛ ‵ own-t) (shr-slice-copy 𝓤 H A W (named 0) (T .κ) u16 .twice xt (mt ∷ [])) $ split ! $
           move ! (2 ∷ []) $ split ! $ move ! (1 ∷ 4 ∷ []) $
           use2 W (later (some (λ (p : Names Ls). ‵ (Tokens Ls p) ⊛ (‵ (Lent u64 lent Z Ls p m) ⊛ ‵ (Kept u64 kept Ls p m))))) (lends-all u64 𝓤 H A W lent kept lend Z Ls m long) $ await ! tt $ pick ! (λ p. split ! $
-          -- [tokens; what is lent and what is kept; the terms' token; terms; terms]
+          -- [tokens; what is lent and what is kept; the terms' token; terms; terms].
           move ! (2 ∷ 0 ∷ []) $ join ! $ move ! (1 ∷ []) $ split ! $ move ! (3 ∷ 0 ∷ []) $ join ! $ move ! (2 ∷ 0 ∷ []) $ join ! $
           at-once ! $ show ! Going p $ nothing ! $ move ! (1 ∷ 0 ∷ []) $ join ! $ frame ! $ move ! (1 ∷ 0 ∷ []) $ done !)
 
@@ -246,7 +246,7 @@ module _ {M : Type 1} (𝓤 : URA M) (H : Heap 𝓤) (A : Atoms 𝓤) (W : Given
         await ! tt $ pick ! (λ c. split ! $ move ! (1 ∷ []) $ use1 W (raw (fact 𝓤 (outcomeOf c ≡ checks)))
         (exE 𝓤 _ (λ ws. snd∗ 𝓤 (sem 𝓤 H A (lasts inspect.ended (lives p) (asked p m₀ tt) ws)) (fact 𝓤 (outcomeOf c ≡ checks)))) $ heard ! (outcomeOf c ≡ checks) (λ seen.
         split ! $ split ! $ move ! (3 ∷ []) $ split ! $
-        -- [terms; what is kept; the terms' token; tokens; the result]
+        -- [terms; what is kept; the terms' token; tokens; the result].
         move ! (3 ∷ 1 ∷ []) $ use2 W (later (‵ (Holds u64 Ls m₀))) (shared-back-all u64 𝓤 H A W Ls p m₀ rms long) $ await ! tt $
         at-once ! $ show ! (λ (c : Outcome). guard 𝓤 (outcomeOf c ≡ checks) (sep 𝓤 ⟦ O.the-row .own c (w ∷ []) ⟧ (mean 𝓤 H A (held m₀)))) c $ check ! seen $ move ! (3 ∷ 1 ∷ 2 ∷ []) $ done !))
 
@@ -264,7 +264,7 @@ module _ {M : Type 1} (𝓤 : URA M) (H : Heap 𝓤) (A : Atoms 𝓤) (W : Given
           await ! tt $ pick ! (λ r. split ! $ move ! (1 ∷ []) $
           use1 W (some (λ (zs : Unit {0} × (List ℕ × (List ℕ × (List ℕ × (List ℕ × (List ℕ × (Unit {0} × Unit {0}))))))). ‵ (lasts step.ended (lives p) (asked p m (e, tt)) zs) ⊛ raw (fact 𝓤 (Said ts m e r (left zs))))) (id⊢ 𝓤 _) $ pick ! (λ zs. split ! $ move ! (1 ∷ []) $ heard ! (Said ts m e r (left zs)) (λ said.
           fsplit ! $ drop ! $ use1 W (‵ (Lasts u64 (fsep ftrue ftrue) Ls p m (left zs))) (id⊢ 𝓤 _) $ move ! (1 ∷ []) $ split ! $ split ! $ move ! (4 ∷ []) $ split ! $
-          -- [terms; what is kept; the terms' token; tokens; the result; the last values]
+          -- [terms; what is kept; the terms' token; tokens; the result; the last values].
           move ! (3 ∷ 1 ∷ 5 ∷ []) $ use3 W (later (given (Long u64 Ls (left zs)) (‵ (Holds u64 Ls (left zs))))) (gives-all u64 𝓤 H A W (fsep ftrue ftrue) Ls p m (left zs) rms long) $ await ! tt $ learn ! (λ long′.
           at-once ! $ show ! Answered (r, left zs) $ check ! (said, long′) $ move ! (3 ∷ 1 ∷ 2 ∷ []) $ done !))))
 
@@ -315,24 +315,24 @@ module _ {M : Type 1} (𝓤 : URA M) (H : Heap 𝓤) (A : Atoms 𝓤) (W : Given
     abbrev cell : ℕ → Val → Item 𝓤
     cell = locals.cell 𝓤 H tys bs
 
-    -- the parameters' locals
+    -- The parameters' locals.
     abbrev params : List (Item 𝓤) → List (Item 𝓤)
     params Γ = cell 1 mt ∷ cell 2 (val L₁) ∷ cell 3 (val L₂) ∷ cell 4 (val L₃) ∷ cell 5 (val L₄) ∷ cell 6 (val L₅) ∷ cell 7 mr ∷ Γ
 
     abbrev later-rooms : List (Item 𝓤) → List (Item 𝓤)
     later-rooms Γ = room 25 ∷ room 26 ∷ room 27 ∷ room 28 ∷ room 29 ∷ room 30 ∷ room 31 ∷ room 32 ∷ room 33 ∷ room 34 ∷ room 35 ∷ room 36 ∷ room 37 ∷ room 38 ∷ room 39 ∷ Γ
 
-    -- from the entry to the loop, with what local 8 has
+    -- From the entry to the loop, with what local 8 has.
     abbrev Begun : Item 𝓤 → List (Item 𝓤)
     Begun i = held m₀ ∷ ‵ (MutSlice (named 6) (P .κ) R .own (x ys₀) (mr ∷ [])) ∷ ‵ (flft (P .κ) (P .q)) ∷ room 0 ∷ params (i ∷ room 9 ∷ room 10 ∷ room 11 ∷ room 12 ∷ room 13
         ∷ room 14 ∷ room 15 ∷ room 16 ∷ room 17 ∷ room 18 ∷ room 19 ∷ room 20 ∷ room 21 ∷ room 22 ∷ room 23 ∷ room 24 ∷ later-rooms (‵ (dies tys bs) ∷ []))
 
-    -- what the loop does not use
+    -- What the loop does not use.
     abbrev idle : Item 𝓤
     idle = room 14 ⊛ room 15 ⊛ room 16 ⊛ room 17 ⊛ room 18 ⊛ room 19 ⊛ room 20 ⊛ room 21 ⊛ room 22 ⊛ room 23 ⊛ room 24 ⊛ ‵ (dies tys bs)
 
     module _ (c : Outcome) (wc : Val) (isc : Is O.the-row c (wc ∷ [])) (seen : outcomeOf c ≡ checks) where
-      -- how many records are answered
+      -- How many records are answered.
       abbrev n : ℕ
       n = turnsOf (outcomeOf c) n₀
 
@@ -346,7 +346,7 @@ module _ {M : Type 1} (𝓤 : URA M) (H : Heap 𝓤) (A : Atoms 𝓤) (W : Given
           × ((length (m .1 .1 .1 .0) ≡ length (m₀ .1 .1 .1 .0)) × (length (m .1 .1 .1 .1 .0) ≡ length (m₀ .1 .1 .1 .1 .0)))))
       stays-long m l = (l .0 ∙ sym (long₀ .0), (l .1 .0 ∙ sym (long₀ .1 .0), (l .1 .1 .0 ∙ sym (long₀ .1 .1 .0), (l .1 .1 .1 .0 ∙ sym (long₀ .1 .1 .1 .0), l .1 .1 .1 .1 .0 ∙ sym (long₀ .1 .1 .1 .1 .0)))))
 
-      -- what is had at the end is what the contract states
+      -- What is had at the end is what the contract states.
       exits : (g : ℕ) (ys : List Record) (m : Mem) (w : Val) (r : Listed) → Facts n g ys m → listingOf r ≡ listing (outcomeOf c) g
           → ent 𝓤 (⋆ 𝓤 H A (‵ (fobs (P .γ) (codedHoleys R .code (heres R ys))) ∷ ‵ (fbor (P .κ) (Held R (length ys) (P .b) (P .o) (P .γ))) ∷ ‵ (flft (P .κ) (P .q)) ∷ held m ∷ ‵ (S.the-row .own r (w ∷ [])) ∷ [])) (Post w)
       exits g ys m w r F e =
@@ -355,13 +355,14 @@ module _ {M : Type 1} (𝓤 : URA M) (H : Heap 𝓤) (A : Atoms 𝓤) (W : Given
           suffices ! _ (ends-at 𝓤 H A f.ended stayed (f.clauses 𝓤 H A at-mem run) W (((T .κ, (L₁ .κ, (L₂ .κ, (L₃ .κ, (L₄ .κ, (L₅ .κ, (P .κ, tt))))))), (T .q, (L₁ .q, (L₂ .q, (L₃ .q, (L₄ .q, (L₅ .q, (P .q, tt))))))), tt, a, at), tt) w r (tt, (m .0, (m .1 .0, (m .1 .1 .0, (m .1 .1 .1 .0, (m .1 .1 .1 .1 .0, (ys, tt))))))) (tt, (k .0, (k .1 .0, (k .1 .1 .0, (k .1 .1 .1 .0, (k .1 .1 .1 .1, (F .size, tt)))))))) $
           says ! (listing-of.ends ts ys₀ m₀ (Long u64 Ls) g ys m (outcomeOf c) seen r e F) $
           fjoin ! $ pureI ! (at-slice R (x ys) (mr ∷ [])) (tt, (tt, tt)) (ap (λ (k : ℕ). sliceVal (P .b, P .o) k ∷ []) (sym (F .size)), subst (Room R) (sym (F .size)) room-r) $ fjoin ! $
-          -- [the records; their token; terms and memory; the result]
+          -- [the records; their token; terms and memory; the result].
           nothing ! $ move ! (1 ∷ 0 ∷ []) $ fjoin ! $ nothing ! $ move ! (2 ∷ 0 ∷ []) $ fjoin ! $ move ! (2 ∷ []) $ split ! $ move ! (1 ∷ []) $ split ! $ move ! (1 ∷ 3 ∷ 4 ∷ []) $
           use3 W (‵ (Toks u64 tok-r Ls) ⊛ ‵ (Owns u64 (own-r ys) Ls m)) (held-all u64 𝓤 H A W tok-r (own-r ys) Ls m) $ split ! $
-          -- [tokens; slices; the terms' token; terms; the result]
+          -- [tokens; slices; the terms' token; terms; the result].
           move ! (2 ∷ 0 ∷ []) $ join ! $ frame ! $ move ! (1 ∷ 0 ∷ []) $ fjoin ! $ done !
 
-      -- at the loop's head: the row of records and the open borrow; what is held of terms and memory; count, index, outcome, limit; the parameters' locals; room for the rest
+      -- At the loop's head: the row of records and the open borrow; what is held of terms and memory; count, index,
+      -- outcome, limit; the parameters' locals; room for the rest.
       abbrev At : ℕ → ℕ → List Record → Mem → List (Item 𝓤)
       At i g ys m = ‵ (row R fullShare ys (P .b) (P .o)) ∷ ‵ (fobor (P .κ) (P .q) (Held R n₀ (P .b) (P .o) (P .γ))) ∷ ‵ (fobs (P .γ) (codedHoleys R .code (heres R ys₀))) ∷ ‵ (fauth (P .γ) (codedHoleys R .code (heres R ys₀)))
           ∷ held m ∷ cell 10 (vint w64 g) ∷ cell 11 (vint w64 i) ∷ cell 8 wc ∷ cell 9 (vint w64 n) ∷ params (room 12 ∷ room 13 ∷ later-rooms (room 0 ∷ idle ∷ []))
@@ -375,18 +376,18 @@ module _ {M : Type 1} (𝓤 : URA M) (H : Heap 𝓤) (A : Atoms 𝓤) (W : Given
       abbrev Known : ℕ → Head → Type 0
       Known t h = (h .0 + t ≡ n) × Facts (h .0) (h .1) (h .2) (h .3)
 
-      -- the invariant, where t records are left
+      -- The invariant, where t records are left.
       abbrev Inv : ℕ → SProp 𝓤
       Inv t = ex 𝓤 (λ (h : Head). guard 𝓤 (Known t h) (Has h))
 
       abbrev Below : ℕ → SProp 𝓤
       Below t = ex 𝓤 (λ (t′ : ℕ). guard 𝓤 (t′ < t) (Inv t′))
 
-      -- when the loop is left, the rest of the body runs
+      -- When the loop is left, the rest of the body runs.
       abbrev Left : Out → SProp 𝓤
       Left = afterBlock 𝓤 H (afterSeq 𝓤 H (Wp 𝓤 H C Λ E mir.t-17 (atReturn 𝓤 H E Post)) (atReturn 𝓤 H E Post))
 
-      -- a turn that answers one record
+      -- A turn that answers one record.
       module _ (i g : ℕ) (ys : List Record) (m : Mem) (F : Facts i g ys m) (l : i < n) where
         abbrev elem : Record
         elem = getD ys i blank
@@ -414,7 +415,7 @@ module _ {M : Type 1} (𝓤 : URA M) (H : Heap 𝓤) (A : Atoms 𝓤) (W : Given
             exec ! C Λ E mir.turn-1 (anyQ (afterTurn 𝓤 H X Left)) $
             assigns ! (bin ! (load ! (from ! (stop !)) (look ! 6 refl)) (load ! (from ! (stop !)) (look ! 8 refl)) tt) (from ! (stop !)) (init ! 18 refl (tt, tt)) $
             rewrite ! 18 (λ (t : Bool). cell 25 (vbool t)) (lt-ltb i n l) refl $ stays ! (load ! (from ! (stop !)) (look ! 18 refl)) $
-            -- the record is taken out of the row, and copied
+            -- The record is taken out of the row, and copied.
             assigns ! (bin ! (load ! (from ! (stop !)) (look ! 6 refl)) (lit ! tt) scales) (from ! (stop !)) (init ! 19 refl (tt, scales)) $
             assigns ! (bin ! (load ! (from ! (fld ! refl (stop !))) (look-in ! 15 (sub ! 0 refl (whole !)))) (load ! (from ! (stop !)) (look ! 19 refl)) tt) (from ! (stop !)) (init ! 20 refl (tt, tt)) $
             rewrite ! 20 (λ (k : ℕ). cell 27 (vptr (P .b) k)) (at-place (P .o) i) refl $
@@ -422,7 +423,7 @@ module _ {M : Type 1} (𝓤 : URA M) (H : Heap 𝓤) (A : Atoms 𝓤) (W : Given
             use1 W (‵ (fat fullShare rec′.mir (P .b) here (val-of elem))) (W .laws .raw-at fullShare rec′.mir (P .b) here (val-of elem)) $
             assigns ! (of-opd ! (load ! (from ! (hop ! (look ! 22 refl) (stop !))) (look ! 0 refl))) (from ! (stop !)) (init ! 23 refl (LL.lawful rec.the-type rec′.the-laws 𝓤 H A W .typed elem _ is-elem .0)) $
             assigns ! (of-opd ! (load ! (from ! (stop !)) (look ! 23 refl))) (from ! (stop !)) (init ! 18 refl (LL.lawful rec.the-type rec′.the-laws 𝓤 H A W .typed elem _ is-elem .0)) $
-            -- the memory is lent again for the call
+            -- The memory is lent again for the call.
             assigns ! (addr ! (from ! (fld ! refl (hop ! (look-in ! 12 (sub ! 0 refl (whole !))) (stop !))))) (from ! (stop !)) (init ! 24 refl (tt, tt)) $
             assigns ! (agg ! (and-then ! (load ! (from ! (stop !)) (look ! 24 refl)) (and-then ! (load ! (from ! (fld ! refl (stop !))) (look-in ! 12 (sub ! 1 refl (whole !)))) (no-more !)))) (from ! (stop !)) (init ! 25 refl (tt, (tt, (record { fits = rms .0 .0 }, tt)))) $
             assigns ! (addr ! (from ! (fld ! refl (hop ! (look-in ! 13 (sub ! 0 refl (whole !))) (stop !))))) (from ! (stop !)) (init ! 26 refl (tt, tt)) $
@@ -441,7 +442,7 @@ module _ {M : Type 1} (𝓤 : URA M) (H : Heap 𝓤) (A : Atoms 𝓤) (W : Given
             use2 W (later (some (λ (h : ℕ × Mem). given (Said ts m elem (h .0) (h .1) × Long u64 Ls (h .1)) (‵ (u32 .own (h .0) (w ∷ [])) ⊛ held (h .1))))) (comes-step rms p m elem w (F .kept)) $
             await ! tt $ pick ! (λ h. learn ! (λ s. split ! $ peeks ! u32 (Is u32) (shows 𝓤 H A u32) (h .0) (w ∷ []) (λ is.
             land ! (from ! (stop !)) (init ! 20 refl (uint-lawful 𝓤 H A W w32 .typed (h .0) _ is .0)) $ rewrite ! 20 (λ (u : Val). cell 13 u) (ap only (is .0)) refl $ drop ! $
-            -- the answer is stored in the record, which is put in its place
+            -- The answer is stored in the record, which is put in its place.
             assigns ! (bin ! (load ! (from ! (stop !)) (look ! 8 refl)) (lit ! tt) scales) (from ! (stop !)) (store ! 21 refl (tt, scales)) $
             assigns ! (bin ! (load ! (from ! (fld ! refl (stop !))) (look-in ! 17 (sub ! 0 refl (whole !)))) (load ! (from ! (stop !)) (look ! 21 refl)) tt) (from ! (stop !)) (init ! 34 refl (tt, tt)) $
             rewrite ! 34 (λ (k : ℕ). cell 39 (vptr (P .b) k)) (at-place (P .o) i) refl $
@@ -451,7 +452,7 @@ module _ {M : Type 1} (𝓤 : URA M) (H : Heap 𝓤) (A : Atoms 𝓤) (W : Given
             move ! (2 ∷ []) $ drop ! $
             owned ! R (Is R) (LL.makes rec.the-type rec′.the-plain 𝓤 H A) (put-answer elem (h .0)) _ (with-answer elem is-elem (h .0) (is .1)) $
             move ! (1 ∷ 0 ∷ 3 ∷ []) $ elem-put ! R fullShare ys i (put-answer elem (h .0)) (vals (put-answer elem (h .0))) (P .b) (P .o) in-list $
-            -- and counted
+            -- And counted.
             use0 W (raw (Tally 𝓤 H A at-mem run .pre (to-tally g (h .0)))) (goes-tally g (h .0) g-fits (is .1) g-small) $
             calls-at ! fm (Tally 𝓤 H A at-mem run) known-tally (to-tally g (h .0)) (and-then ! (load ! (from ! (stop !)) (look ! 6 refl)) (and-then ! (load ! (from ! (stop !)) (look ! 18 refl)) (no-more !))) (λ wk.
             use1 W (later (some (λ (k : ℕ). (‵ ftrue ⊛ ‵ (usize .own k (wk ∷ []))) ⊛ raw (ensured 𝓤 H A tally.ended (tally.clauses 𝓤 H A at-mem run) tt (g, (h .0, tt)) tt k)))) (id⊢ 𝓤 _) $ await ! tt $
@@ -464,7 +465,7 @@ module _ {M : Type 1} (𝓤 : URA M) (H : Heap 𝓤) (A : Atoms 𝓤) (W : Given
             keep ! (0 ∷ 2 ∷ 3 ∷ 4 ∷ 1 ∷ 5 ∷ 6 ∷ 7 ∷ 8 ∷ 9 ∷ 10 ∷ 11 ∷ 12 ∷ 13 ∷ 14 ∷ 15 ∷ 16 ∷ 17 ∷ 18 ∷ 19 ∷ 20 ∷ 21 ∷ 22 ∷ 23 ∷ 24 ∷ 25 ∷ 26 ∷ 27 ∷ 28 ∷ 29 ∷ 30 ∷ 31 ∷ 32 ∷ 33 ∷ 34 ∷ []) $
             by ! (k-next (h .0) (h .1) (s .0) (s .1))))))))))))
 
-      -- the turn that leaves the loop, and the rest of the body
+      -- The turn that leaves the loop, and the rest of the body.
       leaves : (g : ℕ) (ys : List Record) (m : Mem) (X : SProp 𝓤) → g < 2 ^ 64 → Facts n g ys m → ent 𝓤 (⋆ 𝓤 H A (At n g ys m)) (Wp 𝓤 H C Λ E mir.turn-1 (afterTurn 𝓤 H X Left))
       unfolding afterTurn
       leaves g ys m X g-fits F =
@@ -484,14 +485,14 @@ module _ {M : Type 1} (𝓤 : URA M) (H : Heap 𝓤) (A : Atoms 𝓤) (W : Given
           keep ! (45 ∷ 21 ∷ 22 ∷ 23 ∷ 24 ∷ 25 ∷ 26 ∷ 27 ∷ 19 ∷ 20 ∷ 17 ∷ 18 ∷ 28 ∷ 29 ∷ 0 ∷ 1 ∷ 2 ∷ 3 ∷ 4 ∷ 5 ∷ 6 ∷ 7 ∷ 8 ∷ 9 ∷ 10 ∷ 30 ∷ 31 ∷ 32 ∷ 33 ∷ 34 ∷ 35 ∷ 36 ∷ 37 ∷ 38 ∷ 39 ∷ 40 ∷ 41 ∷ 42 ∷ 43 ∷ 44 ∷ 11 ∷ 12 ∷ 13 ∷ 14 ∷ 16 ∷ 15 ∷ []) $
           frees-all ! tys bs (by ! (exits g ys m w r F e))))))
 
-      -- the invariant from what is held
+      -- The invariant from what is held.
       inv : (t : ℕ) (h : Head) → Known t h → ent 𝓤 (Has h) (Inv t)
       inv t h kn = via 𝓤 (guard 𝓤 (Known t h) (Has h)) (guardI 𝓤 (Known t h) (Has h) kn) (exI 𝓤 (λ (j : Head). guard 𝓤 (Known t j) (Has j)) h)
 
       below : (t t′ : ℕ) (h : Head) → t′ < t → Known t′ h → ent 𝓤 (Has h) (Below t)
       below t t′ h less kn = via 𝓤 (Inv t′) (inv t′ h kn) (via 𝓤 (guard 𝓤 (t′ < t) (Inv t′)) (guardI 𝓤 (t′ < t) (Inv t′) less) (exI 𝓤 (λ (u : ℕ). guard 𝓤 (u < t) (Inv u)) t′))
 
-      -- a turn from the invariant at t leaves the loop, or ends in the invariant below t
+      -- A turn from the invariant at t leaves the loop, or ends in the invariant below t.
       turn-at : (t i g : ℕ) (ys : List Record) (m : Mem) → i + t ≡ n → Facts i g ys m → ent 𝓤 (⋆ 𝓤 H A (At i g ys m)) (Wp 𝓤 H C Λ E mir.turn-1 (afterTurn 𝓤 H (Below t) Left))
       turn-at zero i g ys m e F = subst (λ (j : ℕ). Facts j g ys m → ent 𝓤 (⋆ 𝓤 H A (At j g ys m)) (Wp 𝓤 H C Λ E mir.turn-1 (afterTurn 𝓤 H (Below zero) Left))) (sym e ∙ add-zero i)
           (λ G. leaves g ys m (Below zero) (lt-of-le-of-lt (G .small) n-fits) G) F
@@ -511,7 +512,7 @@ module _ {M : Type 1} (𝓤 : URA M) (H : Heap 𝓤) (A : Atoms 𝓤) (W : Given
       loops : ent 𝓤 (⋆ 𝓤 H A (At 0 0 ys₀ m₀)) (Wp 𝓤 H C Λ E (loop mir.turn-1) Left)
       loops = via 𝓤 (Inv n) (inv n (0, 0, ys₀, m₀) (zero-add n, listing-of.begins ts ys₀ m₀ (Long u64 Ls) long₀)) (loop-rule 𝓤 H (W .laws) 𝓣 _<_ (Nat·lt-wfRel .wf) E mir.turn-1 Left Inv turns n)
 
-      -- from the outcome of the checks to the loop
+      -- From the outcome of the checks to the loop.
       second : ent 𝓤 (⋆ 𝓤 H A (Begun (cell 8 wc))) (Wp 𝓤 H C Λ E mir.t-12 (atReturn 𝓤 H E Post))
       second =
           qed W (Begun (cell 8 wc)) ∵
@@ -524,13 +525,13 @@ module _ {M : Type 1} (𝓤 : URA M) (H : Heap 𝓤) (A : Atoms 𝓤) (W : Given
           peeks ! usize (Is usize) (shows 𝓤 H A usize) k (wk ∷ []) (λ isk. land ! (from ! (stop !)) (init ! 13 refl (uint-lawful 𝓤 H A W w64 .typed k _ isk .0)) $ rewrite ! 13 (λ (u : Val). cell 9 u) (ap only (isk .0) ∙ ap (vint w64) ek) refl $ drop ! $
           assigns ! (of-opd ! (lit ! tt)) (from ! (stop !)) (init ! 13 refl (tt, record { fits = lit< tt })) $
           assigns ! (of-opd ! (lit ! tt)) (from ! (stop !)) (init ! 14 refl (tt, record { fits = lit< tt })) $ forget ! 27 refl $
-          -- the borrow of the records is opened, once for the whole loop
+          -- The borrow of the records is opened, once for the whole loop.
           move ! (1 ∷ []) $ fsplit ! $ move ! (1 ∷ []) $ fsplit ! $ move ! (0 ∷ 1 ∷ 4 ∷ []) $ opens-slice ! tt R ys₀ (P .b) (P .o) $
           move ! (20 ∷ 21 ∷ 22 ∷ 23 ∷ 24 ∷ 25 ∷ 26 ∷ 27 ∷ 28 ∷ 29 ∷ 30 ∷ 46 ∷ []) $ group ! 12 $
           keep ! (1 ∷ 2 ∷ 3 ∷ 4 ∷ 6 ∷ 17 ∷ 18 ∷ 15 ∷ 16 ∷ 8 ∷ 9 ∷ 10 ∷ 11 ∷ 12 ∷ 13 ∷ 14 ∷ 19 ∷ 20 ∷ 21 ∷ 22 ∷ 23 ∷ 24 ∷ 25 ∷ 26 ∷ 27 ∷ 28 ∷ 29 ∷ 30 ∷ 31 ∷ 32 ∷ 33 ∷ 34 ∷ 35 ∷ 7 ∷ 0 ∷ []) $
           by ! loops))))
 
-    -- up to the outcome of the checks
+    -- Up to the outcome of the checks.
     start : ent 𝓤 (⋆ 𝓤 H A (Begun (room 8))) (Wp 𝓤 H C Λ E mir.t-1 (atReturn 𝓤 H E Post))
     start =
         qed W (Begun (room 8)) ∵
@@ -545,7 +546,7 @@ module _ {M : Type 1} (𝓤 : URA M) (H : Heap 𝓤) (A : Atoms 𝓤) (W : Given
         assigns ! (agg ! (and-then ! (load ! (from ! (stop !)) (look ! 23 refl)) (and-then ! (load ! (from ! (fld ! refl (stop !))) (look-in ! 8 (sub ! 1 refl (whole !)))) (no-more !)))) (from ! (stop !)) (init ! 24 refl (tt, (tt, (record { fits = rms .1 .1 .1 .0 .0 }, tt)))) $
         assigns ! (addr ! (from ! (fld ! refl (hop ! (look-in ! 9 (sub ! 0 refl (whole !))) (stop !))))) (from ! (stop !)) (init ! 25 refl (tt, tt)) $
         assigns ! (agg ! (and-then ! (load ! (from ! (stop !)) (look ! 25 refl)) (and-then ! (load ! (from ! (fld ! refl (stop !))) (look-in ! 9 (sub ! 1 refl (whole !)))) (no-more !)))) (from ! (stop !)) (init ! 26 refl (tt, (tt, (record { fits = rms .1 .1 .1 .1 .0 .0 }, tt)))) $
-        -- the memory is lent as `&` for the call
+        -- The memory is lent as `&` for the call.
         nothing ! $ move ! (1 ∷ 0 ∷ []) $
         use2 W (later (some (λ (p : Names Ls). raw (Inspect 𝓤 H A at-mem run .pre (to-inspect p)) ⊛ (‵ own-t ⊛ ‵ (Kept u64 (kept-shared u64) Ls p m₀)))))
         (goes (shared u64) (kept-shared u64) (lend-shared u64 𝓤 H A W) ftrue m₀ long₀) $ await ! tt $ pick ! (λ p. split ! $
@@ -559,11 +560,11 @@ module _ {M : Type 1} (𝓤 : URA M) (H : Heap 𝓤) (A : Atoms 𝓤) (W : Given
   module _ (𝓣 : Tables 𝓤 H) (known-inspect : Triple 𝓤 (𝓣 .C #inspect) (Inspect 𝓤 H A at-mem run)) (known-limit : Triple 𝓤 (𝓣 .C #limit) (Limit 𝓤 H A at-mem run))
       (known-step : Triple 𝓤 (𝓣 .C #step) (Step 𝓤 H A at-mem run)) (known-tally : Triple 𝓤 (𝓣 .C #tally) (Tally 𝓤 H A at-mem run)) (known-finish : Triple 𝓤 (𝓣 .C #finish) (Finish 𝓤 H A at-mem run))
       (room-r : Room R n₀) (room-t : Room u16 (T .n)) (rms : Rooms u64 Ls) (long₀ : Long u64 Ls m₀) where
-    -- what is had on entry
+    -- What is had on entry.
     abbrev Given₀ : List (Item 𝓤)
     Given₀ = (‵ (flft (T .κ) (T .q)) ⊛ ‵ (Toks u64 tok-r Ls)) ∷ ‵ (fsep own-t (Owns u64 (own-r ys₀) Ls m₀)) ∷ []
 
-    -- the parameters' values are stored, and what they own is taken apart
+    -- The parameters' values are stored, and what they own is taken apart.
     walk : ent 𝓤 (onEntry 𝓤 H A f.signature (T .κ, (L₁ .κ, (L₂ .κ, (L₃ .κ, (L₄ .κ, (L₅ .κ, (P .κ, tt))))))) (T .q, (L₁ .q, (L₂ .q, (L₃ .q, (L₄ .q, (L₅ .q, (P .q, tt))))))) a at) (WpFn 𝓤 H (𝓣 .C) (𝓣 .Λ) code.function (mt ∷ val L₁ ∷ val L₂ ∷ val L₃ ∷ val L₄ ∷ val L₅ ∷ mr ∷ []) Post)
     walk =
         qed W Given₀ ∵ enter ! (𝓣 .C) (𝓣 .Λ) code.function (mt ∷ val L₁ ∷ val L₂ ∷ val L₃ ∷ val L₄ ∷ val L₅ ∷ mr ∷ []) _ $ allocs-all ! tys (λ bs. params1 ! $
@@ -572,7 +573,7 @@ module _ {M : Type 1} (𝓤 : URA M) (H : Heap 𝓤) (A : Atoms 𝓤) (W : Given
         pass1 ! (init ! 6 refl (tt, (tt, (record { fits = rms .1 .1 .1 .1 .0 .0 }, tt)))) $ pass1 ! (init ! 7 refl (tt, (tt, (record { fits = room-r .0 }, tt)))) $ pass0 ! $
         move ! (42 ∷ []) $ fsplit ! $ move ! (43 ∷ []) $ split ! $ move ! (1 ∷ 3 ∷ []) $
         use2 W (‵ (Holds u64 Ls m₀) ⊛ (‵ tok-r ⊛ ‵ (own-r ys₀))) (holds-all u64 𝓤 H A W tok-r (own-r ys₀) Ls m₀) $
-        -- [the memory, with the records and their token; the terms' token; terms]
+        -- [the memory, with the records and their token; the terms' token; terms].
         split ! $ move ! (2 ∷ 0 ∷ []) $ join ! $ move ! (2 ∷ 0 ∷ []) $ join ! $ move ! (1 ∷ []) $ split ! $ fsplit ! $ move ! (1 ∷ []) $ drop ! $ move ! (1 ∷ []) $ fsplit ! $ move ! (1 ∷ []) $ drop ! $
         move ! (2 ∷ 0 ∷ 1 ∷ []) $ by ! (start 𝓣 (fmOf 𝓤 H (W .laws) 𝓣) known-inspect known-limit known-step known-tally known-finish room-r room-t rms long₀ bs))
 

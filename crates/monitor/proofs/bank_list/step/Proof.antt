@@ -1,3 +1,4 @@
+-- `monitor::bank_list::step` meets its contract.
 use borrow.Author.Needs.{needs}
 use Prim.Native.Nat.{_<_, _^_}
 use mathlib.Core.Path.{sym, ap, _∙_, subst}

@@ -1,3 +1,4 @@
+-- `monitor::banks::begin_own` meets its contract.
 use borrow.Author.Needs.{needs}
 use lib.Seq.{length-take-le}
 use Rattle.monitor.proofs.BankBegun.{own-begins}

@@ -1,13 +1,14 @@
+-- `monitor::banks::judge` meets its contract.
 use borrow.Author.Needs.{needs}
 use borrow.Author.Tests.{not-true, not-false}
 use mathlib.Core.Path.{sym, ap, _∙_}
-use mathlib.Core.Bool.{true, false, false≢true}
+use mathlib.Core.Bool.{false≢true}
 use Rattle.memory.specs.Outcome.{outcomeOf, hasPassed}
 use Rattle.banking.proofs.BankAnswers as answers
 use Rattle.monitor.proofs.banks.judge.Statement.{statement}
 use Rattle.monitor.proofs.banks.judge.Tie as tie
 
--- both scratches are long enough, and terms and banks are looked at
+-- Both scratches are long enough, and terms and banks are looked at.
 abbrev inspected : tie.After-enum-told → tie.After-inspect
 inspected c = c .before .before
 
@@ -17,16 +18,10 @@ lengths c = c .before .before
 abbrev start : tie.Else2 → tie.Start
 start c = c .before .before .before .before .before .before .before .before
 
--- they pass
+-- They pass.
 checked : (c : tie.After-enum-told) → let x = start (lengths (inspected c)) .args in
     answers.BanksChecked (x .terms .now) (x .relations .now) (x .own .now) (x .other .now)
 checked c = answers.passed-checked _ _ _ _ (sym (ap outcomeOf (c .enum-told .given .1)) ∙ inspected c .inspect .ensures .0)
-
-returns : tie.Need-returns
-returns c = (answers.short-scratch _ _ _ _ _ _ _ _ _ (c .if1 .taken), λ e. absurd (false≢true e))
-
-returns-2 : tie.Need-returns-2
-returns-2 c = (answers.short-spare _ _ _ _ _ _ _ _ _ (c .if2 .taken), λ e. absurd (false≢true e))
 
 returns-3 : tie.Need-returns-3
 returns-3 c =
@@ -77,8 +72,8 @@ pub judge-spec : {M : Type 1} → statement M
 judge-spec =
     tie.close
     (tie.spec
-    returns
-    returns-2
+    (λ c. (answers.short-scratch _ _ _ _ _ _ _ _ _ (c .if1 .taken), λ e. absurd (false≢true e)))
+    (λ c. (answers.short-spare _ _ _ _ _ _ _ _ _ (c .if2 .taken), λ e. absurd (false≢true e)))
     (λ c κs. search needs)
     (λ c. search needs)
     (λ c. search needs)

@@ -1,3 +1,4 @@
+-- `monitor::banks::open` meets its contract.
 use borrow.Author.Needs.{needs}
 use mathlib.Core.Path.{_≡_, sym, ap, _∙_}
 use Rattle.memory.specs.Outcome.{outcomeOf, hasPassed, banksOpen}
@@ -9,14 +10,14 @@ use Rattle.monitor.proofs.banks.open.Tie as tie
 use native.Mathlib.Omega.{arith}
 use lib.Seq.{length-take-le}
 
--- terms and relations are looked at
+-- Terms and relations are looked at.
 abbrev inspected : tie.After-enum-told → tie.After-inspect-opening
 inspected c = c .before .before
 
 abbrev start : tie.After-inspect-opening → tie.Start
 start c = c .before .before .before .before .before .before .before .before
 
--- they pass
+-- They pass.
 is-passed : (c : tie.After-enum-told) → let x = start (inspected c) .args in
     banksOpen (x .terms .now) (x .relations .now) (x .first .now) (x .second .now) ≡ passed
 is-passed c = sym (inspected c .inspect-opening .ensures .0) ∙ ap outcomeOf (c .enum-told .given .1)

@@ -1,3 +1,4 @@
+-- `monitor::banks::request` meets its contract.
 use borrow.Author.Needs.{needs}
 use mathlib.Core.Path.{_≡_, sym, ap, ap₂, _∙_}
 use mathlib.Core.Bool.{true}
@@ -10,26 +11,23 @@ use Rattle.monitor.proofs.BankWords.{moved-after}
 use Rattle.monitor.proofs.banks.request.Statement.{statement}
 use Rattle.monitor.proofs.banks.request.Tie as tie
 
--- the function's entry, and where the answer is known
+-- The function's entry, and where the answer is known.
 abbrev judged : tie.After-is-moving → tie.After-judge
 judged c = c .before .before
 
 abbrev start : tie.After-judge → tie.Start
 start c = c .before .before .before .before .before .before .before .before .before .before .before .before .before
 
--- what is_moving says of the answer that is due
+-- What is_moving says of the answer that is due.
 due : (c : tie.After-is-moving) → let x = start (judged c) .args in
     c .is-moving .result
     ≡ moves (termsOf (x .terms .now) .kept (x .event))
     (bankAnswer (x .terms .now) (x .relations .now) (x .own .now) (x .other .now) (x .scratch .now) (x .spare .now) (x .event) (x .from) (x .to))
 due c = c .is-moving .ensures ∙ ap₂ moves (c .before .is-kept .ensures) (judged c .judge .ensures .0)
 
--- where a moment is made, there is a verdict
+-- Where a moment is made, there is a verdict.
 decided : (c : tie.Then1) → isDecided (answerOf (judged (c .before) .judge .result)) ≡ true
 decided c = moves-decided (c .before .before .is-kept .result) (answerOf (judged (c .before) .judge .result)) (sym (c .before .is-moving .ensures) ∙ c .if1 .taken)
-
-slice-aggregate-next-moments : tie.Need-slice-aggregate-next-moments
-slice-aggregate-next-moments c = let t = c .before in sym (judged (t .before) .judge .ensures .1 (decided t) .long)
 
 next-moments-requires : tie.Need-next-moments-requires
 next-moments-requires c κs =
@@ -85,7 +83,7 @@ request-spec =
     (λ c κs. search needs)
     (λ c κs. search needs)
     (λ c κs. search needs)
-    slice-aggregate-next-moments
+    (λ c. let t = c .before in sym (judged (t .before) .judge .ensures .1 (decided t) .long))
     (λ c κs. search needs)
     next-moments-requires
     (λ c. search needs)

@@ -1,13 +1,12 @@
+-- `monitor::banks::revise` meets its contract.
 use borrow.Author.Needs.{needs}
-use Prim.Native.Nat.{ℕ, _≤_}
+use Prim.Native.Nat.{ℕ}
 use native.Mathlib.Omega.{arith}
 use mathlib.Core.Path.{_≡_, sym, ap, _∙_}
 use mathlib.Core.Bool.{true}
-use lib.ListN.{length, length-replicate}
+use lib.ListN.{length-replicate}
 use lib.Seq.{length-take-le}
 use Rattle.theory.specs.Limits.{maxEntries}
-use Rattle.memory.specs.Layout.{ownWords, joined, termsOf}
-use Rattle.memory.specs.Checks.{goodState}
 use Rattle.memory.specs.Outcome.{outcomeOf, hasPassed, banksRevise}
 use Rattle.memory.specs.Outcome.Outcome.{passed}
 use Rattle.classes.proofs.Filling.{classed}
@@ -15,14 +14,14 @@ use Rattle.monitor.proofs.BankBegun as begun
 use Rattle.monitor.proofs.banks.revise.Statement.{statement}
 use Rattle.monitor.proofs.banks.revise.Tie as tie
 
--- the memory is looked at
+-- The memory is looked at.
 abbrev inspected : tie.After-enum-told → tie.After-inspect-revision
 inspected c = c .before .before
 
 abbrev start : tie.After-inspect-revision → tie.Start
 start c = c .before .before .before .before .before .before .before .before .before .before .before .before .before .before
 
--- it passes
+-- It passes.
 is-passed : (c : tie.After-enum-told) → let x = start (inspected c) .args in
     passed ≡ banksRevise (x .old .now) (x .relations .now) (x .first .now) (x .second .now) (x .new .now) (x .edges .now) (x .third .now) (x .fourth .now)
 is-passed c = sym (ap outcomeOf (c .enum-told .given .1)) ∙ inspected c .inspect-revision .ensures .0
@@ -37,15 +36,12 @@ passes c = ap hasPassed (ap outcomeOf (c .enum-told .given .1))
 abbrev classes-found : tie.After-find-classes → tie.After-enum-told
 classes-found c = c .before .before
 
-part-copy-end : tie.Need-part-copy-end
-part-copy-end c = omega (arith, says (classes-found c) .edges-long)
-
 copy-requires : tie.Need-copy-requires
 copy-requires c κs =
     let k = classes-found (c .before) in
     omega (arith, length-take-le 1024 (start (inspected k) .args .edges .now) (says k .edges-long), says k .relations-long)
 
--- the first bank is begun, and then the second
+-- The first bank is begun, and then the second.
 abbrev copied : tie.After-begin-own-arg → tie.After-copy
 copied c = c .before .before .before .before .before .before
 
@@ -114,7 +110,7 @@ revise-spec =
     (λ c κs. search needs)
     (λ c. search needs)
     (λ c. search needs)
-    part-copy-end
+    (λ c. omega (arith, says (classes-found c) .edges-long))
     copy-requires
     slice-aggregate-begin-own
     slice-aggregate-begin-own-2

@@ -1,3 +1,4 @@
+-- `monitor::lists::finish` meets its contract.
 use borrow.Author.Needs.{needs}
 use mathlib.Core.Path.{sym, ap}
 use Rattle.memory.specs.Outcome.{outcomeOf}

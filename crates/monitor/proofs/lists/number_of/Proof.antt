@@ -1,3 +1,4 @@
+-- `monitor::lists::number_of` meets its contract.
 use borrow.Author.Needs.{needs}
 use Prim.Native.Nat.{_<_, _^_}
 use mathlib.Core.Path.{subst}

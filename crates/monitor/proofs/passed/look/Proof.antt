@@ -1,3 +1,4 @@
+-- `monitor::passed::look` meets its contract.
 use borrow.Author.Needs.{needs}
 use borrow.Author.Tests.{not-true}
 use mathlib.Core.Path.{_≡_, sym, _∙_}
@@ -9,7 +10,7 @@ use Rattle.calls.proofs.Answers.{unnamed, judged}
 use Rattle.monitor.proofs.passed.look.Statement.{statement}
 use Rattle.monitor.proofs.passed.look.Tie as tie
 
--- the function's entry, and what is asked there
+-- The function's entry, and what is asked there.
 abbrev start : tie.After-is-named → tie.Start
 start c = c .before .before .before .before
 
@@ -18,7 +19,7 @@ checked c =
     let p = start c .pre in
     record { long-terms = p .0 .0; long-state = p .1 .1 .0; good-terms = p .0 .1; good-state = p .1 .1 .1 }
 
--- an event and two members are named
+-- An event and two members are named.
 names : (c : tie.Else1) → let x = start (c .before) .args in
     named (termsOf (x .terms .now)) (x .event) (x .from) (x .to) ≡ true
 names c = sym (c .before .is-named .ensures) ∙ not-false _ (c .if1 .left)
@@ -44,4 +45,11 @@ returns-3 c = λ scratch long.
     judged _ _ scratch _ _ _ long (checked (e .before)) (names e) (c .if2 .left) (c .before .is-granted .ensures)
 
 pub look-spec : {M : Type 1} → statement M
-look-spec = tie.close (tie.spec (λ c κs. search needs) returns is-granted-requires returns-2 returns-3)
+look-spec =
+    tie.close
+    (tie.spec
+    (λ c κs. search needs)
+    returns
+    is-granted-requires
+    returns-2
+    returns-3)

@@ -1,3 +1,4 @@
+-- `monitor::passed::request` meets its contract.
 use borrow.Author.Needs.{needs}
 use mathlib.Core.Path.{_≡_, sym, ap₂, _∙_}
 use mathlib.Core.Bool.{true}
@@ -7,26 +8,26 @@ use Rattle.calls.proofs.Answers as answers
 use Rattle.monitor.proofs.passed.request.Statement.{statement}
 use Rattle.monitor.proofs.passed.request.Tie as tie
 
--- the function's entry, and where the answer is known
+-- The function's entry, and where the answer is known.
 abbrev start : tie.After-look → tie.Start
 start c = c .before .before .before .before .before .before
 
 abbrev looked : tie.After-is-moving → tie.After-look
 looked c = c .before .before
 
--- the answer is the one that is due
+-- The answer is the one that is due.
 said : (c : tie.After-look) → let x = start c .args in
     answerOf (c .look .result) ≡ answer (x .terms .now) (x .state .now) (x .scratch .now) (x .event) (x .from) (x .to)
 said c = c .look .ensures (start c .args .scratch .now) (start c .pre .long-scratch)
 
--- what is_moving says of it
+-- What is_moving says of it.
 due : (c : tie.After-is-moving) → let x = start (looked c) .args in
     c .is-moving .result
     ≡ moves (termsOf (x .terms .now) .kept (x .event))
     (answer (x .terms .now) (x .state .now) (x .scratch .now) (x .event) (x .from) (x .to))
 due c = c .is-moving .ensures ∙ ap₂ moves (c .before .is-kept .ensures) (said (looked c))
 
--- where a moment is made, there is a verdict
+-- Where a moment is made, there is a verdict.
 decided : (c : tie.Then1) → isDecided (answerOf (looked (c .before) .look .result)) ≡ true
 decided c =
     answers.moves-decided (c .before .before .is-kept .result) (answerOf (looked (c .before) .look .result))

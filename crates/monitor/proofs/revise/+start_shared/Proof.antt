@@ -1,4 +1,5 @@
--- `revise::start_shared` meets its contract: it calls itself once, with the rows alone, and the measure is how much is lent.
+-- `revise::start_shared` meets its contract: it calls itself once, with the rows alone, and
+-- the measure is how much is lent.
 use borrow.Author.Needs.{needs}
 use native.Mathlib.Omega.{arith}
 use mathlib.Core.Path.{_≡_}
@@ -48,12 +49,6 @@ start-tables-requires t c κs =
     let p = c .before .before .before .before .before .before .before .before .before .before .before .before .before .pre .1 in
     (p .0, ((p .1 .0 .0, p .1 .0 .1, p .1 .0 .2, omega (arith, c .before .before .before .if1 .left, p .1 .0 .3)), p .1 .1))
 
-returns : (t : ℕ) → here t start-shared-lts.Need-returns
-returns t c = c .before .before .before .before .start-shared .ensures
-
-returns-2 : (t : ℕ) → here t start-shared-lts.Need-returns-2
-returns-2 t c = c .before .before .before .before .before .start-tables .ensures
-
 pub +start-shared-spec : {M : Type 1} → statement M
 +start-shared-spec = close μ-start-shared λ t. start-shared-lts.spec (callees t) (start-shared-at t) start-shared.Post
     (λ c. omega arith)
@@ -62,9 +57,9 @@ pub +start-shared-spec : {M : Type 1} → statement M
     (start-shared-requires t)
     (λ c. search needs)
     (λ c. search needs)
-    (returns t)
+    (λ c. c .before .before .before .before .start-shared .ensures)
     (λ c. search needs)
     (start-tables-requires t)
     (λ c. search needs)
     (λ c. search needs)
-    (returns-2 t)
+    (λ c. c .before .before .before .before .before .start-tables .ensures)

@@ -1,3 +1,4 @@
+-- `monitor::revise::begin` meets its contract.
 use borrow.Author.Needs.{needs}
 use native.Mathlib.Omega.{arith}
 use Prim.Native.Nat.{ℕ}
@@ -10,7 +11,7 @@ use Rattle.deciding.proofs.Starting as starting
 use Rattle.monitor.proofs.revise.begin.Statement.{statement}
 use Rattle.monitor.proofs.revise.begin.Tie as tie
 
--- the function's entry, from where the second own words are cleared
+-- The function's entry, from where the second own words are cleared.
 abbrev start : tie.After-clear → tie.Start
 start k = k .before .before .before .before .before .before .before .before .before .before
 

@@ -1,3 +1,4 @@
+-- `monitor::revise::revise` meets its contract.
 use borrow.Author.Needs.{needs}
 use Prim.Native.Nat.{ℕ, _≤_}
 use native.Mathlib.Omega.{arith}
@@ -24,14 +25,14 @@ use Rattle.deciding.proofs.Parts as parts
 use Rattle.monitor.proofs.revise.revise.Statement.{statement}
 use Rattle.monitor.proofs.revise.revise.Tie as tie
 
--- the memory is looked at
+-- The memory is looked at.
 abbrev inspected : tie.After-enum-told → tie.After-inspect-revision
 inspected c = c .before .before
 
 abbrev start : tie.After-inspect-revision → tie.Start
 start c = c .before .before .before .before .before .before .before .before
 
--- it passes
+-- It passes.
 is-passed : (c : tie.After-enum-told) → let x = start (inspected c) .args in passed ≡ revises (x .old .now) (x .state .now) (x .new .now) (x .second .now)
 is-passed c = sym (ap outcomeOf (c .enum-told .given .1)) ∙ inspected c .inspect-revision .ensures .0
 
@@ -41,7 +42,7 @@ says c = passed-revisable _ _ _ _ (is-passed c)
 passes : (c : tie.After-enum-told) → hasPassed (outcomeOf (inspected c .inspect-revision .result)) ≡ true
 passes c = ap hasPassed (ap outcomeOf (c .enum-told .given .1))
 
--- the parts of the state are a bank's
+-- The parts of the state are a bank's.
 revising : {old before after : List ℕ} {state new second : List ℕ} → Revisable old state new second → Planned (termsOf old) before → Planned (termsOf new) after →
     Revising old before (relationsOf state ++ pastOf state) new after
 revising {old} {before} {after} {state} s p q = record {
@@ -56,19 +57,16 @@ revising {old} {before} {after} {state} s p q = record {
   same = s .same;
 }
 
--- the second state, with the relations in it, is as long
+-- The second state, with the relations in it, is as long.
 second-long : (c : tie.After-copy) → let x = start (inspected (c .before .before .before .before)) .args in stateWords ≤ length (putMid 0 relationWords (x .second .now) (c .copy .last .0))
 second-long c =
     let k = c .before .before .before .before in
     let x = start (inspected k) .args in
     omega (arith, same-len-mid 0 relationWords (x .second .now) (c .copy .last .0) (c .copy .kept .0), says k .long-second)
 
--- there is room for the relations
+-- There is room for the relations.
 room : (state second : List ℕ) → stateWords ≤ length state → stateWords ≤ length second → length (take relationWords second) ≤ length state
 room state second l m = omega (arith, length-take-le relationWords second (omega (arith, m)))
-
-part-copy-end : tie.Need-part-copy-end
-part-copy-end c = omega (arith, says (c .before .before) .long-second)
 
 copy-requires : tie.Need-copy-requires
 copy-requires c κs =
@@ -87,9 +85,6 @@ part-begin-end-2 c = omega (arith, says (c .before .before .before .before .befo
 
 slice-aggregate-begin-2 : tie.Need-slice-aggregate-begin-2
 slice-aggregate-begin-2 c = let k = c .before .before .before .before .before .before .before .before .before .before in sym (inspected k .inspect-revision .ensures .1 .1 .0 (passes k) .long)
-
-part-begin-end-3 : tie.Need-part-begin-end-3
-part-begin-end-3 c = second-long (c .before .before .before .before .before .before .before)
 
 begin-requires : tie.Need-begin-requires
 begin-requires c κs =
@@ -138,7 +133,7 @@ revise-spec =
     (λ c κs. search needs)
     (λ c. search needs)
     (λ c. search needs)
-    part-copy-end
+    (λ c. omega (arith, says (c .before .before) .long-second))
     copy-requires
     slice-aggregate-begin
     (λ c. search needs)
@@ -151,7 +146,7 @@ revise-spec =
     (λ c. search needs)
     (λ c. search needs)
     (λ c. search needs)
-    part-begin-end-3
+    (λ c. second-long (c .before .before .before .before .before .before .before))
     begin-requires
     (λ c. search needs)
     returns

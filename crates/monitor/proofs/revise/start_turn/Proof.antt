@@ -1,3 +1,4 @@
+-- `monitor::revise::start_turn` meets its contract.
 use borrow.Author.Needs.{needs}
 use Prim.Native.Nat.{ℕ, _+_, _*_, _≤_, _<_}
 use native.Mathlib.Omega.{arith}
@@ -17,7 +18,7 @@ use Rattle.deciding.proofs.Starting as starting
 use Rattle.monitor.proofs.revise.start_turn.Statement.{statement}
 use Rattle.monitor.proofs.revise.start_turn.Tie as tie
 
--- the laws of a turn, where k is the class that was looked up
+-- The laws of a turn, where k is the class that was looked up.
 module _ {old before new plan : List ℕ} (relations own : List ℕ) (r : Revising old before (relations ++ own) new plan) (long : length relations ≡ relationWords)
     (n k : ℕ) (nl : n < termsOf new .entries) (e : k ≡ firstSame (termsOf old) (formula (termsOf new) n)) (p : isPast (termsOf new .entry n .op) ≡ true)
     (kl : k < termsOf old .entries)
@@ -40,22 +41,22 @@ module _ {old before new plan : List ℕ} (relations own : List ℕ) (r : Revisi
         64 * planTable (getD plan n 0) + 64 ≤ length second
     second-fits second has size = subst (λ (m : ℕ). 64 * planTable (getD plan n 0) + 64 ≤ m) (sym size) (moves.own-fits (starting.begun-movable r n has) n nl p)
 
--- the function's entry, from where the class is known
+-- The function's entry, from where the class is known.
 abbrev start : tie.After-word → tie.Start
 start c = c .before .before .before .before .before .before .before .before .before .before .before .before
 
--- the class
+-- The class.
 class : (c : tie.After-word) → let x = start c .args in c .word .result ≡ firstSame (termsOf (x .old .now)) (formula (termsOf (x .new .now)) (x .n))
 class c = c .word .ensures .0 ∙ start c .pre .0 .1 .here _ (start c .pre .1 .1 .0 .0)
 
--- an old entry has the formula
+-- An old entry has the formula.
 abbrev found : tie.Then1 → tie.After-word
 found c = c .before .before
 
 found-lower : (c : tie.Then1) → found c .word .result < termsOf (start (found c) .args .old .now) .entries
 found-lower c = omega (arith, c .if1 .taken, c .before .entries .ensures .0)
 
--- and the entry is past-time
+-- And the entry is past-time.
 abbrev looked : tie.After-is-past → tie.Then1
 looked c = c .before .before
 

@@ -1,3 +1,4 @@
+-- `monitor::set_list::finish` meets its contract.
 use borrow.Author.Needs.{needs}
 use Rattle.monitor.proofs.set_list.finish.Statement.{statement}
 use Rattle.monitor.proofs.set_list.finish.Tie as tie

@@ -1,6 +1,7 @@
--- `set_list::set_list` meets its contract: a walk of its MIR, by hand, since no rule covers a slice of structs. The borrow of the records is opened once, before
--- the loop, and closed once, after it. Each turn takes one record out of the row, copies it, calls `step` with terms copied and state and scratch lent again for
--- the call, stores the answer and counts it. What the loop keeps of the values is `Listing`'s, with no program in it.
+-- `set_list::set_list` meets its contract: a walk of its MIR, by hand, since no rule covers a slice of structs. The
+-- borrow of the records is opened once, before the loop, and closed once, after it. Each turn takes one record out of
+-- the row, copies it, calls `step` with terms copied and state and scratch lent again for the call, stores the answer
+-- and counts it. What the loop keeps of the values is `Listing`'s, with no program in it.
 use mathlib.Core.Path.{_≡_, refl, sym, ap, _∙_, subst}
 use Prim.Native.Nat.{ℕ, zero, suc, _+_, _<_, _^_}
 use native.Mathlib.Nat.{add-zero, zero-add, lt-suc-self, lt-of-le-of-lt, lt-of-lt-of-le, le-of-lt, le-refl}
@@ -97,7 +98,7 @@ abbrev stayed : Stays (f.ended .signature .params) (f.ended .kept)
 stayed =
     (stay-none-slice (0 ∷ []) tt (plain (λ _. u16)) yes, (stay-slice (1 ∷ []) tt (plain (λ _. u64)), (stay-slice (2 ∷ []) tt (plain (λ _. u64)), (stay-slice (3 ∷ []) tt (plain (λ _. R)), tt))))
 
--- the contracts that the proof cites
+-- The contracts that the proof cites.
 module _ {M : Type 1} (𝓤 : URA M) (H : Heap 𝓤) (A : Atoms 𝓤) (mem : Memory → SProp 𝓤) (run : Routine → Fun 𝓤) where
   abbrev Inspect : Contract 𝓤
   Inspect = tripleOf 𝓤 H A inspect.signature (inspect.spec 𝓤 H A mem run)
@@ -114,7 +115,7 @@ module _ {M : Type 1} (𝓤 : URA M) (H : Heap 𝓤) (A : Atoms 𝓤) (mem : Mem
   abbrev Finish : Contract 𝓤
   Finish = tripleOf 𝓤 H A finish.signature (finish.spec 𝓤 H A mem run)
 
--- the types of the locals
+-- The types of the locals.
 abbrev word : Ty
 word = tyInt w64
 
@@ -138,7 +139,7 @@ module _ {M : Type 1} (𝓤 : URA M) (H : Heap 𝓤) (A : Atoms 𝓤) (W : Given
   abbrev n₀ : ℕ
   n₀ = length ys₀
 
-  -- the four borrows' values, and the machine values, which no turn changes
+  -- The four borrows' values, and the machine values, which no turn changes.
   abbrev x : List Record → RefT (List Record)
   x l = record { ptr = (b, o); name = γ; now = l }
 
@@ -175,7 +176,7 @@ module _ {M : Type 1} (𝓤 : URA M) (H : Heap 𝓤) (A : Atoms 𝓤) (W : Given
   abbrev Post : Val → SProp 𝓤
   Post = walkOf 𝓤 H A f.ended stayed (f.clauses 𝓤 H A at-mem run) .post (((κt, (κs, (κc, (κr, tt)))), (qt, (qs, (qc, (qr, tt)))), tt, a, at), tt)
 
-  -- what the borrows of terms, state and scratch own
+  -- What the borrows of terms, state and scratch own.
   abbrev own-t : Fml
   own-t = ShrSlice (named 0) κt u16 .own xt (mt ∷ [])
 
@@ -202,7 +203,7 @@ module _ {M : Type 1} (𝓤 : URA M) (H : Heap 𝓤) (A : Atoms 𝓤) (W : Given
       split ! $ move ! (1 ∷ []) $ split ! $ nothing ! $ move ! (2 ∷ 0 ∷ []) $ join ! $ move ! (1 ∷ 0 ∷ []) $ join ! $ move ! (1 ∷ 0 ∷ []) $ join ! $
       move ! (1 ∷ []) $ split ! $ move ! (1 ∷ []) $ split ! $ nothing ! $ move ! (2 ∷ 0 ∷ []) $ fjoin ! $ move ! (1 ∷ 0 ∷ []) $ fjoin ! $ move ! (1 ∷ 0 ∷ []) $ fjoin ! $ move ! (1 ∷ 0 ∷ []) $ join ! $ frame ! $ done !
 
-  -- the struct that `inspect` leaves, by value
+  -- The struct that `inspect` leaves, by value.
   abbrev makes-i : (c : Inspected) (vs : List Val) → Is I.the-row c vs → ent 𝓤 (emp 𝓤) (sem 𝓤 H A (I.the-row .own c vs))
   makes-i = LL.makes I.the-type I′.the-plain 𝓤 H A
 
@@ -262,18 +263,18 @@ module _ {M : Type 1} (𝓤 : URA M) (H : Heap 𝓤) (A : Atoms 𝓤) (W : Given
     abbrev E : Env 𝓤 H
     E = (S′.mir, l₀) ∷ (terms-ty, l₁) ∷ (words 1, l₂) ∷ (words 2, l₃) ∷ (recs, l₄) ∷ (I′.mir, l₅) ∷ (word, l₆) ∷ (word, l₇) ∷ (word, l₈) ∷ (T′.mir, l₉) ∷ (half, l₁₀) ∷ (word-ref, l₁₁) ∷ (sliceTy word-ref, l₁₂) ∷ (word-ref, l₁₃) ∷ (sliceTy word-ref, l₁₄) ∷ (word, l₁₅) ∷ (tyBool, l₁₆) ∷ (word, l₁₇) ∷ (tyPtr, l₁₈) ∷ (T′.mir, l₁₉) ∷ (word-ref, l₂₀) ∷ (sliceTy word-ref, l₂₁) ∷ (word-ref, l₂₂) ∷ (sliceTy word-ref, l₂₃) ∷ (tyPtr, l₂₄) ∷ []
 
-    -- what the four borrows own, with their tokens
+    -- What the four borrows own, with their tokens.
     abbrev Owned : List (Item 𝓤) → List (Item 𝓤)
     Owned Γ = ‵ (MutSlice (named 3) κr R .own (x ys₀) (mr ∷ [])) ∷ ‵ (flft κr qr) ∷ ‵ own-t ∷ ‵ (flft κt qt) ∷ ‵ (own-s κs γs st₀) ∷ ‵ (flft κs qs) ∷ ‵ (own-c κc γc sc₀) ∷ ‵ (flft κc qc)
         ∷ ‵ (fat fullShare terms-ty l₁ 0 mt) ∷ ‵ (fat fullShare (words 1) l₂ 0 ms) ∷ ‵ (fat fullShare (words 2) l₃ 0 mc) ∷ ‵ (fat fullShare recs l₄ 0 mr) ∷ Γ
 
-    -- room for the other locals but _5, and that each local dies
+    -- Room for the other locals but _5, and that each local dies.
     abbrev Others : List (Item 𝓤)
     Others = ‵ (froom word l₆ 0) ∷ ‵ (froom word l₇ 0) ∷ ‵ (froom word l₈ 0) ∷ ‵ (froom T′.mir l₉ 0) ∷ ‵ (froom half l₁₀ 0) ∷ ‵ (froom word-ref l₁₁ 0) ∷ ‵ (froom (sliceTy word-ref) l₁₂ 0) ∷ ‵ (froom word-ref l₁₃ 0) ∷ ‵ (froom (sliceTy word-ref) l₁₄ 0) ∷ ‵ (froom word l₁₅ 0) ∷ ‵ (froom tyBool l₁₆ 0) ∷ ‵ (froom word l₁₇ 0) ∷ ‵ (froom tyPtr l₁₈ 0) ∷ ‵ (froom T′.mir l₁₉ 0) ∷ ‵ (froom word-ref l₂₀ 0) ∷ ‵ (froom (sliceTy word-ref) l₂₁ 0) ∷ ‵ (froom word-ref l₂₂ 0) ∷ ‵ (froom (sliceTy word-ref) l₂₃ 0) ∷ ‵ (froom tyPtr l₂₄ 0) ∷ ‵ (froom S′.mir l₀ 0)
         ∷ ‵ (fdies S′.mir l₀) ∷ ‵ (fdies terms-ty l₁) ∷ ‵ (fdies (words 1) l₂) ∷ ‵ (fdies (words 2) l₃) ∷ ‵ (fdies recs l₄) ∷ ‵ (fdies I′.mir l₅) ∷ ‵ (fdies word l₆) ∷ ‵ (fdies word l₇) ∷ ‵ (fdies word l₈) ∷ ‵ (fdies T′.mir l₉) ∷ ‵ (fdies half l₁₀) ∷ ‵ (fdies word-ref l₁₁) ∷ ‵ (fdies (sliceTy word-ref) l₁₂) ∷ ‵ (fdies word-ref l₁₃) ∷ ‵ (fdies (sliceTy word-ref) l₁₄) ∷ ‵ (fdies word l₁₅) ∷ ‵ (fdies tyBool l₁₆) ∷ ‵ (fdies word l₁₇) ∷ ‵ (fdies tyPtr l₁₈) ∷ ‵ (fdies T′.mir l₁₉) ∷ ‵ (fdies word-ref l₂₀) ∷ ‵ (fdies (sliceTy word-ref) l₂₁) ∷ ‵ (fdies word-ref l₂₂) ∷ ‵ (fdies (sliceTy word-ref) l₂₃) ∷ ‵ (fdies tyPtr l₂₄) ∷ []
 
     module _ (c : Inspected) (wc : Val) (isc : Is I.the-row c (wc ∷ [])) (seen : Seen ts st₀ sc₀ c) where
-      -- how many records are answered
+      -- How many records are answered.
       abbrev n : ℕ
       n = turnsOf (outcomeOf (c .outcome)) n₀
 
@@ -287,11 +288,13 @@ module _ {M : Type 1} (𝓤 : URA M) (H : Heap 𝓤) (A : Atoms 𝓤) (W : Given
           suffices ! _ (ends-at 𝓤 H A f.ended stayed (f.clauses 𝓤 H A at-mem run) W (((κt, (κs, (κc, (κr, tt)))), (qt, (qs, (qc, (qr, tt)))), tt, a, at), tt) w r (tt, (st, (sc, (ys, tt)))) (tt, (F .kept .words, (F .kept .scraps, (F .size, tt))))) $
           says ! (ended-facts ts ys₀ st₀ sc₀ c seen g ys st sc r e F) $
           nothing ! $ move ! (3 ∷ 0 ∷ []) $ join ! $ move ! (8 ∷ 0 ∷ []) $ join ! $ move ! (6 ∷ 0 ∷ []) $ join ! $ move ! (4 ∷ 0 ∷ []) $ join ! $ frame ! $
-          -- [obs; the borrow; terms; state; scratch; the result]
+          -- [obs; the borrow; terms; state; scratch; the result].
           fjoin ! $ pureI ! (at-slice R (x ys) (mr ∷ [])) (tt, (tt, tt)) (ap (λ (m : ℕ). sliceVal (b, o) m ∷ []) (sym (F .size)), subst (Room R) (sym (F .size)) room) $ fjoin ! $
           nothing ! $ move ! (1 ∷ 0 ∷ []) $ fjoin ! $ move ! (3 ∷ 0 ∷ []) $ fjoin ! $ move ! (2 ∷ 0 ∷ []) $ fjoin ! $ move ! (1 ∷ 0 ∷ []) $ fjoin ! $ done !
 
-      -- at the loop's head: the row of records and the open borrow; what terms, state and scratch own, with their tokens; the count, the index, the checks' number, the limit; the parameters' locals; room for the rest; and that each local dies
+      -- At the loop's head: the row of records and the open borrow; what terms, state and scratch own, with
+      -- their tokens; the count, the index, the checks' number, the limit; the parameters' locals; room for the
+      -- rest; and that each local dies.
       abbrev At : ℕ → ℕ → List Record → List ℕ → List ℕ → List (Item 𝓤)
       At i g ys st sc = ‵ (row R fullShare ys b o) ∷ ‵ (fobor κr qr (Held R n₀ b o γ)) ∷ ‵ (fobs γ (codedHoleys R .code (heres R ys₀))) ∷ ‵ (fauth γ (codedHoleys R .code (heres R ys₀)))
           ∷ ‵ own-t ∷ ‵ (flft κt qt) ∷ ‵ (own-s κs γs st) ∷ ‵ (flft κs qs) ∷ ‵ (own-c κc γc sc) ∷ ‵ (flft κc qc)
@@ -309,18 +312,18 @@ module _ {M : Type 1} (𝓤 : URA M) (H : Heap 𝓤) (A : Atoms 𝓤) (W : Given
       abbrev Known : ℕ → Head → Type 0
       Known t h = (h .0 + t ≡ n) × Facts ts ys₀ st₀ sc₀ c seen (h .0) (h .1) (h .2) (h .3) (h .4)
 
-      -- the invariant, where t records are left
+      -- The invariant, where t records are left.
       abbrev Inv : ℕ → SProp 𝓤
       Inv t = ex 𝓤 (λ (h : Head). guard 𝓤 (Known t h) (Has h))
 
       abbrev Below : ℕ → SProp 𝓤
       Below t = ex 𝓤 (λ (t′ : ℕ). guard 𝓤 (t′ < t) (Inv t′))
 
-      -- when the loop is left, the rest of the body runs
+      -- When the loop is left, the rest of the body runs.
       abbrev Left : Out → SProp 𝓤
       Left = afterBlock 𝓤 H (afterSeq 𝓤 H (Wp 𝓤 H C Λ E mir.t-11 (atReturn 𝓤 H E Post)) (atReturn 𝓤 H E Post))
 
-      -- a turn that answers one record
+      -- A turn that answers one record.
       module _ (i g : ℕ) (ys : List Record) (st sc : List ℕ) (F : Facts ts ys₀ st₀ sc₀ c seen i g ys st sc) (l : i < n) where
         abbrev elem : Record
         elem = getD ys i blank
@@ -347,7 +350,7 @@ module _ {M : Type 1} (𝓤 : URA M) (H : Heap 𝓤) (A : Atoms 𝓤) (W : Given
             qed W (At i g ys st sc) ∵ exec ! C Λ E mir.turn-1 (anyQ (afterTurn 𝓤 H X Left)) $
             assigns ! (bin ! (load ! (from ! (stop !)) (look ! 11 refl)) (load ! (from ! (stop !)) (look ! 13 refl)) tt) (from ! (stop !)) (init ! 25 refl (tt, tt)) $ rewrite ! 25 (λ (t : Bool). ‵ (fat fullShare tyBool l₁₆ 0 (vbool t))) (lt-ltb i n l) refl $
             stays ! (load ! (from ! (stop !)) (look ! 25 refl)) $
-            -- the record is taken out of the row, and copied
+            -- The record is taken out of the row, and copied.
             assigns ! (bin ! (load ! (from ! (stop !)) (look ! 11 refl)) (lit ! tt) (scaled i (length ys) in-list room-ys)) (from ! (stop !)) (init ! 26 refl (tt, (scaled i (length ys) in-list room-ys))) $ assigns ! (bin ! (load ! (from ! (fld ! refl (stop !))) (look-in ! 17 (sub ! 0 refl (whole !)))) (load ! (from ! (stop !)) (look ! 26 refl)) tt) (from ! (stop !)) (init ! 27 refl (tt, tt)) $
             rewrite ! 27 (λ (p : ℕ). ‵ (fat fullShare tyPtr l₁₈ 0 (vptr b p))) (at-place o i) refl $
             elem-out ! R (Is R) (shows 𝓤 H A R) vals tells fullShare ys i blank b o in-list (λ g′.
@@ -357,7 +360,7 @@ module _ {M : Type 1} (𝓤 : URA M) (H : Heap 𝓤) (A : Atoms 𝓤) (W : Given
             assigns ! (agg ! (and-then ! (load ! (from ! (stop !)) (look ! 31 refl)) (and-then ! (load ! (from ! (fld ! refl (stop !))) (look-in ! 17 (sub ! 1 refl (whole !)))) (no-more !)))) (from ! (stop !)) (init ! 32 refl (tt, (tt, (record { fits = room-s .0 }, tt)))) $
             assigns ! (addr ! (from ! (fld ! refl (hop ! (look-in ! 18 (sub ! 0 refl (whole !))) (stop !))))) (from ! (stop !)) (init ! 33 refl (tt, tt)) $
             assigns ! (agg ! (and-then ! (load ! (from ! (stop !)) (look ! 33 refl)) (and-then ! (load ! (from ! (fld ! refl (stop !))) (look-in ! 18 (sub ! 1 refl (whole !)))) (no-more !)))) (from ! (stop !)) (init ! 34 refl (tt, (tt, (record { fits = room-c .0 }, tt)))) $
-            -- terms are copied; state and scratch are lent again, each for a lifetime of the call
+            -- Terms are copied; state and scratch are lent again, each for a lifetime of the call.
             move ! (6 ∷ []) $ use1 W (‵ own-t ⊛ ‵ own-t) (shr-slice-copy 𝓤 H A W (named 0) κt u16 .twice xt (mt ∷ [])) $ split ! $
             move ! (9 ∷ 10 ∷ []) $ use2 W (later (some (λ (p : ℕ × GName). (‵ (flft (p .0 ∷ []) fullShare) ⊛ ‵ (own-s (p .0 ∷ []) (p .1) st)) ⊛ ‵ (LentAgain u64 κs (p .0 ∷ []) qs γs bs os (p .1) st)))) (takes-slice u64 κs qs γs bs os 𝓤 H A W (named 1) (named 1) st (length st₀) (F .kept .words)) $ await ! tt $ pick ! (λ ps. split ! $ split ! $
             move ! (12 ∷ 13 ∷ []) $ use2 W (later (some (λ (p : ℕ × GName). (‵ (flft (p .0 ∷ []) fullShare) ⊛ ‵ (own-c (p .0 ∷ []) (p .1) sc)) ⊛ ‵ (LentAgain u64 κc (p .0 ∷ []) qc γc bc oc (p .1) sc)))) (takes-slice u64 κc qc γc bc oc 𝓤 H A W (named 2) (named 2) sc (length sc₀) (F .kept .scraps)) $ await ! tt $ pick ! (λ pc. split ! $ split ! $
@@ -369,13 +372,13 @@ module _ {M : Type 1} (𝓤 : URA M) (H : Heap 𝓤) (A : Atoms 𝓤) (W : Given
             split ! $ move ! (1 ∷ []) $ split ! $ move ! (1 ∷ []) $ split ! $ move ! (1 ∷ []) $ drop ! $
             move ! (1 ∷ 6 ∷ 4 ∷ []) $ use3 W (later (‵ (own-s κs γs (zs .1 .0)) ⊛ ‵ (flft κs qs))) (gives-slice u64 κs qs γs bs os 𝓤 H A W (named 1) (named 1) st (length st₀) (F .kept .words) (ps .0) (ps .1) (zs .1 .0) room-s len) $ await ! tt $ split ! $
             move ! (2 ∷ 5 ∷ 4 ∷ []) $ use3 W (later (‵ (own-c κc γc (zs .1 .1 .0)) ⊛ ‵ (flft κc qc))) (gives-slice u64 κc qc γc bc oc 𝓤 H A W (named 2) (named 2) sc (length sc₀) (F .kept .scraps) (pc .0) (pc .1) (zs .1 .1 .0) room-c len′) $ await ! tt $ split ! $
-            -- the answer is stored in the record, which is put in its place
+            -- The answer is stored in the record, which is put in its place.
             assigns ! (bin ! (load ! (from ! (stop !)) (look ! 13 refl)) (lit ! tt) (scaled i (length ys) in-list room-ys)) (from ! (stop !)) (store ! 28 refl (tt, (scaled i (length ys) in-list room-ys))) $ assigns ! (bin ! (load ! (from ! (fld ! refl (stop !))) (look-in ! 19 (sub ! 0 refl (whole !)))) (load ! (from ! (stop !)) (look ! 28 refl)) tt) (from ! (stop !)) (init ! 35 refl (tt, tt)) $
             rewrite ! 35 (λ (p : ℕ). ‵ (fat fullShare tyPtr l₂₄ 0 (vptr b p))) (at-place o i) refl $
             assigns ! (of-opd ! (load ! (from ! (stop !)) (look ! 21 refl))) (from ! (hop ! (look ! 35 refl) (fld ! refl (stop !)))) (store-in ! 6 (sub ! 3 refl (whole !)) (tt, record { fits = is .1 })) $
             move ! (6 ∷ []) $ use1 W (‵ (cellAt fullShare (R .mir) (vals (put-answer elem r)) b (place (mem-of R .size) o i))) (W .laws .at-raw fullShare T′.mir b (place (mem-of R .size) o i) (val (put-answer elem r))) $
             move ! (7 ∷ []) $ drop ! $ owned ! R (Is R) (LL.makes T.the-type T′.the-plain 𝓤 H A) (put-answer elem r) _ (with-answer elem g′ r (is .1)) $ move ! (1 ∷ 0 ∷ 8 ∷ []) $ elem-put ! R fullShare ys i (put-answer elem r) (vals (put-answer elem r)) b o in-list $
-            -- and counted
+            -- And counted.
             use0 W (raw (Tally 𝓤 H A at-mem run .pre (to-tally g r))) (goes-tally g r g-fits (is .1) g-small) $ calls-at ! fm (Tally 𝓤 H A at-mem run) known-tally (to-tally g r) (and-then ! (load ! (from ! (stop !)) (look ! 11 refl)) (and-then ! (load ! (from ! (stop !)) (look ! 20 refl)) (no-more !))) (λ wk.
             use1 W (later (some (λ (k : ℕ). (‵ ftrue ⊛ ‵ (usize .own k (wk ∷ []))) ⊛ raw (ensured 𝓤 H A tally.ended (tally.clauses 𝓤 H A at-mem run) tt (g, (r, tt)) tt k)))) (id⊢ 𝓤 _) $ await ! tt $ pick ! (λ k. split ! $ move ! (1 ∷ []) $
             use1 W (raw (fact 𝓤 (k ≡ g + gainOf r))) (tallied g r k) $ heard ! (k ≡ g + gainOf r) (λ ek. split ! $ drop ! $ peeks ! usize (Is usize) (shows 𝓤 H A usize) k (wk ∷ []) (λ isk. land ! (from ! (stop !)) (store ! 11 refl (uint-lawful 𝓤 H A W w64 .typed k _ isk .0)) $ rewrite ! 11 (λ (u : Val). ‵ (fat fullShare word l₇ 0 u)) (ap only (isk .0) ∙ ap (vint w64) ek) refl $ drop ! $
@@ -383,7 +386,7 @@ module _ {M : Type 1} (𝓤 : URA M) (H : Heap 𝓤) (A : Atoms 𝓤) (W : Given
             forget ! 18 refl $ forget ! 19 refl $ forget ! 25 refl $ forget ! 26 refl $ forget ! 27 refl $ forget ! 28 refl $ forget ! 29 refl $ forget ! 30 refl $ forget ! 31 refl $ forget ! 32 refl $ forget ! 33 refl $
             keep ! (0 ∷ 7 ∷ 8 ∷ 9 ∷ 6 ∷ 5 ∷ 3 ∷ 4 ∷ 1 ∷ 2 ∷ 10 ∷ 11 ∷ 12 ∷ 13 ∷ 14 ∷ 15 ∷ 16 ∷ 17 ∷ 18 ∷ 19 ∷ 20 ∷ 21 ∷ 22 ∷ 23 ∷ 24 ∷ 25 ∷ 26 ∷ 27 ∷ 28 ∷ 29 ∷ 30 ∷ 31 ∷ 32 ∷ 33 ∷ 34 ∷ 35 ∷ 36 ∷ 37 ∷ 38 ∷ 39 ∷ 40 ∷ 41 ∷ 42 ∷ 43 ∷ 44 ∷ 45 ∷ 46 ∷ 47 ∷ 48 ∷ 49 ∷ 50 ∷ 51 ∷ 52 ∷ 53 ∷ 54 ∷ 55 ∷ 56 ∷ 57 ∷ 58 ∷ 59 ∷ []) $ by ! (k-next r (zs .1 .0) (zs .1 .1 .0) e len len′)))))))))))))))
 
-      -- the turn that leaves the loop, and the rest of the body
+      -- The turn that leaves the loop, and the rest of the body.
       leaves : (g : ℕ) (ys : List Record) (st sc : List ℕ) (X : SProp 𝓤) → g < 2 ^ 64 → Facts ts ys₀ st₀ sc₀ c seen n g ys st sc → ent 𝓤 (⋆ 𝓤 H A (At n g ys st sc)) (Wp 𝓤 H C Λ E mir.turn-1 (afterTurn 𝓤 H X Left))
       unfolding afterTurn
       leaves g ys st sc X g-fits F =
@@ -401,14 +404,14 @@ module _ {M : Type 1} (𝓤 : URA M) (H : Heap 𝓤) (A : Atoms 𝓤) (W : Given
           move ! (10 ∷ 11 ∷ []) $ free1 ! $ free0 ! $
           keep ! (0 ∷ 1 ∷ 2 ∷ 4 ∷ 5 ∷ 6 ∷ 7 ∷ 8 ∷ 9 ∷ 3 ∷ []) $ by ! (exits g ys st sc w r F e)))))
 
-      -- the invariant from what is held
+      -- The invariant from what is held.
       inv : (t : ℕ) (h : Head) → Known t h → ent 𝓤 (Has h) (Inv t)
       inv t h kn = via 𝓤 (guard 𝓤 (Known t h) (Has h)) (guardI 𝓤 (Known t h) (Has h) kn) (exI 𝓤 (λ (j : Head). guard 𝓤 (Known t j) (Has j)) h)
 
       below : (t t′ : ℕ) (h : Head) → t′ < t → Known t′ h → ent 𝓤 (Has h) (Below t)
       below t t′ h less kn = via 𝓤 (Inv t′) (inv t′ h kn) (via 𝓤 (guard 𝓤 (t′ < t) (Inv t′)) (guardI 𝓤 (t′ < t) (Inv t′) less) (exI 𝓤 (λ (u : ℕ). guard 𝓤 (u < t) (Inv u)) t′))
 
-      -- a turn from the invariant at t leaves the loop, or ends in the invariant below t
+      -- A turn from the invariant at t leaves the loop, or ends in the invariant below t.
       turn-at : (t i g : ℕ) (ys : List Record) (st sc : List ℕ) → i + t ≡ n → Facts ts ys₀ st₀ sc₀ c seen i g ys st sc → ent 𝓤 (⋆ 𝓤 H A (At i g ys st sc)) (Wp 𝓤 H C Λ E mir.turn-1 (afterTurn 𝓤 H (Below t) Left))
       turn-at zero i g ys st sc e F = subst (λ (j : ℕ). Facts ts ys₀ st₀ sc₀ c seen j g ys st sc → ent 𝓤 (⋆ 𝓤 H A (At j g ys st sc)) (Wp 𝓤 H C Λ E mir.turn-1 (afterTurn 𝓤 H (Below zero) Left))) (sym e ∙ add-zero i)
           (λ G. leaves g ys st sc (Below zero) (lt-of-le-of-lt (G .small) n-fits) G) F
@@ -428,22 +431,22 @@ module _ {M : Type 1} (𝓤 : URA M) (H : Heap 𝓤) (A : Atoms 𝓤) (W : Given
       loops : ent 𝓤 (⋆ 𝓤 H A (At 0 0 ys₀ st₀ sc₀)) (Wp 𝓤 H C Λ E (loop mir.turn-1) Left)
       loops = via 𝓤 (Inv n) (inv n (0, 0, ys₀, st₀, sc₀) (zero-add n, begins ts ys₀ st₀ sc₀ c seen)) (loop-rule 𝓤 H (W .laws) 𝓣 _<_ (Nat·lt-wfRel .wf) E mir.turn-1 Left Inv turns n)
 
-      -- from the checks' number to the loop
+      -- From the checks' number to the loop.
       second : ent 𝓤 (⋆ 𝓤 H A (Owned (‵ (fat fullShare I′.mir l₅ 0 wc) ∷ Others))) (Wp 𝓤 H C Λ E mir.t-6 (atReturn 𝓤 H E Post))
       second =
           qed W (Owned (‵ (fat fullShare I′.mir l₅ 0 wc) ∷ Others)) ∵ exec ! C Λ E mir.t-6 (atRet E Post) $
-          -- how many records are answered
+          -- How many records are answered.
           assigns ! (of-opd ! (load ! (from ! (fld ! refl (stop !))) (look-in ! 11 (sub ! 1 refl (whole !))))) (from ! (stop !)) (init ! 22 refl (tt, record { fits = room .0 })) $
           use0 W (raw (Limit 𝓤 H A at-mem run .pre (to-limit c wc))) (goes-limit c wc isc (room .0)) $ calls-at ! fm (Limit 𝓤 H A at-mem run) known-limit (to-limit c wc) (and-then ! (load ! (from ! (stop !)) (look ! 13 refl)) (and-then ! (load ! (from ! (stop !)) (look ! 23 refl)) (no-more !))) (λ wk.
           use1 W (later (some (λ (k : ℕ). (‵ ftrue ⊛ ‵ (usize .own k (wk ∷ []))) ⊛ raw (ensured 𝓤 H A limit.ended (limit.clauses 𝓤 H A at-mem run) tt (c, (n₀, tt)) tt k)))) (id⊢ 𝓤 _) $ await ! tt $ pick ! (λ k. split ! $ move ! (1 ∷ []) $
           use1 W (raw (fact 𝓤 (k ≡ n))) (limited c k) $ heard ! (k ≡ n) (λ ek. split ! $ drop ! $ peeks ! usize (Is usize) (shows 𝓤 H A usize) k (wk ∷ []) (λ isk. land ! (from ! (stop !)) (init ! 14 refl (uint-lawful 𝓤 H A W w64 .typed k _ isk .0)) $ rewrite ! 14 (λ (u : Val). ‵ (fat fullShare word l₆ 0 u)) (ap only (isk .0) ∙ ap (vint w64) ek) refl $ drop ! $
           assigns ! (of-opd ! (lit ! tt)) (from ! (stop !)) (init ! 14 refl (tt, record { fits = lit< tt })) $ assigns ! (of-opd ! (lit ! tt)) (from ! (stop !)) (init ! 15 refl (tt, record { fits = lit< tt })) $
           forget ! 22 refl $
-          -- the borrow of the records is opened, once for the whole loop
+          -- The borrow of the records is opened, once for the whole loop.
           fsplit ! $ move ! (1 ∷ []) $ fsplit ! $ move ! (2 ∷ []) $ drop ! $ opens-slice ! tt R ys₀ b o $
           keep ! (0 ∷ 1 ∷ 2 ∷ 3 ∷ 4 ∷ 5 ∷ 6 ∷ 7 ∷ 8 ∷ 9 ∷ 16 ∷ 17 ∷ 14 ∷ 15 ∷ 10 ∷ 11 ∷ 12 ∷ 13 ∷ 18 ∷ 19 ∷ 20 ∷ 21 ∷ 22 ∷ 23 ∷ 24 ∷ 25 ∷ 26 ∷ 27 ∷ 28 ∷ 29 ∷ 30 ∷ 31 ∷ 32 ∷ 33 ∷ 34 ∷ 35 ∷ 36 ∷ 37 ∷ 38 ∷ 39 ∷ 40 ∷ 41 ∷ 42 ∷ 43 ∷ 44 ∷ 45 ∷ 46 ∷ 47 ∷ 48 ∷ 49 ∷ 50 ∷ 51 ∷ 52 ∷ 53 ∷ 54 ∷ 55 ∷ 56 ∷ 57 ∷ 58 ∷ 59 ∷ []) $ by ! loops))))
 
-    -- up to the checks' number
+    -- Up to the checks' number.
     start : ent 𝓤 (⋆ 𝓤 H A (Owned (‵ (froom I′.mir l₅ 0) ∷ Others))) (Wp 𝓤 H C Λ E mir.t-1 (atReturn 𝓤 H E Post))
     start =
         qed W (Owned (‵ (froom I′.mir l₅ 0) ∷ Others)) ∵ exec ! C Λ E mir.t-1 (atRet E Post) $
@@ -451,7 +454,7 @@ module _ {M : Type 1} (𝓤 : URA M) (H : Heap 𝓤) (A : Atoms 𝓤) (W : Given
         assigns ! (agg ! (and-then ! (load ! (from ! (stop !)) (look ! 18 refl)) (and-then ! (load ! (from ! (fld ! refl (stop !))) (look-in ! 9 (sub ! 1 refl (whole !)))) (no-more !)))) (from ! (stop !)) (init ! 19 refl (tt, (tt, (record { fits = room-s .0 }, tt)))) $
         assigns ! (addr ! (from ! (fld ! refl (hop ! (look-in ! 10 (sub ! 0 refl (whole !))) (stop !))))) (from ! (stop !)) (init ! 20 refl (tt, tt)) $
         assigns ! (agg ! (and-then ! (load ! (from ! (stop !)) (look ! 20 refl)) (and-then ! (load ! (from ! (fld ! refl (stop !))) (look-in ! 10 (sub ! 1 refl (whole !)))) (no-more !)))) (from ! (stop !)) (init ! 21 refl (tt, (tt, (record { fits = room-c .0 }, tt)))) $
-        -- terms are copied; state and scratch are lent again, each for a lifetime of the call
+        -- Terms are copied; state and scratch are lent again, each for a lifetime of the call.
         move ! (2 ∷ []) $ use1 W (‵ own-t ⊛ ‵ own-t) (shr-slice-copy 𝓤 H A W (named 0) κt u16 .twice xt (mt ∷ [])) $ split ! $
         move ! (5 ∷ 6 ∷ []) $ use2 W (later (some (λ (p : ℕ × GName). (‵ (flft (p .0 ∷ []) fullShare) ⊛ ‵ (own-s (p .0 ∷ []) (p .1) st₀)) ⊛ ‵ (LentAgain u64 κs (p .0 ∷ []) qs γs bs os (p .1) st₀)))) (takes-slice u64 κs qs γs bs os 𝓤 H A W (named 1) (named 1) st₀ (length st₀) refl) $ await ! tt $ pick ! (λ ps. split ! $ split ! $
         move ! (8 ∷ 9 ∷ []) $ use2 W (later (some (λ (p : ℕ × GName). (‵ (flft (p .0 ∷ []) fullShare) ⊛ ‵ (own-c (p .0 ∷ []) (p .1) sc₀)) ⊛ ‵ (LentAgain u64 κc (p .0 ∷ []) qc γc bc oc (p .1) sc₀)))) (takes-slice u64 κc qc γc bc oc 𝓤 H A W (named 2) (named 2) sc₀ (length sc₀) refl) $ await ! tt $ pick ! (λ pc. split ! $ split ! $
@@ -467,7 +470,7 @@ module _ {M : Type 1} (𝓤 : URA M) (H : Heap 𝓤) (A : Atoms 𝓤) (W : Given
         forget ! 18 refl $ forget ! 19 refl $ forget ! 20 refl $ forget ! 21 refl $
         keep ! (6 ∷ 7 ∷ 5 ∷ 4 ∷ 2 ∷ 3 ∷ 0 ∷ 1 ∷ 8 ∷ 9 ∷ 10 ∷ 11 ∷ 12 ∷ 13 ∷ 14 ∷ 15 ∷ 16 ∷ 17 ∷ 18 ∷ 19 ∷ 20 ∷ 21 ∷ 22 ∷ 23 ∷ 24 ∷ 25 ∷ 26 ∷ 27 ∷ 28 ∷ 29 ∷ 30 ∷ 31 ∷ 32 ∷ 33 ∷ 34 ∷ 35 ∷ 36 ∷ 37 ∷ 38 ∷ 39 ∷ 40 ∷ 41 ∷ 42 ∷ 43 ∷ 44 ∷ 45 ∷ 46 ∷ 47 ∷ 48 ∷ 49 ∷ 50 ∷ 51 ∷ 52 ∷ 53 ∷ 54 ∷ 55 ∷ 56 ∷ 57 ∷ []) $ by ! (second r w is (e .0)))))))))))
 
-    -- what the parameters own is taken apart
+    -- What the parameters own is taken apart.
     taken : ent 𝓤 (⋆ 𝓤 H A (‵ (froom tyPtr l₂₄ 0) ∷ ‵ (fdies tyPtr l₂₄) ∷ ‵ (froom (sliceTy word-ref) l₂₃ 0) ∷ ‵ (fdies (sliceTy word-ref) l₂₃) ∷ ‵ (froom word-ref l₂₂ 0) ∷ ‵ (fdies word-ref l₂₂) ∷ ‵ (froom (sliceTy word-ref) l₂₁ 0) ∷ ‵ (fdies (sliceTy word-ref) l₂₁) ∷ ‵ (froom word-ref l₂₀ 0) ∷ ‵ (fdies word-ref l₂₀) ∷ ‵ (froom T′.mir l₁₉ 0) ∷ ‵ (fdies T′.mir l₁₉) ∷ ‵ (froom tyPtr l₁₈ 0) ∷ ‵ (fdies tyPtr l₁₈) ∷ ‵ (froom word l₁₇ 0) ∷ ‵ (fdies word l₁₇) ∷ ‵ (froom tyBool l₁₆ 0) ∷ ‵ (fdies tyBool l₁₆) ∷ ‵ (froom word l₁₅ 0) ∷ ‵ (fdies word l₁₅) ∷ ‵ (froom (sliceTy word-ref) l₁₄ 0) ∷ ‵ (fdies (sliceTy word-ref) l₁₄) ∷ ‵ (froom word-ref l₁₃ 0) ∷ ‵ (fdies word-ref l₁₃) ∷ ‵ (froom (sliceTy word-ref) l₁₂ 0) ∷ ‵ (fdies (sliceTy word-ref) l₁₂) ∷ ‵ (froom word-ref l₁₁ 0) ∷ ‵ (fdies word-ref l₁₁) ∷ ‵ (froom half l₁₀ 0) ∷ ‵ (fdies half l₁₀) ∷ ‵ (froom T′.mir l₉ 0) ∷ ‵ (fdies T′.mir l₉) ∷ ‵ (froom word l₈ 0) ∷ ‵ (fdies word l₈) ∷ ‵ (froom word l₇ 0) ∷ ‵ (fdies word l₇) ∷ ‵ (froom word l₆ 0) ∷ ‵ (fdies word l₆) ∷ ‵ (froom I′.mir l₅ 0) ∷ ‵ (fdies I′.mir l₅) ∷ ‵ (fat fullShare recs l₄ 0 mr) ∷ ‵ (fdies recs l₄) ∷ ‵ (fat fullShare (words 2) l₃ 0 mc) ∷ ‵ (fdies (words 2) l₃) ∷ ‵ (fat fullShare (words 1) l₂ 0 ms) ∷ ‵ (fdies (words 1) l₂) ∷ ‵ (fat fullShare terms-ty l₁ 0 mt) ∷ ‵ (fdies terms-ty l₁) ∷ ‵ (froom S′.mir l₀ 0) ∷ ‵ (fdies S′.mir l₀) ∷ (‵ (flft κt qt) ⊛ ‵ (flft κs qs) ⊛ ‵ (flft κc qc) ⊛ ‵ (flft κr qr) ⊛ ‵ ftrue) ∷ ‵ (owns (ShrSlice (named 0) κt u16 ∷ MutSlice (named 1) κs u64 ∷ MutSlice (named 2) κc u64 ∷ MutSlice (named 3) κr R ∷ []) a at) ∷ []))
         (Wp 𝓤 H C Λ E mir.t-1 (atReturn 𝓤 H E Post))
     taken =
@@ -475,14 +478,14 @@ module _ {M : Type 1} (𝓤 : URA M) (H : Heap 𝓤) (A : Atoms 𝓤) (W : Given
         move ! (51 ∷ []) $ fsplit ! $ move ! (1 ∷ []) $ fsplit ! $ move ! (1 ∷ []) $ fsplit ! $ move ! (1 ∷ []) $ fsplit ! $ move ! (1 ∷ []) $ drop ! $ move ! (54 ∷ []) $ split ! $ move ! (1 ∷ []) $ split ! $ move ! (1 ∷ []) $ split ! $ move ! (1 ∷ []) $ split ! $ move ! (1 ∷ []) $ drop ! $
         keep ! (4 ∷ 0 ∷ 7 ∷ 3 ∷ 6 ∷ 2 ∷ 5 ∷ 1 ∷ 54 ∷ 52 ∷ 50 ∷ 48 ∷ 46 ∷ 44 ∷ 42 ∷ 40 ∷ 38 ∷ 36 ∷ 34 ∷ 32 ∷ 30 ∷ 28 ∷ 26 ∷ 24 ∷ 22 ∷ 20 ∷ 18 ∷ 16 ∷ 14 ∷ 12 ∷ 10 ∷ 8 ∷ 56 ∷ 57 ∷ 55 ∷ 53 ∷ 51 ∷ 49 ∷ 47 ∷ 45 ∷ 43 ∷ 41 ∷ 39 ∷ 37 ∷ 35 ∷ 33 ∷ 31 ∷ 29 ∷ 27 ∷ 25 ∷ 23 ∷ 21 ∷ 19 ∷ 17 ∷ 15 ∷ 13 ∷ 11 ∷ 9 ∷ []) $ by ! start
 
-  -- the entry, in parts: some locals are allocated in each
+  -- The entry, in parts: some locals are allocated in each.
   module _ (𝓣 : Tables 𝓤 H) (known-inspect : Triple 𝓤 (𝓣 .C #inspect) (Inspect 𝓤 H A at-mem run)) (known-limit : Triple 𝓤 (𝓣 .C #limit) (Limit 𝓤 H A at-mem run)) (known-step : Triple 𝓤 (𝓣 .C #step) (Step 𝓤 H A at-mem run)) (known-tally : Triple 𝓤 (𝓣 .C #tally) (Tally 𝓤 H A at-mem run)) (known-finish : Triple 𝓤 (𝓣 .C #finish) (Finish 𝓤 H A at-mem run))
       (room : Room R n₀) (room-t : Room u16 (length ts)) (room-s : Room u64 (length st₀)) (room-c : Room u64 (length sc₀)) where
-    -- what is had on entry
+    -- What is had on entry.
     abbrev Given₀ : List (Item 𝓤)
     Given₀ = (‵ (flft κt qt) ⊛ ‵ (flft κs qs) ⊛ ‵ (flft κc qc) ⊛ ‵ (flft κr qr) ⊛ ‵ ftrue) ∷ ‵ (owns (ShrSlice (named 0) κt u16 ∷ MutSlice (named 1) κs u64 ∷ MutSlice (named 2) κc u64 ∷ MutSlice (named 3) κr R ∷ []) a at) ∷ []
 
-    -- what runs once the locals are allocated
+    -- What runs once the locals are allocated.
     abbrev Body : Env 𝓤 H → Goal 𝓤 H
     Body E₀ = params′ E₀ (mt ∷ ms ∷ mc ∷ mr ∷ []) (runs (𝓣 .C) (𝓣 .Λ) E₀ mir.t-1 (atRet E₀ Post))
 

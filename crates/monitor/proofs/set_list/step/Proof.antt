@@ -1,3 +1,4 @@
+-- `monitor::set_list::step` meets its contract.
 use borrow.Author.Needs.{needs}
 use Prim.Native.Nat.{_<_, _^_}
 use mathlib.Core.Path.{sym, ap, _∙_, subst}
@@ -6,9 +7,6 @@ use Rattle.calls.specs.SetList.{numberOf}
 use Rattle.calls.proofs.OneByOne.{number-small}
 use Rattle.monitor.proofs.set_list.step.Statement.{statement}
 use Rattle.monitor.proofs.set_list.step.Tie as tie
-
-request-requires : tie.Need-request-requires
-request-requires c κs = c .before .before .before .before .before .before .before .before .before .before .pre
 
 number-of-requires : tie.Need-number-of-requires
 number-of-requires c κs =
@@ -28,7 +26,7 @@ step-spec =
     (λ c. search needs)
     (λ c. search needs)
     (λ c. search needs)
-    request-requires
+    (λ c κs. c .before .before .before .before .before .before .before .before .before .before .pre)
     number-of-requires
     (λ c. search needs)
     (λ c. search needs)

@@ -1,3 +1,4 @@
+-- `monitor::set_list::turns` meets its contract.
 use borrow.Author.Needs.{needs}
 use Rattle.monitor.proofs.set_list.turns.Statement.{statement}
 use Rattle.monitor.proofs.set_list.turns.Tie as tie

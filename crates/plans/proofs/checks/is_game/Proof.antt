@@ -1,3 +1,4 @@
+-- `plans::checks::is_game` meets its contract.
 use mathlib.Core.Bool.{not}
 use lib.Dec.{eqb, leb·suc-suc}
 use Rattle.theory.specs.Fit.{every}
@@ -5,12 +6,6 @@ use Rattle.sets.proofs.Finite.{and-true}
 use borrow.Author.Needs.{needs}
 use Rattle.plans.proofs.checks.is_game.Statement.{statement}
 use Rattle.plans.proofs.checks.is_game.Tie as tie
-
-members-requires : tie.Need-members-requires
-members-requires c κs = search needs
-
-events-requires : tie.Need-events-requires
-events-requires c κs = search needs
 
 returns : tie.Need-returns
 unfolding every
@@ -25,4 +20,4 @@ returns c =
     )
 
 pub is-game-spec : {M : Type 1} → statement M
-is-game-spec = tie.close (tie.spec members-requires events-requires returns)
+is-game-spec = tie.close (tie.spec (λ c κs. search needs) (λ c κs. search needs) returns)

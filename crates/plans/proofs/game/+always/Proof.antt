@@ -53,27 +53,17 @@ callees t = (
   always.Post,
 )
 
--- a part of the account of `always` that the compiler gives, where t is the measure
+-- A part of the account of `always` that the compiler gives, where t is the measure.
 abbrev Part : Type 1
 Part = always-lts.Claims → In 3 always-kinds.ps → Out 3 always-kinds.ps always-kinds.r → always-lts.InvT-loop → always-lts.MeasureT-loop → Type 0
 
 abbrev here : ℕ → Part → Type 0
 here t part = part (callees t) (always-at t) always.Post always-Inv-loop always-μ-loop
 
-always-returns : (t : ℕ) → here t always-lts.Need-returns
-always-returns t c =
-    (rw (c .if1 .taken), spared-none _ _)
-
 always-returns-2 : (t : ℕ) → here t always-lts.Need-returns-2
 always-returns-2 t c =
     let x = c .before .before .before .before .before .args in
     (rw (c .before .if1 .left) (sym (no-moves (x .terms .now) (x .plan .now) (x .planner) (x .rival) (x .goal) (x .u) (x .v) (x .k) (c .if2 .taken) _)), spared-none _ _)
-
-always-loop-holds : (t : ℕ) → here t always-lts.Need-loop-holds
-always-loop-holds t c = (omega arith, spared-none _ _, all-none _)
-
-always-is-offered-requires : (t : ℕ) → here t always-lts.Need-is-offered-requires
-always-is-offered-requires t c κs = tt
 
 always-reply-requires : (t : ℕ) → here t always-lts.Need-reply-requires
 always-reply-requires t c κs =
@@ -165,12 +155,6 @@ always-returns-3 t c =
       turn-spared (q .0) (x .at) (x .k) kl (x .words .now) (l .words) (q .1 .1) (q .1 .2) (l .inv .1) (l .i) (y .last .1 .0) (y .ensures) (z .result) (z .ensures .0) (z .last .1 .0) (z .ensures .1) (a .result) (a .ensures .0) (a .last .1 .0) (a .ensures .1),
     )
 
-always-add-i : (t : ℕ) → here t always-lts.Need-add-i
-always-add-i t c = omega arith
-
-always-loop-less : (t : ℕ) → here t always-lts.Need-loop-less
-always-loop-less t c = omega arith
-
 always-loop-again : (t : ℕ) → here t always-lts.Need-loop-again
 always-loop-again t c =
     let i = c .before .before .before .before .before .before .before .before .before in
@@ -200,9 +184,6 @@ always-loop-again t c =
     ))
     (c .if3 .came)
 
-always-same-length-2 : (t : ℕ) → here t always-lts.Need-same-length-2
-always-same-length-2 t c = c .before .loop .inv .1 .long
-
 always-returns-4 : (t : ℕ) → here t always-lts.Need-returns-4
 always-returns-4 t c =
     let i = c .before .before .before .before .before .before .before in
@@ -225,10 +206,10 @@ pub +always-spec : {M : Type 1} → statement M
     always.Post
     always-Inv-loop
     always-μ-loop
-    (always-returns t)
+    (λ c. (rw (c .if1 .taken), spared-none _ _))
     (always-returns-2 t)
-    (always-loop-holds t)
-    (always-is-offered-requires t)
+    (λ c. (omega arith, spared-none _ _, all-none _))
+    (λ c κs. tt)
     (always-reply-requires t)
     (always-add-attempt t)
     (always-attempt-requires t)
@@ -237,8 +218,8 @@ pub +always-spec : {M : Type 1} → statement M
     (always-always-requires t)
     (always-same-length t)
     (always-returns-3 t)
-    (always-add-i t)
-    (always-loop-less t)
+    (λ c. omega arith)
+    (λ c. omega arith)
     (always-loop-again t)
-    (always-same-length-2 t)
+    (λ c. c .before .loop .inv .1 .long)
     (always-returns-4 t)

@@ -1,3 +1,4 @@
+-- `plans::game::play` meets its contract.
 use Rattle.plans.proofs.Plays.{placed-part, game-cleared, played}
 use Rattle.memory.specs.Layout.{stateWords}
 use Rattle.plans.specs.Game.{gameWords}
@@ -13,7 +14,7 @@ use borrow.Author.Needs.{needs}
 use Rattle.plans.proofs.game.play.Statement.{statement}
 use Rattle.plans.proofs.game.play.Tie as tie
 
--- the state is copied to the front, and stands there
+-- The state is copied to the front, and stands there.
 abbrev start : tie.After-copy-words → tie.Start
 start c = c .before .before .before .before .before .before .before
 
@@ -25,27 +26,6 @@ copied c =
     let i = start c in
     placed-part 0 (i .args .words .now) (c .copy-words .last .0) (take stateWords (i .args .state .now)) (omega (arith, i .pre .1 .1)) (c .copy-words .ensures)
     (length-take-le stateWords (i .args .state .now) (i .pre .1 .0))
-
-sub-copy-words : tie.Need-sub-copy-words
-sub-copy-words c = search needs
-
-part-copy-words-start : tie.Need-part-copy-words-start
-part-copy-words-start c = search needs
-
-part-copy-words-end : tie.Need-part-copy-words-end
-part-copy-words-end c = search needs
-
-sub-copy-words-2 : tie.Need-sub-copy-words-2
-sub-copy-words-2 c = search needs
-
-part-copy-words-start-2 : tie.Need-part-copy-words-start-2
-part-copy-words-start-2 c = search needs
-
-part-copy-words-end-2 : tie.Need-part-copy-words-end-2
-part-copy-words-end-2 c = search needs
-
-copy-words-requires : tie.Need-copy-words-requires
-copy-words-requires c κs = search needs
 
 attempt-requires : tie.Need-attempt-requires
 attempt-requires c κs =
@@ -59,14 +39,11 @@ always-requires c κs =
     let q = c .before .before .before .attempt .ensures .1 in
     (i .pre .0, (omega arith, omega (arith, q .spared .long, copied k .spared .long, i .pre .1 .1), omega (arith, q .spared .long, copied k .spared .long, i .pre .1 .1)))
 
--- the words after the last of the planner's moves are as many
+-- The words after the last of the planner's moves are as many.
 long : (c : tie.After-always) → length (c .always .last .1 .0) ≡ gameWords
 long c =
     let k = c .before .before .before .before .before .before .before .before in
     c .always .ensures .1 .long ∙ c .before .before .before .before .attempt .ensures .1 .spared .long ∙ copied k .spared .long ∙ start k .pre .1 .1
-
-part-clear-end : tie.Need-part-clear-end
-part-clear-end c = omega (arith, long (c .before .before))
 
 returns : tie.Need-returns
 returns c =
@@ -85,18 +62,18 @@ pub play-spec : {M : Type 1} → statement M
 play-spec =
     tie.close
     (tie.spec
-    sub-copy-words
-    part-copy-words-start
-    part-copy-words-end
-    sub-copy-words-2
-    part-copy-words-start-2
-    part-copy-words-end-2
-    copy-words-requires
+    (λ c. search needs)
+    (λ c. search needs)
+    (λ c. search needs)
+    (λ c. search needs)
+    (λ c. search needs)
+    (λ c. search needs)
+    (λ c κs. search needs)
     attempt-requires
     always-requires
     (λ c. search needs)
     (λ c. search needs)
-    part-clear-end
+    (λ c. omega (arith, long (c .before .before)))
     (λ c κs. search needs)
     (λ c. search needs)
     returns)

@@ -1,3 +1,4 @@
+-- `plans::game::reply` meets its contract.
 use Rattle.plans.proofs.Plays.{placed-on}
 use Rattle.plans.specs.Plans.{stepped}
 use Prim.Native.Nat.{_/_, _%_}
@@ -8,19 +9,10 @@ use borrow.Author.Needs.{needs}
 use Rattle.plans.proofs.game.reply.Statement.{statement}
 use Rattle.plans.proofs.game.reply.Tie as tie
 
-copy-on-requires : tie.Need-copy-on-requires
-copy-on-requires c κs = search needs
-
-add-step-at : tie.Need-add-step-at
-add-step-at c = search needs
-
 step-at-requires : tie.Need-step-at-requires
 step-at-requires c κs =
     let i = c .before .before .before .before .before .before .before .before in
     omega (arith, i .pre, c .before .before .before .before .copy-on .ensures .spared .long)
-
-same-length : tie.Need-same-length
-same-length c = search needs
 
 returns : tie.Need-returns
 returns c =
@@ -31,9 +23,6 @@ returns c =
     rw (ne-eqb (x .i) 32 (c .before .before .before .before .if1 .taken))
     (placed-on p (record { spared = q .spared; here = q .here ∙ ap (λ z. stepped (x .terms .now) z (x .i / 8) (x .rival) (x .i % 8)) (p .here) }))
 
-same-length-2 : tie.Need-same-length-2
-same-length-2 c = search needs
-
 returns-2 : tie.Need-returns-2
 returns-2 c =
     let x = c .before .before .before .before .before .before .before .args in
@@ -43,10 +32,10 @@ pub reply-spec : {M : Type 1} → statement M
 reply-spec =
     tie.close
     (tie.spec
-    copy-on-requires
-    add-step-at
+    (λ c κs. search needs)
+    (λ c. search needs)
     step-at-requires
-    same-length
+    (λ c. search needs)
     returns
-    same-length-2
+    (λ c. search needs)
     returns-2)

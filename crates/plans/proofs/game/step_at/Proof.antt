@@ -1,3 +1,4 @@
+-- `plans::game::step_at` meets its contract.
 use Rattle.plans.proofs.Plays.{stand-long, part-stands, placed-part, stepped-long}
 use Rattle.plans.specs.private.Playing.{standing}
 use Rattle.plans.specs.Plans.{stepped}
@@ -6,27 +7,6 @@ use mathlib.Core.Path.{ap, _∙_}
 use borrow.Author.Needs.{needs}
 use Rattle.plans.proofs.game.step_at.Statement.{statement}
 use Rattle.plans.proofs.game.step_at.Tie as tie
-
-add-step : tie.Need-add-step
-add-step c = search needs
-
-mul-step : tie.Need-mul-step
-mul-step c = search needs
-
-sub-step : tie.Need-sub-step
-sub-step c = search needs
-
-part-step-start : tie.Need-part-step-start
-part-step-start c = search needs
-
-part-step-end : tie.Need-part-step-end
-part-step-end c = search needs
-
-step-requires : tie.Need-step-requires
-step-requires c κs = tt
-
-same-length : tie.Need-same-length
-same-length c = search needs
 
 returns : tie.Need-returns
 returns c =
@@ -42,11 +22,11 @@ pub step-at-spec : {M : Type 1} → statement M
 step-at-spec =
     tie.close
     (tie.spec
-    add-step
-    mul-step
-    sub-step
-    part-step-start
-    part-step-end
-    step-requires
-    same-length
+    (λ c. search needs)
+    (λ c. search needs)
+    (λ c. search needs)
+    (λ c. search needs)
+    (λ c. search needs)
+    (λ c κs. tt)
+    (λ c. search needs)
     returns)

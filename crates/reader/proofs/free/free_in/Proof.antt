@@ -12,7 +12,7 @@ use borrow.Author.Needs.{needs}
 use Rattle.reader.proofs.free.free_in.Statement.{statement}
 use Rattle.reader.proofs.free.free_in.Tie as tie
 
--- the kinds that are tested by no set
+-- The kinds that are tested by no set.
 no-set : (terms masks : List ℕ) (l : Line) → OneOf (0 ∷ 1 ∷ 4 ∷ 5 ∷ 6 ∷ 9 ∷ 10 ∷ 11 ∷ []) (tagOf the-type l) → FreeIn terms masks l 0
 no-set terms masks (Members n) h = tt
 no-set terms masks (Labels r e) h = tt
@@ -27,12 +27,6 @@ no-set terms masks (EventEdge j u v) h = tt
 no-set terms masks (Mark j) h = tt
 no-set terms masks Malformed h = tt
 
-table-set-requires : tie.Need-table-set-requires
-table-set-requires c κs = c .before .before .before .before .before .pre
-
-table-set-requires-2 : tie.Need-table-set-requires-2
-table-set-requires-2 c κs = c .before .before .before .before .before .pre
-
 returns : tie.Need-returns
 returns c =
     rw (c .before .before .before .before .before .line .given .1) (rw (
@@ -40,15 +34,6 @@ returns c =
       c .before .before .set-at2 .ensures,
       c .before .set-at3 .ensures,
     ) at (free-entry _ _ _ _ _ _ (c .free-of .ensures)))
-
-returns-2 : tie.Need-returns-2
-returns-2 c = rw (c .before .before .line2 .given .1) (c .set-at4 .ensures)
-
-returns-3 : tie.Need-returns-3
-returns-3 c = rw (c .before .before .line3 .given .1) (c .table-set .ensures)
-
-returns-4 : tie.Need-returns-4
-returns-4 c = rw (c .before .before .line4 .given .1) (c .table-set2 .ensures)
 
 returns-5 : tie.Need-returns-5
 returns-5 c =
@@ -67,11 +52,11 @@ free-in-spec =
     (λ c. search needs)
     (λ c κs. search needs)
     (λ c. search needs)
-    table-set-requires
+    (λ c κs. c .before .before .before .before .before .pre)
     (λ c. search needs)
-    table-set-requires-2
+    (λ c κs. c .before .before .before .before .before .pre)
     returns
-    returns-2
-    returns-3
-    returns-4
+    (λ c. rw (c .before .before .line2 .given .1) (c .set-at4 .ensures))
+    (λ c. rw (c .before .before .line3 .given .1) (c .table-set .ensures))
+    (λ c. rw (c .before .before .line4 .given .1) (c .table-set2 .ensures))
     returns-5)

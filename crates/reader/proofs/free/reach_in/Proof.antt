@@ -13,7 +13,7 @@ use borrow.Author.Needs.{needs}
 use Rattle.reader.proofs.free.reach_in.Statement.{statement}
 use Rattle.reader.proofs.free.reach_in.Tie as tie
 
--- the kinds that are no entry
+-- The kinds that are no entry.
 no-entry : (masks : List ℕ) (l : Line) → OneOf (0 ∷ 1 ∷ 3 ∷ 4 ∷ 5 ∷ 6 ∷ 7 ∷ 8 ∷ 9 ∷ 10 ∷ 11 ∷ []) (tagOf the-type l) → true ≡ reachIn masks l
 no-entry masks (Members n) h = refl
 no-entry masks (Labels r e) h = refl
@@ -28,18 +28,6 @@ no-entry masks (EventEdge j u v) h = refl
 no-entry masks (Mark j) h = refl
 no-entry masks Malformed h = refl
 
-enum-known-line : tie.Need-enum-known-line
-enum-known-line c = search needs
-
-set-at-requires : tie.Need-set-at-requires
-set-at-requires c κs = search needs
-
-set-at-requires-2 : tie.Need-set-at-requires-2
-set-at-requires-2 c κs = search needs
-
-reach-fits-requires : tie.Need-reach-fits-requires
-reach-fits-requires c κs = search needs
-
 returns : tie.Need-returns
 returns c =
     rw (c .before .before .before .before .line .given .1) (rw (
@@ -53,4 +41,10 @@ returns-2 c = no-entry (c .before .before .args .masks .now) (c .before .before 
 pub reach-in-spec : {M : Type 1} → statement M
 reach-in-spec =
     tie.close
-    (tie.spec enum-known-line set-at-requires set-at-requires-2 reach-fits-requires returns returns-2)
+    (tie.spec
+    (λ c. search needs)
+    (λ c κs. search needs)
+    (λ c κs. search needs)
+    (λ c κs. search needs)
+    returns
+    returns-2)

@@ -15,8 +15,11 @@ returns c =
     k .pre (eqb-true (x .phase) 7 (and-left _ _ (c .if1 .taken)))
     ∙ ap (tableSet (x .terms .now) (x .masks .now)) (eqb-true (x .table) (x .t) (and-right (eqb (x .phase) 7) _ (c .if1 .taken)))
 
-returns-2 : tie.Need-returns-2
-returns-2 c = rw (← c .before .past-entry .ensures) (c .set-at .ensures)
-
 pub table-set-spec : {M : Type 1} → statement M
-table-set-spec = tie.close (tie.spec returns (λ c κs. search needs) (λ c κs. search needs) returns-2)
+table-set-spec =
+    tie.close
+    (tie.spec
+    returns
+    (λ c κs. search needs)
+    (λ c κs. search needs)
+    (λ c. rw (← c .before .past-entry .ensures) (c .set-at .ensures)))

@@ -41,45 +41,12 @@ turn c = record {
   line = c .before .parse-line .ensures;
 }
 
-members-requires : tie.Need-members-requires Inv-loop μ-loop
-members-requires c κs = search needs
-
-mask-requires : tie.Need-mask-requires Inv-loop μ-loop
-mask-requires c κs = search needs
-
-loop-holds : tie.Need-loop-holds Inv-loop μ-loop
-loop-holds c = looking-first _ _ _ _
-
-find-requires : tie.Need-find-requires Inv-loop μ-loop
-find-requires c κs = search needs
-
 returns : tie.Need-returns Inv-loop μ-loop
 returns c =
     looking-cut _ _ _ _ _ _ (c .before .before .before .loop .inv) _ (c .before .find .ensures) (c .before .before .loop-test .taken) (c .if1 .taken)
 
-slice-aggregate-parse-line : tie.Need-slice-aggregate-parse-line Inv-loop μ-loop
-slice-aggregate-parse-line c = sym (length-take-le _ _ (omega arith))
-
-parse-line-requires : tie.Need-parse-line-requires Inv-loop μ-loop
-parse-line-requires c κs = search needs
-
-is-partly-requires : tie.Need-is-partly-requires Inv-loop μ-loop
-is-partly-requires c κs = search needs
-
-returns-2 : tie.Need-returns-2 Inv-loop μ-loop
-returns-2 c = looking-here (turn (c .before)) (sym (c .before .is-partly .ensures) ∙ c .if2 .taken)
-
 add-t : tie.Need-add-t Inv-loop μ-loop
 add-t c = omega (arith, turn (c .before) .inside, head (c .before) .loop .inv .within, start (head (c .before)) .good .0 .1)
-
-sub-t : tie.Need-sub-t Inv-loop μ-loop
-sub-t c = omega (arith, turn (c .before) .inside)
-
-part-t-start : tie.Need-part-t-start Inv-loop μ-loop
-part-t-start c = omega (arith, turn (c .before) .inside)
-
-part-t-end : tie.Need-part-t-end Inv-loop μ-loop
-part-t-end c = search needs
 
 add-n : tie.Need-add-n Inv-loop μ-loop
 add-n c = omega (arith, head (c .before .before) .loop .inv .counted, start (head (c .before .before)) .good .0 .1)
@@ -92,29 +59,26 @@ loop-again : tie.Need-loop-again Inv-loop μ-loop
 loop-again c =
     looking-next (turn (c .before .before)) (sym (c .before .before .is-partly .ensures) ∙ c .before .if2 .left)
 
-returns-3 : tie.Need-returns-3 Inv-loop μ-loop
-returns-3 c = looking-done _ _ _ _ _ _ (c .before .loop .inv) (c .loop-test .left)
-
 pub find-partly-spec : {M : Type 1} → statement M
 find-partly-spec =
     tie.close
     (tie.spec
     Inv-loop
     μ-loop
-    members-requires
-    mask-requires
-    loop-holds
-    find-requires
+    (λ c κs. search needs)
+    (λ c κs. search needs)
+    (λ c. looking-first _ _ _ _)
+    (λ c κs. search needs)
     returns
-    slice-aggregate-parse-line
-    parse-line-requires
-    is-partly-requires
-    returns-2
+    (λ c. sym (length-take-le _ _ (omega arith)))
+    (λ c κs. search needs)
+    (λ c κs. search needs)
+    (λ c. looking-here (turn (c .before)) (sym (c .before .is-partly .ensures) ∙ c .if2 .taken))
     add-t
-    sub-t
-    part-t-start
-    part-t-end
+    (λ c. omega (arith, turn (c .before) .inside))
+    (λ c. omega (arith, turn (c .before) .inside))
+    (λ c. search needs)
     add-n
     loop-less
     loop-again
-    returns-3)
+    (λ c. looking-done _ _ _ _ _ _ (c .before .loop .inv) (c .loop-test .left)))

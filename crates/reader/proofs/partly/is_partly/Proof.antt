@@ -13,7 +13,7 @@ use borrow.Author.Needs.{needs}
 use Rattle.reader.proofs.partly.is_partly.Statement.{statement}
 use Rattle.reader.proofs.partly.is_partly.Tie as tie
 
--- the kinds that are no T line
+-- The kinds that are no T line.
 no-bit : (terms state masks : List ℕ) (full : ℕ) (l : Line) → OneOf (0 ∷ 1 ∷ 2 ∷ 3 ∷ 4 ∷ 5 ∷ 6 ∷ 8 ∷ 9 ∷ 10 ∷ 11 ∷ []) (tagOf the-type l) →
     false ≡ partlyIn terms state masks full l
 unfolding partlyIn
@@ -29,18 +29,6 @@ no-bit terms state masks full (PairBit t a b c) h = refl
 no-bit terms state masks full (EventEdge j u v) h = refl
 no-bit terms state masks full (Mark j) h = refl
 no-bit terms state masks full Malformed h = refl
-
-enum-known-line : tie.Need-enum-known-line
-enum-known-line c = search needs
-
-past-entry-requires : tie.Need-past-entry-requires
-past-entry-requires c κs = search needs
-
-set-at-requires : tie.Need-set-at-requires
-set-at-requires c κs = search needs
-
-table-word-requires : tie.Need-table-word-requires
-table-word-requires c κs = search needs
 
 returns : tie.Need-returns
 unfolding partlyIn
@@ -58,9 +46,9 @@ pub is-partly-spec : {M : Type 1} → statement M
 is-partly-spec =
     tie.close
     (tie.spec
-    enum-known-line
-    past-entry-requires
-    set-at-requires
-    table-word-requires
+    (λ c. search needs)
+    (λ c κs. search needs)
+    (λ c κs. search needs)
+    (λ c κs. search needs)
     returns
     returns-2)

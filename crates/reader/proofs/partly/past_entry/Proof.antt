@@ -1,4 +1,5 @@
--- `reader::partly::past_entry` meets its contract. The invariant: k past-time entries have been passed, and found is the last of them that has table t.
+-- `reader::partly::past_entry` meets its contract. The invariant: k past-time entries have been passed, and found is
+-- the last of them that has table t.
 use Prim.Native.Nat.{ℕ, _+_, _-_, _≤_}
 use native.Mathlib.Omega.{arith}
 use native.Mathlib.Numerals.{add-one}
@@ -12,7 +13,7 @@ use Rattle.memory.proofs.StateTests.{number-past, number-other}
 use Rattle.reader.proofs.partly.past_entry.Statement.{statement}
 use Rattle.reader.proofs.partly.past_entry.Tie as tie
 
--- entry n has table t
+-- Entry n has table t.
 abbrev chosen : (ℕ → Entry) → (t n : ℕ) → Bool
 chosen entry t n = isPast (entry n .op) && eqb (number entry n) t
 
@@ -27,28 +28,6 @@ Inv-loop terms t count found₀ k₀ n₀ found k n =
 
 abbrev μ-loop : tie.MeasureT-loop
 μ-loop terms t count found₀ k₀ n₀ found k n = count - n
-
-entries-requires : tie.Need-entries-requires Inv-loop μ-loop
-entries-requires c κs = omega arith
-
-loop-holds : tie.Need-loop-holds Inv-loop μ-loop
-unfolding number highest
-loop-holds c = (omega arith, omega arith, refl, refl)
-
-op-of-requires : tie.Need-op-of-requires Inv-loop μ-loop
-op-of-requires c κs = tt
-
-is-past-requires : tie.Need-is-past-requires Inv-loop μ-loop
-is-past-requires c κs = omega arith
-
-add-k : tie.Need-add-k Inv-loop μ-loop
-add-k c = omega arith
-
-add-n : tie.Need-add-n Inv-loop μ-loop
-add-n c = omega arith
-
-loop-less : tie.Need-loop-less Inv-loop μ-loop
-loop-less c = omega arith
 
 loop-again : tie.Need-loop-again Inv-loop μ-loop
 loop-again c =
@@ -86,12 +65,12 @@ past-entry-spec =
     (tie.spec
     Inv-loop
     μ-loop
-    entries-requires
-    loop-holds
-    op-of-requires
-    is-past-requires
-    add-k
-    add-n
-    loop-less
+    (λ c κs. omega arith)
+    (λ c. unfold number highest in (omega arith, omega arith, refl, refl))
+    (λ c κs. tt)
+    (λ c κs. omega arith)
+    (λ c. omega arith)
+    (λ c. omega arith)
+    (λ c. omega arith)
     loop-again
     returns)

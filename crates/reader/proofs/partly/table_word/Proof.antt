@@ -4,24 +4,6 @@ use borrow.Author.Tests.{lt-ltb, le-ltb}
 use Rattle.reader.proofs.partly.table_word.Statement.{statement}
 use Rattle.reader.proofs.partly.table_word.Tie as tie
 
-returns : tie.Need-returns
-returns c = rw (le-ltb _ 32 (c .if1 .taken))
-
-returns-2 : tie.Need-returns-2
-returns-2 c = rw (lt-ltb _ 32 (c .before .if1 .left), le-ltb _ 64 (c .if2 .taken))
-
-mul-set-at : tie.Need-mul-set-at
-mul-set-at c = search needs
-
-add-set-at : tie.Need-add-set-at
-add-set-at c = search needs
-
-add-set-at-2 : tie.Need-add-set-at-2
-add-set-at-2 c = search needs
-
-set-at-requires : tie.Need-set-at-requires
-set-at-requires c κs = search needs
-
 returns-3 : tie.Need-returns-3
 returns-3 c =
     let k1 = c .before in
@@ -30,4 +12,11 @@ returns-3 c =
 pub table-word-spec : {M : Type 1} → statement M
 table-word-spec =
     tie.close
-    (tie.spec returns returns-2 mul-set-at add-set-at add-set-at-2 set-at-requires returns-3)
+    (tie.spec
+    (λ c. rw (le-ltb _ 32 (c .if1 .taken)))
+    (λ c. rw (lt-ltb _ 32 (c .before .if1 .left), le-ltb _ 64 (c .if2 .taken)))
+    (λ c. search needs)
+    (λ c. search needs)
+    (λ c. search needs)
+    (λ c κs. search needs)
+    returns-3)

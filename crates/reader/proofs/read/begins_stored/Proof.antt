@@ -15,7 +15,7 @@ use borrow.Author.Needs.{needs}
 use Rattle.reader.proofs.read.begins_stored.Statement.{statement}
 use Rattle.reader.proofs.read.begins_stored.Tie as tie
 
--- the kinds that are no S line
+-- The kinds that are no S line.
 no-form : (l : Line) → OneOf (0 ∷ 1 ∷ 2 ∷ 3 ∷ 4 ∷ 5 ∷ 7 ∷ 8 ∷ 9 ∷ 10 ∷ 11 ∷ []) (tagOf the-type l) → false ≡ formIn l false
 no-form (Members n) h = refl
 no-form (Labels r e) h = refl
@@ -29,9 +29,6 @@ no-form (PairBit t a b c) h = refl
 no-form (EventEdge j u v) h = refl
 no-form (Mark j) h = refl
 no-form Malformed h = refl
-
-returns : tie.Need-returns
-returns c = begins-cut _ _ (c .before .find .ensures) (c .if1 .taken)
 
 returns-2 : tie.Need-returns-2
 returns-2 c =
@@ -52,7 +49,7 @@ begins-stored-spec =
     tie.close
     (tie.spec
     (λ c κs. search needs)
-    returns
+    (λ c. begins-cut _ _ (c .before .find .ensures) (c .if1 .taken))
     (λ c. sym (length-take-le _ _ (omega arith)))
     (λ c κs. search needs)
     (λ c. search needs)

@@ -6,45 +6,12 @@ use borrow.Author.Needs.{needs}
 use Rattle.reader.proofs.read.fill.Statement.{statement}
 use Rattle.reader.proofs.read.fill.Tie as tie
 
-returns : tie.Need-returns
-returns c = short-terms _ _ _ (c .if1 .taken)
-
-returns-2 : tie.Need-returns-2
-returns-2 c = short-state _ _ _ (c .before .if1 .left) (c .if2 .taken)
-
-slice-aggregate-read-lines : tie.Need-slice-aggregate-read-lines
-slice-aggregate-read-lines c = search needs
-
-slice-aggregate-read-lines-2 : tie.Need-slice-aggregate-read-lines-2
-slice-aggregate-read-lines-2 c = search needs
-
-slice-aggregate-read-lines-3 : tie.Need-slice-aggregate-read-lines-3
-slice-aggregate-read-lines-3 c = search needs
-
-read-lines-requires : tie.Need-read-lines-requires
-read-lines-requires c κs = search needs
-
-enum-known-filled : tie.Need-enum-known-filled
-enum-known-filled c = search needs
-
 returns-3 : tie.Need-returns-3
 returns-3 c =
     let k1 = c .before in
     let k2 = k1 .before .before .before .before .before in
     let k3 = k2 .before .before .before .before in
     text-refused _ _ _ (k3 .before .if1 .left) (k3 .if2 .left) _ _ (sym (ap fillingOf (k1 .filled .given .1)) ∙ k2 .read-lines .ensures .given)
-
-slice-aggregate-partly-at : tie.Need-slice-aggregate-partly-at
-slice-aggregate-partly-at c = search needs
-
-slice-aggregate-partly-at-2 : tie.Need-slice-aggregate-partly-at-2
-slice-aggregate-partly-at-2 c = search needs
-
-slice-aggregate-partly-at-3 : tie.Need-slice-aggregate-partly-at-3
-slice-aggregate-partly-at-3 c = search needs
-
-partly-at-requires : tie.Need-partly-at-requires
-partly-at-requires c κs = search needs
 
 returns-4 : tie.Need-returns-4
 returns-4 c =
@@ -54,24 +21,6 @@ returns-4 c =
     let k4 = k3 .before .before .before .before in
     text-partly _ _ _ (k4 .before .if1 .left) (k4 .if2 .left) _ _ _ _ (k3 .read-lines .ensures) (unrefused (k3 .read-lines .result) (k2 .match .keys2)) _
     (k1 .partly-at .ensures) (c .if3 .taken)
-
-slice-aggregate-copy-terms : tie.Need-slice-aggregate-copy-terms
-slice-aggregate-copy-terms c = search needs
-
-copy-terms-requires : tie.Need-copy-terms-requires
-copy-terms-requires c κs = search needs
-
-slice-aggregate-copy-state : tie.Need-slice-aggregate-copy-state
-slice-aggregate-copy-state c = search needs
-
-copy-state-requires : tie.Need-copy-state-requires
-copy-state-requires c κs = search needs
-
-same-length : tie.Need-same-length
-same-length c = search needs
-
-same-length-2 : tie.Need-same-length-2
-same-length-2 c = search needs
 
 returns-5 : tie.Need-returns-5
 returns-5 c =
@@ -89,23 +38,23 @@ pub fill-spec : {M : Type 1} → statement M
 fill-spec =
     tie.close
     (tie.spec
-    returns
-    returns-2
-    slice-aggregate-read-lines
-    slice-aggregate-read-lines-2
-    slice-aggregate-read-lines-3
-    read-lines-requires
-    enum-known-filled
+    (λ c. short-terms _ _ _ (c .if1 .taken))
+    (λ c. short-state _ _ _ (c .before .if1 .left) (c .if2 .taken))
+    (λ c. search needs)
+    (λ c. search needs)
+    (λ c. search needs)
+    (λ c κs. search needs)
+    (λ c. search needs)
     returns-3
-    slice-aggregate-partly-at
-    slice-aggregate-partly-at-2
-    slice-aggregate-partly-at-3
-    partly-at-requires
+    (λ c. search needs)
+    (λ c. search needs)
+    (λ c. search needs)
+    (λ c κs. search needs)
     returns-4
-    slice-aggregate-copy-terms
-    copy-terms-requires
-    slice-aggregate-copy-state
-    copy-state-requires
-    same-length
-    same-length-2
+    (λ c. search needs)
+    (λ c κs. search needs)
+    (λ c. search needs)
+    (λ c κs. search needs)
+    (λ c. search needs)
+    (λ c. search needs)
     returns-5)

@@ -12,18 +12,12 @@ use borrow.Author.Needs.{needs}
 use Rattle.reader.proofs.read.fill_relations.Statement.{statement}
 use Rattle.reader.proofs.read.fill_relations.Tie as tie
 
--- the words that the text is read into
+-- The words that the text is read into.
 abbrev blank : List ℕ
 blank = replicate stateWords 0
 
 blank-long : stateWords ≤ length blank
 blank-long = omega (arith, length-replicate {A = ℕ} stateWords 0)
-
-returns : tie.Need-returns
-returns c = short-terms _ _ _ (c .if1 .taken)
-
-returns-2 : tie.Need-returns-2
-returns-2 c = short-relations _ _ _ (c .before .if1 .left) (c .if2 .taken)
 
 returns-3 : tie.Need-returns-3
 returns-3 c =
@@ -56,8 +50,8 @@ pub fill-relations-spec : {M : Type 1} → statement M
 fill-relations-spec =
     tie.close
     (tie.spec
-    returns
-    returns-2
+    (λ c. short-terms _ _ _ (c .if1 .taken))
+    (λ c. short-relations _ _ _ (c .before .if1 .left) (c .if2 .taken))
     (λ c κs. search needs)
     returns-3
     (λ c. search needs)

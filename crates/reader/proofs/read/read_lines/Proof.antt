@@ -1,4 +1,5 @@
--- `reader::read::read_lines` meets its contract. The loop's invariant is `Along`; a turn is put together once, where all that is known of its line is.
+-- `reader::read::read_lines` meets its contract. The loop's invariant is `Along`; a turn is put together once, where
+-- all that is known of its line is.
 use mathlib.Core.Path.{_≡_, refl, sym, ap, _∙_}
 use native.Mathlib.Omega.{arith}
 use mathlib.Core.Bool.{true, false}
@@ -56,25 +57,10 @@ loop-holds c =
     let k1 = c .before .before .before .before .before in
     let p = k1 .pre in (rw (c .begin .ensures) (along-first _ _ _ _ (p .0) (p .1) (p .2)), refl, refl, refl, rw (c .begin .ensures) (λ e. absurd (omega (arith, e))))
 
-same-length : tie.Need-same-length Inv-loop μ-loop
-same-length c = c .before .before .before .loop .inv .1
-
-same-length-2 : tie.Need-same-length-2 Inv-loop μ-loop
-same-length-2 c = c .before .before .before .loop .inv .2
-
-same-length-3 : tie.Need-same-length-3 Inv-loop μ-loop
-same-length-3 c = c .before .before .before .loop .inv .3
-
 returns : tie.Need-returns Inv-loop μ-loop
 returns c =
     along-cut _ _ _ _ _ _ _ (c .before .before .before .loop .inv .0) _ (c .before .find .ensures) (c .before .before .loop-test .taken)
     (c .if1 .taken)
-
-slice-aggregate-parse-line : tie.Need-slice-aggregate-parse-line Inv-loop μ-loop
-slice-aggregate-parse-line c = sym (length-take-le _ _ (omega arith))
-
-free-in-requires : tie.Need-free-in-requires Inv-loop μ-loop
-free-in-requires c κs = c .before .before .before .before .before .before .before .loop .inv .4
 
 same-length-4 : tie.Need-same-length-4 Inv-loop μ-loop
 same-length-4 c =
@@ -90,9 +76,6 @@ same-length-6 : tie.Need-same-length-6 Inv-loop μ-loop
 same-length-6 c =
     let k1 = c .before .before .before .before .before .before .before .before .before .before .before .before in
     k1 .loop .inv .3
-
-returns-2 : tie.Need-returns-2 Inv-loop μ-loop
-returns-2 c = turn-refused (turn (c .before)) (c .if2 .taken)
 
 store-terms-requires : tie.Need-store-terms-requires Inv-loop μ-loop
 store-terms-requires c κs =
@@ -124,12 +107,6 @@ step-requires c κs =
 add-t : tie.Need-add-t Inv-loop μ-loop
 add-t c = omega (arith, turn (numbered c) .inside, head (numbered c) .loop .inv .0 .within, start (head (numbered c)) .good .0 .1)
 
-sub-t : tie.Need-sub-t Inv-loop μ-loop
-sub-t c = omega (arith, turn (numbered c) .inside)
-
-part-t-start : tie.Need-part-t-start Inv-loop μ-loop
-part-t-start c = omega (arith, turn (numbered c) .inside)
-
 add-n : tie.Need-add-n Inv-loop μ-loop
 add-n c = omega (arith, head (numbered (c .before)) .loop .inv .0 .counted, start (head (numbered (c .before))) .good .0 .1)
 
@@ -152,42 +129,15 @@ loop-again c =
       rw (k4 .store-terms .ensures, k2 .store-set .ensures, k1 .step .ensures) (turn-last (turn k6) (k5 .if2 .left)),
     )
 
-same-length-7 : tie.Need-same-length-7 Inv-loop μ-loop
-same-length-7 c = c .before .before .before .loop .inv .1
-
-same-length-8 : tie.Need-same-length-8 Inv-loop μ-loop
-same-length-8 c = c .before .before .before .loop .inv .2
-
-same-length-9 : tie.Need-same-length-9 Inv-loop μ-loop
-same-length-9 c = c .before .before .before .loop .inv .3
-
 returns-3 : tie.Need-returns-3 Inv-loop μ-loop
 returns-3 c =
     along-short _ _ _ _ _ _ _ (c .before .before .before .loop .inv .0) (c .before .before .loop-test .left)
     (sym (c .before .is-complete .ensures) ∙ not-true _ (c .if3 .taken))
 
-same-length-10 : tie.Need-same-length-10 Inv-loop μ-loop
-same-length-10 c = c .before .before .before .before .loop .inv .1
-
-same-length-11 : tie.Need-same-length-11 Inv-loop μ-loop
-same-length-11 c = c .before .before .before .before .loop .inv .2
-
-same-length-12 : tie.Need-same-length-12 Inv-loop μ-loop
-same-length-12 c = c .before .before .before .before .loop .inv .3
-
 returns-4 : tie.Need-returns-4 Inv-loop μ-loop
 returns-4 c =
     along-done _ _ _ _ _ _ _ (c .before .before .before .before .loop .inv .0) (c .before .before .before .loop-test .left)
     (sym (c .before .before .is-complete .ensures) ∙ not-false _ (c .before .if3 .left)) true (c .if4 .taken)
-
-same-length-13 : tie.Need-same-length-13 Inv-loop μ-loop
-same-length-13 c = c .before .before .before .before .loop .inv .1
-
-same-length-14 : tie.Need-same-length-14 Inv-loop μ-loop
-same-length-14 c = c .before .before .before .before .loop .inv .2
-
-same-length-15 : tie.Need-same-length-15 Inv-loop μ-loop
-same-length-15 c = c .before .before .before .before .loop .inv .3
 
 returns-5 : tie.Need-returns-5 Inv-loop μ-loop
 returns-5 c =
@@ -203,40 +153,40 @@ read-lines-spec =
     (λ c κs. search needs)
     loop-holds
     (λ c κs. search needs)
-    same-length
-    same-length-2
-    same-length-3
+    (λ c. c .before .before .before .loop .inv .1)
+    (λ c. c .before .before .before .loop .inv .2)
+    (λ c. c .before .before .before .loop .inv .3)
     returns
-    slice-aggregate-parse-line
+    (λ c. sym (length-take-le _ _ (omega arith)))
     (λ c κs. search needs)
-    free-in-requires
+    (λ c κs. c .before .before .before .before .before .before .before .loop .inv .4)
     (λ c κs. search needs)
     (λ c κs. search needs)
     same-length-4
     same-length-5
     same-length-6
-    returns-2
+    (λ c. turn-refused (turn (c .before)) (c .if2 .taken))
     store-terms-requires
     store-state-requires
     store-set-requires
     step-requires
     add-t
-    sub-t
-    part-t-start
+    (λ c. omega (arith, turn (numbered c) .inside))
+    (λ c. omega (arith, turn (numbered c) .inside))
     (λ c. search needs)
     add-n
     loop-less
     loop-again
     (λ c κs. search needs)
-    same-length-7
-    same-length-8
-    same-length-9
+    (λ c. c .before .before .before .loop .inv .1)
+    (λ c. c .before .before .before .loop .inv .2)
+    (λ c. c .before .before .before .loop .inv .3)
     returns-3
-    same-length-10
-    same-length-11
-    same-length-12
+    (λ c. c .before .before .before .before .loop .inv .1)
+    (λ c. c .before .before .before .before .loop .inv .2)
+    (λ c. c .before .before .before .before .loop .inv .3)
     returns-4
-    same-length-13
-    same-length-14
-    same-length-15
+    (λ c. c .before .before .before .before .loop .inv .1)
+    (λ c. c .before .before .before .before .loop .inv .2)
+    (λ c. c .before .before .before .before .loop .inv .3)
     returns-5)

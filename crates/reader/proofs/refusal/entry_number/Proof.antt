@@ -4,72 +4,6 @@ use borrow.Author.Needs.{needs}
 use Rattle.reader.proofs.refusal.entry_number.Statement.{statement}
 use Rattle.reader.proofs.refusal.entry_number.Tie as tie
 
-operands-of-requires : tie.Need-operands-of-requires
-operands-of-requires c κs = search needs
-
-first-requires : tie.Need-first-requires
-first-requires c κs = search needs
-
-first-requires-2 : tie.Need-first-requires-2
-first-requires-2 c κs = search needs
-
-first-requires-3 : tie.Need-first-requires-3
-first-requires-3 c κs = search needs
-
-in-range-requires : tie.Need-in-range-requires
-in-range-requires c κs = search needs
-
-first-requires-4 : tie.Need-first-requires-4
-first-requires-4 c κs = search needs
-
-in-range-requires-2 : tie.Need-in-range-requires-2
-in-range-requires-2 c κs = search needs
-
-first-requires-5 : tie.Need-first-requires-5
-first-requires-5 c κs = search needs
-
-in-range-requires-3 : tie.Need-in-range-requires-3
-in-range-requires-3 c κs = search needs
-
-first-requires-6 : tie.Need-first-requires-6
-first-requires-6 c κs = search needs
-
-if-past-requires : tie.Need-if-past-requires
-if-past-requires c κs = search needs
-
-first-requires-7 : tie.Need-first-requires-7
-first-requires-7 c κs = search needs
-
-is-lower-requires : tie.Need-is-lower-requires
-is-lower-requires c κs = search needs
-
-first-requires-8 : tie.Need-first-requires-8
-first-requires-8 c κs = search needs
-
-is-lower-requires-2 : tie.Need-is-lower-requires-2
-is-lower-requires-2 c κs = search needs
-
-first-requires-9 : tie.Need-first-requires-9
-first-requires-9 c κs = search needs
-
-is-lower-requires-3 : tie.Need-is-lower-requires-3
-is-lower-requires-3 c κs = search needs
-
-first-requires-10 : tie.Need-first-requires-10
-first-requires-10 c κs = search needs
-
-columns-fit-requires : tie.Need-columns-fit-requires
-columns-fit-requires c κs = search needs
-
-if-past-requires-2 : tie.Need-if-past-requires-2
-if-past-requires-2 c κs = search needs
-
-first-requires-11 : tie.Need-first-requires-11
-first-requires-11 c κs = search needs
-
-first-requires-12 : tie.Need-first-requires-12
-first-requires-12 c κs = search needs
-
 returns : tie.Need-returns
 unfolding numberFrom contextTests
 returns c =
@@ -125,26 +59,26 @@ pub entry-number-spec : {M : Type 1} → statement M
 entry-number-spec =
     tie.close
     (tie.spec
-    operands-of-requires
-    first-requires
-    first-requires-2
-    first-requires-3
-    in-range-requires
-    first-requires-4
-    in-range-requires-2
-    first-requires-5
-    in-range-requires-3
-    first-requires-6
-    if-past-requires
-    first-requires-7
-    is-lower-requires
-    first-requires-8
-    is-lower-requires-2
-    first-requires-9
-    is-lower-requires-3
-    first-requires-10
-    columns-fit-requires
-    if-past-requires-2
-    first-requires-11
-    first-requires-12
+    (λ c κs. search needs)
+    (λ c κs. search needs)
+    (λ c κs. search needs)
+    (λ c κs. search needs)
+    (λ c κs. search needs)
+    (λ c κs. search needs)
+    (λ c κs. search needs)
+    (λ c κs. search needs)
+    (λ c κs. search needs)
+    (λ c κs. search needs)
+    (λ c κs. search needs)
+    (λ c κs. search needs)
+    (λ c κs. search needs)
+    (λ c κs. search needs)
+    (λ c κs. search needs)
+    (λ c κs. search needs)
+    (λ c κs. search needs)
+    (λ c κs. search needs)
+    (λ c κs. search needs)
+    (λ c κs. search needs)
+    (λ c κs. search needs)
+    (λ c κs. search needs)
     returns)

@@ -4,15 +4,6 @@ use borrow.Author.Needs.{needs}
 use Rattle.reader.proofs.refusal.form_number.Statement.{statement}
 use Rattle.reader.proofs.refusal.form_number.Tie as tie
 
-first-requires : tie.Need-first-requires
-first-requires c κs = search needs
-
-first-requires-2 : tie.Need-first-requires-2
-first-requires-2 c κs = search needs
-
-first-requires-3 : tie.Need-first-requires-3
-first-requires-3 c κs = search needs
-
 returns : tie.Need-returns
 unfolding numberFrom contextTests
 returns c =
@@ -24,7 +15,7 @@ pub form-number-spec : {M : Type 1} → statement M
 form-number-spec =
     tie.close
     (tie.spec
-    first-requires
-    first-requires-2
-    first-requires-3
+    (λ c κs. search needs)
+    (λ c κs. search needs)
+    (λ c κs. search needs)
     returns)

@@ -7,11 +7,8 @@ use borrow.Author.Needs.{needs}
 use Rattle.reader.proofs.refusal.if_past.Statement.{statement}
 use Rattle.reader.proofs.refusal.if_past.Tie as tie
 
-is-past-requires : tie.Need-is-past-requires
-is-past-requires c κs = search needs
-
 returns : tie.Need-returns
 returns c = or-implies (c .is-past .result) (c .before .args .passes) ∙ ap (λ (p : Bool). p ⇒ c .before .args .passes) (c .is-past .ensures)
 
 pub if-past-spec : {M : Type 1} → statement M
-if-past-spec = tie.close (tie.spec is-past-requires returns)
+if-past-spec = tie.close (tie.spec (λ c κs. search needs) returns)

@@ -3,8 +3,5 @@ use mathlib.Core.Path.{refl}
 use Rattle.reader.proofs.refusal.is_rising.Statement.{statement}
 use Rattle.reader.proofs.refusal.is_rising.Tie as tie
 
-returns : tie.Need-returns
-returns c = refl
-
 pub is-rising-spec : {M : Type 1} → statement M
-is-rising-spec = tie.close (tie.spec returns)
+is-rising-spec = tie.close (tie.spec (λ c. refl))

@@ -6,18 +6,6 @@ use borrow.Author.Needs.{needs}
 use Rattle.reader.proofs.refusal.labels_number.Statement.{statement}
 use Rattle.reader.proofs.refusal.labels_number.Tie as tie
 
-first-requires : tie.Need-first-requires
-first-requires c κs = search needs
-
-first-requires-2 : tie.Need-first-requires-2
-first-requires-2 c κs = search needs
-
-first-requires-3 : tie.Need-first-requires-3
-first-requires-3 c κs = search needs
-
-first-requires-4 : tie.Need-first-requires-4
-first-requires-4 c κs = search needs
-
 returns : tie.Need-returns
 unfolding numberFrom contextTests
 returns c =
@@ -26,4 +14,10 @@ returns c =
 
 pub labels-number-spec : {M : Type 1} → statement M
 labels-number-spec =
-    tie.close (tie.spec first-requires first-requires-2 first-requires-3 first-requires-4 returns)
+    tie.close
+    (tie.spec
+    (λ c κs. search needs)
+    (λ c κs. search needs)
+    (λ c κs. search needs)
+    (λ c κs. search needs)
+    returns)

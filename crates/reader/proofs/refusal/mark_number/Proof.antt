@@ -4,21 +4,6 @@ use borrow.Author.Needs.{needs}
 use Rattle.reader.proofs.refusal.mark_number.Statement.{statement}
 use Rattle.reader.proofs.refusal.mark_number.Tie as tie
 
-is-complete-requires : tie.Need-is-complete-requires
-is-complete-requires c κs = search needs
-
-first-requires : tie.Need-first-requires
-first-requires c κs = search needs
-
-first-requires-2 : tie.Need-first-requires-2
-first-requires-2 c κs = search needs
-
-first-requires-3 : tie.Need-first-requires-3
-first-requires-3 c κs = search needs
-
-first-requires-4 : tie.Need-first-requires-4
-first-requires-4 c κs = search needs
-
 returns : tie.Need-returns
 unfolding numberFrom contextTests
 returns c =
@@ -30,4 +15,11 @@ returns c =
 
 pub mark-number-spec : {M : Type 1} → statement M
 mark-number-spec =
-    tie.close (tie.spec is-complete-requires first-requires first-requires-2 first-requires-3 first-requires-4 returns)
+    tie.close
+    (tie.spec
+    (λ c κs. search needs)
+    (λ c κs. search needs)
+    (λ c κs. search needs)
+    (λ c κs. search needs)
+    (λ c κs. search needs)
+    returns)

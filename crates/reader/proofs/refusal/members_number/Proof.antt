@@ -6,19 +6,16 @@ use borrow.Author.Needs.{needs}
 use Rattle.reader.proofs.refusal.members_number.Statement.{statement}
 use Rattle.reader.proofs.refusal.members_number.Tie as tie
 
-first-requires : tie.Need-first-requires
-first-requires c κs = search needs
-
-first-requires-2 : tie.Need-first-requires-2
-first-requires-2 c κs = search needs
-
-first-requires-3 : tie.Need-first-requires-3
-first-requires-3 c κs = search needs
-
 returns : tie.Need-returns
 unfolding numberFrom contextTests
 returns c =
     rw (c .first3 .ensures, c .before .first2 .ensures, c .before .before .first .ensures, leb·suc-suc (c .before .before .before .before .args .n) maxMembers)
 
 pub members-number-spec : {M : Type 1} → statement M
-members-number-spec = tie.close (tie.spec first-requires first-requires-2 first-requires-3 returns)
+members-number-spec =
+    tie.close
+    (tie.spec
+    (λ c κs. search needs)
+    (λ c κs. search needs)
+    (λ c κs. search needs)
+    returns)

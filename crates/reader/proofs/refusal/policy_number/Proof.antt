@@ -4,21 +4,6 @@ use borrow.Author.Needs.{needs}
 use Rattle.reader.proofs.refusal.policy_number.Statement.{statement}
 use Rattle.reader.proofs.refusal.policy_number.Tie as tie
 
-first-requires : tie.Need-first-requires
-first-requires c κs = search needs
-
-first-requires-2 : tie.Need-first-requires-2
-first-requires-2 c κs = search needs
-
-first-requires-3 : tie.Need-first-requires-3
-first-requires-3 c κs = search needs
-
-first-requires-4 : tie.Need-first-requires-4
-first-requires-4 c κs = search needs
-
-first-requires-5 : tie.Need-first-requires-5
-first-requires-5 c κs = search needs
-
 returns : tie.Need-returns
 unfolding numberFrom contextTests
 returns c =
@@ -32,9 +17,9 @@ pub policy-number-spec : {M : Type 1} → statement M
 policy-number-spec =
     tie.close
     (tie.spec
-    first-requires
-    first-requires-2
-    first-requires-3
-    first-requires-4
-    first-requires-5
+    (λ c κs. search needs)
+    (λ c κs. search needs)
+    (λ c κs. search needs)
+    (λ c κs. search needs)
+    (λ c κs. search needs)
     returns)

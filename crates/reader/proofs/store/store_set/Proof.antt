@@ -14,7 +14,7 @@ use borrow.Author.Needs.{needs}
 use Rattle.reader.proofs.store.store_set.Statement.{statement}
 use Rattle.reader.proofs.store.store_set.Tie as tie
 
--- the kinds that are no entry
+-- The kinds that are no entry.
 no-entry : (l : Line) (m : ℕ) (w : List ℕ) → OneOf (0 ∷ 1 ∷ 3 ∷ 4 ∷ 5 ∷ 6 ∷ 7 ∷ 8 ∷ 9 ∷ 10 ∷ 11 ∷ []) (tagOf the-type l) → w ≡ storedSets l m w
 unfolding storedSets
 no-entry (Members n) m w h = refl
@@ -29,9 +29,6 @@ no-entry (PairBit t a b c) m w h = refl
 no-entry (EventEdge j u v) m w h = refl
 no-entry (Mark j) m w h = refl
 no-entry Malformed m w h = refl
-
-enum-known-line : tie.Need-enum-known-line
-enum-known-line c = search needs
 
 mul-masks : tie.Need-mul-masks
 mul-masks c =
@@ -49,16 +46,16 @@ slice-write-masks c =
       c .before .before .before .pre .1,
     )
 
-same-length : tie.Need-same-length
-same-length c = search needs
-
-returns : tie.Need-returns
-unfolding storedSets
-returns c = rw (c .before .line .given .1)
-
 returns-2 : tie.Need-returns-2
 returns-2 c = no-entry (c .before .args .line) (c .before .args .m) (c .before .args .masks .now) (c .match .keys2)
 
 pub store-set-spec : {M : Type 1} → statement M
 store-set-spec =
-    tie.close (tie.spec enum-known-line mul-masks slice-write-masks same-length returns returns-2)
+    tie.close
+    (tie.spec
+    (λ c. search needs)
+    mul-masks
+    slice-write-masks
+    (λ c. search needs)
+    (λ c. unfold storedSets in rw (c .before .line .given .1))
+    returns-2)

@@ -14,7 +14,7 @@ use borrow.Author.Needs.{needs}
 use Rattle.reader.proofs.store.store_state.Statement.{statement}
 use Rattle.reader.proofs.store.store_state.Tie as tie
 
--- the kinds that give no word of the state
+-- The kinds that give no word of the state.
 no-word : (l : Line) (w : List ℕ) → OneOf (0 ∷ 1 ∷ 2 ∷ 3 ∷ 4 ∷ 6 ∷ 10 ∷ 11 ∷ []) (tagOf the-type l) → w ≡ storedState l w
 unfolding storedState
 no-word (Members n) w h = refl
@@ -30,26 +30,17 @@ no-word (EventEdge j u v) w h = absurd (miss (0 ∷ 1 ∷ 2 ∷ 3 ∷ 4 ∷ 6 �
 no-word (Mark j) w h = refl
 no-word Malformed w h = refl
 
-enum-known-line : tie.Need-enum-known-line
-enum-known-line c = search needs
-
 store-edge-requires : tie.Need-store-edge-requires
 store-edge-requires c κs =
     let k1 = c .before .before in
     let k2 = k1 .before .before .before in
     (subst (Ranges (k2 .args .c)) (k1 .line .given .1) (k2 .pre .0), k2 .pre .1)
 
-enum-known-line-2 : tie.Need-enum-known-line-2
-enum-known-line-2 c = search needs
-
 store-bit-requires : tie.Need-store-bit-requires
 store-bit-requires c κs =
     let k1 = c .before .before in
     let k2 = k1 .before .before .before in
     (subst (Ranges (k2 .args .c)) (k1 .line2 .given .1) (k2 .pre .0), k2 .pre .1)
-
-enum-known-line-3 : tie.Need-enum-known-line-3
-enum-known-line-3 c = search needs
 
 mul-store-bit : tie.Need-mul-store-bit
 mul-store-bit c =
@@ -61,9 +52,6 @@ add-store-bit c =
     let k2 = c .before .before .before .before .before in
     let r = subst (Ranges (k2 .args .c)) (c .before .before .line3 .given .1) (k2 .pre .0) in
     omega (arith, r .1, r .2)
-
-mul-store-bit-2 : tie.Need-mul-store-bit-2
-mul-store-bit-2 c = omega arith
 
 add-store-bit-2 : tie.Need-add-store-bit-2
 add-store-bit-2 c =
@@ -77,17 +65,11 @@ store-bit-requires-2 c κs =
     let r = subst (Ranges (k2 .args .c)) (k1 .line3 .given .1) (k2 .pre .0) in
     ((r .0, omega (arith, r .1, r .2), omega (arith, r .3)), k2 .pre .1)
 
-enum-known-line-4 : tie.Need-enum-known-line-4
-enum-known-line-4 c = search needs
-
 store-event-requires : tie.Need-store-event-requires
 store-event-requires c κs =
     let k1 = c .before .before in
     let k2 = k1 .before .before .before in
     (subst (Ranges (k2 .args .c)) (k1 .line4 .given .1) (k2 .pre .0), k2 .pre .1)
-
-same-length : tie.Need-same-length
-same-length c = search needs
 
 returns : tie.Need-returns
 unfolding storedState
@@ -96,9 +78,6 @@ returns c =
     let k2 = k1 .before .before .before in
     rw (k2 .line .given .1) (k1 .store-edge .ensures)
 
-same-length-2 : tie.Need-same-length-2
-same-length-2 c = search needs
-
 returns-2 : tie.Need-returns-2
 unfolding storedState
 returns-2 c =
@@ -106,18 +85,12 @@ returns-2 c =
     let k2 = k1 .before .before .before in
     rw (k2 .line2 .given .1) (k1 .store-bit .ensures)
 
-same-length-3 : tie.Need-same-length-3
-same-length-3 c = search needs
-
 returns-3 : tie.Need-returns-3
 unfolding storedState
 returns-3 c =
     let k1 = c .before .before in
     let k2 = k1 .before .before .before in
     rw (k2 .line3 .given .1) (k1 .store-bit2 .ensures)
-
-same-length-4 : tie.Need-same-length-4
-same-length-4 c = search needs
 
 returns-4 : tie.Need-returns-4
 unfolding storedState
@@ -133,24 +106,24 @@ pub store-state-spec : {M : Type 1} → statement M
 store-state-spec =
     tie.close
     (tie.spec
-    enum-known-line
+    (λ c. search needs)
     store-edge-requires
-    enum-known-line-2
+    (λ c. search needs)
     store-bit-requires
-    enum-known-line-3
+    (λ c. search needs)
     mul-store-bit
     add-store-bit
-    mul-store-bit-2
+    (λ c. omega arith)
     add-store-bit-2
     store-bit-requires-2
-    enum-known-line-4
+    (λ c. search needs)
     store-event-requires
-    same-length
+    (λ c. search needs)
     returns
-    same-length-2
+    (λ c. search needs)
     returns-2
-    same-length-3
+    (λ c. search needs)
     returns-3
-    same-length-4
+    (λ c. search needs)
     returns-4
     returns-5)

@@ -14,7 +14,7 @@ use borrow.Author.Needs.{needs}
 use Rattle.reader.proofs.store.store_terms.Statement.{statement}
 use Rattle.reader.proofs.store.store_terms.Tie as tie
 
--- the kinds that give no word of the terms
+-- The kinds that give no word of the terms.
 no-word : (c : Context) (l : Line) (w : List ℕ) → OneOf (5 ∷ 6 ∷ 7 ∷ 8 ∷ 9 ∷ 11 ∷ []) (tagOf the-type l) → w ≡ storedTerms c l w
 unfolding storedTerms
 no-word c (Members n) w h = absurd (miss (5 ∷ 6 ∷ 7 ∷ 8 ∷ 9 ∷ 11 ∷ []) 0 tt h)
@@ -30,17 +30,11 @@ no-word c (EventEdge j u v) w h = refl
 no-word c (Mark j) w h = absurd (miss (5 ∷ 6 ∷ 7 ∷ 8 ∷ 9 ∷ 11 ∷ []) 10 tt h)
 no-word c Malformed w h = refl
 
-enum-known-line : tie.Need-enum-known-line
-enum-known-line c = search needs
-
 store-members-requires : tie.Need-store-members-requires
 store-members-requires c κs =
     let k1 = c .before .before in
     let k2 = k1 .before .before .before in
     (subst (Ranges (k2 .args .c)) (k1 .line .given .1) (k2 .pre .0), k2 .pre .1)
-
-enum-known-line-2 : tie.Need-enum-known-line-2
-enum-known-line-2 c = search needs
 
 store-labels-requires : tie.Need-store-labels-requires
 store-labels-requires c κs =
@@ -48,17 +42,11 @@ store-labels-requires c κs =
     let k2 = k1 .before .before .before in
     (subst (Ranges (k2 .args .c)) (k1 .line2 .given .1) (k2 .pre .0), k2 .pre .1)
 
-enum-known-line-3 : tie.Need-enum-known-line-3
-enum-known-line-3 c = search needs
-
 store-entry-requires : tie.Need-store-entry-requires
 store-entry-requires c κs =
     let k1 = c .before .before in
     let k2 = k1 .before .before .before in
     (subst (Ranges (k2 .args .c)) (k1 .line3 .given .1) (k2 .pre .0), k2 .pre .1)
-
-enum-known-line-4 : tie.Need-enum-known-line-4
-enum-known-line-4 c = search needs
 
 store-policy-requires : tie.Need-store-policy-requires
 store-policy-requires c κs =
@@ -66,29 +54,17 @@ store-policy-requires c κs =
     let k2 = k1 .before .before .before in
     (subst (Ranges (k2 .args .c)) (k1 .line4 .given .1) (k2 .pre .0), k2 .pre .1)
 
-enum-known-line-5 : tie.Need-enum-known-line-5
-enum-known-line-5 c = search needs
-
-slot-of-requires : tie.Need-slot-of-requires
-slot-of-requires c κs = search needs
-
 store-effect-requires : tie.Need-store-effect-requires
 store-effect-requires c κs =
     let k1 = c .before .before .before in
     let k2 = k1 .before .before .before in
     (rw (c .slot-of .ensures) (subst (Ranges (k2 .args .c)) (k1 .line5 .given .1) (k2 .pre .0)), k2 .pre .1)
 
-enum-known-line-6 : tie.Need-enum-known-line-6
-enum-known-line-6 c = search needs
-
 store-mark-requires : tie.Need-store-mark-requires
 store-mark-requires c κs =
     let k1 = c .before .before in
     let k2 = k1 .before .before .before in
     (subst (Ranges (k2 .args .c)) (k1 .line6 .given .1) (k2 .pre .0), k2 .pre .1)
-
-same-length : tie.Need-same-length
-same-length c = search needs
 
 returns : tie.Need-returns
 unfolding storedTerms
@@ -97,18 +73,12 @@ returns c =
     let k2 = k1 .before .before .before in
     rw (k2 .line .given .1) (k1 .store-members .ensures)
 
-same-length-2 : tie.Need-same-length-2
-same-length-2 c = search needs
-
 returns-2 : tie.Need-returns-2
 unfolding storedTerms
 returns-2 c =
     let k1 = c .before .before in
     let k2 = k1 .before .before .before in
     rw (k2 .line2 .given .1) (k1 .store-labels .ensures)
-
-same-length-3 : tie.Need-same-length-3
-same-length-3 c = search needs
 
 returns-3 : tie.Need-returns-3
 unfolding storedTerms
@@ -117,18 +87,12 @@ returns-3 c =
     let k2 = k1 .before .before .before in
     rw (k2 .line3 .given .1) (k1 .store-entry .ensures)
 
-same-length-4 : tie.Need-same-length-4
-same-length-4 c = search needs
-
 returns-4 : tie.Need-returns-4
 unfolding storedTerms
 returns-4 c =
     let k1 = c .before .before in
     let k2 = k1 .before .before .before in
     rw (k2 .line4 .given .1) (k1 .store-policy .ensures)
-
-same-length-5 : tie.Need-same-length-5
-same-length-5 c = search needs
 
 returns-5 : tie.Need-returns-5
 unfolding storedTerms
@@ -137,9 +101,6 @@ returns-5 c =
     let k2 = k1 .before in
     let k3 = k2 .before .before .before in
     rw (k3 .line5 .given .1, ← k2 .slot-of .ensures) (k1 .store-effect .ensures)
-
-same-length-6 : tie.Need-same-length-6
-same-length-6 c = search needs
 
 returns-6 : tie.Need-returns-6
 unfolding storedTerms
@@ -155,29 +116,29 @@ pub store-terms-spec : {M : Type 1} → statement M
 store-terms-spec =
     tie.close
     (tie.spec
-    enum-known-line
+    (λ c. search needs)
     store-members-requires
-    enum-known-line-2
+    (λ c. search needs)
     store-labels-requires
-    enum-known-line-3
+    (λ c. search needs)
     store-entry-requires
-    enum-known-line-4
+    (λ c. search needs)
     store-policy-requires
-    enum-known-line-5
-    slot-of-requires
+    (λ c. search needs)
+    (λ c κs. search needs)
     store-effect-requires
-    enum-known-line-6
+    (λ c. search needs)
     store-mark-requires
-    same-length
+    (λ c. search needs)
     returns
-    same-length-2
+    (λ c. search needs)
     returns-2
-    same-length-3
+    (λ c. search needs)
     returns-3
-    same-length-4
+    (λ c. search needs)
     returns-4
-    same-length-5
+    (λ c. search needs)
     returns-5
-    same-length-6
+    (λ c. search needs)
     returns-6
     returns-7)

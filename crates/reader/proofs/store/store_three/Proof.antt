@@ -3,24 +3,6 @@ use borrow.Author.Needs.{needs}
 use Rattle.reader.proofs.store.store_three.Statement.{statement}
 use Rattle.reader.proofs.store.store_three.Tie as tie
 
-store-requires : tie.Need-store-requires
-store-requires c κs = search needs
-
-add-store : tie.Need-add-store
-add-store c = search needs
-
-store-requires-2 : tie.Need-store-requires-2
-store-requires-2 c κs = search needs
-
-add-store-2 : tie.Need-add-store-2
-add-store-2 c = search needs
-
-store-requires-3 : tie.Need-store-requires-3
-store-requires-3 c κs = search needs
-
-same-length : tie.Need-same-length
-same-length c = search needs
-
 returns : tie.Need-returns
 returns c =
     let k1 = c .before .before in
@@ -32,10 +14,10 @@ pub store-three-spec : {M : Type 1} → statement M
 store-three-spec =
     tie.close
     (tie.spec
-    store-requires
-    add-store
-    store-requires-2
-    add-store-2
-    store-requires-3
-    same-length
+    (λ c κs. search needs)
+    (λ c. search needs)
+    (λ c κs. search needs)
+    (λ c. search needs)
+    (λ c κs. search needs)
+    (λ c. search needs)
     returns)

@@ -13,19 +13,10 @@ Inv-loop words₀ i₀ words i = (i ≤ 64) × (length words ≡ 64) × ((j : �
 abbrev μ-loop : tie.MeasureT-loop
 μ-loop words₀ i₀ words i = 64 - i
 
-loop-holds : tie.Need-loop-holds Inv-loop μ-loop
-loop-holds c = (omega arith, c .pre, λ j l. absurd (omega arith))
-
-slice-write-words : tie.Need-slice-write-words Inv-loop μ-loop
-slice-write-words c = omega (arith, c .before .loop .inv .1)
-
 loop-again : tie.Need-loop-again Inv-loop μ-loop
 loop-again c =
     let l = c .before .loop in
     (omega arith, length-set (l .words) (l .i) 0 ∙ l .inv .1, rows.cleared (l .words) (l .i) (omega (arith, l .inv .1)) (l .inv .2))
-
-same-length : tie.Need-same-length Inv-loop μ-loop
-same-length c = omega (arith, c .before .loop .inv .1, c .before .before .pre)
 
 returns : tie.Need-returns Inv-loop μ-loop
 returns c =
@@ -38,11 +29,11 @@ clear-spec =
     (tie.spec
     Inv-loop
     μ-loop
-    loop-holds
+    (λ c. (omega arith, c .pre, λ j l. absurd (omega arith)))
     (λ c. omega arith)
-    slice-write-words
+    (λ c. omega (arith, c .before .loop .inv .1))
     (λ c. omega arith)
     (λ c. omega arith)
     loop-again
-    same-length
+    (λ c. omega (arith, c .before .loop .inv .1, c .before .before .pre))
     returns)

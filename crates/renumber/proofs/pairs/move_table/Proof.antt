@@ -17,9 +17,6 @@ Inv-loop from numbers bytes into₀ i₀ into i = (i ≤ 64) × Gone (newNumber 
 abbrev μ-loop : tie.MeasureT-loop
 μ-loop from numbers bytes into₀ i₀ into i = 64 - i
 
-clear-requires : tie.Need-clear-requires Inv-loop μ-loop
-clear-requires c κs = c .before .before .before .before .before .pre .0 .1
-
 loop-holds : tie.Need-loop-holds Inv-loop μ-loop
 loop-holds c =
     let x = c .before .before .before .before .before .before .before .before in
@@ -65,7 +62,7 @@ move-table-spec =
     (tie.spec
     Inv-loop
     μ-loop
-    clear-requires
+    (λ c κs. c .before .before .before .before .before .pre .0 .1)
     loop-holds
     (λ c. omega arith)
     shared-slice-read-if1

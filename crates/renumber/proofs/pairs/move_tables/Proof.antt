@@ -28,11 +28,7 @@ Inv-loop terms plan state numbers bytes second₀ count n₀ second n =
 abbrev μ-loop : tie.MeasureT-loop
 μ-loop terms plan state numbers bytes second₀ count n₀ second n = count - n
 
-loop-holds : tie.Need-loop-holds Inv-loop μ-loop
-unfolding number
-loop-holds c = (omega arith, rows.tabled-none _ _ _ _)
-
--- an entry has been looked at
+-- An entry has been looked at.
 abbrev loop : tie.After-is-pair Inv-loop μ-loop → tie.At-loop Inv-loop μ-loop
 loop k = k .before .before .before .before .before
 
@@ -51,7 +47,7 @@ here k = omega (arith, k .before .before .before .before .loop-test .taken, loop
 is-past-is : (k : tie.After-is-pair Inv-loop μ-loop) → k .before .is-past .result ≡ isPast (T k .entry (loop k .loop .n) .op)
 is-past-is k = k .before .is-past .ensures ∙ ap isPast (k .before .before .op-of .ensures .0)
 
--- it is a past-time one
+-- It is a past-time one.
 module _ (k : tie.After-is-pair Inv-loop μ-loop) (past : isPast (T k .entry (loop k .loop .n) .op) ≡ true) where
   abbrev t : ℕ
   t = number (T k .entry) (loop k .loop .n)
@@ -75,7 +71,7 @@ module _ (k : tie.After-is-pair Inv-loop μ-loop) (past : isPast (T k .entry (lo
 past-of : (k : tie.After-is-pair Inv-loop μ-loop) → (k .before .is-past .result && k .is-pair .result) ≡ true → isPast (T k .entry (loop k .loop .n) .op) ≡ true
 past-of k e = sym (is-past-is k) ∙ and-left (k .before .is-past .result) (k .is-pair .result) e
 
--- where its table stands
+-- Where its table stands.
 table-below : (c : tie.After-table-of Inv-loop μ-loop) → c .table-of .result < 32
 table-below c =
     let k = c .before .before in
@@ -84,39 +80,6 @@ table-below c =
 
 room : (c : tie.After-table-of Inv-loop μ-loop) → 1024 + 64 * c .table-of .result + 64 ≤ 3072
 room c = omega (arith, table-below c)
-
-mul-k : tie.Need-mul-k Inv-loop μ-loop
-mul-k c = omega (arith, table-below c)
-
-add-k : tie.Need-add-k Inv-loop μ-loop
-add-k c = omega (arith, table-below c)
-
-add-move-table : tie.Need-add-move-table Inv-loop μ-loop
-add-move-table c = omega (arith, table-below c)
-
-mul-move-table : tie.Need-mul-move-table Inv-loop μ-loop
-mul-move-table c = omega (arith, table-below c)
-
-sub-move-table : tie.Need-sub-move-table Inv-loop μ-loop
-sub-move-table c = omega (arith, table-below c)
-
-part-move-table-start : tie.Need-part-move-table-start Inv-loop μ-loop
-part-move-table-start c = omega (arith, table-below c)
-
-part-move-table-end : tie.Need-part-move-table-end Inv-loop μ-loop
-part-move-table-end c = omega (arith, room c, start (c .before .before) .pre .1 .0 .0)
-
-add-move-table-2 : tie.Need-add-move-table-2 Inv-loop μ-loop
-add-move-table-2 c = omega (arith, table-below (c .before))
-
-mul-move-table-2 : tie.Need-mul-move-table-2 Inv-loop μ-loop
-mul-move-table-2 c = omega (arith, table-below (c .before))
-
-sub-move-table-2 : tie.Need-sub-move-table-2 Inv-loop μ-loop
-sub-move-table-2 c = omega (arith, table-below (c .before))
-
-part-move-table-start-2 : tie.Need-part-move-table-start-2 Inv-loop μ-loop
-part-move-table-start-2 c = omega (arith, table-below (c .before))
 
 part-move-table-end-2 : tie.Need-part-move-table-end-2 Inv-loop μ-loop
 part-move-table-end-2 c =
@@ -176,9 +139,6 @@ loop-again c =
             (two-is k past ∙ sym (ap (λ (b : Bool). b && k .is-pair .result) (is-past-is k ∙ past)) ∙ left) (loop k .loop .inv .1))
         by false none = subst Is (sym (number-other (T k .entry) (loop k .loop .n) none)) (loop k .loop .inv .1)
 
-same-length : tie.Need-same-length Inv-loop μ-loop
-same-length c = c .before .loop .inv .1 .long
-
 returns : tie.Need-returns Inv-loop μ-loop
 returns c =
     let l = c .before .loop in
@@ -195,27 +155,27 @@ move-tables-spec =
     Inv-loop
     μ-loop
     (λ c κs. tt)
-    loop-holds
+    (λ c. unfold number in (omega arith, rows.tabled-none _ _ _ _))
     (λ c κs. tt)
     (λ c κs. tt)
     (λ c κs. tt)
     (λ c κs. tt)
     (λ c κs. tt)
-    mul-k
-    add-k
-    add-move-table
-    mul-move-table
-    sub-move-table
-    part-move-table-start
-    part-move-table-end
-    add-move-table-2
-    mul-move-table-2
-    sub-move-table-2
-    part-move-table-start-2
+    (λ c. omega (arith, table-below c))
+    (λ c. omega (arith, table-below c))
+    (λ c. omega (arith, table-below c))
+    (λ c. omega (arith, table-below c))
+    (λ c. omega (arith, table-below c))
+    (λ c. omega (arith, table-below c))
+    (λ c. omega (arith, room c, start (c .before .before) .pre .1 .0 .0))
+    (λ c. omega (arith, table-below (c .before)))
+    (λ c. omega (arith, table-below (c .before)))
+    (λ c. omega (arith, table-below (c .before)))
+    (λ c. omega (arith, table-below (c .before)))
     part-move-table-end-2
     move-table-requires
     (λ c. omega arith)
     (λ c. omega arith)
     loop-again
-    same-length
+    (λ c. c .before .loop .inv .1 .long)
     returns)

@@ -19,9 +19,6 @@ Inv-loop from i numbers bytes into₀ w at q₀ into q = (q ≤ 4) × Gone (newN
 abbrev μ-loop : tie.MeasureT-loop
 μ-loop from i numbers bytes into₀ w at q₀ into q = 4 - q
 
-mul-at : tie.Need-mul-at Inv-loop μ-loop
-mul-at c = omega (arith, c .new-number .ensures .1 (omega arith))
-
 loop-holds : tie.Need-loop-holds Inv-loop μ-loop
 loop-holds c =
     let x = c .before .before .before .before .before .before in
@@ -37,27 +34,12 @@ start c = c .before .before .before .before .before .before .before .before .bef
 abbrev loop : tie.After-spread-part Inv-loop μ-loop → tie.At-loop Inv-loop μ-loop
 loop c = c .before .before .before .before
 
--- the word that gets the row
+-- The word that gets the row.
 place : (c : tie.After-spread-part Inv-loop μ-loop) →
     4 * loop c .before .new-number .result + c .before .before .new-number2 .result / 4 < 64
 place c =
     rows.place-below (newNumber (start c .args .numbers .now)) (start c .pre .1 .0 .1) (start c .args .i) (loop c .loop .q) _ _ (start c .pre .0 .1)
     (c .before .before .before .loop-test .taken) (loop c .before .new-number .ensures .0) (c .before .before .new-number2 .ensures .0)
-
-add-k : tie.Need-add-k Inv-loop μ-loop
-add-k c = omega (arith, place c)
-
-mul-with-quarter : tie.Need-mul-with-quarter Inv-loop μ-loop
-mul-with-quarter c = omega (arith, place c)
-
-slice-read-with-quarter : tie.Need-slice-read-with-quarter Inv-loop μ-loop
-slice-read-with-quarter c = omega (arith, place (c .before), loop (c .before) .loop .inv .1 .long)
-
-mul-into : tie.Need-mul-into Inv-loop μ-loop
-mul-into c = omega (arith, place (c .before .before))
-
-slice-write-into : tie.Need-slice-write-into Inv-loop μ-loop
-slice-write-into c = omega (arith, place (c .before .before), loop (c .before .before) .loop .inv .1 .long)
 
 loop-again : tie.Need-loop-again Inv-loop μ-loop
 loop-again c =
@@ -96,19 +78,19 @@ move-word-spec =
     (λ c. omega arith)
     (λ c. omega arith)
     (λ c κs. search needs)
-    mul-at
+    (λ c. omega (arith, c .new-number .ensures .1 (omega arith)))
     loop-holds
     (λ c. omega arith)
     (λ c. omega arith)
     (λ c κs. search needs)
     (λ c κs. omega arith)
     spread-part-requires
-    add-k
-    mul-with-quarter
-    slice-read-with-quarter
+    (λ c. omega (arith, place c))
+    (λ c. omega (arith, place c))
+    (λ c. omega (arith, place (c .before), loop (c .before) .loop .inv .1 .long))
     (λ c κs. tt)
-    mul-into
-    slice-write-into
+    (λ c. omega (arith, place (c .before .before)))
+    (λ c. omega (arith, place (c .before .before), loop (c .before .before) .loop .inv .1 .long))
     (λ c. omega arith)
     (λ c. omega arith)
     loop-again

@@ -1,4 +1,5 @@
--- `sets::planes::shared` meets its contract. The loop's invariant: the planes count the sets of the members passed. Assumes nothing.
+-- `sets::planes::shared` meets its contract. The loop's invariant: the planes count the sets of the
+-- members passed. Assumes nothing.
 use mathlib.Core.Path.{_∙_, ap, sym}
 use mathlib.Core.Bool.{_&&_, and-false}
 use Prim.Native.Nat.{ℕ}
@@ -28,17 +29,8 @@ returns c b =
     let n = countBelow 64 (λ m. bit (x .set) m && bit (getD (x .ws .now) m 0) b) in
     bit-zero b ∙ sym (ap (_&&_ (ltb b 64)) (lt-leb (x .k) n (omega (arith, count-le 64 (λ m. bit (x .set) m && bit (getD (x .ws .now) m 0) b)))) ∙ and-false (ltb b 64))
 
-mask-requires : tie.Need-mask-requires Inv-loop μ-loop
-mask-requires c κs = tt
-
 loop-holds : tie.Need-loop-holds Inv-loop μ-loop
 loop-holds c = tally.counting _ _ (omega (arith, and-le-l (c .before .before .before .args .set) (c .mask .result)))
-
-slice-aggregate-add : tie.Need-slice-aggregate-add Inv-loop μ-loop
-slice-aggregate-add c = search needs
-
-least-of-requires : tie.Need-least-of-requires Inv-loop μ-loop
-least-of-requires c κs = tt
 
 mul-add : tie.Need-mul-add Inv-loop μ-loop
 mul-add c = omega (arith, going.least-small (c .before .before .before .loop .inv .upon) (c .before .before .loop-test .taken) (c .least-of .ensures))
@@ -49,12 +41,6 @@ shared-slice-read-add c =
     let x = loop .before .before .before .before .args in
     tally.listed-below (x .ws .now) (x .set) (loop .before .mask .result) (loop .before .mask .ensures) _
     (going.least-wanted (loop .loop .inv .upon) (c .before .before .before .loop-test .taken) (c .before .least-of .ensures))
-
-add-requires : tie.Need-add-requires Inv-loop μ-loop
-add-requires c κs = c .before .before .before .before .loop .inv .long
-
-rest-of-requires : tie.Need-rest-of-requires Inv-loop μ-loop
-rest-of-requires c κs = tt
 
 loop-less : tie.Need-loop-less Inv-loop μ-loop
 loop-less c =
@@ -68,12 +54,6 @@ loop-again c =
     (going.turn (loop .inv .upon) (c .before .before .before .before .before .before .loop-test .taken) (c .before .before .before .before .least-of .ensures)
     (c .rest-of .ensures))
     (search needs) (c .before .before .add .ensures)
-
-slice-aggregate-at-least : tie.Need-slice-aggregate-at-least Inv-loop μ-loop
-slice-aggregate-at-least c = search needs
-
-at-least-requires : tie.Need-at-least-requires Inv-loop μ-loop
-at-least-requires c κs = (c .before .before .loop .inv .long, omega arith)
 
 returns-2 : tie.Need-returns-2 Inv-loop μ-loop
 returns-2 c b =
@@ -91,16 +71,16 @@ shared-spec =
     Inv-loop
     μ-loop
     returns
-    mask-requires
+    (λ c κs. tt)
     loop-holds
-    slice-aggregate-add
-    least-of-requires
+    (λ c. search needs)
+    (λ c κs. tt)
     mul-add
     shared-slice-read-add
-    add-requires
-    rest-of-requires
+    (λ c κs. c .before .before .before .before .loop .inv .long)
+    (λ c κs. tt)
     loop-less
     loop-again
-    slice-aggregate-at-least
-    at-least-requires
+    (λ c. search needs)
+    (λ c κs. (c .before .before .loop .inv .long, omega arith))
     returns-2)

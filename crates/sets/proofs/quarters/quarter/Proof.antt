@@ -1,3 +1,4 @@
+-- `sets::quarters::quarter` meets its contract.
 use borrow.Author.Needs.{needs}
 use native.Mathlib.Omega.{arith}
 use Prim.Native.Nat.{_+_, _*_, _<_}
@@ -9,9 +10,6 @@ use Rattle.sets.proofs.Shifts.{quarter-bits}
 use Rattle.sets.proofs.quarters.quarter.Statement.{statement}
 use Rattle.sets.proofs.quarters.quarter.Tie as tie
 
-returns : tie.Need-returns
-returns c = λ k. quarter-bits (c .before .args .w) (c .before .args .q) k
-
 returns-2 : tie.Need-returns-2
 returns-2 c = λ k.
     let x = c .before .args in
@@ -20,4 +18,10 @@ returns-2 c = λ k.
     omega (arith, c .if1 .left)))
 
 pub quarter-spec : {M : Type 1} → statement M
-quarter-spec = tie.close (tie.spec (λ c. search needs) (λ c. search needs) returns returns-2)
+quarter-spec =
+    tie.close
+    (tie.spec
+    (λ c. search needs)
+    (λ c. search needs)
+    (λ c k. quarter-bits (c .before .args .w) (c .before .args .q) k)
+    returns-2)

@@ -2,7 +2,7 @@
 use Prim.Native.Nat.{ℕ, _+_, _-_, _*_, _/_, _%_, _<_, _≤_}
 use mathlib.Core.Path.{_≡_, ap, ap₂, sym, _∙_}
 use mathlib.Core.Logic.{_⊎_, inl, inr}
-use mathlib.Core.Bool.{Bool, false, cond, _&&_, and-false}
+use mathlib.Core.Bool.{Bool, cond, _&&_, and-false}
 use mathlib.Core.List.{List}
 use native.Mathlib.Omega.{arith}
 use borrow.Author.Needs.{needs}
@@ -19,7 +19,7 @@ use Rattle.sets.proofs.quarters.stripe.Tie as tie
 abbrev there : List ℕ → (from c b : ℕ) → Bool
 there ws from c b = bit (getD ws (from + b / 4) 0) (16 * (b % 4) + c)
 
--- where the words are not there, or c is no bit of a quarter
+-- Where the words are not there, or c is no bit of a quarter.
 nowhere : (ws : List ℕ) (from c b : ℕ) → (length ws ≤ from + 3) ⊎ (16 ≤ c) →
     bit 0 b ≡ (ltb (from + 3) (length ws) && (ltb c 16 && (ltb b 16 && there ws from c b)))
 nowhere ws from c b (inl h) =
@@ -36,36 +36,6 @@ abbrev μ-loop : tie.MeasureT-loop
 
 loop-holds : tie.Need-loop-holds Inv-loop μ-loop
 loop-holds c = (omega arith, λ j. bit-zero j ∙ sym (ap (λ (x : Bool). x && there (c .before .before .before .before .args .ws .now) (c .before .before .before .before .args .from) (c .before .before .before .before .args .c) j) (le-ltb j 0 (omega arith))))
-
-add-w : tie.Need-add-w Inv-loop μ-loop
-add-w c = omega arith
-
-mul-w : tie.Need-mul-w Inv-loop μ-loop
-mul-w c = omega arith
-
-shared-slice-read-w : tie.Need-shared-slice-read-w Inv-loop μ-loop
-shared-slice-read-w c = omega arith
-
-mul-has : tie.Need-mul-has Inv-loop μ-loop
-mul-has c = omega arith
-
-add-has : tie.Need-add-has Inv-loop μ-loop
-add-has c = omega arith
-
-has-requires : tie.Need-has-requires Inv-loop μ-loop
-has-requires c κs = search needs
-
-single-requires : tie.Need-single-requires Inv-loop μ-loop
-single-requires c κs = search needs
-
-only-requires : tie.Need-only-requires Inv-loop μ-loop
-only-requires c κs = search needs
-
-add-b : tie.Need-add-b Inv-loop μ-loop
-add-b c = omega arith
-
-loop-less : tie.Need-loop-less Inv-loop μ-loop
-loop-less c = omega arith
 
 loop-again : tie.Need-loop-again Inv-loop μ-loop
 loop-again c =
@@ -108,15 +78,15 @@ stripe-spec =
     (λ c. omega arith)
     returns-3
     loop-holds
-    add-w
-    mul-w
-    shared-slice-read-w
-    mul-has
-    add-has
-    has-requires
-    single-requires
-    only-requires
-    add-b
-    loop-less
+    (λ c. omega arith)
+    (λ c. omega arith)
+    (λ c. omega arith)
+    (λ c. omega arith)
+    (λ c. omega arith)
+    (λ c κs. search needs)
+    (λ c κs. search needs)
+    (λ c κs. search needs)
+    (λ c. omega arith)
+    (λ c. omega arith)
     loop-again
     returns-4)

@@ -1,3 +1,4 @@
+-- `sets::quarters::with_quarter` meets its contract.
 use Prim.Native.Nat.{_*_, _%_, _^_}
 use mathlib.Core.Path.{sym, ap, _∙_}
 use mathlib.Core.Bool.{Bool, _||_, or-false}

@@ -7,12 +7,6 @@ use Rattle.text.proofs.BanksRead.{short-first, short-second, fill-refus
 use Rattle.text.proofs.banks.read.Statement.{statement}
 use Rattle.text.proofs.banks.read.Tie as tie
 
-returns : tie.Need-returns
-returns c = short-first _ _ _ _ _ (c .if1 .taken)
-
-returns-2 : tie.Need-returns-2
-returns-2 c = short-second _ _ _ _ _ (c .before .if1 .left) (c .if2 .taken)
-
 returns-3 : tie.Need-returns-3
 returns-3 c =
     let k1 = c .before in
@@ -35,8 +29,8 @@ pub read-spec : {M : Type 1} → statement M
 read-spec =
     tie.close
     (tie.spec
-    returns
-    returns-2
+    (λ c. short-first _ _ _ _ _ (c .if1 .taken))
+    (λ c. short-second _ _ _ _ _ (c .before .if1 .left) (c .if2 .taken))
     (λ c κs. search needs)
     (λ c. search needs)
     (λ c. search needs)

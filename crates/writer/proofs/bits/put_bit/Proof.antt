@@ -9,19 +9,10 @@ use Rattle.writer.proofs.PutLines.{put-bit-there, put-bit-none, put-one
 use Rattle.writer.proofs.bits.put_bit.Statement.{statement}
 use Rattle.writer.proofs.bits.put_bit.Tie as tie
 
-has-requires : tie.Need-has-requires
-has-requires c κs = search needs
-
 returns : tie.Need-returns
 returns c =
     let a = c .before .before .before in
     (put-bit-none (a .args .table) (a .args .pairs) (a .args .w) (a .args .i) (a .args .b) (a .pre .1) _ _ _ (c .before .has .ensures) (not-true _ (c .if1 .taken)), omega arith)
-
-put-triple-requires : tie.Need-put-triple-requires
-put-triple-requires c κs = search needs
-
-same-length : tie.Need-same-length
-same-length c = search needs
 
 returns-2 : tie.Need-returns-2
 unfolding fieldsOf
@@ -34,21 +25,6 @@ returns-2 c =
           (put-bit-there false (a .args .pairs) (a .args .w) (a .args .i) (a .args .b) (a .pre .1) _ (t .before .has .ensures) (not-false _ (t .if1 .left)) (e .0)),
       e .1,
     )
-
-has-requires-2 : tie.Need-has-requires-2
-has-requires-2 c κs = search needs
-
-mul-put-quad : tie.Need-mul-put-quad
-mul-put-quad c = search needs
-
-add-put-quad : tie.Need-add-put-quad
-add-put-quad c = search needs
-
-put-quad-requires : tie.Need-put-quad-requires
-put-quad-requires c κs = search needs
-
-same-length-2 : tie.Need-same-length-2
-same-length-2 c = search needs
 
 returns-3 : tie.Need-returns-3
 unfolding fieldsOf
@@ -63,12 +39,6 @@ returns-3 c =
           (put-two-said (a .args .pairs) _ (a .args .i % 64) (a .args .b) _ (j .before .has2 .ensures) (j .if3 .taken) (e .0))),
       e .1,
     )
-
-put-triple-requires-2 : tie.Need-put-triple-requires-2
-put-triple-requires-2 c κs = search needs
-
-same-length-3 : tie.Need-same-length-3
-same-length-3 c = search needs
 
 returns-4 : tie.Need-returns-4
 unfolding fieldsOf
@@ -88,17 +58,17 @@ pub put-bit-spec : {M : Type 1} → statement M
 put-bit-spec =
     tie.close
     (tie.spec
-    has-requires
+    (λ c κs. search needs)
     returns
-    put-triple-requires
-    same-length
+    (λ c κs. search needs)
+    (λ c. search needs)
     returns-2
-    has-requires-2
-    mul-put-quad
-    add-put-quad
-    put-quad-requires
-    same-length-2
+    (λ c κs. search needs)
+    (λ c. search needs)
+    (λ c. search needs)
+    (λ c κs. search needs)
+    (λ c. search needs)
     returns-3
-    put-triple-requires-2
-    same-length-3
+    (λ c κs. search needs)
+    (λ c. search needs)
     returns-4)

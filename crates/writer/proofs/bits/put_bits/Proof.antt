@@ -14,29 +14,11 @@ Inv-loop out₀ at table pairs w i b₀ next₀ out b next = Running out₀ out 
 abbrev μ-loop : tie.MeasureT-loop
 μ-loop out₀ at table pairs w i b₀ next₀ out b next = 64 - b
 
-loop-holds : tie.Need-loop-holds Inv-loop μ-loop
-loop-holds c = running-start _ _ _ _ _
-
-put-bit-requires : tie.Need-put-bit-requires Inv-loop μ-loop
-put-bit-requires c κs = search needs
-
-add-b : tie.Need-add-b Inv-loop μ-loop
-add-b c = search needs
-
-loop-less : tie.Need-loop-less Inv-loop μ-loop
-loop-less c = search needs
-
 loop-again : tie.Need-loop-again Inv-loop μ-loop
 loop-again c =
     let t = c .before .before .before .before in
     let e = c .before .before .put-bit .ensures in
     running-more (omega arith) (t .before .loop .inv) (e .0) (e .1)
-
-same-length : tie.Need-same-length Inv-loop μ-loop
-same-length c = put-long (c .before .loop .inv .put)
-
-returns : tie.Need-returns Inv-loop μ-loop
-returns c = (running-end (omega arith) (c .before .loop .inv), search needs)
 
 pub put-bits-spec : {M : Type 1} → statement M
 put-bits-spec =
@@ -44,10 +26,10 @@ put-bits-spec =
     (tie.spec
     Inv-loop
     μ-loop
-    loop-holds
-    put-bit-requires
-    add-b
-    loop-less
+    (λ c. running-start _ _ _ _ _)
+    (λ c κs. search needs)
+    (λ c. search needs)
+    (λ c. search needs)
     loop-again
-    same-length
-    returns)
+    (λ c. put-long (c .before .loop .inv .put))
+    (λ c. (running-end (omega arith) (c .before .loop .inv), search needs)))

@@ -5,21 +5,13 @@ use Rattle.writer.proofs.PutLines.{put-row-none, put-skipped}
 use Rattle.writer.proofs.bits.put_row.Statement.{statement}
 use Rattle.writer.proofs.bits.put_row.Tie as tie
 
-returns : tie.Need-returns
-returns c = (put-row-none _ _ (c .before .before .args .table) _ _ _ (c .if1 .taken), omega arith)
-
-returns-2 : tie.Need-returns-2
-returns-2 c =
-    let e = c .skip-row .ensures in
-    (put-skipped _ (c .before .if2 .taken) (e .0), e .1)
-
 pub put-row-spec : {M : Type 1} → statement M
 put-row-spec =
     tie.close
     (tie.spec
-    returns
+    (λ c. (put-row-none _ _ (c .before .before .args .table) _ _ _ (c .if1 .taken), omega arith))
     (λ c κs. search needs)
-    returns-2
+    (λ c. let e = c .skip-row .ensures in (put-skipped _ (c .before .if2 .taken) (e .0), e .1))
     (λ c κs. search needs)
     (λ c. search needs)
     (λ c. search needs))

@@ -14,38 +14,11 @@ Inv-loop state out₀ at table pairs first count i₀ next₀ out i next = Runni
 abbrev μ-loop : tie.MeasureT-loop
 μ-loop state out₀ at table pairs first count i₀ next₀ out i next = count - i
 
-loop-holds : tie.Need-loop-holds Inv-loop μ-loop
-loop-holds c = running-start _ _ _ _ _
-
-add-put-row : tie.Need-add-put-row Inv-loop μ-loop
-add-put-row c = search needs
-
-mul-put-row : tie.Need-mul-put-row Inv-loop μ-loop
-mul-put-row c = search needs
-
-shared-slice-read-put-row : tie.Need-shared-slice-read-put-row Inv-loop μ-loop
-shared-slice-read-put-row c = search needs
-
-put-row-requires : tie.Need-put-row-requires Inv-loop μ-loop
-put-row-requires c κs = search needs
-
-add-i : tie.Need-add-i Inv-loop μ-loop
-add-i c = search needs
-
-loop-less : tie.Need-loop-less Inv-loop μ-loop
-loop-less c = search needs
-
 loop-again : tie.Need-loop-again Inv-loop μ-loop
 loop-again c =
     let t = c .before .before .before .before .before in
     let e = c .before .before .put-row .ensures in
     running-more (t .loop-test .taken) (t .before .loop .inv) (e .0) (e .1)
-
-same-length : tie.Need-same-length Inv-loop μ-loop
-same-length c = put-long (c .before .loop .inv .put)
-
-returns : tie.Need-returns Inv-loop μ-loop
-returns c = (running-end (c .loop-test .left) (c .before .loop .inv), search needs)
 
 pub put-rows-spec : {M : Type 1} → statement M
 put-rows-spec =
@@ -53,13 +26,13 @@ put-rows-spec =
     (tie.spec
     Inv-loop
     μ-loop
-    loop-holds
-    add-put-row
-    mul-put-row
-    shared-slice-read-put-row
-    put-row-requires
-    add-i
-    loop-less
+    (λ c. running-start _ _ _ _ _)
+    (λ c. search needs)
+    (λ c. search needs)
+    (λ c. search needs)
+    (λ c κs. search needs)
+    (λ c. search needs)
+    (λ c. search needs)
     loop-again
-    same-length
-    returns)
+    (λ c. put-long (c .before .loop .inv .put))
+    (λ c. (running-end (c .loop-test .left) (c .before .loop .inv), search needs)))

@@ -1,6 +1,6 @@
 -- `writer::fresh::copy_state` meets its contract. The invariant: the words below i have been copied.
 use Prim.Native.Nat.{ℕ, _-_, _≤_}
-use mathlib.Core.Path.{_≡_, sym, ap, _∙_}
+use mathlib.Core.Path.{_≡_, ap, _∙_}
 use mathlib.Core.List.{List, _++_, append-nil}
 use native.Mathlib.Omega.{arith}
 use borrow.Author.Needs.{needs}
@@ -16,27 +16,6 @@ Inv-loop copy₀ state i₀ copy i = (i ≤ stateWords) × (length copy ≡ stat
 abbrev μ-loop : tie.MeasureT-loop
 μ-loop copy₀ state i₀ copy i = stateWords - i
 
-loop-holds : tie.Need-loop-holds Inv-loop μ-loop
-loop-holds c = search needs
-
-mul-copy : tie.Need-mul-copy Inv-loop μ-loop
-mul-copy c = search needs
-
-shared-slice-read-copy : tie.Need-shared-slice-read-copy Inv-loop μ-loop
-shared-slice-read-copy c = search needs
-
-mul-copy-2 : tie.Need-mul-copy-2 Inv-loop μ-loop
-mul-copy-2 c = search needs
-
-slice-write-copy : tie.Need-slice-write-copy Inv-loop μ-loop
-slice-write-copy c = search needs
-
-add-i : tie.Need-add-i Inv-loop μ-loop
-add-i c = search needs
-
-loop-less : tie.Need-loop-less Inv-loop μ-loop
-loop-less c = search needs
-
 loop-again : tie.Need-loop-again Inv-loop μ-loop
 loop-again c =
     let d = c .before .before .before .args .copy .now in
@@ -47,9 +26,6 @@ loop-again c =
       length-set (l .copy) (l .i) _ ∙ l .inv .1,
       ap (λ (w : List ℕ). set w (l .i) (getD s (l .i) 0)) (l .inv .2) ∙ copied-more d s (l .i) (omega arith) (omega arith),
     )
-
-same-length : tie.Need-same-length Inv-loop μ-loop
-same-length c = search needs
 
 returns : tie.Need-returns Inv-loop μ-loop
 returns c =
@@ -67,13 +43,13 @@ copy-state-spec =
     (tie.spec
     Inv-loop
     μ-loop
-    loop-holds
-    mul-copy
-    shared-slice-read-copy
-    mul-copy-2
-    slice-write-copy
-    add-i
-    loop-less
+    (λ c. search needs)
+    (λ c. search needs)
+    (λ c. search needs)
+    (λ c. search needs)
+    (λ c. search needs)
+    (λ c. search needs)
+    (λ c. search needs)
     loop-again
-    same-length
+    (λ c. search needs)
     returns)

@@ -1,26 +1,16 @@
 -- `writer::fresh::is_fresh` meets its contract: the copy opens, and is compared word by word.
-use mathlib.Core.Path.{_≡_, refl, sym, ap, _∙_}
+use mathlib.Core.Path.{refl, ap, _∙_}
 use Rattle.memory.proofs.Outcomes.{passed-checked}
 use native.Mathlib.Omega.{arith}
-use borrow.Author.Needs.{needs}
 use Rattle.calls.specs.Monitor.{openedState}
 use Rattle.writer.proofs.FreshStart.{copy-long, opened-long, fresh-is}
 use Rattle.writer.proofs.fresh.is_fresh.Statement.{statement}
 use Rattle.writer.proofs.fresh.is_fresh.Tie as tie
 
-slice-aggregate-copy-state : tie.Need-slice-aggregate-copy-state
-slice-aggregate-copy-state c = refl
-
-copy-state-requires : tie.Need-copy-state-requires
-copy-state-requires c κs = (refl, passed-checked _ _ (c .before .before .before .pre) .long-state)
-
 slice-aggregate-open : tie.Need-slice-aggregate-open
 slice-aggregate-open c =
     let k = c .before .before in
     copy-long _ _ (k .before .before .before .before .pre) _ (k .copy-state .ensures)
-
-open-requires : tie.Need-open-requires
-open-requires c κs = tt
 
 slice-aggregate-same-words : tie.Need-slice-aggregate-same-words
 slice-aggregate-same-words c =
@@ -46,10 +36,10 @@ pub is-fresh-spec : {M : Type 1} → statement M
 is-fresh-spec =
     tie.close
     (tie.spec
-    slice-aggregate-copy-state
-    copy-state-requires
+    (λ c. refl)
+    (λ c κs. (refl, passed-checked _ _ (c .before .before .before .pre) .long-state))
     slice-aggregate-open
-    open-requires
+    (λ c κs. tt)
     slice-aggregate-same-words
     same-words-requires
     returns)

@@ -1,6 +1,6 @@
 -- `writer::fresh::same_words` meets its contract. The invariant: ok says whether the words below i are the same.
 use Prim.Native.Nat.{ℕ, _-_, _≤_}
-use mathlib.Core.Path.{_≡_, refl, sym, ap, _∙_}
+use mathlib.Core.Path.{_≡_, sym, ap, _∙_}
 use mathlib.Core.Bool.{Bool, _&&_}
 use native.Mathlib.Omega.{arith}
 use borrow.Author.Needs.{needs}
@@ -17,27 +17,6 @@ Inv-loop state other ok₀ i₀ ok i = (i ≤ stateWords) × (ok ≡ allBelow i 
 
 abbrev μ-loop : tie.MeasureT-loop
 μ-loop state other ok₀ i₀ ok i = stateWords - i
-
-loop-holds : tie.Need-loop-holds Inv-loop μ-loop
-loop-holds c = (omega arith, sym (all-none _))
-
-mul-ok : tie.Need-mul-ok Inv-loop μ-loop
-mul-ok c = search needs
-
-shared-slice-read-ok : tie.Need-shared-slice-read-ok Inv-loop μ-loop
-shared-slice-read-ok c = search needs
-
-mul-ok-2 : tie.Need-mul-ok-2 Inv-loop μ-loop
-mul-ok-2 c = search needs
-
-shared-slice-read-ok-2 : tie.Need-shared-slice-read-ok-2 Inv-loop μ-loop
-shared-slice-read-ok-2 c = search needs
-
-add-i : tie.Need-add-i Inv-loop μ-loop
-add-i c = search needs
-
-loop-less : tie.Need-loop-less Inv-loop μ-loop
-loop-less c = search needs
 
 loop-again : tie.Need-loop-again Inv-loop μ-loop
 loop-again c =
@@ -60,12 +39,12 @@ same-words-spec =
     (tie.spec
     Inv-loop
     μ-loop
-    loop-holds
-    mul-ok
-    shared-slice-read-ok
-    mul-ok-2
-    shared-slice-read-ok-2
-    add-i
-    loop-less
+    (λ c. (omega arith, sym (all-none _)))
+    (λ c. search needs)
+    (λ c. search needs)
+    (λ c. search needs)
+    (λ c. search needs)
+    (λ c. search needs)
+    (λ c. search needs)
     loop-again
     returns)

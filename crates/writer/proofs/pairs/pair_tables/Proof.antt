@@ -17,30 +17,6 @@ Inv-loop terms plan count pairs₀ n₀ pairs n = (n ≤ count) × PairedSo (ter
 abbrev μ-loop : tie.MeasureT-loop
 μ-loop terms plan count pairs₀ n₀ pairs n = count - n
 
-entries-requires : tie.Need-entries-requires Inv-loop μ-loop
-entries-requires c κs = tt
-
-loop-holds : tie.Need-loop-holds Inv-loop μ-loop
-loop-holds c = (omega arith, so-none (termsOf (c .before .before .before .args .terms .now)))
-
-op-of-requires : tie.Need-op-of-requires Inv-loop μ-loop
-op-of-requires c κs = tt
-
-is-past-requires : tie.Need-is-past-requires Inv-loop μ-loop
-is-past-requires c κs = tt
-
-word-requires : tie.Need-word-requires Inv-loop μ-loop
-word-requires c κs = tt
-
-with-pair-requires : tie.Need-with-pair-requires Inv-loop μ-loop
-with-pair-requires c κs = tt
-
-add-n : tie.Need-add-n Inv-loop μ-loop
-add-n c = omega arith
-
-loop-less : tie.Need-loop-less Inv-loop μ-loop
-loop-less c = omega arith
-
 abbrev start : tie.After-is-past Inv-loop μ-loop → tie.Start Inv-loop μ-loop
 start c = c .before .before .before .before .before .before .before
 
@@ -75,13 +51,13 @@ pair-tables-spec =
     (tie.spec
     Inv-loop
     μ-loop
-    entries-requires
-    loop-holds
-    op-of-requires
-    is-past-requires
-    word-requires
-    with-pair-requires
-    add-n
-    loop-less
+    (λ c κs. tt)
+    (λ c. (omega arith, so-none (termsOf (c .before .before .before .args .terms .now))))
+    (λ c κs. tt)
+    (λ c κs. tt)
+    (λ c κs. tt)
+    (λ c κs. tt)
+    (λ c. omega arith)
+    (λ c. omega arith)
     loop-again
     returns)

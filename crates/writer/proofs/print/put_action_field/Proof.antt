@@ -6,15 +6,6 @@ use Rattle.writer.proofs.Placed.{action-short}
 use Rattle.writer.proofs.print.put_action_field.Statement.{statement}
 use Rattle.writer.proofs.print.put_action_field.Tie as tie
 
-put-byte-requires : tie.Need-put-byte-requires
-put-byte-requires c κs = search needs
-
-put-action-requires : tie.Need-put-action-requires
-put-action-requires c κs = search needs
-
-same-length : tie.Need-same-length
-same-length c = search needs
-
 returns : tie.Need-returns
 returns c =
     let w = c .before .before .put-action .ensures in
@@ -23,4 +14,10 @@ returns c =
     (put-then t w, omega (arith, t .next, w .next, action-short (a .before .before .before .args .action)))
 
 pub put-action-field-spec : {M : Type 1} → statement M
-put-action-field-spec = tie.close (tie.spec put-byte-requires put-action-requires same-length returns)
+put-action-field-spec =
+    tie.close
+    (tie.spec
+    (λ c κs. search needs)
+    (λ c κs. search needs)
+    (λ c. search needs)
+    returns)

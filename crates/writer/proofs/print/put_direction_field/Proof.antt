@@ -6,15 +6,6 @@ use Rattle.writer.proofs.Placed.{direction-short}
 use Rattle.writer.proofs.print.put_direction_field.Statement.{statement}
 use Rattle.writer.proofs.print.put_direction_field.Tie as tie
 
-put-byte-requires : tie.Need-put-byte-requires
-put-byte-requires c κs = search needs
-
-put-direction-requires : tie.Need-put-direction-requires
-put-direction-requires c κs = search needs
-
-same-length : tie.Need-same-length
-same-length c = search needs
-
 returns : tie.Need-returns
 returns c =
     let w = c .before .before .put-direction .ensures in
@@ -24,4 +15,9 @@ returns c =
 
 pub put-direction-field-spec : {M : Type 1} → statement M
 put-direction-field-spec =
-    tie.close (tie.spec put-byte-requires put-direction-requires same-length returns)
+    tie.close
+    (tie.spec
+    (λ c κs. search needs)
+    (λ c κs. search needs)
+    (λ c. search needs)
+    returns)

@@ -7,24 +7,6 @@ use Rattle.writer.proofs.Placed.{put-next}
 use Rattle.writer.proofs.print.put_effect.Statement.{statement}
 use Rattle.writer.proofs.print.put_effect.Tie as tie
 
-put-head-requires : tie.Need-put-head-requires
-put-head-requires c κs = search needs
-
-put-action-field-requires : tie.Need-put-action-field-requires
-put-action-field-requires c κs = search needs
-
-put-field-requires : tie.Need-put-field-requires
-put-field-requires c κs = search needs
-
-put-direction-field-requires : tie.Need-put-direction-field-requires
-put-direction-field-requires c κs = search needs
-
-put-byte-requires : tie.Need-put-byte-requires
-put-byte-requires c κs = search needs
-
-same-length : tie.Need-same-length
-same-length c = search needs
-
 returns : tie.Need-returns
 unfolding fieldsOf
 returns c =
@@ -42,10 +24,10 @@ pub put-effect-spec : {M : Type 1} → statement M
 put-effect-spec =
     tie.close
     (tie.spec
-    put-head-requires
-    put-action-field-requires
-    put-field-requires
-    put-direction-field-requires
-    put-byte-requires
-    same-length
+    (λ c κs. search needs)
+    (λ c κs. search needs)
+    (λ c κs. search needs)
+    (λ c κs. search needs)
+    (λ c κs. search needs)
+    (λ c. search needs)
     returns)

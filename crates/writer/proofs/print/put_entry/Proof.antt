@@ -7,30 +7,6 @@ use Rattle.writer.proofs.Placed.{put-next}
 use Rattle.writer.proofs.print.put_entry.Statement.{statement}
 use Rattle.writer.proofs.print.put_entry.Tie as tie
 
-put-head-requires : tie.Need-put-head-requires
-put-head-requires c κs = search needs
-
-put-operator-field-requires : tie.Need-put-operator-field-requires
-put-operator-field-requires c κs = search needs
-
-put-field-requires : tie.Need-put-field-requires
-put-field-requires c κs = search needs
-
-put-field-requires-2 : tie.Need-put-field-requires-2
-put-field-requires-2 c κs = search needs
-
-put-field-requires-3 : tie.Need-put-field-requires-3
-put-field-requires-3 c κs = search needs
-
-put-byte-requires : tie.Need-put-byte-requires
-put-byte-requires c κs = search needs
-
-put-byte-requires-2 : tie.Need-put-byte-requires-2
-put-byte-requires-2 c κs = search needs
-
-same-length : tie.Need-same-length
-same-length c = search needs
-
 returns : tie.Need-returns
 unfolding fieldsOf
 returns c =
@@ -45,9 +21,6 @@ returns c =
     let f4 = put-next _ _ _ (f3) (c4 .put-field2 .ensures .0) in
     let f5 = put-next _ _ _ (f4) (c5 .put-field3 .ensures .0) in
     (rw (c5 .before .before .if1 .taken) (put-then f5 (c6 .put-byte .ensures .0 .all (omega arith))), search needs)
-
-same-length-2 : tie.Need-same-length-2
-same-length-2 c = search needs
 
 returns-2 : tie.Need-returns-2
 unfolding fieldsOf
@@ -66,14 +39,14 @@ pub put-entry-spec : {M : Type 1} → statement M
 put-entry-spec =
     tie.close
     (tie.spec
-    put-head-requires
-    put-operator-field-requires
-    put-field-requires
-    put-field-requires-2
-    put-field-requires-3
-    put-byte-requires
-    same-length
+    (λ c κs. search needs)
+    (λ c κs. search needs)
+    (λ c κs. search needs)
+    (λ c κs. search needs)
+    (λ c κs. search needs)
+    (λ c κs. search needs)
+    (λ c. search needs)
     returns
-    put-byte-requires-2
-    same-length-2
+    (λ c κs. search needs)
+    (λ c. search needs)
     returns-2)

@@ -6,15 +6,6 @@ use Rattle.fields.proofs.Digits.{digits-short}
 use Rattle.writer.proofs.print.put_field.Statement.{statement}
 use Rattle.writer.proofs.print.put_field.Tie as tie
 
-put-byte-requires : tie.Need-put-byte-requires
-put-byte-requires c κs = search needs
-
-put-decimal-requires : tie.Need-put-decimal-requires
-put-decimal-requires c κs = search needs
-
-same-length : tie.Need-same-length
-same-length c = search needs
-
 returns : tie.Need-returns
 returns c =
     let a = c .before .before .before .before .before .before in
@@ -23,4 +14,10 @@ returns c =
     (put-then t w, omega (arith, t .next, w .next, digits-short (a .before .before .before .args .n)))
 
 pub put-field-spec : {M : Type 1} → statement M
-put-field-spec = tie.close (tie.spec put-byte-requires put-decimal-requires same-length returns)
+put-field-spec =
+    tie.close
+    (tie.spec
+    (λ c κs. search needs)
+    (λ c κs. search needs)
+    (λ c. search needs)
+    returns)

@@ -7,16 +7,10 @@ use Rattle.writer.proofs.Placed.{kind-short}
 use Rattle.writer.proofs.print.put_head.Statement.{statement}
 use Rattle.writer.proofs.print.put_head.Tie as tie
 
-put-kind-requires : tie.Need-put-kind-requires
-put-kind-requires c κs = search needs
-
 put-field-requires : tie.Need-put-field-requires
 put-field-requires c κs =
     let a = c .before .before .before in
     omega (arith, a .put-kind .ensures .next, kind-short (a .before .before .before .args .kind))
-
-same-length : tie.Need-same-length
-same-length c = search needs
 
 returns : tie.Need-returns
 unfolding join
@@ -27,4 +21,10 @@ returns c =
     (put-then k (f .0), omega (arith, k .next, kind-short (a .before .before .before .args .kind)))
 
 pub put-head-spec : {M : Type 1} → statement M
-put-head-spec = tie.close (tie.spec put-kind-requires put-field-requires same-length returns)
+put-head-spec =
+    tie.close
+    (tie.spec
+    (λ c κs. search needs)
+    put-field-requires
+    (λ c. search needs)
+    returns)

@@ -6,15 +6,6 @@ use Rattle.writer.proofs.Placed.{operator-short}
 use Rattle.writer.proofs.print.put_operator_field.Statement.{statement}
 use Rattle.writer.proofs.print.put_operator_field.Tie as tie
 
-put-byte-requires : tie.Need-put-byte-requires
-put-byte-requires c κs = search needs
-
-put-operator-requires : tie.Need-put-operator-requires
-put-operator-requires c κs = search needs
-
-same-length : tie.Need-same-length
-same-length c = search needs
-
 returns : tie.Need-returns
 returns c =
     let w = c .before .before .put-operator .ensures in
@@ -24,4 +15,9 @@ returns c =
 
 pub put-operator-field-spec : {M : Type 1} → statement M
 put-operator-field-spec =
-    tie.close (tie.spec put-byte-requires put-operator-requires same-length returns)
+    tie.close
+    (tie.spec
+    (λ c κs. search needs)
+    (λ c κs. search needs)
+    (λ c. search needs)
+    returns)

@@ -6,21 +6,6 @@ use Rattle.writer.proofs.Placed.{put-next}
 use Rattle.writer.proofs.print.put_triple.Statement.{statement}
 use Rattle.writer.proofs.print.put_triple.Tie as tie
 
-put-head-requires : tie.Need-put-head-requires
-put-head-requires c κs = search needs
-
-put-field-requires : tie.Need-put-field-requires
-put-field-requires c κs = search needs
-
-put-field-requires-2 : tie.Need-put-field-requires-2
-put-field-requires-2 c κs = search needs
-
-put-byte-requires : tie.Need-put-byte-requires
-put-byte-requires c κs = search needs
-
-same-length : tie.Need-same-length
-same-length c = search needs
-
 returns : tie.Need-returns
 returns c =
     let c4 = c .before .before in
@@ -35,9 +20,9 @@ pub put-triple-spec : {M : Type 1} → statement M
 put-triple-spec =
     tie.close
     (tie.spec
-    put-head-requires
-    put-field-requires
-    put-field-requires-2
-    put-byte-requires
-    same-length
+    (λ c κs. search needs)
+    (λ c κs. search needs)
+    (λ c κs. search needs)
+    (λ c κs. search needs)
+    (λ c. search needs)
     returns)

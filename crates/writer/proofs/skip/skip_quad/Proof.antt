@@ -5,9 +5,6 @@ use Rattle.writer.proofs.PutLines.{skip-four}
 use Rattle.writer.proofs.skip.skip_quad.Statement.{statement}
 use Rattle.writer.proofs.skip.skip_quad.Tie as tie
 
-returns : tie.Need-returns
-returns c = ((λ k e. skip-four _ _ k _ _ _ _ (omega arith)), omega arith)
-
 pub skip-quad-spec : {M : Type 1} → statement M
 skip-quad-spec =
     tie.close
@@ -21,4 +18,4 @@ skip-quad-spec =
     (λ c. search needs)
     (λ c κs. search needs)
     (λ c. search needs)
-    returns)
+    (λ c. ((λ k e. skip-four _ _ k _ _ _ _ (omega arith)), omega arith)))

@@ -14,16 +14,10 @@ Inv-loop at table pairs w i b₀ next₀ b next = Running [] [] at next 32 64 b 
 abbrev μ-loop : tie.MeasureT-loop
 μ-loop at table pairs w i b₀ next₀ b next = 64 - b
 
-loop-holds : tie.Need-loop-holds Inv-loop μ-loop
-loop-holds c = running-start _ _ _ _ _
-
 loop-again : tie.Need-loop-again Inv-loop μ-loop
 loop-again c =
     let e = c .skip-bit .ensures in
     running-more (omega arith) (c .before .before .loop .inv) (e .0) (e .1)
-
-returns : tie.Need-returns Inv-loop μ-loop
-returns c = (running-end (omega arith) (c .before .loop .inv), search needs)
 
 pub skip-row-spec : {M : Type 1} → statement M
 skip-row-spec =
@@ -31,9 +25,9 @@ skip-row-spec =
     (tie.spec
     Inv-loop
     μ-loop
-    loop-holds
+    (λ c. running-start _ _ _ _ _)
     (λ c κs. search needs)
     (λ c. search needs)
     (λ c. search needs)
     loop-again
-    returns)
+    (λ c. (running-end (omega arith) (c .before .loop .inv), search needs)))

@@ -5,9 +5,6 @@ use Rattle.writer.proofs.PutLines.{skip-three}
 use Rattle.writer.proofs.skip.skip_triple.Statement.{statement}
 use Rattle.writer.proofs.skip.skip_triple.Tie as tie
 
-returns : tie.Need-returns
-returns c = ((λ k e. skip-three _ _ k _ _ _ (omega arith)), omega arith)
-
 pub skip-triple-spec : {M : Type 1} → statement M
 skip-triple-spec =
     tie.close
@@ -19,4 +16,4 @@ skip-triple-spec =
     (λ c. search needs)
     (λ c κs. search needs)
     (λ c. search needs)
-    returns)
+    (λ c. ((λ k e. skip-three _ _ k _ _ _ (omega arith)), omega arith)))

@@ -6,11 +6,9 @@ use Rattle.fields.proofs.Digits.{digits-single, digits-double}
 use Rattle.writer.proofs.skip.width.Statement.{statement}
 use Rattle.writer.proofs.skip.width.Tie as tie
 
-returns : tie.Need-returns
-returns c = (ap length (digits-single _ (c .if1 .taken)), omega arith)
-
-returns-2 : tie.Need-returns-2
-returns-2 c = (ap length (digits-double _ (c .if1 .left) (c .before .pre)), omega arith)
-
 pub width-spec : {M : Type 1} → statement M
-width-spec = tie.close (tie.spec returns returns-2)
+width-spec =
+    tie.close
+    (tie.spec
+    (λ c. (ap length (digits-single _ (c .if1 .taken)), omega arith))
+    (λ c. (ap length (digits-double _ (c .if1 .left) (c .before .pre)), omega arith)))

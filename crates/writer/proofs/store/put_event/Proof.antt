@@ -6,18 +6,6 @@ use Rattle.writer.proofs.PutLines.{put-event-none, put-event-there}
 use Rattle.writer.proofs.store.put_event.Statement.{statement}
 use Rattle.writer.proofs.store.put_event.Tie as tie
 
-returns : tie.Need-returns
-returns c = (put-event-none _ _ (c .before .before .args .w) (omega arith), omega arith)
-
-sub-n : tie.Need-sub-n
-sub-n c = search needs
-
-put-triple-requires : tie.Need-put-triple-requires
-put-triple-requires c κs = search needs
-
-same-length : tie.Need-same-length
-same-length c = search needs
-
 returns-2 : tie.Need-returns-2
 unfolding fieldsOf
 returns-2 c =
@@ -26,4 +14,11 @@ returns-2 c =
     (put-event-there _ (t .if1 .left) (e .0), e .1)
 
 pub put-event-spec : {M : Type 1} → statement M
-put-event-spec = tie.close (tie.spec returns sub-n put-triple-requires same-length returns-2)
+put-event-spec =
+    tie.close
+    (tie.spec
+    (λ c. (put-event-none _ _ (c .before .before .args .w) (omega arith), omega arith))
+    (λ c. search needs)
+    (λ c κs. search needs)
+    (λ c. search needs)
+    returns-2)

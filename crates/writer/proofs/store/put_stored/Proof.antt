@@ -10,24 +10,6 @@ use Rattle.writer.proofs.PutLines.{put-line, put-lines}
 use Rattle.writer.proofs.store.put_stored.Statement.{statement}
 use Rattle.writer.proofs.store.put_stored.Tie as tie
 
-put-single-requires : tie.Need-put-single-requires
-put-single-requires c κs = search needs
-
-put-text-requires : tie.Need-put-text-requires
-put-text-requires c κs = search needs
-
-put-tables-requires : tie.Need-put-tables-requires
-put-tables-requires c κs = search needs
-
-shared-slice-read-put-event : tie.Need-shared-slice-read-put-event
-shared-slice-read-put-event c = search needs
-
-put-event-requires : tie.Need-put-event-requires
-put-event-requires c κs = search needs
-
-same-length : tie.Need-same-length
-same-length c = search needs
-
 returns : tie.Need-returns
 unfolding storedText stored storedLines writtenText written stateOf fieldsOf
 returns c =
@@ -45,10 +27,10 @@ pub put-stored-spec : {M : Type 1} → statement M
 put-stored-spec =
     tie.close
     (tie.spec
-    put-single-requires
-    put-text-requires
-    put-tables-requires
-    shared-slice-read-put-event
-    put-event-requires
-    same-length
+    (λ c κs. search needs)
+    (λ c κs. search needs)
+    (λ c κs. search needs)
+    (λ c. search needs)
+    (λ c κs. search needs)
+    (λ c. search needs)
     returns)

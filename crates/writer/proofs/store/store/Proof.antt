@@ -9,9 +9,6 @@ use Rattle.writer.proofs.Fitting.{ends-unchecked}
 use Rattle.writer.proofs.store.store.Statement.{statement}
 use Rattle.writer.proofs.store.store.Tie as tie
 
-inspect-requires : tie.Need-inspect-requires
-inspect-requires c κs = search needs
-
 enum-told : tie.Need-enum-told
 enum-told c = search needs
 
@@ -33,15 +30,6 @@ store-checked-requires c κs =
     let k = c .before .before .before in
     (sym (ap outcomeOf (k .enum-told .given .1)) ∙ k .before .before .inspect .ensures .0, c .pair-tables .ensures)
 
-enum-known-n : tie.Need-enum-known-n
-enum-known-n c = search needs
-
-same-length : tie.Need-same-length
-same-length c = search needs
-
-returns : tie.Need-returns
-returns c = search needs
-
 returns-2 : tie.Need-returns-2
 unfolding storeGives storeLeaves
 returns-2 c = ends-unchecked _ (storedText _ _) _ _ _ (sym (ap outcomeOf (c .before .n .given .1)) ∙ c .before .before .before .inspect .ensures .0)
@@ -50,12 +38,12 @@ pub store-spec : {M : Type 1} → statement M
 store-spec =
     tie.close
     (tie.spec
-    inspect-requires
+    (λ c κs. search needs)
     enum-told
     slice-aggregate-pair-tables
     pair-tables-requires
     store-checked-requires
-    enum-known-n
-    same-length
-    returns
+    (λ c. search needs)
+    (λ c. search needs)
+    (λ c. search needs)
     returns-2)

@@ -20,9 +20,6 @@ put-stored-requires c κs =
     let s = c .before .before .before .before .before .before in
     (s .pre .1, passed-checked _ _ (s .pre .0) .long-state, event-small _ _ (s .pre .0), omega arith)
 
-same-length : tie.Need-same-length
-same-length c = search needs
-
 returns-2 : tie.Need-returns-2
 unfolding storeGives storeLeaves
 returns-2 c =
@@ -33,4 +30,10 @@ returns-2 c =
 
 pub store-checked-spec : {M : Type 1} → statement M
 store-checked-spec =
-    tie.close (tie.spec count-requires returns put-stored-requires same-length returns-2)
+    tie.close
+    (tie.spec
+    count-requires
+    returns
+    put-stored-requires
+    (λ c. search needs)
+    returns-2)

@@ -9,9 +9,6 @@ use Rattle.writer.proofs.Fitting.{event-small, size-unchecked, size-who
 use Rattle.writer.proofs.store.store_size.Statement.{statement}
 use Rattle.writer.proofs.store.store_size.Tie as tie
 
-inspect-requires : tie.Need-inspect-requires
-inspect-requires c κs = search needs
-
 enum-told : tie.Need-enum-told
 enum-told c = search needs
 
@@ -34,9 +31,6 @@ count-requires c κs =
     let e : passed ≡ checks _ _ = sym (ap outcomeOf (k .enum-told .given .1)) ∙ k .before .before .inspect .ensures .0 in
     (c .pair-tables .ensures, passed-checked _ _ e .long-state, event-small _ _ e)
 
-enum-known-n : tie.Need-enum-known-n
-enum-known-n c = search needs
-
 returns : tie.Need-returns
 unfolding storeSizeGives
 returns c =
@@ -51,11 +45,11 @@ pub store-size-spec : {M : Type 1} → statement M
 store-size-spec =
     tie.close
     (tie.spec
-    inspect-requires
+    (λ c κs. search needs)
     enum-told
     slice-aggregate-pair-tables
     pair-tables-requires
     count-requires
-    enum-known-n
+    (λ c. search needs)
     returns
     returns-2)

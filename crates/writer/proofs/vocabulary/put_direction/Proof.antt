@@ -1,5 +1,4 @@
 -- `writer::vocabulary::put_direction` meets its contract: each arm puts the word of its number.
-use Prim.Native.Nat.{_≤_}
 use native.Mathlib.Omega.{arith}
 use borrow.Author.Needs.{needs}
 use Rattle.file.specs.Words.{directionWords}

@@ -16,41 +16,11 @@ Inv-loop terms out₀ at j i₀ next₀ out i next =
 abbrev μ-loop : tie.MeasureT-loop
 μ-loop terms out₀ at j i₀ next₀ out i next = 4 - i
 
-loop-holds : tie.Need-loop-holds Inv-loop μ-loop
-loop-holds c = (omega arith, (omega arith, going-start _ _ _))
-
-mul-from : tie.Need-mul-from Inv-loop μ-loop
-mul-from c = search needs
-
-add-from : tie.Need-add-from Inv-loop μ-loop
-add-from c = search needs
-
-mul-from-2 : tie.Need-mul-from-2 Inv-loop μ-loop
-mul-from-2 c = search needs
-
-add-from-2 : tie.Need-add-from-2 Inv-loop μ-loop
-add-from-2 c = search needs
-
-word-requires : tie.Need-word-requires Inv-loop μ-loop
-word-requires c κs = search needs
-
-same-length : tie.Need-same-length Inv-loop μ-loop
-same-length c = put-long (c .before .before .before .loop .inv .1 .1 .put)
-
 returns : tie.Need-returns Inv-loop μ-loop
 unfolding termsOf
 returns c =
     let l = c .before .before .before .loop in
     (going-end (slots-stop _ _ _ _ (sym (c .before .word .ensures .0) ∙ c .if1 .taken)) (l .inv .1 .1), search needs)
-
-put-slot-requires : tie.Need-put-slot-requires Inv-loop μ-loop
-put-slot-requires c κs = search needs
-
-add-i : tie.Need-add-i Inv-loop μ-loop
-add-i c = search needs
-
-loop-less : tie.Need-loop-less Inv-loop μ-loop
-loop-less c = search needs
 
 loop-again : tie.Need-loop-again Inv-loop μ-loop
 loop-again c =
@@ -68,9 +38,6 @@ loop-again c =
       ),
     )
 
-same-length-2 : tie.Need-same-length-2 Inv-loop μ-loop
-same-length-2 c = put-long (c .before .loop .inv .1 .1 .put)
-
 returns-2 : tie.Need-returns-2 Inv-loop μ-loop
 unfolding termsOf
 returns-2 c =
@@ -83,17 +50,17 @@ put-effects-of-spec =
     (tie.spec
     Inv-loop
     μ-loop
-    loop-holds
-    mul-from
-    add-from
-    mul-from-2
-    add-from-2
-    word-requires
-    same-length
+    (λ c. (omega arith, (omega arith, going-start _ _ _)))
+    (λ c. search needs)
+    (λ c. search needs)
+    (λ c. search needs)
+    (λ c. search needs)
+    (λ c κs. search needs)
+    (λ c. put-long (c .before .before .before .loop .inv .1 .1 .put))
     returns
-    put-slot-requires
-    add-i
-    loop-less
+    (λ c κs. search needs)
+    (λ c. search needs)
+    (λ c. search needs)
     loop-again
-    same-length-2
+    (λ c. put-long (c .before .loop .inv .1 .1 .put))
     returns-2)

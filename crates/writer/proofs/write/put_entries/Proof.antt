@@ -14,29 +14,11 @@ Inv-loop terms out₀ at count n₀ next₀ out n next = Running out₀ out at n
 abbrev μ-loop : tie.MeasureT-loop
 μ-loop terms out₀ at count n₀ next₀ out n next = count - n
 
-entries-requires : tie.Need-entries-requires Inv-loop μ-loop
-entries-requires c κs = search needs
-
-loop-holds : tie.Need-loop-holds Inv-loop μ-loop
-loop-holds c = running-start _ _ _ _ _
-
-put-entry-of-requires : tie.Need-put-entry-of-requires Inv-loop μ-loop
-put-entry-of-requires c κs = search needs
-
-add-n : tie.Need-add-n Inv-loop μ-loop
-add-n c = search needs
-
-loop-less : tie.Need-loop-less Inv-loop μ-loop
-loop-less c = search needs
-
 loop-again : tie.Need-loop-again Inv-loop μ-loop
 loop-again c =
     let t = c .before .before .before .before in
     let e = c .before .before .put-entry-of .ensures in
     running-more (t .loop-test .taken) (t .before .loop .inv) (e .0) (e .1)
-
-same-length : tie.Need-same-length Inv-loop μ-loop
-same-length c = put-long (c .before .loop .inv .put)
 
 returns : tie.Need-returns Inv-loop μ-loop
 unfolding termsOf
@@ -50,11 +32,11 @@ put-entries-spec =
     (tie.spec
     Inv-loop
     μ-loop
-    entries-requires
-    loop-holds
-    put-entry-of-requires
-    add-n
-    loop-less
+    (λ c κs. search needs)
+    (λ c. running-start _ _ _ _ _)
+    (λ c κs. search needs)
+    (λ c. search needs)
+    (λ c. search needs)
     loop-again
-    same-length
+    (λ c. put-long (c .before .loop .inv .put))
     returns)

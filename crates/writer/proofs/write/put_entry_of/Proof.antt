@@ -4,24 +4,6 @@ use Rattle.writer.proofs.PutLines.{put-line}
 use Rattle.writer.proofs.write.put_entry_of.Statement.{statement}
 use Rattle.writer.proofs.write.put_entry_of.Tie as tie
 
-op-of-requires : tie.Need-op-of-requires
-op-of-requires c κs = search needs
-
-first-of-requires : tie.Need-first-of-requires
-first-of-requires c κs = search needs
-
-second-of-requires : tie.Need-second-of-requires
-second-of-requires c κs = search needs
-
-third-of-requires : tie.Need-third-of-requires
-third-of-requires c κs = search needs
-
-put-entry-requires : tie.Need-put-entry-requires
-put-entry-requires c κs = search needs
-
-same-length : tie.Need-same-length
-same-length c = search needs
-
 returns : tie.Need-returns
 returns c =
     let e = c .before .before .put-entry .ensures in
@@ -38,4 +20,11 @@ returns c =
 pub put-entry-of-spec : {M : Type 1} → statement M
 put-entry-of-spec =
     tie.close
-    (tie.spec op-of-requires first-of-requires second-of-requires third-of-requires put-entry-requires same-length returns)
+    (tie.spec
+    (λ c κs. search needs)
+    (λ c κs. search needs)
+    (λ c κs. search needs)
+    (λ c κs. search needs)
+    (λ c κs. search needs)
+    (λ c. search needs)
+    returns)

@@ -8,24 +8,6 @@ use Rattle.writer.proofs.PutLines.{put-line, put-lines}
 use Rattle.writer.proofs.write.put_front.Statement.{statement}
 use Rattle.writer.proofs.write.put_front.Tie as tie
 
-members-requires : tie.Need-members-requires
-members-requires c κs = search needs
-
-put-single-requires : tie.Need-put-single-requires
-put-single-requires c κs = search needs
-
-relations-requires : tie.Need-relations-requires
-relations-requires c κs = search needs
-
-events-requires : tie.Need-events-requires
-events-requires c κs = search needs
-
-put-pair-requires : tie.Need-put-pair-requires
-put-pair-requires c κs = search needs
-
-same-length : tie.Need-same-length
-same-length c = search needs
-
 returns : tie.Need-returns
 unfolding termsOf fieldsOf
 returns c =
@@ -41,10 +23,10 @@ pub put-front-spec : {M : Type 1} → statement M
 put-front-spec =
     tie.close
     (tie.spec
-    members-requires
-    put-single-requires
-    relations-requires
-    events-requires
-    put-pair-requires
-    same-length
+    (λ c κs. search needs)
+    (λ c κs. search needs)
+    (λ c κs. search needs)
+    (λ c κs. search needs)
+    (λ c κs. search needs)
+    (λ c. search needs)
     returns)

@@ -8,19 +8,10 @@ use Rattle.writer.proofs.PutLines.{put-mark-there, put-mark-none}
 use Rattle.writer.proofs.write.put_mark_of.Statement.{statement}
 use Rattle.writer.proofs.write.put_mark_of.Tie as tie
 
-is-kept-requires : tie.Need-is-kept-requires
-is-kept-requires c κs = search needs
-
 returns : tie.Need-returns
 returns c =
     let a = c .before .before .before .before in
     (put-mark-none (termsOf (a .args .terms .now)) (a .args .j) _ (c .before .is-kept .ensures) _ _ (not-true _ (c .if1 .taken)), omega arith)
-
-put-single-requires : tie.Need-put-single-requires
-put-single-requires c κs = search needs
-
-same-length : tie.Need-same-length
-same-length c = search needs
 
 returns-2 : tie.Need-returns-2
 unfolding fieldsOf
@@ -31,4 +22,11 @@ returns-2 c =
     (put-mark-there (termsOf (a .args .terms .now)) (a .args .j) _ (t .before .is-kept .ensures) (not-false _ (t .if1 .left)) (e .0), e .1)
 
 pub put-mark-of-spec : {M : Type 1} → statement M
-put-mark-of-spec = tie.close (tie.spec is-kept-requires returns put-single-requires same-length returns-2)
+put-mark-of-spec =
+    tie.close
+    (tie.spec
+    (λ c κs. search needs)
+    returns
+    (λ c κs. search needs)
+    (λ c. search needs)
+    returns-2)

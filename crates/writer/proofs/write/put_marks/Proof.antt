@@ -14,29 +14,11 @@ Inv-loop terms out₀ at count j₀ next₀ out j next = Running out₀ out at n
 abbrev μ-loop : tie.MeasureT-loop
 μ-loop terms out₀ at count j₀ next₀ out j next = count - j
 
-events-requires : tie.Need-events-requires Inv-loop μ-loop
-events-requires c κs = search needs
-
-loop-holds : tie.Need-loop-holds Inv-loop μ-loop
-loop-holds c = running-start _ _ _ _ _
-
-put-mark-of-requires : tie.Need-put-mark-of-requires Inv-loop μ-loop
-put-mark-of-requires c κs = search needs
-
-add-j : tie.Need-add-j Inv-loop μ-loop
-add-j c = search needs
-
-loop-less : tie.Need-loop-less Inv-loop μ-loop
-loop-less c = search needs
-
 loop-again : tie.Need-loop-again Inv-loop μ-loop
 loop-again c =
     let t = c .before .before .before .before in
     let e = c .before .before .put-mark-of .ensures in
     running-more (t .loop-test .taken) (t .before .loop .inv) (e .0) (e .1)
-
-same-length : tie.Need-same-length Inv-loop μ-loop
-same-length c = put-long (c .before .loop .inv .put)
 
 returns : tie.Need-returns Inv-loop μ-loop
 unfolding termsOf
@@ -50,11 +32,11 @@ put-marks-spec =
     (tie.spec
     Inv-loop
     μ-loop
-    events-requires
-    loop-holds
-    put-mark-of-requires
-    add-j
-    loop-less
+    (λ c κs. search needs)
+    (λ c. running-start _ _ _ _ _)
+    (λ c κs. search needs)
+    (λ c. search needs)
+    (λ c. search needs)
     loop-again
-    same-length
+    (λ c. put-long (c .before .loop .inv .put))
     returns)

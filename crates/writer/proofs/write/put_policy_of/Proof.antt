@@ -6,15 +6,6 @@ use Rattle.writer.proofs.PutLines.{put-line}
 use Rattle.writer.proofs.write.put_policy_of.Statement.{statement}
 use Rattle.writer.proofs.write.put_policy_of.Tie as tie
 
-policy-of-requires : tie.Need-policy-of-requires
-policy-of-requires c κs = search needs
-
-put-pair-requires : tie.Need-put-pair-requires
-put-pair-requires c κs = search needs
-
-same-length : tie.Need-same-length
-same-length c = search needs
-
 returns : tie.Need-returns
 unfolding fieldsOf
 returns c =
@@ -23,4 +14,9 @@ returns c =
 
 pub put-policy-of-spec : {M : Type 1} → statement M
 put-policy-of-spec =
-    tie.close (tie.spec policy-of-requires put-pair-requires same-length returns)
+    tie.close
+    (tie.spec
+    (λ c κs. search needs)
+    (λ c κs. search needs)
+    (λ c. search needs)
+    returns)

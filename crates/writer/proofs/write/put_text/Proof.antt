@@ -6,27 +6,6 @@ use Rattle.writer.proofs.PutLines.{put-lines}
 use Rattle.writer.proofs.write.put_text.Statement.{statement}
 use Rattle.writer.proofs.write.put_text.Tie as tie
 
-put-front-requires : tie.Need-put-front-requires
-put-front-requires c κs = search needs
-
-put-entries-requires : tie.Need-put-entries-requires
-put-entries-requires c κs = search needs
-
-put-policies-requires : tie.Need-put-policies-requires
-put-policies-requires c κs = search needs
-
-put-marks-requires : tie.Need-put-marks-requires
-put-marks-requires c κs = search needs
-
-put-effects-requires : tie.Need-put-effects-requires
-put-effects-requires c κs = search needs
-
-put-edges-requires : tie.Need-put-edges-requires
-put-edges-requires c κs = search needs
-
-same-length : tie.Need-same-length
-same-length c = search needs
-
 returns : tie.Need-returns
 unfolding writtenText written allLines
 returns c =
@@ -48,11 +27,11 @@ pub put-text-spec : {M : Type 1} → statement M
 put-text-spec =
     tie.close
     (tie.spec
-    put-front-requires
-    put-entries-requires
-    put-policies-requires
-    put-marks-requires
-    put-effects-requires
-    put-edges-requires
-    same-length
+    (λ c κs. search needs)
+    (λ c κs. search needs)
+    (λ c κs. search needs)
+    (λ c κs. search needs)
+    (λ c κs. search needs)
+    (λ c κs. search needs)
+    (λ c. search needs)
     returns)

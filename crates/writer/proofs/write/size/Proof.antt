@@ -6,9 +6,6 @@ use Rattle.writer.proofs.OldForm.{size-failed}
 use Rattle.writer.proofs.write.size.Statement.{statement}
 use Rattle.writer.proofs.write.size.Tie as tie
 
-size-checked-requires : tie.Need-size-checked-requires
-size-checked-requires c κs = sym (ap outcomeOf (c .enum-told .given .1)) ∙ c .before .before .check .ensures
-
 returns-2 : tie.Need-returns-2
 returns-2 c =
     let k = c .before .before .before in
@@ -20,7 +17,7 @@ size-spec =
     (tie.spec
     (λ c κs. search needs)
     (λ c. search needs)
-    size-checked-requires
+    (λ c κs. sym (ap outcomeOf (c .enum-told .given .1)) ∙ c .before .before .check .ensures)
     (λ c. search needs)
     (λ c. search needs)
     returns-2)

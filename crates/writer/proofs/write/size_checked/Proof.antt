@@ -8,9 +8,6 @@ use Rattle.writer.proofs.OldForm.{found, size-ends, size-past}
 use Rattle.writer.proofs.write.size_checked.Statement.{statement}
 use Rattle.writer.proofs.write.size_checked.Tie as tie
 
-count-requires : tie.Need-count-requires
-count-requires c κs = omega (arith, passed-checked _ _ (c .before .before .before .before .pre) .long-state)
-
 returns : tie.Need-returns
 unfolding sizeGives
 returns c =
@@ -25,4 +22,10 @@ returns-2 c =
     size-past _ _ (f .before .before .before .pre) (found _ _ (c .if1 .left) (f .is-fresh .ensures))
 
 pub size-checked-spec : {M : Type 1} → statement M
-size-checked-spec = tie.close (tie.spec (λ c κs. search needs) count-requires returns returns-2)
+size-checked-spec =
+    tie.close
+    (tie.spec
+    (λ c κs. search needs)
+    (λ c κs. omega (arith, passed-checked _ _ (c .before .before .before .before .pre) .long-state))
+    returns
+    returns-2)

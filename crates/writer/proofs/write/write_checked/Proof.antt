@@ -20,9 +20,6 @@ returns c =
     let f = c .before in
     ends-past _ _ _ (f .before .before .before .before .pre) (found _ _ (not-true _ (c .if1 .taken)) (f .is-fresh .ensures))
 
-count-requires : tie.Need-count-requires
-count-requires c κs = long-enough (c .before .before .before .before .before) .0
-
 returns-2 : tie.Need-returns-2
 unfolding writeGives
 returns-2 c =
@@ -31,9 +28,6 @@ returns-2 c =
     let e = f .before .before .before .before .before .pre in
     ends-fresh _ _ _ e (found _ _ (not-false _ (f .if1 .left)) (f .before .is-fresh .ensures)) _ _
     (ends-short _ (writtenText _ _) _ e _ (k .count .ensures) (c .if2 .taken))
-
-put-text-requires : tie.Need-put-text-requires
-put-text-requires c κs = long-enough (c .before .before .before .before .before .before .before .before)
 
 returns-3 : tie.Need-returns-3
 unfolding writeGives
@@ -52,8 +46,8 @@ write-checked-spec =
     (tie.spec
     (λ c κs. search needs)
     returns
-    count-requires
+    (λ c κs. long-enough (c .before .before .before .before .before) .0)
     returns-2
-    put-text-requires
+    (λ c κs. long-enough (c .before .before .before .before .before .before .before .before))
     (λ c. search needs)
     returns-3)
