@@ -1,18 +1,19 @@
 -- Check 15 by the set of the numbers in the list: no number below n is missing.
-use Prim.Native.Nat.{ℕ, _+_, _<_}
+use Prim.Native.Nat.{ℕ, _+_, _≤_, _<_}
 use native.Mathlib.Omega.{arith}
-use mathlib.Core.Path.{_≡_, refl, sym, ap, subst, _∙_}
-use mathlib.Core.Logic.{⊎-elim}
+use mathlib.Core.Path.{_≡_, refl, sym, ap, subst, fun-ext, _∙_}
+use mathlib.Core.Logic.{_⊎_, inl, inr, ⊎-elim}
 use mathlib.Core.Bool.{Bool, true, false, not, _&&_, _||_}
 use mathlib.Core.List.{List}
 use lib.Dec.{eqb, ltb}
 use lib.Bits.{bitAnd, bitXor}
-use lib.ListN.{length, getD}
-use borrow.Author.Tests.{eqb-true, eq-eqb, ne-eqb, ltb-true, lt-ltb}
+use lib.ListN.{length, getD, set, List·getD-eq-default}
+use lib.Seq.{getD-set-same, getD-set-other}
+use borrow.Author.Tests.{eqb-true, eq-eqb, ne-eqb, ltb-true, ltb-false, lt-ltb}
 use Rattle.sets.specs.Sets.{anyBelow, allBelow, bit}
 use Rattle.sets.proofs.Finite.{bool-iff, is-false, not-both, and-left, and-right, and-both, or-left, or-right, or-cases, any-intro, any-elim, all-true, all-out, last-or-below}
 use Rattle.sets.proofs.Bits.{bit-zero, bit-without, same-bits}
-use Rattle.theory.specs.NewNumbers.{renumbers}
+use Rattle.theory.specs.NewNumbers.{newNumber, renumbers}
 use Rattle.calls.proofs.MembersNumbers.{getD-any}
 
 -- The set of the first i numbers of the list.
@@ -81,3 +82,24 @@ all-seen p n all seen small long mask s =
 pub short : (p : List ℕ) (n : ℕ) → (length p ≡ n → ⊥) → renumbers n p ≡ false
 unfolding renumbers
 short p n h = rw (ne-eqb (length p) n h)
+
+-- ---- the list of all 64 new numbers
+
+pub listed-more : (numbers all : List ℕ) (m x : ℕ) → m < length all → x ≡ newNumber numbers m → ((j : ℕ) → j < m → getD all j 0 ≡ newNumber numbers j) →
+    (j : ℕ) → j < m + 1 → getD (set all m x) j 0 ≡ newNumber numbers j
+listed-more numbers all m x ml e h j jl = by (last-or-below j m (omega arith))
+  where
+    by : (j < m) ⊎ (j ≡ m) → getD (set all m x) j 0 ≡ newNumber numbers j
+    by (inl l) = getD-set-other all m j x 0 (λ z. omega arith) ∙ h j l
+    by (inr z) = ap (λ k. getD (set all m x) k 0) z ∙ getD-set-same all m x 0 ml ∙ e ∙ ap (newNumber numbers) (sym z)
+
+-- It says the same of every number.
+pub same-numbers : (numbers all : List ℕ) → length numbers ≤ 64 → length all ≡ 64 → ((m : ℕ) → m < 64 → getD all m 0 ≡ newNumber numbers m) →
+    newNumber all ≡ newNumber numbers
+same-numbers numbers all few long h = fun-ext (λ m. by m (ltb m 64) refl)
+  where
+    by : (m : ℕ) (c : Bool) → ltb m 64 ≡ c → newNumber all m ≡ newNumber numbers m
+    by m true e = getD-any all m m 0 (omega (arith, long, ltb-true m 64 e)) ∙ h m (ltb-true m 64 e)
+    by m false e =
+        let l : 64 ≤ m = ltb-false m 64 e in
+        List·getD-eq-default all m (omega (arith, long)) ∙ sym (List·getD-eq-default numbers m (omega arith))

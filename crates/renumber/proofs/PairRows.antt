@@ -1,5 +1,5 @@
--- The rows of a table with two columns go to the quarters of their new numbers, one after another,
--- and so do the tables of a state.
+-- The rows of a table with two columns go to the quarters of their new numbers, one after
+-- another; which tables have two.
 use Prim.Native.Nat.{ℕ, _+_, _-_, _*_, _/_, _%_, _≤_, _<_}
 use native.Mathlib.Omega.{arith}
 use native.Mathlib.Numerals.{add-one}
@@ -11,24 +11,22 @@ use lib.Dec.{eqb, ltb}
 use lib.ListN.{length, getD, set, take, drop, length-set, length-take, length-drop, List·getD-eq-default}
 use lib.Seq.{getD-set-same, getD-set-other, getD-take, getD-drop}
 use borrow.Author.Tests.{eq-eqb, eqb-true, eqb-false, lt-ltb, ltb-true, ltb-false}
-use borrow.Rule.Slice.PartMut.{putMid}
 use Rattle.sets.specs.Sets.{anyBelow, bit}
-use Rattle.sets.proofs.Finite.{bool-iff, is-false, not-both, and-left, and-right, and-both, any-intro, any-elim, any-cong, last-or-below}
+use Rattle.sets.proofs.Finite.{bool-iff, is-false, not-both, and-left, and-right, and-both, any-intro, any-elim, last-or-below}
 use Rattle.sets.proofs.Bits.{bit-zero}
 use Rattle.theory.specs.Formula.{number, isPast, columns}
 use Rattle.theory.specs.Columns.{columnsFit, inside, wordUnder, bitUnder}
-use Rattle.theory.specs.Terms.{Terms, formula}
-use Rattle.theory.specs.Fit.{Good}
-use Rattle.theory.specs.MembersRenumbered.{Renumbering}
-use Rattle.memory.specs.Layout.{tableAt, eventAt, tableColumns}
+use Rattle.theory.specs.Terms.{Terms, formula, tables}
+use Rattle.memory.specs.Layout.{tableColumns}
 use Rattle.memory.specs.Plan.{planTable, planFirst, planLast, planColumns, Planned}
+use Rattle.memory.proofs.Words.{columns-fitting}
+use Rattle.theory.proofs.Good.{Good}
 use Rattle.theory.proofs.Past.{past-is}
 use Rattle.theory.proofs.MembersPlaces.{PairInside, pair-inside, pair-word-back, pair-bit-back, under-inside, under-back}
-use Rattle.deciding.specs.private.Moving.{put}
-use Rattle.deciding.proofs.Stored.{put-in, put-other, put-after, put-length, put-back}
+use Rattle.theory.proofs.MembersRenumbered.{Renumbering}
 use Rattle.renumber.specs.private.Spread.{spread}
 use Rattle.renumber.proofs.Spreading.{spread-cong}
-use Rattle.renumber.specs.private.PairRows.{Few, goesTo, Gone, isTwo, Tabled}
+use Rattle.renumber.specs.private.PairRows.{Few, goesTo, Gone, isTwo, isPairs}
 
 any-more : (n : ℕ) (f : ℕ → Bool) → anyBelow (n + 1) f ≡ (f n || anyBelow n f)
 unfolding anyBelow
@@ -90,62 +88,62 @@ module _ (p : ℕ → ℕ) (few : Few p) (w q r row : ℕ) (here : (c : ℕ) →
         (subst (λ m. bit row m ≡ true) c (to-row (s .0) (s .1) (and-left (bit w (16 * q + s .0)) _ (s .2)))))
 
 -- The word of a row is there.
-pub place-below : (p : ℕ → ℕ) → Few p → (i q a b : ℕ) → i < 64 → q < 4 → a ≡ p (i / 4) → b ≡ p (4 * (i % 4) + q) → 4 * a + b / 4 < 64
-place-below p few i q a b il ql ea eb =
-    let al : p (i / 4) < 16 = few (i / 4) (omega arith) in
-    let bl : p (4 * (i % 4) + q) < 16 = few (4 * (i % 4) + q) (omega arith) in
+pub place-below : (p : ℕ → ℕ) → Few p → (m j q a b : ℕ) → m < 16 → j < 4 → q < 4 → a ≡ p m → b ≡ p (4 * j + q) → 4 * a + b / 4 < 64
+place-below p few m j q a b ml jl ql ea eb =
+    let al : p m < 16 = few m ml in
+    let bl : p (4 * j + q) < 16 = few (4 * j + q) (omega arith) in
     omega arith
 
 -- ---- one row after another
 
 module _ (p : ℕ → ℕ) (few : Few p) (ws : ℕ → ℕ) (into : List ℕ) where
   -- Row d, in a word that gets it in its quarter.
-  pub gone-more : (d i q a b k r row w : ℕ) → Gone p ws into d → i < 64 → q < 4 → d ≡ 4 * i + q → a ≡ p (i / 4) → b ≡ p (4 * (i % 4) + q) → k ≡ 4 * a + b / 4 →
-      ((c : ℕ) → bit r c ≡ (ltb c 16 && bit (ws i) (16 * q + c))) → ((m : ℕ) → bit row m ≡ spread 16 p r m) →
+  pub gone-more : (d n j q a b k r row w : ℕ) → Gone p ws into d → n < 16 → j < 4 → q < 4 → d ≡ 16 * n + 4 * j + q → a ≡ p n → b ≡ p (4 * j + q) → k ≡ 4 * a + b / 4 →
+      ((c : ℕ) → bit r c ≡ (ltb c 16 && bit (ws (4 * n + j)) (16 * q + c))) → ((m : ℕ) → bit row m ≡ spread 16 p r m) →
       ((m : ℕ) → bit w m ≡ (bit (getD into k 0) m || (eqb (m / 16) (b % 4) && bit row (m % 16)))) → Gone p ws (set into k w) (d + 1)
-  gone-more d i q a b k r row w g il ql ed ea eb ek here there t = record {
+  gone-more d n j q a b k r row w g nl jl ql ed ea eb ek here there t = record {
     long = length-set into k w ∙ g .long;
-    bits = λ j m. by j m (eqb j k) refl;
+    bits = λ o m. by o m (eqb o k) refl;
   }
     where
       al : a < 16
-      al = let z : p (i / 4) < 16 = few (i / 4) (omega arith) in omega arith
+      al = let z : p n < 16 = few n nl in omega arith
 
       bl : b < 16
-      bl = let z : p (4 * (i % 4) + q) < 16 = few (4 * (i % 4) + q) (omega arith) in omega arith
+      bl = let z : p (4 * j + q) < 16 = few (4 * j + q) (omega arith) in omega arith
 
-      first : d / 16 ≡ i / 4
+      first : d / 16 ≡ n
       first = omega arith
 
-      second : d % 16 ≡ 4 * (i % 4) + q
+      second : d % 16 ≡ 4 * j + q
       second = omega arith
 
-      word : d / 4 ≡ i
+      word : d / 4 ≡ 4 * n + j
       word = omega arith
 
       quarter : d % 4 ≡ q
       quarter = omega arith
 
       bits-of : ℕ → ℕ → Bool
-      bits-of b m = anyBelow 16 (λ c. bit (ws i) (16 * q + c) && eqb m (16 * (b % 4) + p c))
+      bits-of b m = anyBelow 16 (λ c. bit (ws (4 * n + j)) (16 * q + c) && eqb m (16 * (b % 4) + p c))
 
       -- What row d says.
-      says : (j m : ℕ) → goesTo p ws d j m ≡ (eqb j k && bits-of b m)
-      says j m =
+      says : (o m : ℕ) → goesTo p ws d o m ≡ (eqb o k && bits-of b m)
+      says o m =
           rw (first, second, word, quarter, ← ea, ← eb, ← ek)
 
-      by : (j m : ℕ) (c : Bool) → eqb j k ≡ c → bit (getD (set into k w) j 0) m ≡ anyBelow (d + 1) (λ d. goesTo p ws d j m)
-      by j m true e =
-          let z : j ≡ k = eqb-true j k e in
+      by : (o m : ℕ) (c : Bool) → eqb o k ≡ c → bit (getD (set into k w) o 0) m ≡ anyBelow (d + 1) (λ d. goesTo p ws d o m)
+      by o m true e =
+          let z : o ≡ k = eqb-true o k e in
           ap (λ x. bit (getD (set into k w) x 0) m) z ∙ ap (λ x. bit x m) (getD-set-same into k w 0 (omega (arith, g .long, al, bl))) ∙ t m
-          ∙ ap₂ _||_ (ap (λ x. bit (getD into x 0) m) (sym z) ∙ g .bits j m) (quartered p few (ws i) q r row here there (b % 4) m)
-          ∙ or-swap (anyBelow d (λ d. goesTo p ws d j m)) (bits-of b m)
-          ∙ ap (λ x. x || anyBelow d (λ d. goesTo p ws d j m)) (sym (says j m ∙ ap (λ x. x && bits-of b m) e))
-          ∙ sym (any-more d (λ d. goesTo p ws d j m))
-      by j m false e =
-          ap (λ x. bit x m) (getD-set-other into k j w 0 (eqb-false j k e)) ∙ g .bits j m
-          ∙ ap (λ x. x || anyBelow d (λ d. goesTo p ws d j m)) (sym (says j m ∙ ap (λ x. x && bits-of b m) e))
-          ∙ sym (any-more d (λ d. goesTo p ws d j m))
+          ∙ ap₂ _||_ (ap (λ x. bit (getD into x 0) m) (sym z) ∙ g .bits o m) (quartered p few (ws (4 * n + j)) q r row here there (b % 4) m)
+          ∙ or-swap (anyBelow d (λ d. goesTo p ws d o m)) (bits-of b m)
+          ∙ ap (λ x. x || anyBelow d (λ d. goesTo p ws d o m)) (sym (says o m ∙ ap (λ x. x && bits-of b m) e))
+          ∙ sym (any-more d (λ d. goesTo p ws d o m))
+      by o m false e =
+          ap (λ x. bit x m) (getD-set-other into k o w 0 (eqb-false o k e)) ∙ g .bits o m
+          ∙ ap (λ x. x || anyBelow d (λ d. goesTo p ws d o m)) (sym (says o m ∙ ap (λ x. x && bits-of b m) e))
+          ∙ sym (any-more d (λ d. goesTo p ws d o m))
 
   -- Row d of a word that is 0.
   gone-empty : (d : ℕ) → ws (d / 4) ≡ 0 → Gone p ws into d → Gone p ws into (d + 1)
@@ -161,20 +159,20 @@ module _ (p : ℕ → ℕ) (few : Few p) (ws : ℕ → ℕ) (into : List ℕ) wh
           not-both _ (and-left (bit (ws (d / 4)) (16 * (d % 4) + s .0)) _ (s .2)) (ap (λ x. bit x (16 * (d % 4) + s .0)) z ∙ bit-zero _))
 
   -- The four rows of such a word.
-  pub gone-word : (i : ℕ) → ws i ≡ 0 → Gone p ws into (4 * i) → Gone p ws into (4 * (i + 1))
-  gone-word i z g =
+  pub gone-word : (i d e : ℕ) → d ≡ 4 * i → e ≡ 4 * (i + 1) → ws i ≡ 0 → Gone p ws into d → Gone p ws into e
+  gone-word i d e from to z g =
       let at : (q : ℕ) → q < 4 → ws ((4 * i + q) / 4) ≡ 0 = λ q l. (let y : (4 * i + q) / 4 ≡ i = omega arith in ap ws y ∙ z) in
-      let none : 4 * i ≡ 4 * i + 0 = omega arith in
+      let none : d ≡ 4 * i + 0 = omega arith in
       let one : 4 * i + 0 + 1 ≡ 4 * i + 1 = omega arith in
       let two : 4 * i + 1 + 1 ≡ 4 * i + 2 = omega arith in
       let three : 4 * i + 2 + 1 ≡ 4 * i + 3 = omega arith in
-      let four : 4 * i + 3 + 1 ≡ 4 * (i + 1) = omega arith in
+      let four : 4 * i + 3 + 1 ≡ e = omega arith in
       subst (Gone p ws into) four (gone-empty (4 * i + 3) (at 3 (omega arith))
       (subst (Gone p ws into) three (gone-empty (4 * i + 2) (at 2 (omega arith))
       (subst (Gone p ws into) two (gone-empty (4 * i + 1) (at 1 (omega arith))
       (subst (Gone p ws into) one (gone-empty (4 * i + 0) (at 0 (omega arith)) (subst (Gone p ws into) none g))))))))
 
-  pub gone-none : length into ≡ 64 → ((i : ℕ) → getD into i 0 ≡ 0) → Gone p ws into (4 * 0)
+  pub gone-none : length into ≡ 64 → ((i : ℕ) → getD into i 0 ≡ 0) → Gone p ws into 0
   gone-none l z = record { long = l; bits = λ j m. ap (λ x. bit x m) (z j) ∙ bit-zero m ∙ sym (none-below _) }
 
 -- Words up to i are 0.
@@ -192,72 +190,57 @@ cleared-all ws l i e h j = by (ltb j 64) refl
     by true q = h j (omega (arith, ltb-true j 64 q))
     by false q = List·getD-eq-default ws 0 (let h : 64 ≤ j = ltb-false j 64 q in let z : length ws ≤ j = omega arith in z)
 
--- ---- one table after another
+-- ---- the set of such tables
 
-module _ (T : Terms) (p : ℕ → ℕ) (state before : List ℕ) where
-  pub tabled-none : Tabled T p state before before 0
-  tabled-none = record {
-    long = refl;
-    further = refl;
-    edges = λ i l. refl;
-    moved = λ t i k l. absurd (omega arith);
-    kept = λ t i l h. refl;
-  }
+module _ (T : Terms) where
+  pub pairs-none : (b : ℕ) → bit 0 b ≡ isPairs T 0 b
+  unfolding isPairs
+  pairs-none b = bit-zero b ∙ sym (none-below _)
 
   -- A table with one column.
-  pub tabled-skip : (after : List ℕ) (s : ℕ) → isTwo (tableColumns T s) ≡ false → Tabled T p state before after s → Tabled T p state before after (s + 1)
-  tabled-skip after s one h = record {
-    long = h .long;
-    further = h .further;
-    edges = h .edges;
-    moved = λ t i k l two. by t i k two (last-or-below t s (omega arith));
-    kept = λ t i l out. h .kept t i l (λ q. out (omega arith));
-  }
+  pub pairs-skip : (s two : ℕ) → isTwo (tableColumns T s) ≡ false → ((b : ℕ) → bit two b ≡ isPairs T s b) → (b : ℕ) → bit two b ≡ isPairs T (s + 1) b
+  unfolding isPairs
+  pairs-skip s two one h b =
+      h b ∙ sym (any-more s (λ t. eqb b (16 + t) && isTwo (tableColumns T t)) ∙ ap (λ x. (eqb b (16 + s) && x) || isPairs T s b) one ∙ none (eqb b (16 + s)))
     where
-      by : (t i k : ℕ) → isTwo (tableColumns T t) ≡ true → (t < s) ⊎ (t ≡ s) → i < 64 →
-          bit (getD after (tableAt t i) 0) k ≡ anyBelow 256 (λ d. goesTo p (λ a. getD state (tableAt t a) 0) d i k)
-      by t i k two (inl q) il = h .moved t i k q two il
-      by t i k two (inr q) il = absurd (not-both _ two (ap (λ x. isTwo (tableColumns T x)) q ∙ one))
+      none : (c : Bool) → ((c && false) || isPairs T s b) ≡ isPairs T s b
+      none true = refl
+      none false = refl
 
-  -- A table with two: its words come back in ys.
-  pub tabled-more : (after from ys : List ℕ) (s at : ℕ) → s < 32 → at ≡ 1024 + 64 * s → 3073 ≤ length before → ((a : ℕ) → a < 64 → getD from a 0 ≡ getD state (at + a) 0) →
-      isTwo (tableColumns T s) ≡ true → Gone p (λ a. getD from a 0) ys 256 → Tabled T p state before after s →
-      Tabled T p state before (putMid at (at + 64 - at) after ys) (s + 1)
-  tabled-more after from ys s at sl e lb same two g h =
-      rw (put-back at (at + 64) after ys ys refl (omega (arith, g .long))) (record {
-        long = put-length at ys after fits ∙ h .long;
-        further = put-after at ys after fits eventAt (omega (arith, g .long)) ∙ h .further;
-        edges = λ i l. put-other at ys after fits i (λ lo hi. omega arith) ∙ h .edges i l;
-        moved = λ t i k l tw il. moved t i k tw il (last-or-below t s (omega arith));
-        kept = λ t i l out. kept t i l out (eqb t s) refl;
-      })
+  -- A table with two.
+  pub pairs-more : (s two x two' : ℕ) → s < 32 → x ≡ 16 + s → isTwo (tableColumns T s) ≡ true → ((b : ℕ) → bit two b ≡ isPairs T s b) →
+      ((b : ℕ) → bit two' b ≡ (bit two b || (ltb b 64 && eqb b x))) → (b : ℕ) → bit two' b ≡ isPairs T (s + 1) b
+  unfolding isPairs
+  pairs-more s two x two' sl e tw h w b =
+      w b ∙ ap₂ _||_ (h b) (ap (λ y. ltb b 64 && eqb b y) e ∙ go (eqb b (16 + s)) refl ∙ ap (λ y. eqb b (16 + s) && y) (sym tw))
+      ∙ or-swap (isPairs T s b) (eqb b (16 + s) && isTwo (tableColumns T s))
+      ∙ sym (any-more s (λ t. eqb b (16 + t) && isTwo (tableColumns T t)))
     where
-      fits : at + length ys ≤ length after
-      fits = omega (arith, g .long, h .long, lb)
+      go : (c : Bool) → eqb b (16 + s) ≡ c → (ltb b 64 && eqb b (16 + s)) ≡ (eqb b (16 + s) && true)
+      go true q =
+          let z : b ≡ 16 + s = eqb-true b (16 + s) q in
+          rw (q, lt-ltb b 64 (omega arith))
+      go false q = rw q (is-false _ (λ y. not-both false (and-right (ltb b 64) false y) refl))
 
-      other : (t i : ℕ) → i < 64 → (t ≡ s → ⊥) → getD (put at ys after) (tableAt t i) 0 ≡ getD after (tableAt t i) 0
-      other t i il ne = put-other at ys after fits (tableAt t i) (λ lo hi. let l = g .long in omega (arith, ne))
+  -- A relation is none.
+  pub pairs-relation : (s b : ℕ) → b < 16 → isPairs T s b ≡ false
+  unfolding isPairs
+  pairs-relation s b l = is-false _ (λ e.
+      let w = any-elim s (λ t. eqb b (16 + t) && isTwo (tableColumns T t)) e in
+      let z : b ≡ 16 + w .0 = eqb-true b (16 + w .0) (and-left (eqb b (16 + w .0)) _ (w .2)) in
+      absurd (omega arith))
 
-      place : (i : ℕ) → tableAt s i ≡ at + i
-      place i = omega arith
+  pub pairs-in : (s t : ℕ) → t < s → isTwo (tableColumns T t) ≡ true → isPairs T s (16 + t) ≡ true
+  unfolding isPairs
+  pairs-in s t l two = any-intro s (λ u. eqb (16 + t) (16 + u) && isTwo (tableColumns T u)) t l (and-both _ _ (eq-eqb (16 + t) (16 + t) refl) two)
 
-      moved : (t i k : ℕ) → isTwo (tableColumns T t) ≡ true → i < 64 → (t < s) ⊎ (t ≡ s) →
-          bit (getD (put at ys after) (tableAt t i) 0) k ≡ anyBelow 256 (λ d. goesTo p (λ a. getD state (tableAt t a) 0) d i k)
-      moved t i k tw il (inl q) = ap (λ x. bit x k) (other t i il (λ z. omega arith)) ∙ h .moved t i k q tw il
-      moved t i k tw il (inr q) =
-          ap (λ x. bit (getD (put at ys after) (tableAt x i) 0) k) q
-          ∙ ap (λ x. bit (getD (put at ys after) x 0) k) (place i)
-          ∙ ap (λ x. bit x k) (put-in at ys after fits i (omega (arith, g .long)))
-          ∙ g .bits i k
-          ∙ any-cong 256 (λ d dl. ap (λ w. eqb i (4 * p (d / 16) + p (d % 16) / 4) && anyBelow 16 (λ c. bit w (16 * (d % 4) + c) && eqb k (16 * (p (d % 16) % 4) + p c)))
-          (same (d / 4) (omega arith) ∙ ap (λ x. getD state x 0) (sym (place (d / 4)) ∙ ap (λ x. tableAt x (d / 4)) (sym q))))
-
-      kept : (t i : ℕ) → i < 64 → (t < s + 1 → isTwo (tableColumns T t) ≡ true → ⊥) → (c : Bool) → eqb t s ≡ c →
-          getD (put at ys after) (tableAt t i) 0 ≡ getD before (tableAt t i) 0
-      kept t i il out true q =
-          let z : t ≡ s = eqb-true t s q in
-          absurd (out (omega arith) (ap (λ x. isTwo (tableColumns T x)) z ∙ two))
-      kept t i il out false q = other t i il (eqb-false t s q) ∙ h .kept t i il (λ l. out (omega arith))
+  pub pairs-out : (s t : ℕ) → (t < s → isTwo (tableColumns T t) ≡ true → ⊥) → isPairs T s (16 + t) ≡ false
+  unfolding isPairs
+  pairs-out s t out = is-false _ (λ e.
+      let w = any-elim s (λ u. eqb (16 + t) (16 + u) && isTwo (tableColumns T u)) e in
+      let z : 16 + t ≡ 16 + w .0 = eqb-true (16 + t) (16 + w .0) (and-left (eqb (16 + t) (16 + w .0)) _ (w .2)) in
+      let y : t ≡ w .0 = omega arith in
+      out (let l = w .1 in omega arith) (ap (λ u. isTwo (tableColumns T u)) y ∙ and-right (eqb (16 + t) (16 + w .0)) _ (w .2)))
 
 -- Two columns are of few members.
 two-few : (N : ℕ) (cs : List ℕ) → columnsFit N cs ≡ true → isTwo cs ≡ true → N < 17
@@ -265,6 +248,13 @@ two-few N [] fit two = absurd (false≢true two)
 two-few N (x ∷ []) fit two = absurd (false≢true two)
 two-few N (x ∷ y ∷ []) fit two = ltb-true N 17 fit
 two-few N (x ∷ y ∷ z ∷ zs) fit two = absurd (false≢true fit)
+
+-- Where there is such a table.
+pub pairs-few : (T : Terms) → Good T → (b : ℕ) → isPairs T (tables T) b ≡ true → T .members < 17
+unfolding isPairs
+pairs-few T good b e =
+    let w = any-elim (tables T) (λ t. eqb b (16 + t) && isTwo (tableColumns T t)) e in
+    two-few (T .members) (tableColumns T (w .0)) (columns-fitting T good (w .0) (w .1)) (and-right (eqb b (16 + w .0)) _ (w .2))
 
 -- The plan says which table it is, and whether it has two columns.
 module _ (T : Terms) (good : Good T) (plan : List ℕ) (h : Planned T plan) (n w : ℕ) (l : n < T .entries) (past : isPast (T .entry n .op) ≡ true) (is : w ≡ getD plan n 0) where
@@ -280,9 +270,6 @@ module _ (T : Terms) (good : Good T) (plan : List ℕ) (h : Planned T plan) (n w
       go : (c : Bool) → isTwo (cond c (planLast w ∷ []) (planFirst w ∷ planLast w ∷ [])) ≡ not c
       go true = refl
       go false = refl
-
-  pub planned-few : isTwo (tableColumns T (number (T .entry) n)) ≡ true → T .members < 17
-  planned-few two = two-few (T .members) (columns (formula T n)) (good .entry n l .columns-fit past) (ap isTwo (sym same-columns) ∙ two)
 
 -- 64 words of a list.
 module _ (w : List ℕ) (at : ℕ) (l : at + 64 ≤ length w) where

@@ -1,4 +1,4 @@
--- Rows put at their new numbers, one after another, and the event word; the words that are then there are
+-- Rows put at their new numbers, blocks one after another, and the event word; the words that are then there are
 -- those of the renumbered state.
 use Prim.Native.Nat.{ℕ, zero, suc, _+_, _-_, _*_, _/_, _%_, _≤_, _<_}
 use native.Mathlib.Omega.{arith}
@@ -11,8 +11,9 @@ use lib.Dec.{eqb, ltb}
 use lib.ListN.{length, getD, set, drop, length-set, List·getD-append, List·getD-eq-default}
 use lib.Seq.{getD-set-same, getD-set-other, drop-set-lt, drop-drop}
 use borrow.Author.Tests.{eqb-true, eq-eqb, lt-ltb, ltb-true, ltb-false}
-use Rattle.sets.specs.Sets.{bit}
-use Rattle.sets.proofs.Finite.{bool-iff, is-false, not-both, and-left, and-right, and-both, and-under, any-intro, any-elim, last-or-below}
+use borrow.Rule.Slice.PartMut.{putMid}
+use Rattle.sets.specs.Sets.{anyBelow, bit}
+use Rattle.sets.proofs.Finite.{bool-iff, is-false, not-both, and-left, and-right, and-both, and-under, any-intro, any-elim, any-cong, last-or-below}
 use Rattle.sets.proofs.Bits.{same-bits}
 use Rattle.theory.specs.Formula.{Formula, free, those, orTarget, columns}
 use Rattle.theory.specs.Columns.{inside, wordUnder, bitUnder}
@@ -20,82 +21,130 @@ use Rattle.theory.specs.Terms.{Terms, formula, tables, pastEntry}
 use Rattle.theory.specs.Moment.{Event}
 use Rattle.theory.specs.Moment.Event.{none, happened, tried}
 use Rattle.theory.specs.Tables.{State}
-use Rattle.memory.specs.Layout.{stateWords, tableAt, eventAt, eventOf, eventWord, row, stateOf, tableColumns, wordsOf}
+use Rattle.memory.specs.Layout.{stateWords, tableAt, eventAt, eventOf, eventWord, stateOf, tableColumns, wordsOf}
 use Rattle.memory.specs.Checks.{goodEvent, stateTests, goodState}
-use Rattle.theory.proofs.Good.{every-at}
+use Rattle.theory.proofs.Good.{Good, every-at}
 use Rattle.memory.proofs.Words.{columns-fitting, words-by, canonical, word-relation, word-of-table, word-edge, word-table, length-words}
 use Rattle.theory.specs.NewNumbers.{newNumber, oldNumber, renumbers, renumberEvent}
-use Rattle.theory.specs.MembersRenumbered.{stateBy, Renumbering}
-use Rattle.theory.specs.Fit.{Good}
+use Rattle.theory.specs.MembersRenumbered.{stateBy}
 use Rattle.calls.specs.Renumbering.{renumberedWords}
+use Rattle.theory.proofs.MembersRenumbered.{Renumbering}
 use Rattle.calls.proofs.MembersNumbers.{renumbering}
 use Rattle.calls.proofs.MembersLater.{same-below}
-use Rattle.renumber.specs.private.Spread.{spread, Apart, placeOf, Placed, newEvent, Rewritten}
-use Rattle.renumber.specs.private.PairRows.{Few, isTwo, Tabled}
-use Rattle.renumber.proofs.PairRows.{two-said}
+use Rattle.deciding.specs.private.Moving.{put}
+use Rattle.deciding.proofs.Stored.{put-in, put-other, put-after, put-length, put-back}
+use Rattle.renumber.specs.private.Spread.{spread, Apart, Placed, newEvent, Moved, Rewritten}
+use Rattle.renumber.specs.private.PairRows.{Few, goesTo, Gone, isTwo, isPairs}
+use Rattle.renumber.proofs.PairRows.{pairs-relation, pairs-in, pairs-out, two-said}
+use Rattle.renumber.proofs.ByBytes.{none-spread}
 
 -- ---- one row after another
 
-pub placed-none : (p : ℕ → ℕ) (state second : List ℕ) → Placed p state second second 0
-placed-none p state second = record { long = refl; further = refl; words = λ i m l. absurd (omega arith) }
+pub placed-none : (p : ℕ → ℕ) (from into : List ℕ) → length into ≡ 64 → ((i : ℕ) → getD into i 0 ≡ 0) → Placed p from into 0
+placed-none p from into l z = record { long = l; words = λ a m al. absurd (omega arith); rest = λ a _ _. z (p a) }
 
-module _ (p : ℕ → ℕ) (far : Apart p) where
-  place-below : (i : ℕ) → i < eventAt → placeOf p i < eventAt
-  place-below i l = let z : p (i % 64) < 64 = far .below (i % 64) (omega arith) in omega arith
-
-  places-apart : (i j : ℕ) → placeOf p i ≡ placeOf p j → i ≡ j
-  places-apart i j e =
-      let y : p (i % 64) < 64 = far .below (i % 64) (omega arith) in
-      let z : p (j % 64) < 64 = far .below (j % 64) (omega arith) in
-      let same : p (i % 64) ≡ p (j % 64) = omega arith in
-      let row : i % 64 ≡ j % 64 = far .apart (i % 64) (j % 64) (omega arith) (omega arith) same in
-      omega arith
-
-  pub placed-more : (state before after : List ℕ) (i k w : ℕ) → stateWords ≤ length before → i < eventAt → k ≡ placeOf p i →
-      ((m : ℕ) → bit w m ≡ spread 64 p (getD state i 0) m) → Placed p state before after i → Placed p state before (set after k w) (i + 1)
-  placed-more state before after i k w long il e h q = record {
-    long = length-set after k w ∙ q .long;
-    further = drop-set-lt eventAt after k w (omega (arith, place-below i il)) ∙ q .further;
-    words = λ j m jl. by j m (last-or-below j i (omega arith));
+module _ (p : ℕ → ℕ) (far : Apart p) (from into : List ℕ) (a : ℕ) (al : a < 64) (q : Placed p from into a) where
+  pub placed-more : (k w : ℕ) → k ≡ p a → ((m : ℕ) → bit w m ≡ spread 64 p (getD from a 0) m) → Placed p from (set into k w) (a + 1)
+  placed-more k w e h = record {
+    long = length-set into k w ∙ q .long;
+    words = λ b m bl. by b m (last-or-below b a (omega arith));
+    rest = λ b lo bl. getD-set-other into k (p b) w 0 (λ z. let same : b ≡ a = far .apart b a bl al (z ∙ e) in omega arith) ∙ q .rest b (omega arith) bl;
   }
     where
-      there : k < length after
-      there = omega (arith, place-below i il, q .long)
+      there : k < length into
+      there = omega (arith, e, far .below a al, q .long)
 
-      by : (j m : ℕ) → (j < i) ⊎ (j ≡ i) → bit (getD (set after k w) (placeOf p j) 0) m ≡ spread 64 p (getD state j 0) m
-      by j m (inl l) =
-          ap (λ (x : ℕ). bit x m) (getD-set-other after k (placeOf p j) w 0 (λ z. let same : j ≡ i = places-apart j i (z ∙ e) in omega arith)) ∙ q .words j m l
-      by j m (inr z) =
-          ap (λ (x : ℕ). bit (getD (set after k w) x 0) m) (ap (placeOf p) z ∙ sym e)
-          ∙ ap (λ (x : ℕ). bit x m) (getD-set-same after k w 0 there) ∙ h m ∙ ap (λ (x : ℕ). spread 64 p (getD state x 0) m) (sym z)
+      by : (b m : ℕ) → (b < a) ⊎ (b ≡ a) → bit (getD (set into k w) (p b) 0) m ≡ spread 64 p (getD from b 0) m
+      by b m (inl l) =
+          ap (λ (x : ℕ). bit x m) (getD-set-other into k (p b) w 0 (λ z. let same : b ≡ a = far .apart b a (omega arith) al (z ∙ e) in omega arith)) ∙ q .words b m l
+      by b m (inr z) =
+          ap (λ (x : ℕ). bit (getD (set into k w) x 0) m) (ap p z ∙ sym e)
+          ∙ ap (λ (x : ℕ). bit x m) (getD-set-same into k w 0 there) ∙ h m ∙ ap (λ (x : ℕ). spread 64 p (getD from x 0) m) (sym z)
 
-  -- Then the tables with two columns, and the event word.
-  pub rewritten : (T : Terms) → tables T < 33 → (state before rows after : List ℕ) (w : ℕ) → stateWords ≤ length before → w ≡ newEvent p (getD state eventAt 0) →
-      Placed p state before rows eventAt → Tabled T p state rows after (tables T) → Rewritten T p state before (set after eventAt w)
-  rewritten T few state before rows after w long e q h = record {
-    long = length-set after eventAt w ∙ h .long ∙ q .long;
-    further = drop-set-lt stateWords after eventAt w (omega arith) ∙ after-event;
-    edges = λ i m il.
-        let there : placeOf p i < 1024 = (let z : p (i % 64) < 64 = far .below (i % 64) (omega arith) in omega arith) in
-        ap (λ (x : ℕ). bit x m) (untouched (placeOf p i) (omega arith) ∙ h .edges (placeOf p i) there) ∙ q .words i m (omega arith);
-    rows = λ t a m tl al out.
+  -- A row that is 0.
+  pub placed-skip : getD from a 0 ≡ 0 → Placed p from into (a + 1)
+  placed-skip e = record {
+    long = q .long;
+    words = λ b m bl. by b m (last-or-below b a (omega arith));
+    rest = λ b lo bl. q .rest b (omega arith) bl;
+  }
+    where
+      by : (b m : ℕ) → (b < a) ⊎ (b ≡ a) → bit (getD into (p b) 0) m ≡ spread 64 p (getD from b 0) m
+      by b m (inl l) = q .words b m l
+      by b m (inr z) =
+          ap (λ (x : ℕ). bit (getD into (p x) 0) m) z ∙ ap (λ (x : ℕ). bit x m) (q .rest a (omega arith) al)
+          ∙ none-spread p (getD from a 0) m e ∙ ap (λ (x : ℕ). spread 64 p (getD from x 0) m) (sym z)
+
+-- ---- one block after another
+
+pub moved-none : (two : ℕ) (p : ℕ → ℕ) (state before : List ℕ) → Moved two p state before before 0
+moved-none two p state before = record {
+  long = refl;
+  further = refl;
+  rows = λ b a m l. absurd (omega arith);
+  pairs = λ b i k l. absurd (omega arith);
+}
+
+module _ (p : ℕ → ℕ) (far : Apart p) (two : ℕ) (state before : List ℕ) where
+  -- block b comes back in ys.
+  pub moved-more : (after from ys : List ℕ) (b at : ℕ) → b < 48 → at ≡ 64 * b → 3073 ≤ length before → ((a : ℕ) → a < 64 → getD from a 0 ≡ getD state (at + a) 0) →
+      length ys ≡ 64 → (bit two b ≡ false → Placed p from ys 64) → (bit two b ≡ true → Gone p (λ a. getD from a 0) ys 256) → Moved two p state before after b →
+      Moved two p state before (putMid at (at + 64 - at) after ys) (b + 1)
+  moved-more after from ys b at bl e lb same long placed gone h =
+      rw (put-back at (at + 64) after ys ys refl (omega (arith, long))) (record {
+        long = put-length at ys after fits ∙ h .long;
+        further = put-after at ys after fits eventAt (omega (arith, long)) ∙ h .further;
+        rows = λ c a m cl one al. rows c a m one al (last-or-below c b (omega arith));
+        pairs = λ c i k cl tw il. pairs c i k tw il (last-or-below c b (omega arith));
+      })
+    where
+      fits : at + length ys ≤ length after
+      fits = omega (arith, long, h .long, lb)
+
+      rows : (c a m : ℕ) → bit two c ≡ false → a < 64 → (c < b) ⊎ (c ≡ b) →
+          bit (getD (put at ys after) (64 * c + p a) 0) m ≡ spread 64 p (getD state (64 * c + a) 0) m
+      rows c a m one al (inl l) =
+          let there : p a < 64 = far .below a al in
+          ap (λ (x : ℕ). bit x m) (put-other at ys after fits (64 * c + p a) (λ lo hi. omega arith)) ∙ h .rows c a m l one al
+      rows c a m one al (inr z) =
+          let there : p a < 64 = far .below a al in
+          let place : 64 * c + p a ≡ at + p a = omega arith in
+          let home : at + a ≡ 64 * c + a = omega arith in
+          ap (λ (x : ℕ). bit (getD (put at ys after) x 0) m) place
+          ∙ ap (λ (x : ℕ). bit x m) (put-in at ys after fits (p a) (omega (arith, long)))
+          ∙ placed (ap (bit two) (sym z) ∙ one) .words a m al
+          ∙ ap (λ (x : ℕ). spread 64 p x m) (same a al ∙ ap (λ (x : ℕ). getD state x 0) home)
+
+      pairs : (c i k : ℕ) → bit two c ≡ true → i < 64 → (c < b) ⊎ (c ≡ b) →
+          bit (getD (put at ys after) (64 * c + i) 0) k ≡ anyBelow 256 (λ d. goesTo p (λ a. getD state (64 * c + a) 0) d i k)
+      pairs c i k tw il (inl l) =
+          ap (λ (x : ℕ). bit x k) (put-other at ys after fits (64 * c + i) (λ lo hi. omega arith)) ∙ h .pairs c i k l tw il
+      pairs c i k tw il (inr z) =
+          let place : 64 * c + i ≡ at + i = omega arith in
+          ap (λ (x : ℕ). bit (getD (put at ys after) x 0) k) place
+          ∙ ap (λ (x : ℕ). bit x k) (put-in at ys after fits i (omega (arith, long)))
+          ∙ gone (ap (bit two) (sym z) ∙ tw) .bits i k
+          ∙ any-cong 256 (λ d dl. ap (λ w. eqb i (4 * p (d / 16) + p (d % 16) / 4) && anyBelow 16 (λ c. bit w (16 * (d % 4) + c) && eqb k (16 * (p (d % 16) % 4) + p c)))
+          (same (d / 4) (omega arith) ∙ ap (λ (x : ℕ). getD state x 0) (let home : at + d / 4 ≡ 64 * c + d / 4 = omega arith in home)))
+
+  -- Then the event word.
+  pub rewritten : (T : Terms) → ((b : ℕ) → bit two b ≡ isPairs T (tables T) b) → (after : List ℕ) (w : ℕ) → stateWords ≤ length before → w ≡ newEvent p (getD state eventAt 0) →
+      Moved two p state before after 48 → Rewritten T p state before (set after eventAt w)
+  rewritten T is after w long e h = record {
+    long = length-set after eventAt w ∙ h .long;
+    further = drop-set-lt stateWords after eventAt w (omega arith) ∙ sym (drop-more after) ∙ ap (drop 1) (h .further) ∙ drop-more before;
+    rows = λ b a m bl one al.
         let there : p a < 64 = far .below a al in
-        let col : tableAt t a % 64 ≡ a = omega arith in
-        let place : placeOf p (tableAt t a) ≡ tableAt t (p a) = ap (λ (x : ℕ). tableAt t a - x + p x) col ∙ omega arith in
-        ap (λ (x : ℕ). bit x m) (untouched (tableAt t (p a)) (omega arith) ∙ h .kept t (p a) there out)
-        ∙ ap (λ (x : ℕ). bit (getD rows x 0) m) (sym place) ∙ q .words (tableAt t a) m (omega arith);
-    pairs = λ t i k tl two il. ap (λ (x : ℕ). bit x k) (untouched (tableAt t i) (omega arith)) ∙ h .moved t i k tl two il;
-    event = getD-set-same after eventAt w 0 (omega (arith, h .long, q .long)) ∙ e;
+        ap (λ (x : ℕ). bit x m) (untouched (64 * b + p a) (omega arith)) ∙ h .rows b a m bl (is b ∙ one) al;
+    pairs = λ b i k bl tw il. ap (λ (x : ℕ). bit x k) (untouched (64 * b + i) (omega arith)) ∙ h .pairs b i k bl (is b ∙ tw) il;
+    event = getD-set-same after eventAt w 0 (omega (arith, h .long)) ∙ e;
   }
     where
       untouched : (i : ℕ) → i < eventAt → getD (set after eventAt w) i 0 ≡ getD after i 0
       untouched i l = getD-set-other after eventAt i w 0 (λ z. omega arith)
 
-      after-event : drop stateWords after ≡ drop stateWords before
-      after-event = sym (drop-more after) ∙ ap (drop 1) (h .further ∙ q .further) ∙ drop-more before
-        where
-          drop-more : (l : List ℕ) → drop 1 (drop eventAt l) ≡ drop stateWords l
-          drop-more l = drop-drop 1 eventAt l
+      drop-more : (l : List ℕ) → drop 1 (drop eventAt l) ≡ drop stateWords l
+      drop-more l = drop-drop 1 eventAt l
 
 -- ---- the event word, by its parts
 
@@ -138,6 +187,10 @@ apart-of N p small ok = record {
     by a al false e =
         let z : newNumber p a ≡ a = List·getD-eq-default p a (let h : N ≤ a = ltb-false a N e in omega (arith, long)) in
         omega arith
+
+pub long-of : (N : ℕ) (p : List ℕ) → N < 65 → renumbers N p ≡ true → length p ≤ 64
+unfolding renumbers
+long-of N p small ok = omega (arith, eqb-true (length p) N (and-left (eqb (length p) N) _ ok))
 
 -- And of so few members.
 pub few-of : (N : ℕ) (p : List ℕ) → renumbers N p ≡ true → N < 17 → Few (newNumber p)
@@ -260,13 +313,6 @@ module _ (T : Terms) (fine : Good T) (numbers state : List ℕ) (ok : renumbers 
           ∙ here (q m)
           ∙ ap₂ (λ (x y : Bool). there && (x && (y && f (q a) (q m)))) (same-old a) (same-old m)
 
-      edge-gone : (k a m : ℕ) → k < 16 → a < 64 → bit (getD after (64 * k + p a) 0) m ≡ spread 64 p (getD state (64 * k + a) 0) m
-      edge-gone k a m kl al =
-          let there : p a < 64 = far .below a al in
-          let col : (64 * k + a) % 64 ≡ a = omega arith in
-          let place : placeOf p (64 * k + a) ≡ 64 * k + p a = ap (λ (x : ℕ). 64 * k + a - x + p x) col ∙ omega arith in
-          ap (λ (x : ℕ). bit (getD after x 0) m) (sym place) ∙ R .edges (64 * k + a) m (omega arith)
-
       as-block : (t a : ℕ) → tableAt t a ≡ 64 * (16 + t) + a
       as-block t a = omega arith
 
@@ -276,7 +322,7 @@ module _ (T : Terms) (fine : Good T) (numbers state : List ℕ) (ok : renumbers 
       row-table t tl one a m al =
           ap (λ (x : ℕ). bit (getD after x 0) m) (as-block t a)
           ∙ moved (16 + t) (ltb t (tables T)) (S .table t) (omega arith)
-          (λ a m al. ap (λ (x : ℕ). bit (getD after x 0) m) (sym (as-block t (p a))) ∙ R .rows t a m tl al one ∙ ap (λ (x : ℕ). spread 64 p (getD state x 0) m) (as-block t a))
+          (λ a m al. R .rows (16 + t) a m (omega arith) (pairs-out T (tables T) t one) al)
           (λ a b bl. ap (λ (x : ℕ). bit (getD (wordsOf T S) x 0) b) (sym (as-block t a)) ∙ word-table T S (fine .few-members) t a b tl bl
           ∙ and-under (ltb t (tables T)) _ _ (λ e. one-inside (T .members) (tableColumns T t) (is-false _ (one (ltb-true t (tables T) e))) a b (S .table t a b)))
           a m al
@@ -289,9 +335,10 @@ module _ (T : Terms) (fine : Good T) (numbers state : List ℕ) (ok : renumbers 
           bit (getD after (tableAt t a) 0) m ≡ (ltb t (tables T) && (inside (T .members) (tableColumns T t) a m && S' .table t a m))
       pair-table t tl two a m al =
           let t32 : t < 32 = omega (arith, fine .few-tables) in
-          R .pairs t a m tl two al
-          ∙ two-said (T .members) p q r (tableColumns T t) (columns-fitting T fine t tl) two (S .table t) (λ a. getD state (tableAt t a) 0)
-          (λ i k il. ap (λ (x : ℕ). bit x k) (word-of (tableAt t i) (omega arith)) ∙ word-table T S (fine .few-members) t i k t32 il
+          ap (λ (x : ℕ). bit (getD after x 0) m) (as-block t a)
+          ∙ R .pairs (16 + t) a m (omega arith) (pairs-in T (tables T) t tl two) al
+          ∙ two-said (T .members) p q r (tableColumns T t) (columns-fitting T fine t tl) two (S .table t) (λ a. getD state (64 * (16 + t) + a) 0)
+          (λ i k il. ap (λ (x : ℕ). bit x k) (ap (λ (x : ℕ). getD state x 0) (sym (as-block t i)) ∙ word-of (tableAt t i) (omega arith)) ∙ word-table T S (fine .few-members) t i k t32 il
           ∙ ap (λ (c : Bool). c && (inside (T .members) (tableColumns T t) i k && S .table t i k)) (lt-ltb t (tables T) tl)) a m al
           ∙ sym (ap (λ (c : Bool). c && (inside (T .members) (tableColumns T t) a m && S' .table t a m)) (lt-ltb t (tables T) tl))
 
@@ -308,7 +355,7 @@ module _ (T : Terms) (fine : Good T) (numbers state : List ℕ) (ok : renumbers 
       pub second-words : stateWords ≤ length before → after ≡ renumberedWords T numbers state ++ drop stateWords before
       second-words lb =
           words-by T S' after (omega (arith, R .long))
-          (λ k a kl al. same-bits _ _ (λ m. moved k (ltb k (T .relations)) (S .now .edge k) (omega arith) (λ a m al. edge-gone k a m kl al)
+          (λ k a kl al. same-bits _ _ (λ m. moved k (ltb k (T .relations)) (S .now .edge k) (omega arith) (λ a m al. R .rows k a m (omega arith) (pairs-relation T (tables T) k kl) al)
           (λ a b bl. word-edge T S k a b kl bl) a m al ∙ sym (word-edge T S' k a m kl al)) ∙ word-relation T S' k a kl al)
           (λ t a tl al. same-bits _ _ (λ m. any-table t tl a m al ∙ sym (word-table T S' (fine .few-members) t a m tl al)) ∙ word-of-table T S' t a tl al)
           (R .event ∙ event)

@@ -4,13 +4,13 @@ ghost use mathlib.Core.Bool.{true};
 ghost use Prim.Native.Nat.{ℕ, _+_, _*_, _<_, _≤_};
 ghost use lib.ListN.{length, getD};
 ghost use Rattle.sets.specs.Sets.{bit};
-ghost use Rattle.memory.specs.Layout.{stateWords, eventAt, termsOf};
+ghost use Rattle.memory.specs.Layout.{stateWords, blockWords, eventAt, termsOf};
 ghost use Rattle.memory.specs.Outcome.{outcomeOf};
 ghost use Rattle.theory.specs.NewNumbers.{newNumber, renumbers};
 ghost use Rattle.calls.specs.Renumbering.{renumbering, renumberedState};
 ghost use Rattle.memory.specs.Checks.{goodMemory};
 ghost use Rattle.memory.specs.Plan.{Planned};
-ghost use Rattle.renumber.specs.private.Spread.{spread, Doubled, ByteOf, Bytes, Apart, Placed, newEvent, Rewritten};
+ghost use Rattle.renumber.specs.private.Spread.{spread, Doubled, ByteOf, Bytes, Apart, Placed, newEvent, Moved, Rewritten};
 ghost use Rattle.renumber.specs.private.PairRows.{Few};
 use memory::Outcome;
 use memory::layout;
@@ -22,6 +22,9 @@ const FROM_UNIT: usize = layout::FROM_UNIT as usize;
 
 const EVENT_UNIT: usize = layout::EVENT_UNIT as usize;
 
+// Relations and tables.
+const BLOCKS: usize = layout::EVENT_AT / layout::BLOCK;
+
 fn wide(x: u8) -> usize
     ensures { λ r. ⌜ r ≡ x ⌝ }
 {
@@ -29,7 +32,7 @@ fn wide(x: u8) -> usize
 }
 
 // The new number of m. What is no member keeps its number.
-pub(crate) fn new_number(numbers: &[u8], m: usize) -> usize
+fn new_number(numbers: &[u8], m: usize) -> usize
     ensures { λ r. ⌜ r ≡ newNumber (now (numbers .entry)) m ⌝ }
     ensures { λ r. ⌜ (m < 64 → r < 256) ⌝ }
 {
@@ -38,6 +41,27 @@ pub(crate) fn new_number(numbers: &[u8], m: usize) -> usize
     } else {
         m
     }
+}
+
+// A list of the new numbers of all 64.
+fn fill_numbers(numbers: &[u8], all: &mut [u8])
+    requires { ⌜ length (now all) ≡ blockWords ⌝ }
+    ensures { λ _. ⌜ (length (now (all .exit)) ≡ blockWords) × ((m : ℕ) → m < blockWords → getD (now (all .exit)) m 0 ≡ newNumber (now (numbers .entry)) m) ⌝ }
+{
+    let mut m: usize = 0;
+    while m < layout::BLOCK {
+        all[m] = new_number(numbers, m) as u8;
+        m += 1;
+    }
+}
+
+// The new number of m in such a list.
+pub(crate) fn number_of(all: &[u8], m: usize) -> usize
+    requires { ⌜ (length (now all) ≡ blockWords) × (m < blockWords) ⌝ }
+    ensures { λ r. ⌜ r ≡ newNumber (now (all .entry)) m ⌝ }
+    ensures { λ r. ⌜ r < 256 ⌝ }
+{
+    wide(all[m])
 }
 
 // Whether the list has n numbers, and every number below n is in it.
@@ -71,15 +95,15 @@ fn double(part: &mut [u64], n: usize, more: u64)
 }
 
 // The new numbers of the eight members from b on, by those of them that are in a byte: each member doubles the words.
-fn fill_byte(numbers: &[u8], b: usize, part: &mut [u64])
-    requires { ⌜ (length (now part) ≡ 256) × (b < 64) ⌝ }
-    ensures { λ _. ⌜ (length (now (part .exit)) ≡ 256) × ByteOf (newNumber (now (numbers .entry))) b (now (part .exit)) 256 ⌝ }
+fn fill_byte(all: &[u8], b: usize, part: &mut [u64])
+    requires { ⌜ (length (now part) ≡ 256) × (b < 57) × (length (now all) ≡ blockWords) ⌝ }
+    ensures { λ _. ⌜ (length (now (part .exit)) ≡ 256) × ByteOf (newNumber (now (all .entry))) b (now (part .exit)) 256 ⌝ }
 {
     part[0] = 0;
     let mut n: usize = 1;
     let mut k: usize = 0;
     while k < 8 {
-        let more = sets::single(new_number(numbers, b + k));
+        let more = sets::single(number_of(all, b + k));
         double(part, n, more);
         n = 2 * n;
         k += 1;
@@ -87,14 +111,14 @@ fn fill_byte(numbers: &[u8], b: usize, part: &mut [u64])
 }
 
 // The same for all 64 members.
-fn fill_bytes(numbers: &[u8], bytes: &mut [u64])
-    requires { ⌜ length (now bytes) ≡ 2048 ⌝ }
-    ensures { λ _. ⌜ Bytes (newNumber (now (numbers .entry))) (now (bytes .exit)) ⌝ }
+fn fill_bytes(all: &[u8], bytes: &mut [u64])
+    requires { ⌜ (length (now bytes) ≡ 2048) × (length (now all) ≡ blockWords) ⌝ }
+    ensures { λ _. ⌜ Bytes (newNumber (now (all .entry))) (now (bytes .exit)) ⌝ }
 {
     let mut i = 0;
     while i < 8 {
         let k = 256 * i;
-        fill_byte(numbers, 8 * i, &mut bytes[k..k + 256]);
+        fill_byte(all, 8 * i, &mut bytes[k..k + 256]);
         i += 1;
     }
 }
@@ -113,9 +137,6 @@ fn spread(bytes: &[u64], set: u64) -> u64
     requires { ⌜ length (now bytes) ≡ 2048 ⌝ }
     ensures { λ r. ⌜ ((p : ℕ → ℕ) → Bytes p (now (bytes .entry)) → (m : ℕ) → bit r m ≡ spread 64 p set m) ⌝ }
 {
-    if set == 0 {
-        return 0;
-    }
     let a = spread_part(bytes, 0, set);
     let b = spread_part(bytes, 1, set / 65536);
     let c = spread_part(bytes, 2, set / 65536 / 65536);
@@ -137,20 +158,61 @@ fn new_event(numbers: &[u8], word: u64) -> u64
     (1 + n / EVENT_UNIT * EVENT_UNIT + from * FROM_UNIT + to) as u64
 }
 
-// Puts each row of relations and tables at its new number, with its bits at theirs.
-fn move_rows(state: &[u64], numbers: &[u8], bytes: &[u64], second: &mut [u64])
-    requires { ⌜ (stateWords ≤ length (now state)) × (stateWords ≤ length (now second)) ⌝ }
-    requires { ⌜ Bytes (newNumber (now numbers)) (now bytes) × Apart (newNumber (now numbers)) ⌝ }
-    ensures { λ _. ⌜ Placed (newNumber (now (numbers .entry))) (now (state .entry)) (now (second .entry)) (now (second .exit)) eventAt ⌝ }
+// Sets the words of a block to 0.
+pub(crate) fn clear(words: &mut [u64])
+    requires { ⌜ length (now words) ≡ blockWords ⌝ }
+    ensures { λ _. ⌜ (length (now (words .exit)) ≡ blockWords) × ((i : ℕ) → getD (now (words .exit)) i 0 ≡ 0) ⌝ }
 {
     let mut i: usize = 0;
-    while i < layout::EVENT_AT {
-        let a = i % layout::BLOCK;
-        let k = i - a + new_number(numbers, a);
-        let w = state[i];
-        let moved = spread(bytes, w);
-        second[k] = moved;
+    while i < layout::BLOCK {
+        words[i] = 0;
         i += 1;
+    }
+}
+
+// Puts each row of a block at its new number, with its bits at theirs. Most rows of a sparse state are 0.
+fn move_rows(from: &[u64], all: &[u8], bytes: &[u64], into: &mut [u64])
+    requires { ⌜ (length (now from) ≡ blockWords) × (length (now into) ≡ blockWords) × (length (now all) ≡ blockWords) ⌝ }
+    requires { ⌜ Bytes (newNumber (now all)) (now bytes) × Apart (newNumber (now all)) ⌝ }
+    ensures { λ _. ⌜ Placed (newNumber (now (all .entry))) (now (from .entry)) (now (into .exit)) blockWords ⌝ }
+{
+    clear(into);
+    let mut a: usize = 0;
+    while a < layout::BLOCK {
+        let w = from[a];
+        if w != 0 {
+            let k = number_of(all, a);
+            into[k] = spread(bytes, w);
+        }
+        a += 1;
+    }
+}
+
+// Moves every block: those in the set as tables with two columns, the others row by row.
+fn move_blocks(two: u64, state: &[u64], all: &[u8], bytes: &[u64], second: &mut [u64])
+    requires { ⌜ (stateWords ≤ length (now state)) × (stateWords ≤ length (now second)) × (length (now all) ≡ blockWords) ⌝ }
+    requires { ⌜ Bytes (newNumber (now all)) (now bytes) × Apart (newNumber (now all)) × ((b : ℕ) → bit two b ≡ true → Few (newNumber (now all))) ⌝ }
+    ensures { λ _. ⌜ Moved two (newNumber (now (all .entry))) (now (state .entry)) (now (second .entry)) (now (second .exit)) 48 ⌝ }
+{
+    let mut b: usize = 0;
+    while b < BLOCKS {
+        let k = layout::BLOCK * b;
+        if sets::has(two, b) {
+            pairs::move_table(
+                &state[k..k + layout::BLOCK],
+                all,
+                bytes,
+                &mut second[k..k + layout::BLOCK],
+            );
+        } else {
+            move_rows(
+                &state[k..k + layout::BLOCK],
+                all,
+                bytes,
+                &mut second[k..k + layout::BLOCK],
+            );
+        }
+        b += 1;
     }
 }
 
@@ -158,13 +220,15 @@ fn move_rows(state: &[u64], numbers: &[u8], bytes: &[u64], second: &mut [u64])
 fn rewrite(terms: &[u16], plan: &[u16], state: &[u64], numbers: &[u8], second: &mut [u64])
     requires { ⌜ (goodMemory (now terms) ≡ true) × Planned (termsOf (now terms)) (now plan) ⌝ }
     requires { ⌜ (stateWords ≤ length (now state)) × (stateWords ≤ length (now second)) × (getD (now state) eventAt 0 < 131073) ⌝ }
-    requires { ⌜ Apart (newNumber (now numbers)) × (termsOf (now terms) .members < 17 → Few (newNumber (now numbers))) ⌝ }
+    requires { ⌜ (length (now numbers) ≤ blockWords) × Apart (newNumber (now numbers)) × (termsOf (now terms) .members < 17 → Few (newNumber (now numbers))) ⌝ }
     ensures { λ _. ⌜ Rewritten (termsOf (now (terms .entry))) (newNumber (now (numbers .entry))) (now (state .entry)) (now (second .entry)) (now (second .exit)) ⌝ }
 {
+    let mut all = [0u8; layout::BLOCK];
+    fill_numbers(numbers, &mut all);
     let mut bytes = [0u64; 2048];
-    fill_bytes(numbers, &mut bytes);
-    move_rows(state, numbers, &bytes, second);
-    pairs::move_tables(terms, plan, state, numbers, &bytes, second);
+    fill_bytes(&all, &mut bytes);
+    let two = pairs::two_columns(terms, plan);
+    move_blocks(two, state, &all, &bytes, second);
     second[layout::EVENT_AT] = new_event(numbers, state[layout::EVENT_AT]);
 }
 

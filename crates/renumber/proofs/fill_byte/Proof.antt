@@ -14,15 +14,18 @@ use Rattle.renumber.proofs.fill_byte.Statement.{statement}
 use Rattle.renumber.proofs.fill_byte.Tie as tie
 
 abbrev Inv-loop : tie.InvT-loop
-Inv-loop numbers b part₀ n₀ k₀ part n k = (k ≤ 8) × (n ≡ 2 ^ k) × (length part ≡ 256) × ByteOf (newNumber numbers) b part n
+Inv-loop all b part₀ n₀ k₀ part n k = (k ≤ 8) × (n ≡ 2 ^ k) × (length part ≡ 256) × ByteOf (newNumber all) b part n
 
 abbrev μ-loop : tie.MeasureT-loop
-μ-loop numbers b part₀ n₀ k₀ part n k = 8 - k
+μ-loop all b part₀ n₀ k₀ part n k = 8 - k
 
 loop-holds : tie.Need-loop-holds Inv-loop μ-loop
 loop-holds c =
     let x = c .before .before in
-    (omega arith, omega arith, simp length-set (x .pre .0), spreading.byte-begun (newNumber (x .args .numbers .now)) (x .args .b) (x .args .part .now) (omega (arith, x .pre .0)))
+    (omega arith, omega arith, simp length-set (x .pre .0), spreading.byte-begun (newNumber (x .args .all .now)) (x .args .b) (x .args .part .now) (omega (arith, x .pre .0)))
+
+number-of-requires : tie.Need-number-of-requires Inv-loop μ-loop
+number-of-requires c κs = (c .before .before .before .before .pre .2, omega (arith, c .before .before .before .before .pre .1))
 
 double-requires : tie.Need-double-requires Inv-loop μ-loop
 double-requires c κs =
@@ -49,8 +52,8 @@ loop-again c =
       omega arith,
       let next : 2 * l .n ≡ 2 ^ (l .k + 1) = omega (arith, l .inv .1, power (l .k)) in next,
       d .double .ensures .long ∙ l .inv .2,
-      spreading.byte-more (newNumber (a .numbers .now)) (a .b) (l .part) _ (l .n) (l .k) (r .new-number .result) (s .single .result) (l .inv .1) (omega arith)
-          (r .new-number .ensures .0) (s .single .ensures) (d .double .ensures) (l .inv .3),
+      spreading.byte-more (newNumber (a .all .now)) (a .b) (l .part) _ (l .n) (l .k) (r .number-of .result) (s .single .result) (l .inv .1) (omega arith)
+          (r .number-of .ensures .0) (s .single .ensures) (d .double .ensures) (l .inv .3),
     )
 
 returns : tie.Need-returns Inv-loop μ-loop
@@ -59,7 +62,7 @@ returns c =
     let a = c .before .before .before .before .args in
     let last : l .k ≡ 8 = omega arith in
     let end : l .n ≡ 256 = l .inv .1 ∙ ap (λ k. 2 ^ k) last in
-    (l .inv .2, subst (ByteOf (newNumber (a .numbers .now)) (a .b) (l .part)) end (l .inv .3))
+    (l .inv .2, subst (ByteOf (newNumber (a .all .now)) (a .b) (l .part)) end (l .inv .3))
 
 pub fill-byte-spec : {M : Type 1} → statement M
 fill-byte-spec =
@@ -70,7 +73,7 @@ fill-byte-spec =
     (λ c. search needs)
     loop-holds
     (λ c. omega (arith, c .before .before .before .before .pre .1))
-    (λ c κs. search needs)
+    number-of-requires
     (λ c κs. search needs)
     double-requires
     mul-n

@@ -9,17 +9,17 @@ use Rattle.renumber.proofs.fill_bytes.Statement.{statement}
 use Rattle.renumber.proofs.fill_bytes.Tie as tie
 
 abbrev Inv-loop : tie.InvT-loop
-Inv-loop numbers bytes₀ i₀ bytes i = (i ≤ 8) × filled.FilledTo (newNumber numbers) bytes i
+Inv-loop all bytes₀ i₀ bytes i = (i ≤ 8) × filled.FilledTo (newNumber all) bytes i
 
 abbrev μ-loop : tie.MeasureT-loop
-μ-loop numbers bytes₀ i₀ bytes i = 8 - i
+μ-loop all bytes₀ i₀ bytes i = 8 - i
 
 loop-again : tie.Need-loop-again Inv-loop μ-loop
 loop-again c =
     let l = c .before .before .before .before .before .loop in
     let a = c .before .before .before .before .before .before .before .before .args in
     let f = c .before .before .fill-byte in
-    (omega arith, filled.filled-more (newNumber (a .numbers .now)) (l .bytes) (f .last .1 .1 .0) (l .i) (omega arith) (f .ensures .0) (f .ensures .1) (l .inv .1))
+    (omega arith, filled.filled-more (newNumber (a .all .now)) (l .bytes) (f .last .1 .1 .0) (l .i) (omega arith) (f .ensures .0) (f .ensures .1) (l .inv .1))
 
 returns : tie.Need-returns Inv-loop μ-loop
 returns c =
@@ -36,7 +36,7 @@ fill-bytes-spec =
     (tie.spec
     Inv-loop
     μ-loop
-    (λ c. (omega arith, (c .before .before .pre, λ i v m l _. absurd (omega arith))))
+    (λ c. (omega arith, (c .before .before .pre .0, λ i v m l _. absurd (omega arith))))
     (λ c. search needs)
     (λ c. search needs)
     (λ c. search needs)

@@ -1,9 +1,9 @@
--- `renumber::move_rows` meets its contract.
-use borrow.Author.Needs.{needs}
+-- The loop's invariant: the rows before a have gone to their places.
 use native.Mathlib.Omega.{arith}
-use Prim.Native.Nat.{ℕ, _-_, _+_, _%_, _≤_}
-use mathlib.Core.Path.{_≡_, ap, subst}
-use Rattle.memory.specs.Layout.{eventAt}
+use Prim.Native.Nat.{ℕ, _+_, _-_, _<_, _≤_}
+use mathlib.Core.Path.{_≡_, sym, subst}
+use mathlib.Core.Logic.{⊎-elim}
+use mathlib.Core.List.{List}
 use Rattle.theory.specs.NewNumbers.{newNumber}
 use Rattle.renumber.specs.private.Spread.{Placed}
 use Rattle.renumber.proofs.Placing as placing
@@ -11,38 +11,54 @@ use Rattle.renumber.proofs.move_rows.Statement.{statement}
 use Rattle.renumber.proofs.move_rows.Tie as tie
 
 abbrev Inv-loop : tie.InvT-loop
-Inv-loop state numbers bytes second₀ i₀ second i = (i ≤ eventAt) × Placed (newNumber numbers) state second₀ second i
+Inv-loop from all bytes into₀ a₀ into a = (a ≤ 64) × Placed (newNumber all) from into a
 
 abbrev μ-loop : tie.MeasureT-loop
-μ-loop state numbers bytes second₀ i₀ second i = eventAt - i
+μ-loop from all bytes into₀ a₀ into a = 64 - a
+
+loop-holds : tie.Need-loop-holds Inv-loop μ-loop
+loop-holds c =
+    let x = c .before .before .before .before .before .before .before .before in
+    let k = c .before .before .clear in
+    (omega arith, placing.placed-none (newNumber (x .args .all .now)) (x .args .from .now) _ (k .ensures .0) (k .ensures .1))
 
 shared-slice-read-w : tie.Need-shared-slice-read-w Inv-loop μ-loop
-shared-slice-read-w c =
-    let i = c .before .before .before .before .before .before .before .before in
-    omega (arith, i .pre .0 .0, c .before .new-number .ensures .0, i .pre .1 .1 .below (c .before .before .before .loop .i % 64) (omega arith))
+shared-slice-read-w c = omega (arith, c .before .before .before .before .before .before .before .before .before .before .before .pre .0 .0)
 
-slice-write-second : tie.Need-slice-write-second Inv-loop μ-loop
-slice-write-second c =
-    let l = c .before .before .before .before .loop in
-    let i = c .before .before .before .before .before .before .before .before .before in
-    omega (arith, i .pre .0 .1, l .inv .1 .long, c .before .before .new-number .ensures .0, i .pre .1 .1 .below (l .i % 64) (omega arith))
+-- A row that is not 0.
+abbrev start : tie.Then1 Inv-loop μ-loop → tie.Start Inv-loop μ-loop
+start c = c .before .before .before .before .before .before .before .before .before .before .before .before
+
+-- Where it goes.
+place : (c : tie.After-number-of Inv-loop μ-loop) → c .number-of .result < 64
+place c = omega (arith, c .number-of .ensures .0, start (c .before) .pre .1 .1 .below (c .before .before .before .before .loop .a) (omega arith))
+
+slice-write-into : tie.Need-slice-write-into Inv-loop μ-loop
+slice-write-into c = omega (arith, place (c .before), c .before .before .before .before .before .loop .inv .1 .long)
 
 loop-again : tie.Need-loop-again Inv-loop μ-loop
 loop-again c =
-    let l = c .before .before .before .before .loop in
-    let i = c .before .before .before .before .before .before .before .before .before in (
+    let l = c .before .before .before .loop in
+    let x = c .before .before .before .before .before .before .before .before .before .before .before .before in
+    let p : ℕ → ℕ = newNumber (x .args .all .now) in (
       omega arith,
-      placing.placed-more (newNumber (i .args .numbers .now)) (i .pre .1 .1) (i .args .state .now) (i .args .second .now) (l .second) (l .i) _ (c .spread .result)
-          (i .pre .0 .1) (omega arith) (ap (λ (x : ℕ). l .i - l .i % 64 + x) (c .before .before .new-number .ensures .0))
-          (λ m. c .spread .ensures (newNumber (i .args .numbers .now)) (i .pre .1 .0) m) (l .inv .1),
+      ⊎-elim
+          (λ w. subst (λ (m : List ℕ). Placed p (x .args .from .now) m (l .a + 1)) (sym (w .3))
+          (placing.placed-more p (x .pre .1 .1) (x .args .from .now) (l .into) (l .a) (omega arith) (l .inv .1) _ _ (w .1 .ensures .0) (w .2 .ensures p (x .pre .1 .0))))
+          (λ w. subst (λ (m : List ℕ). Placed p (x .args .from .now) m (l .a + 1)) (sym (w .1))
+          (placing.placed-skip p (x .pre .1 .1) (x .args .from .now) (l .into) (l .a) (omega arith) (l .inv .1) (w .0 .left)))
+          (c .if1 .came),
     )
+
+same-length : tie.Need-same-length Inv-loop μ-loop
+same-length c = omega (arith, c .before .loop .inv .1 .long, c .before .before .before .before .before .before .before .before .before .before .pre .0 .1)
 
 returns : tie.Need-returns Inv-loop μ-loop
 returns c =
     let l = c .before .loop in
-    let i = c .before .before .before .before .before .before in
-    let end : l .i ≡ eventAt = omega arith in
-    subst (Placed (newNumber (i .args .numbers .now)) (i .args .state .now) (i .args .second .now) (l .second)) end (l .inv .1)
+    let x = c .before .before .before .before .before .before .before .before .before .before in
+    let end : l .a ≡ 64 = omega arith in
+    subst (Placed (newNumber (x .args .all .now)) (x .args .from .now) (l .into)) end (l .inv .1)
 
 pub move-rows-spec : {M : Type 1} → statement M
 move-rows-spec =
@@ -50,17 +66,16 @@ move-rows-spec =
     (tie.spec
     Inv-loop
     μ-loop
-    (λ c. (omega arith, placing.placed-none _ _ _))
-    (λ c. search needs)
-    (λ c κs. search needs)
-    (λ c. omega (arith, c .new-number .ensures .1 (omega arith)))
-    (λ c. omega (arith, c .new-number .ensures .1 (omega arith)))
+    (λ c κs. c .before .before .before .before .before .pre .0 .1)
+    loop-holds
+    (λ c. omega arith)
     shared-slice-read-w
-    (λ c κs. c .before .before .before .before .before .before .before .before .pre .1 .0 .long)
-    (λ c. omega (arith, c .before .before .new-number .ensures .1 (omega arith)))
-    slice-write-second
-    (λ c. search needs)
-    (λ c. search needs)
+    (λ c κs. (start c .pre .0 .2, omega arith))
+    (λ c κs. start (c .before) .pre .1 .0 .long)
+    (λ c. omega (arith, place (c .before)))
+    slice-write-into
+    (λ c. omega arith)
+    (λ c. omega arith)
     loop-again
-    (λ c. c .before .loop .inv .1 .long)
+    same-length
     returns)

@@ -5,7 +5,7 @@ use native.Mathlib.Omega.{arith}
 use mathlib.Core.Path.{_≡_, sym, ap, _∙_}
 use mathlib.Core.Bool.{true}
 use Rattle.theory.specs.NewNumbers.{renumbers}
-use Rattle.theory.specs.Fit.{Good}
+use Rattle.theory.proofs.Good.{Good}
 use Rattle.memory.specs.Layout.{termsOf}
 use Rattle.memory.specs.Outcome.{outcomeOf, hasPassed}
 use Rattle.memory.specs.Plan.{Planned}
@@ -60,6 +60,7 @@ rewrite-requires c κs =
       (
         (says k .long-state, omega arith, placing.event-of-good (termsOf (a .terms .now)) (fine k) (a .state .now) (says k .good-state)),
         (
+          placing.long-of (termsOf (a .terms .now) .members) (a .numbers .now) (fine k .few-members) (right d),
           placing.apart-of (termsOf (a .terms .now) .members) (a .numbers .now) (fine k .few-members) (right d),
           placing.few-of (termsOf (a .terms .now) .members) (a .numbers .now) (right d),
         ),

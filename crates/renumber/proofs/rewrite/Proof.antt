@@ -1,46 +1,51 @@
 -- `renumber::rewrite` meets its contract.
 use borrow.Author.Needs.{needs}
-use native.Mathlib.Omega.{arith}
-use mathlib.Core.Path.{_∙_}
-use lib.ListN.{length-set}
+use mathlib.Core.Path.{_≡_, sym, ap, subst, _∙_}
+use lib.ListN.{getD, set}
 use Rattle.theory.specs.NewNumbers.{newNumber}
 use Rattle.memory.specs.Layout.{termsOf, eventAt}
 use Rattle.memory.proofs.Accepted.{good}
+use Rattle.renumber.specs.private.Spread.{Apart, newEvent, Rewritten}
+use Rattle.renumber.specs.private.PairRows.{Few}
+use Rattle.renumber.proofs.Listed as listed
+use Rattle.renumber.proofs.PairRows as rows
 use Rattle.renumber.proofs.Placing as placing
 use Rattle.renumber.proofs.rewrite.Statement.{statement}
 use Rattle.renumber.proofs.rewrite.Tie as tie
 
-move-rows-requires : tie.Need-move-rows-requires
-move-rows-requires c κs =
-    let x = c .before .before .before .before .before .before .before .before .before .before in
-    ((x .pre .1 .0 .0, x .pre .1 .0 .1), (c .before .before .before .fill-bytes .ensures, x .pre .1 .1 .0))
+-- The list of all numbers has been filled, the bytes have been filled, and the tables with two columns are known.
+abbrev start : tie.After-two-columns → tie.Start
+start c = c .before .before .before .before .before .before .before .before .before .before .before .before .before
 
-move-tables-requires : tie.Need-move-tables-requires
-move-tables-requires c κs =
-    let x = c .before .before .before .before .before .before .before .before .before .before .before .before .before .before .before in (
-      x .pre .0,
+abbrev listing : tie.After-two-columns → tie.After-fill-numbers
+listing c = c .before .before .before .before .before .before
+
+-- The filled list says the same.
+same : (c : tie.After-two-columns) → newNumber (listing c .fill-numbers .last .1 .0) ≡ newNumber (start c .args .numbers .now)
+same c = listed.same-numbers (start c .args .numbers .now) (listing c .fill-numbers .last .1 .0) (start c .pre .1 .1 .0) (listing c .fill-numbers .ensures .0) (listing c .fill-numbers .ensures .1)
+
+move-blocks-requires : tie.Need-move-blocks-requires
+move-blocks-requires c κs =
+    let k = c .before .before .before in
+    let x = start k in (
+      (x .pre .1 .0 .0, x .pre .1 .0 .1, listing k .fill-numbers .ensures .0),
       (
-        (x .pre .1 .0 .0, omega (arith, x .pre .1 .0 .1, c .before .before .before .before .move-rows .ensures .long)),
-        (c .before .before .before .before .before .before .before .before .fill-bytes .ensures, x .pre .1 .1 .1),
+        k .before .before .fill-bytes .ensures,
+        subst Apart (sym (same k)) (x .pre .1 .1 .1),
+        λ b e. subst Few (sym (same k)) (x .pre .1 .1 .2 (rows.pairs-few (termsOf (x .args .terms .now)) (good _ (x .pre .0 .0)) b (sym (k .two-columns .ensures b) ∙ e))),
       ),
     )
 
--- The tables have been moved, and the event is renumbered.
-abbrev start : tie.After-new-event → tie.Start
-start c = c .before .before .before .before .before .before .before .before .before .before .before .before .before .before .before .before .before .before .before .before
-
-slice-write-second : tie.Need-slice-write-second
-slice-write-second c = omega (arith, start c .pre .1 .0 .1, c .before .before .before .before .move-tables .ensures .long, c .before .before .before .before .before .before .before .before .before .move-rows .ensures .long)
-
-same-length : tie.Need-same-length
-same-length c = length-set (c .before .before .before .before .move-tables .last .1 .1 .1 .1 .1 .0) eventAt (c .new-event .result) ∙ c .before .before .before .before .move-tables .ensures .long ∙ c .before .before .before .before .before .before .before .before .before .move-rows .ensures .long
-
 returns : tie.Need-returns
 returns c =
-    let x = start c in
-    let T = termsOf (x .args .terms .now) in
-    placing.rewritten (newNumber (x .args .numbers .now)) (x .pre .1 .1 .0) T (omega (arith, good _ (x .pre .0 .0) .few-tables)) (x .args .state .now) (x .args .second .now)
-    _ _ (c .new-event .result) (x .pre .1 .0 .1) (c .new-event .ensures) (c .before .before .before .before .before .before .before .before .before .move-rows .ensures) (c .before .before .before .before .move-tables .ensures)
+    let m = c .before .before .before .before in
+    let k = m .before .before .before .before in
+    let x = start k in
+    let after = m .move-blocks .last .1 .1 .1 .1 .0 in
+    subst (λ p. Rewritten (termsOf (x .args .terms .now)) p (x .args .state .now) (x .args .second .now) (set after eventAt (c .new-event .result))) (same k)
+    (placing.rewritten (newNumber (listing k .fill-numbers .last .1 .0)) (subst Apart (sym (same k)) (x .pre .1 .1 .1)) (k .two-columns .result) (x .args .state .now) (x .args .second .now) (termsOf (x .args .terms .now))
+    (k .two-columns .ensures) after (c .new-event .result) (x .pre .1 .0 .1)
+    (c .new-event .ensures ∙ ap (λ p. newEvent p (getD (x .args .state .now) eventAt 0)) (sym (same k))) (m .move-blocks .ensures))
 
 pub rewrite-spec : {M : Type 1} → statement M
 rewrite-spec =
@@ -49,11 +54,14 @@ rewrite-spec =
     (λ c. search needs)
     (λ c κs. search needs)
     (λ c. search needs)
-    move-rows-requires
-    (λ c. search needs)
-    move-tables-requires
     (λ c. search needs)
     (λ c κs. search needs)
-    slice-write-second
-    same-length
+    (λ c κs. search needs)
+    (λ c. search needs)
+    (λ c. search needs)
+    move-blocks-requires
+    (λ c. search needs)
+    (λ c κs. search needs)
+    (λ c. search needs)
+    (λ c. search needs)
     returns)

@@ -5,12 +5,12 @@ use mathlib.Core.Path.{_≡_}
 use mathlib.Core.Bool.{Bool, true, false, _&&_}
 use mathlib.Core.List.{List, [], _∷_}
 use lib.Dec.{eqb}
-use lib.ListN.{length, getD, drop}
+use lib.ListN.{length, getD}
 use Rattle.sets.specs.Sets.{anyBelow, bit}
 use Rattle.theory.specs.Columns.{pairWord, pairBit}
-use Rattle.theory.specs.Limits.{pairMembers}
+use Rattle.theory.specs.Limits.{pairMembers, maxRelations}
 use Rattle.theory.specs.Terms.{Terms}
-use Rattle.memory.specs.Layout.{relationWords, blockWords, tableAt, eventAt, tableColumns}
+use Rattle.memory.specs.Layout.{blockWords, tableColumns}
 
 -- The numbers of so few members are below 16.
 abbrev pub Few : (p : ℕ → ℕ) → Type 0
@@ -33,11 +33,6 @@ isTwo [] = false
 isTwo (x ∷ []) = false
 isTwo (x ∷ y ∷ zs) = true
 
--- Of the first s tables, those with two columns have been renumbered. All other words are as before.
-pub record Tabled (T : Terms) (p : ℕ → ℕ) (state before after : List ℕ) (s : ℕ) : Type 0 where
-  pub long : length after ≡ length before
-  pub further : drop eventAt after ≡ drop eventAt before
-  pub edges : (i : ℕ) → i < relationWords → getD after i 0 ≡ getD before i 0
-  pub moved : (t i k : ℕ) → t < s → isTwo (tableColumns T t) ≡ true → i < blockWords →
-      bit (getD after (tableAt t i) 0) k ≡ anyBelow 256 (λ d. goesTo p (λ a. getD state (tableAt t a) 0) d i k)
-  pub kept : (t i : ℕ) → i < blockWords → (t < s → isTwo (tableColumns T t) ≡ true → ⊥) → getD after (tableAt t i) 0 ≡ getD before (tableAt t i) 0
+-- Block b of a state is one of its first s tables, and has two columns. The blocks of 16 relations come first.
+unfoldable pub isPairs : (T : Terms) → (s b : ℕ) → Bool
+isPairs T s b = anyBelow s (λ t. eqb b (maxRelations + t) && isTwo (tableColumns T t))

@@ -1,17 +1,16 @@
 -- How the rows of a state are renumbered: what the private functions ask and leave.
-use Prim.Native.Nat.{ℕ, _+_, _-_, _*_, _%_, _<_}
+use Prim.Native.Nat.{ℕ, _+_, _*_, _<_, _≤_}
 use mathlib.Core.Path.{_≡_}
-use mathlib.Core.Bool.{Bool, true, _&&_}
+use mathlib.Core.Bool.{Bool, true, false, _&&_}
 use mathlib.Core.List.{List}
 use lib.Bits.{bitOr}
 use lib.Dec.{eqb, ltb}
 use lib.ListN.{length, getD, drop}
 use Rattle.sets.specs.Sets.{anyBelow, bit}
-use Rattle.memory.specs.Layout.{stateWords, relationWords, blockWords, tableAt, eventAt, eventWord, eventOf, tableColumns}
-use Rattle.theory.specs.Limits.{maxTables}
+use Rattle.memory.specs.Layout.{stateWords, blockWords, eventAt, eventWord, eventOf}
 use Rattle.theory.specs.NewNumbers.{renumberEvent}
 use Rattle.theory.specs.Terms.{Terms, tables}
-use Rattle.renumber.specs.private.PairRows.{goesTo, isTwo}
+use Rattle.renumber.specs.private.PairRows.{goesTo, isPairs}
 
 -- m is the new number, by p, of one of the first n members of the set w.
 unfoldable pub spread : (n : ℕ) → (p : ℕ → ℕ) → (w m : ℕ) → Bool
@@ -37,29 +36,34 @@ pub record Apart (p : ℕ → ℕ) : Type 0 where
   pub below : (a : ℕ) → a < 64 → p a < 64
   pub apart : (a b : ℕ) → a < 64 → b < 64 → p a ≡ p b → a ≡ b
 
--- Where word i of a state goes: to the row of the new number, in its block.
-abbrev pub placeOf : (p : ℕ → ℕ) → ℕ → ℕ
-placeOf p i = i - i % blockWords + p (i % blockWords)
+-- The first n rows of a block have gone to the places of their new numbers, with each bit at its own, and
+-- the places of the others are 0.
+pub record Placed (p : ℕ → ℕ) (from into : List ℕ) (n : ℕ) : Type 0 where
+  pub long : length into ≡ blockWords
+  pub words : (a m : ℕ) → a < n → bit (getD into (p a) 0) m ≡ spread 64 p (getD from a 0) m
+  pub rest : (a : ℕ) → n ≤ a → a < blockWords → getD into (p a) 0 ≡ 0
 
--- The first n words have gone there, with each bit at its new number. The length is kept, and so are
--- the words from the event word on.
-pub record Placed (p : ℕ → ℕ) (state before after : List ℕ) (n : ℕ) : Type 0 where
+-- The first n blocks have been moved: those of the set two by the rows in their quarters, the others by their rows.
+-- Words from the event word on are kept.
+pub record Moved (two : ℕ) (p : ℕ → ℕ) (state before after : List ℕ) (n : ℕ) : Type 0 where
   pub long : length after ≡ length before
   pub further : drop eventAt after ≡ drop eventAt before
-  pub words : (i m : ℕ) → i < n → bit (getD after (placeOf p i) 0) m ≡ spread 64 p (getD state i 0) m
+  pub rows : (b a m : ℕ) → b < n → bit two b ≡ false → a < blockWords →
+      bit (getD after (blockWords * b + p a) 0) m ≡ spread 64 p (getD state (blockWords * b + a) 0) m
+  pub pairs : (b i k : ℕ) → b < n → bit two b ≡ true → i < blockWords →
+      bit (getD after (blockWords * b + i) 0) k ≡ anyBelow 256 (λ d. goesTo p (λ a. getD state (blockWords * b + a) 0) d i k)
 
 -- An event word with its members renumbered.
 abbrev pub newEvent : (p : ℕ → ℕ) → ℕ → ℕ
 newEvent p w = eventWord (renumberEvent p p (eventOf w))
 
--- All words of a state have been rewritten: rows by rows; tables with two columns by the rows in
+-- All words of a state have been rewritten: the 48 blocks, where tables with two columns are moved by the rows in
 -- their quarters; the event word.
 pub record Rewritten (T : Terms) (p : ℕ → ℕ) (state before after : List ℕ) : Type 0 where
   pub long : length after ≡ length before
   pub further : drop stateWords after ≡ drop stateWords before
-  pub edges : (i m : ℕ) → i < relationWords → bit (getD after (placeOf p i) 0) m ≡ spread 64 p (getD state i 0) m
-  pub rows : (t a m : ℕ) → t < maxTables → a < blockWords → (t < tables T → isTwo (tableColumns T t) ≡ true → ⊥) →
-      bit (getD after (tableAt t (p a)) 0) m ≡ spread 64 p (getD state (tableAt t a) 0) m
-  pub pairs : (t i k : ℕ) → t < tables T → isTwo (tableColumns T t) ≡ true → i < blockWords →
-      bit (getD after (tableAt t i) 0) k ≡ anyBelow 256 (λ d. goesTo p (λ a. getD state (tableAt t a) 0) d i k)
+  pub rows : (b a m : ℕ) → b < 48 → isPairs T (tables T) b ≡ false → a < blockWords →
+      bit (getD after (blockWords * b + p a) 0) m ≡ spread 64 p (getD state (blockWords * b + a) 0) m
+  pub pairs : (b i k : ℕ) → b < 48 → isPairs T (tables T) b ≡ true → i < blockWords →
+      bit (getD after (blockWords * b + i) 0) k ≡ anyBelow 256 (λ d. goesTo p (λ a. getD state (blockWords * b + a) 0) d i k)
   pub event : getD after eventAt 0 ≡ newEvent p (getD state eventAt 0)

@@ -1,9 +1,7 @@
--- The loop's invariant: the rows of the words before i have gone to their places.
+-- The loop's invariant: the rows of the members before a have gone to their places.
 use native.Mathlib.Omega.{arith}
-use Prim.Native.Nat.{ℕ, _+_, _-_, _*_, _≤_}
-use mathlib.Core.Path.{_≡_, sym, subst}
-use mathlib.Core.Logic.{⊎-elim}
-use mathlib.Core.List.{List}
+use Prim.Native.Nat.{_+_, _-_, _*_, _≤_}
+use mathlib.Core.Path.{_≡_, subst}
 use lib.ListN.{getD}
 use Rattle.theory.specs.NewNumbers.{newNumber}
 use Rattle.renumber.specs.private.PairRows.{Gone}
@@ -12,39 +10,29 @@ use Rattle.renumber.proofs.pairs.move_table.Statement.{statement}
 use Rattle.renumber.proofs.pairs.move_table.Tie as tie
 
 abbrev Inv-loop : tie.InvT-loop
-Inv-loop from numbers bytes into₀ i₀ into i = (i ≤ 64) × Gone (newNumber numbers) (λ a. getD from a 0) into (4 * i)
+Inv-loop from all bytes into₀ a₀ into a = (a ≤ 16) × Gone (newNumber all) (λ a. getD from a 0) into (16 * a)
 
 abbrev μ-loop : tie.MeasureT-loop
-μ-loop from numbers bytes into₀ i₀ into i = 64 - i
+μ-loop from all bytes into₀ a₀ into a = 16 - a
 
 loop-holds : tie.Need-loop-holds Inv-loop μ-loop
 loop-holds c =
     let x = c .before .before .before .before .before .before .before .before in
     let k = c .before .before .clear in
-    (omega arith, rows.gone-none (newNumber (x .args .numbers .now)) (x .pre .1 .1) (λ a. getD (x .args .from .now) a 0) _ (k .ensures .0) (k .ensures .1))
+    (omega arith, rows.gone-none (newNumber (x .args .all .now)) (x .pre .1 .1) (λ a. getD (x .args .from .now) a 0) _ (k .ensures .0) (k .ensures .1))
 
-shared-slice-read-if1 : tie.Need-shared-slice-read-if1 Inv-loop μ-loop
-shared-slice-read-if1 c = omega (arith, c .before .before .before .before .before .before .before .before .before .before .before .pre .0 .0)
-
-move-word-requires : tie.Need-move-word-requires Inv-loop μ-loop
-move-word-requires c κs =
-    let x = c .before .before .before .before .before .before .before .before .before .before .before .before .before in
-    ((x .pre .0 .0, c .before .before .before .loop-test .taken), (x .pre .1, c .before .before .before .before .loop .inv .1))
+move-member-requires : tie.Need-move-member-requires Inv-loop μ-loop
+move-member-requires c κs =
+    let x = c .before .before .before .before .before .before .before .before .before .before .before in
+    ((x .pre .0 .0, c .before .loop-test .taken, x .pre .0 .2), (x .pre .1, c .before .before .loop .inv .1))
 
 loop-again : tie.Need-loop-again Inv-loop μ-loop
 loop-again c =
-    let l = c .before .before .before .loop in
-    let x = c .before .before .before .before .before .before .before .before .before .before .before .before in
-    let p : ℕ → ℕ = newNumber (x .args .numbers .now) in
-    let ws : ℕ → ℕ = λ a. getD (x .args .from .now) a 0 in
-    let e : 4 * l .i + 4 ≡ 4 * (l .i + 1) = omega arith in (
-      omega arith,
-      ⊎-elim
-          (λ w. subst (λ (m : List ℕ). Gone p ws m (4 * (l .i + 1))) (sym (w .5)) (subst (Gone p ws _) e (w .2 .ensures)))
-          (λ w. subst (λ (m : List ℕ). Gone p ws m (4 * (l .i + 1))) (sym (w .1))
-          (rows.gone-word p (x .pre .1 .1) ws (l .into) (l .i) (w .0 .left) (l .inv .1)))
-          (c .if1 .came),
-    )
+    let m = c .before .before in
+    let l = m .before .before .before .loop in
+    let x = m .before .before .before .before .before .before .before .before .before .before .before .before in
+    let e : 16 * l .a + 16 ≡ 16 * (l .a + 1) = omega arith in
+    (omega arith, subst (Gone (newNumber (x .args .all .now)) (λ a. getD (x .args .from .now) a 0) _) e (m .move-member .ensures))
 
 same-length : tie.Need-same-length Inv-loop μ-loop
 same-length c = omega (arith, c .before .loop .inv .1 .long, c .before .before .before .before .before .before .before .before .before .before .pre .0 .1)
@@ -53,8 +41,8 @@ returns : tie.Need-returns Inv-loop μ-loop
 returns c =
     let l = c .before .loop in
     let x = c .before .before .before .before .before .before .before .before .before .before in
-    let e : 4 * l .i ≡ 256 = omega arith in
-    subst (Gone (newNumber (x .args .numbers .now)) (λ a. getD (x .args .from .now) a 0) (l .into)) e (l .inv .1)
+    let e : 16 * l .a ≡ 256 = omega arith in
+    subst (Gone (newNumber (x .args .all .now)) (λ a. getD (x .args .from .now) a 0) (l .into)) e (l .inv .1)
 
 pub move-table-spec : {M : Type 1} → statement M
 move-table-spec =
@@ -64,9 +52,7 @@ move-table-spec =
     μ-loop
     (λ c κs. c .before .before .before .before .before .pre .0 .1)
     loop-holds
-    (λ c. omega arith)
-    shared-slice-read-if1
-    move-word-requires
+    move-member-requires
     (λ c. omega arith)
     (λ c. omega arith)
     loop-again

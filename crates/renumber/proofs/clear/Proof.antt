@@ -4,8 +4,8 @@ use Prim.Native.Nat.{ℕ, _-_, _<_, _≤_}
 use mathlib.Core.Path.{_≡_, _∙_}
 use lib.ListN.{length, getD, length-set}
 use Rattle.renumber.proofs.PairRows as rows
-use Rattle.renumber.proofs.pairs.clear.Statement.{statement}
-use Rattle.renumber.proofs.pairs.clear.Tie as tie
+use Rattle.renumber.proofs.clear.Statement.{statement}
+use Rattle.renumber.proofs.clear.Tie as tie
 
 abbrev Inv-loop : tie.InvT-loop
 Inv-loop words₀ i₀ words i = (i ≤ 64) × (length words ≡ 64) × ((j : ℕ) → j < i → getD words j 0 ≡ 0)
