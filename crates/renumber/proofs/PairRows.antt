@@ -20,10 +20,10 @@ use Rattle.theory.specs.Terms.{Terms, formula, tables}
 use Rattle.memory.specs.Layout.{tableColumns}
 use Rattle.memory.specs.Plan.{planTable, planFirst, planLast, planColumns, Planned}
 use Rattle.memory.proofs.Words.{columns-fitting}
-use Rattle.theory.proofs.Good.{Good}
+use Rattle.theory.specs.Fit.{Good}
 use Rattle.theory.proofs.Past.{past-is}
 use Rattle.theory.proofs.MembersPlaces.{PairInside, pair-inside, pair-word-back, pair-bit-back, under-inside, under-back}
-use Rattle.theory.proofs.MembersRenumbered.{Renumbering}
+use Rattle.theory.specs.MembersRenumbered.{Renumbering}
 use Rattle.renumber.specs.private.Spread.{spread}
 use Rattle.renumber.proofs.Spreading.{spread-cong}
 use Rattle.renumber.specs.private.PairRows.{Few, goesTo, Gone, isTwo, isPairs}

@@ -23,12 +23,12 @@ use Rattle.theory.specs.Moment.Event.{none, happened, tried}
 use Rattle.theory.specs.Tables.{State}
 use Rattle.memory.specs.Layout.{stateWords, tableAt, eventAt, eventOf, eventWord, stateOf, tableColumns, wordsOf}
 use Rattle.memory.specs.Checks.{goodEvent, stateTests, goodState}
-use Rattle.theory.proofs.Good.{Good, every-at}
+use Rattle.theory.specs.Fit.{Good}
+use Rattle.theory.proofs.Good.{every-at}
 use Rattle.memory.proofs.Words.{columns-fitting, words-by, canonical, word-relation, word-of-table, word-edge, word-table, length-words}
 use Rattle.theory.specs.NewNumbers.{newNumber, oldNumber, renumbers, renumberEvent}
-use Rattle.theory.specs.MembersRenumbered.{stateBy}
+use Rattle.theory.specs.MembersRenumbered.{Renumbering, stateBy}
 use Rattle.calls.specs.Renumbering.{renumberedWords}
-use Rattle.theory.proofs.MembersRenumbered.{Renumbering}
 use Rattle.calls.proofs.MembersNumbers.{renumbering}
 use Rattle.calls.proofs.MembersLater.{same-below}
 use Rattle.deciding.specs.private.Moving.{put}

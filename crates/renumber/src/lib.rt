@@ -179,10 +179,11 @@ fn move_rows(from: &[u64], all: &[u8], bytes: &[u64], into: &mut [u64])
     clear(into);
     let mut a: usize = 0;
     while a < layout::BLOCK {
+        let k = number_of(all, a);
         let w = from[a];
         if w != 0 {
-            let k = number_of(all, a);
-            into[k] = spread(bytes, w);
+            let moved = spread(bytes, w);
+            into[k] = moved;
         }
         a += 1;
     }

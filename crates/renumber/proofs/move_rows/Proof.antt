@@ -22,29 +22,32 @@ loop-holds c =
     let k = c .before .before .clear in
     (omega arith, placing.placed-none (newNumber (x .args .all .now)) (x .args .from .now) _ (k .ensures .0) (k .ensures .1))
 
-shared-slice-read-w : tie.Need-shared-slice-read-w Inv-loop μ-loop
-shared-slice-read-w c = omega (arith, c .before .before .before .before .before .before .before .before .before .before .before .pre .0 .0)
+-- The place of a row is known.
+abbrev start : tie.After-number-of Inv-loop μ-loop → tie.Start Inv-loop μ-loop
+start c = c .before .before .before .before .before .before .before .before .before .before .before
 
--- A row that is not 0.
-abbrev start : tie.Then1 Inv-loop μ-loop → tie.Start Inv-loop μ-loop
-start c = c .before .before .before .before .before .before .before .before .before .before .before .before
+abbrev loop : tie.After-number-of Inv-loop μ-loop → tie.At-loop Inv-loop μ-loop
+loop c = c .before .before
 
--- Where it goes.
+number-of-requires : tie.Need-number-of-requires Inv-loop μ-loop
+number-of-requires c κs = (c .before .before .before .before .before .before .before .before .before .before .pre .0 .2, omega arith)
+
 place : (c : tie.After-number-of Inv-loop μ-loop) → c .number-of .result < 64
-place c = omega (arith, c .number-of .ensures .0, start (c .before) .pre .1 .1 .below (c .before .before .before .before .loop .a) (omega arith))
+place c = omega (arith, c .number-of .ensures .0, start c .pre .1 .1 .below (loop c .loop .a) (omega arith))
 
 slice-write-into : tie.Need-slice-write-into Inv-loop μ-loop
-slice-write-into c = omega (arith, place (c .before), c .before .before .before .before .before .loop .inv .1 .long)
+slice-write-into c = omega (arith, place (c .before .before .before), loop (c .before .before .before) .loop .inv .1 .long)
 
 loop-again : tie.Need-loop-again Inv-loop μ-loop
 loop-again c =
-    let l = c .before .before .before .loop in
-    let x = c .before .before .before .before .before .before .before .before .before .before .before .before in
+    let k = c .before .before in
+    let l = loop k .loop in
+    let x = start k in
     let p : ℕ → ℕ = newNumber (x .args .all .now) in (
       omega arith,
       ⊎-elim
-          (λ w. subst (λ (m : List ℕ). Placed p (x .args .from .now) m (l .a + 1)) (sym (w .3))
-          (placing.placed-more p (x .pre .1 .1) (x .args .from .now) (l .into) (l .a) (omega arith) (l .inv .1) _ _ (w .1 .ensures .0) (w .2 .ensures p (x .pre .1 .0))))
+          (λ w. subst (λ (m : List ℕ). Placed p (x .args .from .now) m (l .a + 1)) (sym (w .2))
+          (placing.placed-more p (x .pre .1 .1) (x .args .from .now) (l .into) (l .a) (omega arith) (l .inv .1) _ _ (k .number-of .ensures .0) (w .1 .ensures p (x .pre .1 .0))))
           (λ w. subst (λ (m : List ℕ). Placed p (x .args .from .now) m (l .a + 1)) (sym (w .1))
           (placing.placed-skip p (x .pre .1 .1) (x .args .from .now) (l .into) (l .a) (omega arith) (l .inv .1) (w .0 .left)))
           (c .if1 .came),
@@ -68,11 +71,11 @@ move-rows-spec =
     μ-loop
     (λ c κs. c .before .before .before .before .before .pre .0 .1)
     loop-holds
-    (λ c. omega arith)
-    shared-slice-read-w
-    (λ c κs. (start c .pre .0 .2, omega arith))
-    (λ c κs. start (c .before) .pre .1 .0 .long)
-    (λ c. omega (arith, place (c .before)))
+    number-of-requires
+    (λ c. omega (arith, place c))
+    (λ c. omega (arith, place (c .before), start (c .before) .pre .0 .0))
+    (λ c κs. start (c .before .before) .pre .1 .0 .long)
+    (λ c. omega (arith, place (c .before .before .before)))
     slice-write-into
     (λ c. omega arith)
     (λ c. omega arith)

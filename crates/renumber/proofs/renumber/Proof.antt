@@ -5,7 +5,7 @@ use native.Mathlib.Omega.{arith}
 use mathlib.Core.Path.{_≡_, sym, ap, _∙_}
 use mathlib.Core.Bool.{true}
 use Rattle.theory.specs.NewNumbers.{renumbers}
-use Rattle.theory.proofs.Good.{Good}
+use Rattle.theory.specs.Fit.{Good}
 use Rattle.memory.specs.Layout.{termsOf}
 use Rattle.memory.specs.Outcome.{outcomeOf, hasPassed}
 use Rattle.memory.specs.Plan.{Planned}

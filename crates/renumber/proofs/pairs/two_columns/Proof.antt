@@ -8,7 +8,7 @@ use Rattle.sets.specs.Sets.{bit}
 use Rattle.sets.proofs.Finite.{and-left, and-right}
 use Rattle.theory.specs.Formula.{number, isPast}
 use Rattle.theory.specs.Terms.{Terms}
-use Rattle.theory.proofs.Good.{Good}
+use Rattle.theory.specs.Fit.{Good}
 use Rattle.theory.proofs.Unfolding.{number-lt}
 use Rattle.memory.specs.Layout.{termsOf, tableColumns}
 use Rattle.memory.specs.Plan.{planTable}
