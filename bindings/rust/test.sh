@@ -1,10 +1,11 @@
 #!/bin/sh
 # test.sh: the Rust crate's tests, those of a host without a heap without the
-# feature that needs one, its pages, and that it is not built for a machine that
-# the archive is not for, nor with an archive of another version. The tests again
-# with the oldest Rust that the crate is for, where that is here: OLDEST_RUST names
-# its folder bin, else it is one of rustup's, or Debian's in /usr/bin. The archive
-# is that of CUCKOOORMOLU_LIB, as the build script says.
+# feature that needs one, its pages, that they tell errors and panics, and that it
+# is not built for a machine that the archive is not for, nor with an archive of
+# another version. The tests again with the oldest Rust that the crate is for,
+# where that is here: OLDEST_RUST names its folder bin, else it is one of rustup's,
+# or Debian's in /usr/bin. The archive is that of CUCKOOORMOLU_LIB, as the build
+# script says.
 set -eu
 cd "$(dirname "$0")"
 library=${CUCKOOORMOLU_LIB:-$PWD/../../target/staticlib}
@@ -12,6 +13,12 @@ library=${CUCKOOORMOLU_LIB:-$PWD/../../target/staticlib}
 cargo test --release --quiet -p cuckooormolu
 cargo test --release --quiet -p cuckooormolu --no-default-features --test without_alloc
 RUSTDOCFLAGS='-D warnings' cargo doc --quiet --no-deps -p cuckooormolu
+if cargo clippy --version >/dev/null 2>&1; then
+    cargo clippy --quiet -p cuckooormolu
+    echo "ok   pages that tell errors and panics"
+else
+    echo "skip pages that tell errors and panics: no clippy"
+fi
 
 oldest=$(sed -n 's/^rust-version = "\(.*\)"$/\1/p' Cargo.toml)
 # has FOLDER: whether the folder has a cargo and the oldest rustc.

@@ -23,6 +23,37 @@ differ cc "$calls" "$files"
 quietly env -u CUCKOOORMOLU_LIB CUCKOOORMOLU_C="$folder" cargo test --release --quiet -p cuckooormolu
 echo 'ok   cc: the Rust crate, built from the C file'
 
+# As for the author of a host: the C file beside the crate, which is added to a program, and no archive anywhere.
+added="$work/added"
+mkdir -p "$added/host/src"
+sed 's/^members = .*/members = ["rust", "host"]/; /^default-members/d' "$top/Cargo.toml" >"$added/Cargo.toml"
+cp -R "$top/bindings/rust" "$added/rust"
+cp "$folder/cuckooormolu.c" "$folder/cuckooormolu.h" "$added/rust"
+cat >"$added/host/Cargo.toml" <<'END'
+[package]
+name = "host"
+version = "0.0.0"
+edition = "2021"
+
+[dependencies]
+cuckooormolu = { path = "../rust" }
+END
+cat >"$added/host/src/main.rs" <<'END'
+use cuckooormolu::{Event, Member, Monitor, Request};
+fn main() -> Result<(), Box<dyn std::error::Error>> {
+    let mut monitor = Monitor::read(&std::fs::read(std::env::args().nth(1).unwrap())?)?;
+    for (event, from, to) in [(2, 1, 2), (0, 0, 1), (2, 1, 2)] {
+        let request = Request { event: Event(event), from: Member(from), to: Member(to) };
+        println!("{}", monitor.request(request)?);
+    }
+    Ok(())
+}
+END
+said=$(env -u CUCKOOORMOLU_LIB -u CUCKOOORMOLU_C CARGO_TARGET_DIR="$added/target" \
+    cargo run --quiet --manifest-path "$added/Cargo.toml" -p host -- "$top/examples/preset/terms.tsv")
+[ "$(echo "$said" | tr '\n' ' ')" = 'deny grant grant ' ] || { echo "FAIL the crate in a host: $said" && exit 1; }
+echo 'ok   cc: the Rust crate in a host, with the C file beside it'
+
 if has clang -fsanitize="$sanitizers"; then
     build sanitized clang -O1 -g -fsanitize="$sanitizers" -fno-sanitize-recover=all
     hold sanitized "$inputs" "$wanted"

@@ -20,6 +20,33 @@ use core::fmt;
 ///     Ok(())
 /// }
 /// ```
+///
+/// So is one that is asked in vain:
+///
+/// ```compile_fail
+/// #![deny(unused_must_use)]
+/// # use cuckooormolu::{Monitor, Refusal, Request};
+/// # fn load() {}
+/// fn host(monitor: &mut Monitor, request: Request) -> Result<(), Refusal> {
+///     monitor.request(request)?.is_grant();
+///     load();
+///     Ok(())
+/// }
+/// ```
+///
+/// A host asks, and loads only then:
+///
+/// ```
+/// #![deny(unused_must_use)]
+/// # use cuckooormolu::{Monitor, Refusal, Request};
+/// # fn load() {}
+/// fn host(monitor: &mut Monitor, request: Request) -> Result<(), Refusal> {
+///     if monitor.request(request)?.is_grant() {
+///         load();
+///     }
+///     Ok(())
+/// }
+/// ```
 #[must_use = "a request that is decided may be denied"]
 #[derive(Clone, Copy, Debug, PartialEq, Eq, Hash)]
 pub enum Answer {
@@ -31,6 +58,7 @@ pub enum Answer {
 
 impl Answer {
     /// Whether the policy holds.
+    #[must_use = "a request that is decided may be denied"]
     pub fn is_grant(self) -> bool {
         self == Answer::Grant
     }

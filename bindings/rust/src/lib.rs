@@ -1,6 +1,7 @@
 //! The sharing-terms reference monitor.
 //!
-//! * **x86-64 Linux only.** The static library is machine code for it.
+//! * **Machines**: the static library that is proved is machine code for x86-64
+//!   Linux. From the library's C file, the crate is built for any machine.
 //! * **Memory**: terms have 2,504 bytes, a state 24,584, scratch 512; two banks
 //!   need 44,504 in all; a plan is lent 74,264 more. This crate puts them on the
 //!   heap; the library allocates nothing.
@@ -9,7 +10,7 @@
 //!   which entries nest; reading takes what opening does, and 33 KiB at least; of two
 //!   banks it takes 25 KiB more, any other call 2 KiB. Where the terms need a memo
 //!   (bindings/README.md, Stack), each takes 267 KiB more, at most 512 KiB.
-//!   Renumbering takes 18 KiB, storing 4 KiB.
+//!   Renumbering takes 18 KiB, storing 4 KiB. From the C file it is at most 1 MiB.
 //! * **Terms and states are plain words** that may be copied and kept. In a
 //!   file they have the machine's byte order, little-endian. A stored text
 //!   ([`Monitor::store`]) keeps the same for any machine, and for people.

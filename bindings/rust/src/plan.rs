@@ -49,6 +49,19 @@ pub struct Plan<'a> {
 ///     Ok(())
 /// }
 /// ```
+///
+/// So is one that is asked in vain:
+///
+/// ```compile_fail
+/// #![deny(unused_must_use)]
+/// # use cuckooormolu::{Monitor, Plan, Refusal};
+/// # fn go() {}
+/// fn host(monitor: &Monitor, plan: Plan<'_>) -> Result<(), Refusal> {
+///     monitor.plan(plan)?.is_accepted();
+///     go();
+///     Ok(())
+/// }
+/// ```
 #[must_use = "a plan that is ruled on may be rejected"]
 #[derive(Clone, Copy, Debug, PartialEq, Eq, Hash)]
 pub enum Ruling {
@@ -61,6 +74,7 @@ pub enum Ruling {
 
 impl Ruling {
     /// Whether the plan is accepted.
+    #[must_use = "a plan that is ruled on may be rejected"]
     pub fn is_accepted(self) -> bool {
         self == Ruling::Accepted
     }

@@ -5,12 +5,13 @@
 //! TO is a connection string to a server with the tables of schema.sql. Of four requests one is a share, one a
 //! withdrawal and two are loads, of which every other is granted. Each writes a line of the log, and the state where it
 //! is granted. One UPDATE writes the words of a state as they are, the other as this host packs them, each to a table
-//! with the same columns and nothing else in its transaction. The three take turns of so many seconds, each time in
-//! another order; medians of the turns and of their ratios are shown. The processor's time, of worker and server
-//! process, is told besides: it is the same whatever else the machine does. The server is on the same machine. TERMS is
-//! a file with other terms in which the events 0, 1 and 2 are a share, a withdrawal and a load.
+//! with the same columns and nothing else in its transaction. The three take short turns of so many seconds, each time
+//! in another order, so that whatever else the machine does hits them alike; medians of the turns and of their ratios
+//! are shown. The processor's time, of worker and server process, is told besides: what else the machine does changes
+//! it less. The server is on the same machine. TERMS is a file with other terms in which the events 0, 1 and 2 are a
+//! share, a withdrawal and a load. measure.sh starts a server and runs this with fsync and without.
 
-use circles::libpq::Connection;
+use circles::libpq::{Connection, Rows};
 use circles::{words, Circles};
 use cuckooormolu::{Event, Member, Monitor, Request};
 use std::array;
@@ -23,47 +24,49 @@ const PRESET: &str =
     F 6 at 0 5\nF 7 bind 1 6\nF 8 top 0 0\nP 0 8\nP 1 8\nP 2 7\nG 0 0 2\n";
 /// Share, load, withdraw, load.
 const ASKED: [(u8, u8, u8); 4] = [(0, 0, 1), (2, 1, 2), (1, 0, 1), (2, 1, 2)];
-const TURNS: usize = 9;
+const ROUNDS: usize = 25;
 const MOST: i64 = 10_000;
 /// Circles of no other's.
 const FIRST: i64 = 1 << 40;
 /// Tables to be updated, beside `circle`: words as they are, and packed.
 const PLAIN: &str = "plain";
 const PACKED: &str = "plain_packed";
-/// The name of the workers' connections.
-const MEASURED: &str = "measured";
-
-/// Does something once, by a number that looks random, and says whether it was granted.
-type Worker = Box<dyn FnMut(u64) -> bool + Send>;
+/// Does something once, by a number that looks random, and says whether it was granted. Where it is the last for a
+/// while, nothing is left open.
+type Worker = Box<dyn FnMut(u64, bool) -> bool + Send>;
 
 fn main() {
     let arguments = std::env::args().skip(1).collect::<Vec<_>>();
     let [to, rest @ ..] = &arguments[..] else { panic!("usage: measure TO [SECONDS [TERMS]]") };
-    let seconds = rest.first().map_or(0.5, |seconds| seconds.parse().expect("seconds"));
+    let seconds = rest.first().map_or(0.3, |seconds| seconds.parse().expect("seconds"));
     let text = rest.get(1).map_or(PRESET.replace(' ', "\t").into_bytes(), |terms| {
         std::fs::read(terms).expect("terms")
     });
     let monitor = Monitor::read(&text).expect("terms");
     prepare(to, &monitor);
-    let named = format!("{to} application_name={MEASURED}");
+    let fsync = String::from_utf8(rows(to, "show fsync").bytes(0, 0).to_vec()).expect("on or off");
     println!(
-        "| circles | workers | requests/s | granted % | UPDATEs/s | ratio | packed UPDATEs/s | ratio | µs a request | \
-         µs an UPDATE | µs a packed UPDATE |"
+        "| fsync | circles | workers | requests/s | granted % | UPDATEs/s | ratio | packed UPDATEs/s | ratio | \
+         µs a request | µs an UPDATE | µs a packed UPDATE |"
     );
-    println!("|{}", "--:|".repeat(11));
+    println!("|---|{}", "--:|".repeat(11));
     for circles in [100, MOST] {
         for workers in [1, 2, 4, 8] {
-            let sides: [&dyn Fn() -> Worker; 3] = [
-                &|| requests(&named, circles),
-                &|| updates(&named, circles, PLAIN, plain(&monitor)),
-                &|| updates(&named, circles, PACKED, words::packed(monitor.state().words())),
+            let mut sides = [
+                Side::new(to, "asked", workers, |to| requests(to, circles)),
+                Side::new(to, PLAIN, workers, |to| updates(to, circles, PLAIN, plain(&monitor))),
+                Side::new(to, PACKED, workers, |to| {
+                    updates(to, circles, PACKED, words::packed(monitor.state().words()))
+                }),
             ];
-            let turns = turns(sides, to, workers, Duration::from_secs_f64(seconds));
+            let turn = Duration::from_secs_f64(seconds);
+            let rounds = (0..ROUNDS).map(|round| Side::round(&mut sides, round, turn));
+            let rounds = rounds.collect::<Vec<_>>();
             let [asked, granted, updated, ratio, packed, packed_ratio, request, update, small] =
-                array::from_fn(|column| median(&turns, column));
+                array::from_fn(|column| median(&rounds, column));
             println!(
-                "| {circles} | {workers} | {asked:.0} | {granted:.0} | {updated:.0} | {ratio:.2} | {packed:.0} | \
-                 {packed_ratio:.2} | {request:.0} | {update:.0} | {small:.0} |"
+                "| {fsync} | {circles} | {workers} | {asked:.0} | {granted:.0} | {updated:.0} | {ratio:.2} | \
+                 {packed:.0} | {packed_ratio:.2} | {request:.0} | {update:.0} | {small:.0} |"
             );
         }
     }
@@ -82,13 +85,33 @@ struct Turn {
 /// Rates and ratios of a round, and the processor's times.
 type Round = [f64; 9];
 
-/// Each side has a turn in each round.
-fn turns(sides: [&dyn Fn() -> Worker; 3], to: &str, workers: u64, turn: Duration) -> Vec<Round> {
-    let turns = (0..TURNS).map(|round| {
+fn median(rounds: &[Round], column: usize) -> f64 {
+    let mut numbers = rounds.iter().map(|round| round[column]).collect::<Vec<_>>();
+    numbers.sort_by(f64::total_cmp);
+    numbers[ROUNDS / 2]
+}
+
+/// Workers of one kind, each with its random numbers, and the server's processes that they are connected to.
+struct Side {
+    workers: Vec<(u64, Worker)>,
+    servers: Vec<i64>,
+}
+
+impl Side {
+    fn new(to: &str, name: &str, count: u64, worker: impl Fn(&str) -> Worker) -> Side {
+        let named = format!("{to} application_name={name}");
+        let workers = (0..count).map(|number| (number, worker(&named))).collect();
+        let query = format!("select pid from pg_stat_activity where application_name = '{name}'");
+        let rows = rows(to, &query);
+        Side { workers, servers: (0..rows.count()).map(|row| rows.number(row, 0)).collect() }
+    }
+
+    /// Each side has a turn.
+    fn round(sides: &mut [Side; 3], round: usize, turn: Duration) -> Round {
         let mut turns = [Turn::default(); 3];
         for place in 0..3 {
             let side = (round + place) % 3;
-            turns[side] = measured(to, workers, turn, sides[side]);
+            turns[side] = sides[side].turn(turn);
         }
         let [asked, updated, packed] = turns;
         [
@@ -102,49 +125,38 @@ fn turns(sides: [&dyn Fn() -> Worker; 3], to: &str, workers: u64, turn: Duration
             updated.processor,
             packed.processor,
         ]
-    });
-    turns.collect()
-}
+    }
 
-fn median(rounds: &[Round], column: usize) -> f64 {
-    let mut numbers = rounds.iter().map(|round| round[column]).collect::<Vec<_>>();
-    numbers.sort_by(f64::total_cmp);
-    numbers[TURNS / 2]
-}
-
-/// A turn of some workers, each of which `worker` makes.
-fn measured(to: &str, workers: u64, turn: Duration, worker: &dyn Fn() -> Worker) -> Turn {
-    let workers = (0..workers).map(|number| (number, worker())).collect::<Vec<_>>();
-    let servers = servers(to);
-    let served = || servers.iter().map(|server| processor(&format!("/proc/{server}"))).sum::<f64>();
-    let (start, before) = (Instant::now(), served());
-    let (counts, worked) = thread::scope(|scope| {
-        let running = workers.into_iter().map(|(mut random, mut each)| {
-            scope.spawn(move || {
-                let before = processor("/proc/thread-self");
-                let mut counts = [0.0, 0.0];
-                while start.elapsed() < turn {
-                    random = random
-                        .wrapping_mul(6_364_136_223_846_793_005)
-                        .wrapping_add(1_442_695_040_888_963_407);
-                    counts[usize::from(each(random >> 33))] += 1.0;
-                }
-                // The connection stays open until the server's time was read.
-                (each, counts, processor("/proc/thread-self") - before)
-            })
+    fn turn(&mut self, turn: Duration) -> Turn {
+        let served = |servers: &[i64]| {
+            servers.iter().map(|server| processor(&format!("/proc/{server}"))).sum::<f64>()
+        };
+        let (start, before) = (Instant::now(), served(&self.servers));
+        let ended = thread::scope(|scope| {
+            let running = self.workers.iter_mut().map(|(random, each)| {
+                scope.spawn(move || {
+                    let before = processor("/proc/thread-self");
+                    let mut counts = [0.0, 0.0];
+                    let mut last = false;
+                    while !last {
+                        last = start.elapsed() >= turn;
+                        *random = random
+                            .wrapping_mul(6_364_136_223_846_793_005)
+                            .wrapping_add(1_442_695_040_888_963_407);
+                        counts[usize::from(each(*random >> 33, last))] += 1.0;
+                    }
+                    [counts[0], counts[1], processor("/proc/thread-self") - before]
+                })
+            });
+            let running = running.collect::<Vec<_>>();
+            running.into_iter().map(|worker| worker.join().expect("a worker")).collect::<Vec<_>>()
         });
-        let running = running.collect::<Vec<_>>();
-        let ended = running.into_iter().map(|worker| worker.join().expect("a worker"));
-        let ended = ended.collect::<Vec<_>>();
-        let counts = ended
-            .iter()
-            .fold([0.0, 0.0], |sum, (_, counts, _)| [sum[0] + counts[0], sum[1] + counts[1]]);
-        let worked = ended.iter().map(|(.., worked)| worked).sum::<f64>();
-        (counts, worked + served() - before)
-    });
-    let seconds = start.elapsed().as_secs_f64();
-    let all: f64 = counts[0] + counts[1];
-    Turn { rate: all / seconds, granted: counts[1] / seconds, processor: worked / all }
+        let seconds = start.elapsed().as_secs_f64();
+        let [denied, granted, worked] =
+            array::from_fn(|place| ended.iter().map(|worker| worker[place]).sum::<f64>());
+        let (all, processor) = (denied + granted, worked + served(&self.servers) - before);
+        Turn { rate: all / seconds, granted: granted / seconds, processor: processor / all }
+    }
 }
 
 /// The time that a process or thread had a processor, in microseconds.
@@ -154,15 +166,11 @@ fn processor(folder: &str) -> f64 {
     nanoseconds / 1e3
 }
 
-/// The server's processes of the workers.
-fn servers(to: &str) -> Vec<i64> {
-    let query = CString::new(format!(
-        "select pid from pg_stat_activity where application_name = '{MEASURED}'"
-    ));
-    let query = query.expect("no zero in it");
-    let mut connection = Connection::open(to, &[(c"servers", &query)]).expect("a server");
-    let rows = connection.run(&[(c"servers", &[])]).expect("a server").remove(0);
-    (0..rows.count()).map(|row| rows.number(row, 0)).collect()
+/// The rows of a query.
+fn rows(to: &str, query: &str) -> Rows {
+    let query = CString::new(query).expect("no zero in it");
+    let mut connection = Connection::open(to, &[(c"query", &query)]).expect("a server");
+    connection.run(&[(c"query", &[])]).expect("a server").remove(0)
 }
 
 /// Makes the circles, every other one after a share, and tables of the same columns.
@@ -207,11 +215,12 @@ fn requests(to: &str, circles: i64) -> Worker {
     let now = SystemTime::now().duration_since(UNIX_EPOCH).expect("after 1970").as_nanos();
     let mut key = now << 32;
     let mut circle = FIRST;
-    Box::new(move |random| {
+    Box::new(move |random, last| {
         let next = FIRST + (random / 4) as i64 % circles;
         key += 1;
         let request = asked(random as usize % ASKED.len());
-        let told = connection.request_before(circle, key.to_be_bytes(), request, Some(next));
+        let ahead = (!last).then_some(next);
+        let told = connection.request_before(circle, key.to_be_bytes(), request, ahead);
         circle = next;
         told.expect("a server").expect("an answer").is_grant()
     })
@@ -223,7 +232,7 @@ fn updates(to: &str, circles: i64, table: &str, mut state: Vec<u8>) -> Worker {
     let query = CString::new(query).expect("no zero in it");
     let mut connection = Connection::open(to, &[(c"update", &query)]).expect("a server");
     let place = state.len() - 1;
-    Box::new(move |random| {
+    Box::new(move |random, _| {
         state[place] = random as u8 & 7;
         let id = (FIRST + (random / 4) as i64 % circles).to_be_bytes();
         connection.commit(&[(c"update", &[&id, &state])], &[]).expect("a server");
