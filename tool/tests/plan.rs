@@ -93,7 +93,7 @@ fn for_programs() {
     assert_eq!(
         lines,
         [
-            r#"{"accepted":false,"planner":"ann","rival":"bob","goal":"me holds target","pair":["ann","bell"],"latest":null,"begins":false}"#,
+            r#"{"accepted":false,"planner":"ann","rival":"bob","goal":"me holds target","pair":["ann","bell"],"latest":null,"begins":false,"events":["wish","claim","release","load"]}"#,
             r#"{"move":1,"event":"wish","from":"ann","to":"bell","answer":"grant"}"#,
             r#"{"reply":1,"event":"claim","from":"bob","to":"bell","answer":"grant"}"#,
             r#"{"move":2,"event":"claim","from":"ann","to":"bell","answer":"deny"}"#,
