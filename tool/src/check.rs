@@ -8,13 +8,14 @@
 //! * `reader`: the lines in turn; `line`: what a line is made of
 //! * `entries`, `others`, `stored`: F lines; M, L, P, K, E and G lines; S, T and V lines
 //! * `advice`: what would be right
-//! * `warnings`, `tried`, `sought`, `long`: what is accepted and yet seldom meant
+//! * `warnings`, `tried`, `sought`: what is accepted and yet seldom meant
+//! * `effort`: what a request may work out
 
 mod advice;
+pub mod effort;
 mod entries;
 mod fault;
 mod line;
-mod long;
 mod others;
 mod reader;
 mod sought;

@@ -61,6 +61,9 @@ fn find(name: &str) -> Result<&'static Command, Stop> {
             let script = "`./cuckooormolu install [--prefix DIR]`";
             return Stop::Usage(format!("a checkout installs the tool, by its script: {script}"));
         }
+        if name == "version" {
+            return Stop::Usage("`cuckooormolu --version` says it".into());
+        }
         let hint = did_you_mean(name, COMMANDS.iter().map(|command| command.name));
         Stop::Usage(format!("no command `{name}`{hint}"))
     })

@@ -2,12 +2,15 @@
 //!
 //! * `goal`: an event's policy or a sentence, as an entry of the terms
 //! * `game`: the game played to its end over the proved library
+//! * `narrow`: terms in which only some events can happen
 
 mod game;
 mod goal;
+mod narrow;
 
 pub use game::{Outcome, Played};
 pub use goal::Goal;
+pub use narrow::narrowed;
 
 use crate::both::Both;
 use crate::names::{Kind, Names};
@@ -67,19 +70,21 @@ impl Plan {
     }
 }
 
-/// Stops where the terms are too large for a game.
-pub fn fits(terms: &Terms) -> Result<(), Stop> {
-    let most = |what: &str, count: usize, most: usize| {
-        Err(Stop::Failed(format!(
-            "a plan is decided where there are at most {most} {what}; here are {count}: try it in a copy of the \
-             folder, without those that do not matter to the plan"
-        )))
+/// Stops where there are too many members for a game, or too many events in it.
+pub fn fits(terms: &Terms, events: usize) -> Result<(), Stop> {
+    let most = |what: &str, count: usize, most: usize, cure: &str| {
+        let why = format!("a plan is decided among at most {most} {what}, and here are {count}");
+        Err(Stop::Failed(format!("{why}: {cure}")))
     };
-    match (terms.members, terms.events) {
-        (members, _) if members > MOST_MEMBERS => most("members", members, MOST_MEMBERS),
-        (_, events) if events > MOST_EVENTS => most("events", events, MOST_EVENTS),
-        _ => Ok(()),
+    if terms.members > MOST_MEMBERS {
+        let cure = "try it in a copy of the folder, without those that do not matter to the plan";
+        return most("members", terms.members, MOST_MEMBERS, cure);
     }
+    if events > MOST_EVENTS {
+        let cure = "name those that matter, besides those of the plan, with --events";
+        return most("events", events, MOST_EVENTS, cure);
+    }
+    Ok(())
 }
 
 /// The moves of `share pete; load saw`: an event and its target each.

@@ -2,9 +2,12 @@
 //! state that can be reached, each step a request of the proved library on a copy.
 //!
 //! * `fixed`: policies that fail by what never changes, so that no state has to be tried
+//! * `packed`: states in few bytes
 
 pub mod fixed;
+mod packed;
 
+use packed::{packed, unpacked, NODE_BYTES};
 use proved::raw::{self, Request};
 use proved::{Answer, Monitor, SCRATCH_WORDS, STATE_WORDS};
 use std::collections::HashSet;
@@ -217,89 +220,5 @@ fn pairs(members: &[usize]) -> impl Iterator<Item = (usize, usize)> + '_ {
     members.iter().flat_map(move |from| members.iter().map(move |to| (*from, *to)))
 }
 
-/// About what a state takes besides its words.
-const NODE_BYTES: usize = 100;
-
-fn packed(state: &[u64]) -> Vec<u8> {
-    let mut packed = Vec::new();
-    for (place, word) in state.iter().enumerate().filter(|(_, word)| **word != 0) {
-        packed.extend((place as u16).to_le_bytes());
-        packed.extend(word.to_le_bytes());
-    }
-    packed
-}
-
-fn unpacked(packed: &[u8]) -> [u64; STATE_WORDS] {
-    let mut state = [0; STATE_WORDS];
-    for part in packed.chunks_exact(10) {
-        let (place, word) = part.split_at(2);
-        let place = usize::from(u16::from_le_bytes([place[0], place[1]]));
-        state[place] = u64::from_le_bytes(word.try_into().expect("eight bytes"));
-    }
-    state
-}
-
 #[cfg(test)]
-mod tests {
-    use super::*;
-
-    fn read(text: &str) -> Monitor {
-        Monitor::read(text.replace(' ', "\t").as_bytes()).unwrap()
-    }
-
-    /// Event 0 makes an edge, event 1 is for a target that one has had an edge to since
-    /// an earlier moment, event 2 for nobody.
-    const TEXT: &str = "M 2\nL 1 3\nF 0 top 0 0\nF 1 var 0 0\nF 2 out 0 1\nF 3 prev 2 0\n\
-                        F 4 not 0 0\nP 0 0\nP 1 3\nP 2 4\nE 0 add 0 fwd\n";
-
-    fn sought(text: &str, event: usize, limits: Limits) -> Found {
-        search(&read(text), Request { event, from: 0, to: 1 }, limits)
-    }
-
-    #[test]
-    fn the_shortest_list() {
-        let make = Request { event: 0, from: 0, to: 1 };
-        assert_eq!(sought(TEXT, 0, Limits::USUAL), Found::After(vec![]));
-        let Found::After(list) = sought(TEXT, 1, Limits::USUAL) else { panic!() };
-        assert_eq!((list.len(), list[0]), (2, make));
-        let within = |within| sought(TEXT, 1, Limits { within, ..Limits::USUAL });
-        assert!(matches!(within(1), Found::NotWithin { states: 5 }));
-        assert_eq!(within(2), Found::After(list));
-    }
-
-    #[test]
-    fn never_and_given_up() {
-        let Found::Never { states } = sought(TEXT, 2, Limits::USUAL) else { panic!() };
-        assert!(states > 16, "{states}");
-        let few = Limits { tries: 12, ..Limits::USUAL };
-        assert!(matches!(sought(TEXT, 2, few), Found::GivenUp { within: 1, .. }));
-        let small = Limits { bytes: 1, ..Limits::USUAL };
-        assert!(matches!(sought(TEXT, 2, small), Found::GivenUp { within: 0, .. }));
-        let within = Limits { within: 100, ..Limits::USUAL };
-        assert_eq!(sought(TEXT, 2, within), Found::Never { states });
-    }
-
-    #[test]
-    fn an_event_of_any_two() {
-        let sought = |event| search_event(&read(TEXT), event, &[0, 1], Limits::USUAL);
-        assert_eq!(sought(0), Found::After(vec![]));
-        assert!(matches!(sought(1), Found::After(list) if list.len() == 2));
-        assert!(matches!(sought(2), Found::Never { .. }));
-        let few = Limits { tries: 12, ..Limits::USUAL };
-        assert!(matches!(search_event(&read(TEXT), 2, &[0, 1], few), Found::GivenUp { .. }));
-    }
-
-    #[test]
-    fn a_denied_request_that_is_kept_is_a_step() {
-        let text = "M 2\nL 0 2\nF 0 top 0 0\nF 1 not 0 0\nF 2 out 2 0\nP 0 1\nP 1 2\nK 0\n";
-        let Found::After(list) = sought(text, 1, Limits::USUAL) else { panic!() };
-        assert_eq!(list, [Request { event: 0, from: 0, to: 0 }]);
-    }
-
-    #[test]
-    fn states_are_packed_and_unpacked() {
-        let mut state = [0; STATE_WORDS];
-        (state[0], state[1_024], state[STATE_WORDS - 1]) = (1, u64::MAX, 7);
-        assert_eq!(unpacked(&packed(&state)), state);
-    }
-}
+mod tests;

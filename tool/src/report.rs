@@ -20,6 +20,7 @@ pub mod policies;
 pub mod tables;
 
 use crate::both::Verdict;
+use crate::check::effort;
 use crate::names::Names;
 use crate::replay::Replay;
 use crate::stop::Stop;
@@ -74,12 +75,13 @@ fn summary(replay: &Replay, names: &Names) -> String {
         answers.push(format!("{refused} refused"));
     }
     format!(
-        "<p class=\"summary\">{}{}, {}, {}. {}: {}.</p>\n",
+        "<p class=\"summary\">{}{}, {}, {}. {}: {}. A request works out {}.</p>\n",
         counted(terms.members, "member"),
         if kinds == 0 { String::new() } else { format!(" of {}", counted(kinds, "kind")) },
         counted(terms.relations - kinds, "relation"),
         counted(terms.events, "event"),
         counted(replay.steps.len(), "request"),
         answers.join(", "),
+        effort::told(replay.both.effort()),
     )
 }

@@ -4,6 +4,7 @@
 //! * `kinds`: kinds of members as attributes
 //! * `passing`: events of one moment where the past seems to be meant
 //! * `seldom`: other sentences that say something else than they seem to
+//! * `seeker`: what these two find
 //! * `resolve`, `said`: names found, definitions and derived forms unfolded
 //! * `tree`: at which member each part is said
 //! * `entries`: variables numbered, equal parts made one entry
@@ -24,6 +25,7 @@ mod passing;
 pub mod print;
 mod resolve;
 mod said;
+mod seeker;
 mod seldom;
 pub mod tokens;
 mod tree;

@@ -5,6 +5,16 @@ use crate::folder::Request;
 use crate::names::{Kind, Labelled, Names};
 use keeper::terms::{EventEdge, Terms};
 
+/// A number with a comma before each three digits: 1,204.
+pub fn grouped(number: usize) -> String {
+    let digits = number.to_string();
+    let comma = |(place, digit): (usize, char)| {
+        let comma = place > 0 && (digits.len() - place) % 3 == 0;
+        comma.then_some(',').into_iter().chain([digit])
+    };
+    digits.chars().enumerate().flat_map(comma).collect()
+}
+
 /// The names of a folder together with its terms.
 #[derive(Clone, Copy)]
 pub struct Words<'a> {

@@ -1,6 +1,6 @@
 //! What is accepted and yet seldom meant.
 
-use cuckooormolu_tool::check::{check, Checked, Warning};
+use cuckooormolu_tool::check::{check, effort, Checked, Warning};
 use cuckooormolu_tool::folder::Folder;
 use cuckooormolu_tool::names::Names;
 use keeper::generate::case;
@@ -75,15 +75,59 @@ fn names_of_what_there_is_not() {
     assert_eq!(warnings.iter().map(|warning| &warning.what[..]).collect::<Vec<_>>(), [what]);
 }
 
+/// Three people are sought one inside the other, and spoken of in the innermost part.
+const NESTED: &str = "L 1 1\nF 0 var 1 0\nF 1 var 2 0\nF 2 var 3 0\nF 3 or 0 1\nF 4 or 2 3\nF 5 out 0 4\n\
+    F 6 bind 3 5\nF 7 out 0 6\nF 8 bind 2 7\nF 9 out 0 8\nF 10 bind 1 9\nF 11 out 0 10\nP 0 11\nG 0 0 0\n";
+
 #[test]
 fn terms_that_take_long() {
-    let nested = "L 1 1\nF 0 var 1 0\nF 1 var 2 0\nF 2 var 3 0\nF 3 or 0 1\nF 4 or 2 3\nF 5 out 0 4\n\
-        F 6 bind 3 5\nF 7 out 0 6\nF 8 bind 2 7\nF 9 out 0 8\nF 10 bind 1 9\nF 11 out 0 10\nP 0 11\nG 0 0 0\n";
-    assert_eq!(told(&format!("M 64\n{nested}")), [("long", 8)]);
-    assert_eq!(
-        told(&format!("M 8\n{nested}")).iter().filter(|(kind, _)| *kind == "long").count(),
-        0
-    );
+    let long = |members: usize| {
+        let warnings = warnings(&format!("M {members}\n{NESTED}"), "", "");
+        warnings.into_iter().find(|warning| warning.kind == "long")
+    };
+    let warning = long(64).unwrap();
+    assert_eq!(warning.line, 7);
+    assert!(warning.what.starts_with("a request works out at most "), "{}", warning.what);
+    let nested = "entry 4 speaks of 4 members who are sought one inside the other";
+    assert!(warning.what.contains(nested), "{}", warning.what);
+    assert!(warning.right.contains("at most two"), "{}", warning.right);
+    assert_eq!(long(8), None);
+}
+
+#[test]
+fn two_people_sought_in_turn_take_long_only_at_many_levels() {
+    // Each level seeks somebody and speaks of whom the level above sought.
+    let long = |levels: usize| {
+        let mut lines = String::from("M 64\nL 1 1\nF 0 var 1 0\n");
+        for level in 0..levels {
+            let (below, x) = (2 * level, 1 + level % 2);
+            lines +=
+                &format!("F {} out 0 {below}\nF {} bind {x} {}\n", below + 1, below + 2, below + 1);
+        }
+        let last = 2 * levels;
+        lines += &format!("F {} bind 1 {last}\nP 0 {}\nG 0 0 0\n", last + 1, last + 1);
+        let warnings = warnings(&lines, "", "");
+        warnings.into_iter().find(|warning| warning.kind == "long")
+    };
+    assert_eq!(long(3), None);
+    let warning = long(60).unwrap();
+    assert_eq!(warning.line, 2 + 1 + 2 * 60 + 1 + 1);
+    assert!(!warning.what.contains("speaks of"), "{}", warning.what);
+}
+
+#[test]
+fn what_a_request_works_out_is_told_with_the_time() {
+    for (rows, said) in [
+        (0, "nothing"),
+        (1, "at most 1 row: well under a millisecond"),
+        (1_204, "at most 1,204 rows: well under a millisecond"),
+        (15_000, "at most 15,000 rows: under a millisecond"),
+        (1_000_000, "at most 1,000,000 rows: some 67 ms"),
+        (150_000_000, "at most 150,000,000 rows: some 10 s"),
+        (1 << 31, "2,147,483,648 rows or more: it may take minutes"),
+    ] {
+        assert_eq!(effort::told(rows), said);
+    }
 }
 
 #[test]

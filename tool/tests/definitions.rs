@@ -112,7 +112,7 @@ fn a_verb_that_is_not_known_is_asked_for() {
     assert!(said.contains("terms.say:2:7: warning: `zap` is no verb that is known here"), "{said}");
     assert!(said.contains("`event zap said \"zapped\"`"), "{said}");
     folder.write("terms.say", "members a, b\nevent zap said \"zapped\" by anyone\n");
-    assert_eq!(run(&["check", folder.path()]).out.lines().count(), 1);
+    assert_eq!(run(&["check", folder.path()]).out.lines().count(), 2);
     assert_eq!(run(&["compile", folder.path()]).status, 0);
     assert!(folder.read("names.tsv").contains("event\t0\tzap\tzap\tzapped\n"));
 }

@@ -119,13 +119,13 @@ fn kinds_beside_relations_are_written_back() {
 fn wordings_are_written_back() {
     let folder = folder();
     let source = "members ben, saw\nevent peek said \"peeked at\" by anyone\n\
-                  event profile said \"see the profile of / seen the profile of\" by anyone\n";
+                  event nod said \"give a nod to / nodded at\" by anyone\n";
     folder.write("terms.say", source);
     let other = folder.file("other");
     assert_eq!(run(&["compile", folder.path(), "-o", other.to_str().unwrap()]).status, 0);
     let back = run(&["source", other.to_str().unwrap()]).out;
     let events = "event peek said \"peeked at\", \
-                  profile said \"see the profile of / seen the profile of\" by anyone\n";
+                  nod said \"give a nod to / nodded at\" by anyone\n";
     assert!(back.contains(events), "{back}");
 }
 

@@ -12,7 +12,7 @@ fn a_folder_to_start_from() {
     assert_eq!((said.status, said.err.as_str()), (0, ""));
     assert!(said.out.contains("terms.say written"), "{}", said.out);
     let checked = run(&["check", &mine]).out;
-    assert_eq!(checked.lines().count(), 1, "{checked}");
+    assert_eq!(checked.lines().count(), 2, "{checked}");
     let typed = "load pete saw\nshare dora pete\nload pete saw\n";
     let said = run_with(&["try", &mine], typed);
     assert_eq!(said.out, "denied\ngranted; moment 1\ngranted; moment 2\n");

@@ -93,7 +93,7 @@ fn for_programs() {
     assert_eq!(
         lines,
         [
-            r#"{"accepted":false,"planner":"ann","rival":"bob","goal":"me holds target","pair":["ann","bell"],"latest":null,"begins":false}"#,
+            r#"{"accepted":false,"planner":"ann","rival":"bob","goal":"me holds target","pair":["ann","bell"],"latest":null,"begins":false,"events":["wish","claim","release","load"]}"#,
             r#"{"move":1,"event":"wish","from":"ann","to":"bell","answer":"grant"}"#,
             r#"{"reply":1,"event":"claim","from":"bob","to":"bell","answer":"grant"}"#,
             r#"{"move":2,"event":"claim","from":"ann","to":"bell","answer":"deny"}"#,
@@ -141,10 +141,18 @@ fn a_game_has_at_most_8_members_and_4_events() {
     let words = ["--planner", "a", "--rival", "b", "--goal", "see"];
     let said = plan(folder.path(), "see c", &words);
     assert_eq!(said.status, 3);
-    assert!(said.err.contains("at most 8 members; here are 9"), "{}", said.err);
+    assert!(
+        said.err.contains("among at most 8 members, and here are 9: try it in a copy"),
+        "{}",
+        said.err
+    );
     folder.write("terms.say", "members a, b, c\nevent see, hear, feel, taste, smell by anyone\n");
     let said = plan(folder.path(), "see c", &words);
-    assert!(said.err.contains("at most 4 events; here are 5: try it in a copy"), "{}", said.err);
+    assert!(
+        said.err.contains("among at most 4 events, and here are 5: name those that matter"),
+        "{}",
+        said.err
+    );
 }
 
 /// Without a source, its sentences are those of the terms with their names.
@@ -272,4 +280,69 @@ fn the_page_shows_what_is_said() {
         let words: Vec<&str> = words.iter().map(String::as_str).collect();
         assert_eq!(run(&words).out, said, "{command}");
     }
+}
+
+/// Terms with six events, of which four or fewer matter to a plan.
+const SIX: &str = "members ann, bob, bell\nrelation holds\n\
+    event wish by anyone\n\
+    event claim when once me wish target and nobody holds target then add me holds target\n\
+    event release when me holds target then remove me holds target\n\
+    event praise, greet by anyone\n\
+    event bless when previously me greet target or me praise target\n";
+
+#[test]
+fn a_plan_with_some_of_the_events() {
+    let folder = Folder::new();
+    folder.write("terms.say", SIX);
+    let with = |text: &str, goal: &str, more: &[&str]| {
+        let words = ["--planner", "ann", "--rival", "bob", "--goal", goal];
+        plan(folder.path(), text, &[&words[..], more].concat())
+    };
+    let holds = |more: &[&str]| with("wish bell; claim bell", "me holds target", more);
+    let said = holds(&[]);
+    let cure = "name those that matter, besides those of the plan, with --events";
+    assert!(said.status == 3 && said.err.contains(cure), "{}", said.err);
+    let said = holds(&["--events", "release"]);
+    assert_eq!((said.status, said.err.as_str()), (0, ""));
+    assert_eq!(
+        said.out,
+        "Accepted: whatever bob does, `me holds target` holds after request 2 at the latest (me is ann, target is \
+         bell).\n\nOnly wish, claim and release can happen in this game: by another event bob may still keep ann from \
+         it.\n"
+    );
+    // What was requested before counts; a reply is told by its own name.
+    folder.write("requests.say", "wish bob bell\n");
+    let said = holds(&["--events", "release,greet"]);
+    assert!(
+        said.status == 1 && said.out.contains("   claim bob → bell  granted\n"),
+        "{}",
+        said.out
+    );
+    let line = holds(&["--events", "release", "--json"]).out.lines().next().unwrap().to_string();
+    assert!(line.contains("\"events\":[\"wish\",\"claim\",\"release\"]"), "{line}");
+    let said = holds(&["--events", "relase"]);
+    assert!(said.status == 2 && said.err.contains("did you mean `release`?"), "{}", said.err);
+    let said = holds(&["--events", "release,praise,greet"]);
+    assert!(said.status == 3 && said.err.contains("here are 5"), "{}", said.err);
+}
+
+#[test]
+fn the_last_event_counts_even_if_it_is_left_out() {
+    let folder = Folder::new();
+    folder.write("terms.say", SIX);
+    folder.write("requests.say", "greet ann bell\n");
+    let bless = |requests: &str, events: &str, more: &[&str]| {
+        folder.write("requests.say", requests);
+        let words = ["--planner", "ann", "--rival", "bob", "--goal", "bless", "--events", events];
+        plan(folder.path(), "wish bell", &[&words[..], more].concat())
+    };
+    // A moment ago ann greeted: that counts after her next request.
+    assert_eq!(bless("greet ann bell\n", "greet", &[]).status, 0);
+    let said = bless("greet ann bell\n", "claim", &[]);
+    let told =
+        "the last request, greet ann → bell, counts at this moment: name `greet` in --events too";
+    assert!(said.status == 3 && said.err.contains(told), "{}", said.err);
+    assert_eq!(bless("greet ann bell\n", "claim", &["--first"]).status, 1);
+    // The release is asked for by no policy.
+    assert_eq!(bless("wish ann bell\nclaim ann bell\nrelease ann bell\n", "claim", &[]).status, 1);
 }

@@ -110,7 +110,7 @@ fn it_is_checked_and_written_as_a_source_and_drawn() {
         said.out
     );
     let json = run(&["check", folder.path(), "--json"]).out;
-    assert!(json.lines().next().unwrap().ends_with("\"stored\":true}"), "{json}");
+    assert!(json.lines().next().unwrap().contains("\"stored\":true,\"effort\":"), "{json}");
     let source = run(&["source", folder.path()]).out;
     assert!(source.starts_with("# stored with a past, which a source does not say\n"), "{source}");
     let page = run(&["report", folder.path(), "-o", "-"]).out;

@@ -128,6 +128,17 @@ fn mistakes_have_a_place_a_cause_and_a_cure() {
         ("given dora owns saw,", "expected a member, found the end of the line", ""),
         ("pete cannot load saw", "a question has `may not`, not `cannot`", "write `may not`"),
         ("pete can load saw", "a question has `may`, not `can`", "write `may`"),
+        ("pete should load saw", "a question has `may`, not `should`", "write `may`"),
+        (
+            "expect pete may load saw",
+            "a question stands alone",
+            "leave out `expect`: `pete may load saw`",
+        ),
+        (
+            "then pete may load saw",
+            "a question stands alone",
+            "leave out `then`: `pete may load saw`",
+        ),
         ("everyone may load saw", "no member `everyone`", "write `anyone`"),
         ("nobody except pete may load saw", "`nobody` takes no `except`", "write `only pete`"),
         ("no player may load saw", "no member `no`", "write `nobody`"),

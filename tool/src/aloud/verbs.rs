@@ -179,6 +179,14 @@ pub fn guessed(name: &str) -> String {
     }
 }
 
+/// The known verb whose participle a word is: `played` gives `play`.
+pub fn done_by(word: &str) -> Option<String> {
+    let irregular = IRREGULAR.iter().map(|(base, _, _)| *base);
+    let said_with = PREPOSITIONS.iter().map(|(base, _)| *base);
+    let mut known = PLAIN.split_whitespace().chain(irregular).chain(said_with);
+    known.find(|base| inflected(base).participle == word).map(str::to_string)
+}
+
 fn inflected(base: &str) -> Verb {
     let consonant_y = base.strip_suffix('y').filter(|stem| !stem.ends_with(['a', 'e', 'o', 'u']));
     let hisses = ["s", "x", "z", "ch", "sh", "o"].iter().any(|end| base.ends_with(end));

@@ -1,4 +1,4 @@
-//! Whether an entry holds now, and what is said of a plan.
+//! Whether an entry holds now, and what a request may cost.
 
 use super::{differ, Both};
 use crate::stop::Stop;
@@ -18,6 +18,11 @@ impl Both {
                 "entry {entry} at {first}, {second}: library {proved:?}, keeper {kept}"
             ))),
         }
+    }
+
+    /// How many rows a request works out at most, by the terms alone.
+    pub fn effort(&self) -> usize {
+        self.monitor.terms().effort()
     }
 
     /// The proved monitor at this moment.

@@ -1,7 +1,7 @@
 //! Whether an event is granted somewhere else than where requests were tried: in the
 //! folder's tests, or after a few requests that are sought.
 
-use super::long::work;
+use super::effort::work;
 use super::tried::{busiest, varied, Count};
 use crate::both::Both;
 use crate::folder::Folder;

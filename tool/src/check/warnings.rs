@@ -2,7 +2,7 @@
 
 mod seldom;
 
-use super::{long, tried};
+use super::{effort, tried};
 use crate::both::Both;
 use crate::folder::{Folder, Sourced};
 use crate::names::Names;
@@ -74,10 +74,11 @@ pub fn warnings(both: &Both, folder: &Folder) -> Result<Vec<Warning>, Stop> {
     warnings.extend(unkept(&subject));
     warnings.extend(strangers(terms, names));
     warnings.extend(unsaid(&subject));
-    match long::long(&subject) {
-        Some(warning) => warnings.push(warning),
-        None => warnings.extend(tried::one_sided(both, &subject, folder)?),
+    let long = effort::long(&subject, both.effort());
+    if long.is_none() && effort::is_quick(terms) {
+        warnings.extend(tried::one_sided(both, &subject, folder)?);
     }
+    warnings.extend(long);
     // In the stored form all lines come after S.
     let head = HEAD + usize::from(both.is_stored());
     for warning in &mut warnings {

@@ -3,7 +3,7 @@
 
 use crate::arguments::Arguments;
 use crate::both::Both;
-use crate::check::{check, About, Checked, Fault, Warning};
+use crate::check::{check, effort, About, Checked, Fault, Warning};
 use crate::folder::{Folder, SOURCE, TERMS};
 use crate::json::Json;
 use crate::names::Names;
@@ -22,13 +22,15 @@ a terms file. If they are not, shows each line with the mistake marked, what is
 wrong, and what would be right; for a terms file, the refusal's number too, with
 tabs shown as → and carriage returns as ↵. If they are, warns of what may be a
 mistake all the same. That nobody is ever granted an event is said after the
-folder's requests and tests, many others, and a short search for some.
+folder's requests and tests, many others, and a short search for some. The effort is
+a bound by the terms alone, with the time that it takes on a computer of today; a row
+is one entry at one member.
 
   --watch  check again whenever a file of the folder changes, until stopped
   --json   one line for each mistake of a source: error, file, line, column, advice;
            for a terms file one: accepted, number, line, from, to, what, right. If the
-           terms are accepted, one with the counts, and one for each warning: warning,
-           line, what, right
+           terms are accepted, one with the counts and the effort, and one for each
+           warning: warning, line, what, right
 
 Exit status: 0 if the terms are accepted, with or without warnings; 3 if not.
 ";
@@ -147,6 +149,7 @@ fn accepted(out: &mut dyn Write, both: &Both, names: &Names) -> Result<(), Stop>
         let bits = counted(bits, "line of the past", "lines of the past");
         writeln!(out, "stored: with {bits} and {event}; `cuckooormolu aloud` reads them")?;
     }
+    writeln!(out, "effort: a request works out {}", effort::told(both.effort()))?;
     Ok(())
 }
 
@@ -193,6 +196,7 @@ fn accepted_json(both: &Both, names: &Names) -> Json {
         ("kept", terms.kept.len().into()),
         ("edges", terms.edges.len().into()),
         ("stored", both.is_stored().into()),
+        ("effort", both.effort().into()),
     ])
 }
 

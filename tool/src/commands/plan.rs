@@ -1,21 +1,23 @@
 //! `cuckooormolu plan`: whether a rival can keep a member from a goal.
 
+use crate::aloud::listed;
 use crate::arguments::Arguments;
 use crate::both::Verdict;
 use crate::folder::Folder;
 use crate::json::Json;
 use crate::names::Kind;
-use crate::plan::{fits, moves, Goal, Outcome, Plan, Played};
+use crate::plan::{fits, moves, narrowed, Goal, Outcome, Plan, Played};
 use crate::replay::Replay;
 use crate::stop::{Stop, FAILING, WELL};
 use crate::trial::typed::split;
 use crate::words::{answered, Words};
+use std::collections::BTreeSet;
 use std::io::Write;
 use std::path::Path;
 
 pub const HELP: &str = "\
 usage: cuckooormolu plan DIR PLAN --planner WHO --rival WHO --goal GOAL [--pair A B]
-                         [--first] [--json]
+                         [--events E,...] [--first] [--json]
 
 Says whether a rival can keep a member, the planner, from a goal. PLAN is what the
 planner would ask for, after the requests of DIR: one to three requests, each an event
@@ -34,6 +36,8 @@ There are at most 8 members and 4 events. The requests of DIR are of one bank.
                   terms do not, begins now
   --pair A B      of whom it is to hold, A as `me` and B as `target`; by default the
                   planner and the target of the last request
+  --events E,...  only these events can happen, and those of PLAN: for terms that have
+                  more than 4
   --first         plan at moment 0, before any request of DIR
   --json          one JSON object per line: the verdict; for a rejected plan then each
                   request and each reply
@@ -42,7 +46,7 @@ Exit status: 0 accepted; 1 rejected; 2 if the plan is none; 3 if a file or the g
 cannot be read or compiled, or there are too many members or events.
 ";
 
-const OPTIONS: [&str; 4] = ["--planner", "--rival", "--goal", "--pair"];
+const OPTIONS: [&str; 5] = ["--planner", "--rival", "--goal", "--pair", "--events"];
 
 pub fn main(arguments: &[String], out: &mut dyn Write) -> Result<i32, Stop> {
     let arguments = Arguments::read(&paired(arguments), &["--first", "--json"], &OPTIONS)?;
@@ -76,16 +80,46 @@ pub fn main(arguments: &[String], out: &mut dyn Write) -> Result<i32, Stop> {
         return Err(Stop::Usage("give --goal".into()));
     };
     let goal = Goal::read(goal, &folder, both.terms())?;
-    fits(both.terms())?;
+    let events = events(arguments.option("--events"), &moves, &folder, both.terms().events)?;
+    fits(both.terms(), events.len())?;
     let begins = goal.enter(&mut both)?;
+    let words = Words::new(both.terms(), names);
     let plan = Plan { moves, planner, rival, goal: goal.entry, pair };
-    let outcome = plan.outcome(&both)?;
-    let told = Told { words: Words::new(both.terms(), names), plan: &plan, goal: &goal, begins };
+    let outcome = match events.len() == both.terms().events {
+        true => plan.outcome(&both)?,
+        false => {
+            let place = |event: usize| events.binary_search(&event).expect("a chosen event");
+            let moves = plan.moves.iter().map(|&(event, to)| (place(event), to)).collect();
+            let game = narrowed(&both, &events, plan.goal, &words)?;
+            let outcome = Plan { moves, ..plan.clone() }.outcome(&game)?;
+            outcome.with_events(|event| events[event])
+        }
+    };
+    let told = Told { words, plan: &plan, goal: &goal, begins, events: &events };
     match arguments.has("--json") {
         true => told.json(&outcome).iter().try_for_each(|line| writeln!(out, "{line}"))?,
         false => write!(out, "{}", told.text(&outcome))?,
     }
     Ok(if outcome.is_accepted() { WELL } else { FAILING })
+}
+
+/// The events of the game, rising: all, or those named and those of the plan.
+fn events(
+    named: Option<&str>,
+    moves: &[(usize, usize)],
+    folder: &Folder,
+    count: usize,
+) -> Result<Vec<usize>, Stop> {
+    let Some(named) = named else { return Ok((0..count).collect()) };
+    let event = |word: &str| folder.names.lookup(Kind::Event, word, count).map_err(Stop::Usage);
+    let words = named.split([',', ' ']).filter(|word| !word.is_empty());
+    let named = words.map(event).collect::<Result<BTreeSet<usize>, Stop>>()?;
+    Ok(named
+        .into_iter()
+        .chain(moves.iter().map(|(event, _)| *event))
+        .collect::<BTreeSet<_>>()
+        .into_iter()
+        .collect())
 }
 
 /// The two members after `--pair` as one value.
@@ -111,6 +145,8 @@ struct Told<'a> {
     goal: &'a Goal,
     /// Whether the goal says something about the past that the terms do not.
     begins: bool,
+    /// The events that can happen.
+    events: &'a [usize],
 }
 
 impl Told<'_> {
@@ -137,6 +173,13 @@ impl Told<'_> {
                 format!("{head}\n{lines}\n{}.\n", goal("after no request of the plan"))
             }
         };
+        if outcome.is_accepted() && self.events.len() < self.words.terms.events {
+            let names: Vec<String> = self.event_names();
+            text.push_str(&format!(
+                "\nOnly {} can happen in this game: by another event {rival} may still keep {planner} from it.\n",
+                listed(&names)
+            ));
+        }
         if self.begins {
             text.push_str(
                 "\nThe terms have no such sentence about the past: it begins now, and nothing earlier \
@@ -144,6 +187,11 @@ impl Told<'_> {
             );
         }
         text
+    }
+
+    /// The events that can happen.
+    fn event_names(&self) -> Vec<String> {
+        self.events.iter().map(|event| self.words.names.event(*event)).collect()
     }
 
     /// The requests of the planner, numbered, and below each the rival's reply.
@@ -182,6 +230,7 @@ impl Told<'_> {
             ("pair", vec![name(self.plan.pair.0), name(self.plan.pair.1)].into()),
             ("latest", latest.into()),
             ("begins", self.begins.into()),
+            ("events", self.event_names().into()),
         ])];
         let Outcome::Rejected { moves, replies } = outcome else { return lines };
         for (place, played) in moves.iter().enumerate() {

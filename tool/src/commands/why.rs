@@ -138,6 +138,7 @@ fn one<'a>(steps: &'a [Step], line: &str) -> Result<&'a [Step], Stop> {
         line.parse().map_err(|_| Stop::Usage(format!("LINE is a number; `{line}` is none")))?;
     match number.checked_sub(1) {
         Some(index) if index < count => Ok(&steps[index..=index]),
+        _ if count == 0 => Err(Stop::Usage("there are no requests yet".into())),
         _ => Err(Stop::Usage(format!("there is no request {number}: there are {count}"))),
     }
 }

@@ -1,5 +1,6 @@
 //! How events are said, where a source or names.tsv tells, and definitions.
 
+use crate::aloud::verbs::{done_by, guessed};
 use keeper::terms::Variables;
 
 /// How an event is said: what follows `may`, and what follows `has`.
@@ -16,12 +17,36 @@ impl Spoken {
         match words.split_once('/') {
             Some((may, has)) => Spoken { may: may.trim().into(), has: has.trim().into() },
             None => {
-                let rest =
-                    words.split_once(' ').map_or(String::new(), |(_, rest)| format!(" {rest}"));
-                Spoken { may: format!("{name}{rest}"), has: words.to_string() }
+                let rest = words.split_once(' ').map_or("", |(_, rest)| rest);
+                let named = || format!("{name} {rest}").trim_end().to_string();
+                Spoken { may: base(name, words).unwrap_or_else(named), has: words.to_string() }
             }
         }
     }
+
+    /// Whether what follows `may` cannot be told from the words that follow `has`.
+    pub fn is_guessed(name: &str, words: &str) -> bool {
+        !words.contains('/') && base(name, words).is_none()
+    }
+}
+
+/// What follows `may`, if it follows `has` in the form of these words: of the name's verb, or
+/// of one that is known. `checked out` gives `check out`, for an event check-out too.
+fn base(name: &str, words: &str) -> Option<String> {
+    let (done, rest) = match words.split_once(' ') {
+        Some((done, rest)) => (done, format!(" {rest}")),
+        None => (words, String::new()),
+    };
+    let first = name.split(['-', '_']).next().unwrap_or(name);
+    let own = [name, first].into_iter().find(|verb| is_form(done, verb));
+    own.map(str::to_string).or_else(|| done_by(done)).map(|verb| format!("{verb}{rest}"))
+}
+
+/// Whether a word is a form of a name, as far as can be seen: its participle, or
+/// whatever begins with all of the name but a last e or y.
+fn is_form(done: &str, verb: &str) -> bool {
+    let stem = verb.trim_end_matches(['e', 'y']);
+    done == verb || guessed(verb) == done || (stem.len() > 1 && done.starts_with(stem))
 }
 
 /// A definition said of one or more people.
@@ -44,5 +69,31 @@ impl Called {
         let is_target = |person: &Option<usize>| *person == Some(0);
         let first = self.people.iter().position(Option::is_none);
         first.or_else(|| self.people.iter().position(|person| !is_target(person)))
+    }
+}
+
+#[cfg(test)]
+mod tests {
+    use super::*;
+
+    #[test]
+    fn what_follows_may() {
+        let may = |name: &str, words: &str| Spoken::of(name, words).may;
+        for (name, words, wanted) in [
+            ("peek", "peeked at", "peek at"),
+            ("tune", "tuned", "tune"),
+            ("try-out", "tried out", "try out"),
+            ("demo", "played a demo for", "play a demo for"),
+            ("profile", "seen the profile of", "see the profile of"),
+            ("audition", "written to", "write to"),
+            ("jam", "jammed with", "jam with"),
+            ("take-back", "taken back from", "take back from"),
+            ("profile", "see the profile of / seen the profile of", "see the profile of"),
+        ] {
+            assert_eq!(may(name, words), wanted);
+            assert!(!Spoken::is_guessed(name, words), "{name}");
+        }
+        assert_eq!(may("nod", "wobbled at"), "nod at");
+        assert!(Spoken::is_guessed("nod", "wobbled at"));
     }
 }

@@ -29,6 +29,16 @@ impl Outcome {
     pub fn is_accepted(&self) -> bool {
         matches!(self, Outcome::Accepted { .. })
     }
+
+    /// The same with other numbers for the events.
+    pub fn with_events(mut self, number: impl Fn(usize) -> usize) -> Outcome {
+        if let Outcome::Rejected { moves, replies } = &mut self {
+            for played in moves.iter_mut().chain(replies.iter_mut().flatten()) {
+                played.event = number(played.event);
+            }
+        }
+        self
+    }
 }
 
 /// Plays a plan against all that the rival can do. What it is kept by is played once

@@ -3,7 +3,7 @@
 
 use super::asked::{Asked, Named};
 use super::files::{numbers, Files};
-use crate::check::{check, Checked};
+use crate::check::{check, effort, Checked};
 use crate::folder::{Folder, Request};
 use crate::json::Json;
 use crate::matrix::Matrix;
@@ -33,6 +33,7 @@ pub fn told(files: &Files, asked: &Asked) -> Result<Json, Stop> {
     }
     let words = Words::new(replay.both.terms(), &folder.names);
     let mut fields = terms(&words);
+    fields.push(("effort", effort::told(replay.both.effort()).into()));
     fields.push(("warnings", warnings(&folder, &asked.source)?));
     fields.push(("aloud", policies::list(replay.both.record(), &words).into()));
     fields.extend(scene(&replay, &words));

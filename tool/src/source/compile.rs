@@ -3,7 +3,7 @@
 mod declared;
 mod notes;
 
-use super::ast::{Name, Source, Span};
+use super::ast::{Event, Name, Source, Span};
 use super::entries::{Entries, Origin};
 use super::kinds;
 use super::mistake::Mistake;
@@ -58,6 +58,7 @@ pub fn compile(text: &str) -> Result<Compiled, Vec<Mistake>> {
     warnings.extend(resolved.warnings);
     warnings.extend(passing(&source, text));
     warnings.extend(seldom(&source, text));
+    warnings.extend(source.events.iter().filter_map(unlike));
     mistakes.extend(notes.without(&doubtful));
     if !mistakes.is_empty() {
         mistakes.sort_by_key(|mistake| mistake.span.start);
@@ -86,6 +87,18 @@ pub fn compile(text: &str) -> Result<Compiled, Vec<Mistake>> {
         return Err(vec![Mistake::new(span, message).advise("leave out `first` edges")]);
     }
     Ok(compiled)
+}
+
+/// A warning for an event whose words tell what follows `has`, and not what follows `may`.
+fn unlike(event: &Event) -> Option<Mistake> {
+    let name = &event.name.text;
+    let words = event.said.as_ref().filter(|words| Spoken::is_guessed(name, words))?;
+    let may = Spoken::of(name, words).may;
+    let message =
+        format!("\"{words}\" does not tell what follows `may`: it is read as \"may {may}\"");
+    let advice =
+        format!("give both, the words after `may` first: `{name} said \"{may} / {words}\"`");
+    Some(Mistake::new(event.name.span, message).advise(advice))
 }
 
 /// Calls the entries by the definitions that they are. One of nobody is no sentence.

@@ -1,20 +1,24 @@
 //! Writes terms back as a source that compiles to the same formulas.
 
 mod declared;
+mod defined;
 mod tell;
 mod words;
 
 use super::ast::{Effect, Event, Fact, Name, Person, Source, Who};
 use super::compile;
 use super::print::print;
-use crate::names::Names;
+use crate::names::{Called, Names};
 use keeper::terms::Terms;
-use std::collections::HashSet;
+use std::collections::{BTreeMap, HashSet};
 use tell::{Style, Teller};
 use words::Words;
 
 /// Formulas with more parts than this are told in pieces.
 const LONGEST: usize = 300;
+
+/// The definitions that entries are told by.
+type Known = BTreeMap<usize, Called>;
 
 /// The source of accepted terms. Each policy is told with names if that
 /// compiles to the same formula, and operator by operator if not.
@@ -24,7 +28,7 @@ pub fn decompile(terms: &Terms, names: &Names) -> Source {
     let first = |policy: &usize| if sizes[*policy] <= LONGEST { Style::Free } else { Style::Exact };
     let mut styles: Vec<Style> = terms.policies.iter().map(first).collect();
     loop {
-        let source = told(terms, &words, &sizes, &styles);
+        let source = told(terms, &words, &sizes, &styles, &Known::new());
         let wrong: Vec<usize> = match compile(&print(&source)) {
             Ok(compiled) => differing(terms, &compiled.terms),
             Err(_) => (0..terms.events).collect(),
@@ -35,6 +39,8 @@ pub fn decompile(terms: &Terms, names: &Names) -> Source {
             styles[event] = styles[event].stricter();
         }
         if !changed {
+            let told = |known: &Known| told(terms, &words, &sizes, &styles, known);
+            let source = defined::with_definitions(source, terms, names, &words, told);
             return declared::with_names(source, terms, names);
         }
     }
@@ -96,7 +102,7 @@ fn sizes(terms: &Terms) -> Vec<usize> {
     sizes
 }
 
-fn told(terms: &Terms, words: &Words, sizes: &[usize], styles: &[Style]) -> Source {
+fn told(terms: &Terms, words: &Words, sizes: &[usize], styles: &[Style], known: &Known) -> Source {
     let name = |text: &String| Name::new(text);
     let mut source = Source {
         members: words.members.iter().map(name).collect(),
@@ -104,7 +110,7 @@ fn told(terms: &Terms, words: &Words, sizes: &[usize], styles: &[Style]) -> Sour
         ..Source::default()
     };
     let shared = shared(terms, sizes, styles);
-    let mut teller = Teller::new(terms, words, shared);
+    let mut teller = Teller::new(terms, words, shared, known);
     for (event, style) in styles.iter().enumerate() {
         let policy = teller.policy(terms.policies[event], *style);
         let effects = terms.effects[event].iter().map(|effect| {

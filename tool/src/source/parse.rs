@@ -4,6 +4,7 @@ mod cursor;
 mod effect;
 mod english;
 mod formula;
+mod habits;
 mod joined;
 mod read;
 mod sentence;
@@ -85,17 +86,7 @@ impl Parser {
                     self.fact(&mut source.first)?;
                 }
             }
-            _ => {
-                let what = "a statement: members, relation, event, keep, define or first";
-                let mistake = self.expected(what, &STATEMENTS);
-                return Err(match mistake.advice {
-                    Some(_) => mistake,
-                    None => mistake.advise(
-                        "every statement begins with one of these; `cuckooormolu new DIR` writes a source to \
-                            start from",
-                    ),
-                });
-            }
+            _ => return Err(self.begins_nothing()),
         }
         Ok(())
     }

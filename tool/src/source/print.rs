@@ -26,11 +26,7 @@ pub fn print(source: &Source) -> String {
     }
     list(&mut text, "relation", &source.relations);
     for definition in &source.definitions {
-        let names: Vec<&str> = definition.parameters.iter().map(|name| &name.text[..]).collect();
-        let people =
-            if names.is_empty() { String::new() } else { format!("({})", names.join(", ")) };
-        let head = format!("\ndefine {}{people}:", definition.name.text);
-        text.push_str(&after(&head, &definition.body));
+        text.push_str(&after(&format!("\ndefine {}:", defined(definition)), &definition.body));
     }
     let alike =
         |one: &Event, other: &Event| one.policy == other.policy && one.effects == other.effects;
@@ -74,6 +70,24 @@ pub fn print(source: &Source) -> String {
     text
 }
 
+/// What a definition says of its people, as a sentence where it has a name that reads so.
+fn defined(definition: &Definition) -> String {
+    let name = &definition.name.text;
+    let people: Vec<&str> = definition.parameters.iter().map(|name| &name.text[..]).collect();
+    match people[..] {
+        [] => name.clone(),
+        [one] if !is_part(name) => format!("{one} is {name}"),
+        [one, other] if !is_part(name) => format!("{one} {name} {other}"),
+        _ => format!("{name}({})", people.join(", ")),
+    }
+}
+
+/// Whether a name is that of a part which has none of its own: `part7`.
+pub fn is_part(name: &str) -> bool {
+    let number = name.strip_prefix("part").map(|rest| rest.trim_end_matches('_'));
+    number.is_some_and(|number| number.parse::<usize>().is_ok())
+}
+
 fn list(text: &mut String, word: &str, names: &[Name]) {
     let plural = if names.len() == 1 { "" } else { "s" };
     if !names.is_empty() {
@@ -113,6 +127,7 @@ pub fn flat(formula: &Formula) -> String {
             let word = operator(&formula.kind);
             format!("{} {word} {}", left(f, &formula.kind), operand(g))
         }
+        Kind::Not(f) if matches!(f.kind, Kind::Is(..)) => flat(f).replacen(" is ", " is not ", 1),
         Kind::Not(f) | Kind::Once(f) | Kind::Always(f) | Kind::Never(f) | Kind::Previously(f) => {
             format!("{} {}", operator(&formula.kind), operand(f))
         }

@@ -2,25 +2,16 @@
 
 use super::ast::{Formula, Kind, Name, Quantifier, Source, Span, Walk, Who};
 use super::mistake::Mistake;
+use super::seeker::Seeker;
 
 /// Warnings for all policies and definitions, each place once.
 pub fn seldom(source: &Source, text: &str) -> Vec<Mistake> {
-    let mut seeker = Seeker { source, text, found: Vec::new() };
+    let mut seeker = Seeker::new(source, text);
     let definitions = source.definitions.iter().map(|definition| &definition.body);
     for formula in definitions.chain(source.events.iter().map(|event| &event.policy)) {
         seeker.look(formula);
     }
-    let mut found = seeker.found;
-    // Events that are declared together have one policy.
-    found.sort_by_key(|warning| warning.span.start);
-    found.dedup_by(|one, other| one.span.start == other.span.start && one.message == other.message);
-    found
-}
-
-struct Seeker<'a> {
-    source: &'a Source,
-    text: &'a str,
-    found: Vec<Mistake>,
+    seeker.found()
 }
 
 impl Seeker<'_> {
@@ -56,7 +47,7 @@ impl Seeker<'_> {
                 g.span.words(self.text)
             ),
         };
-        self.found.push(Mistake::new(span, message).advise(advice));
+        self.warn(span, message, advice);
     }
 
     /// `once a and not b` with two events, where `not b since a` seems to be meant.
@@ -79,7 +70,7 @@ impl Seeker<'_> {
             );
             let (a, b) = (a.span.words(self.text), part.span.words(self.text));
             let advice = format!("did you mean `{b} since {a}`?");
-            self.found.push(Mistake::new(part.span, message).advise(advice));
+            self.warn(part.span, message, advice);
         }
     }
 
@@ -111,7 +102,7 @@ impl Seeker<'_> {
             ),
             _ => format!("say there what holds of `{word}`"),
         };
-        self.found.push(Mistake::new(name.span, message).advise(advice));
+        self.warn(name.span, message, advice);
     }
 }
 

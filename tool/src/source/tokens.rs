@@ -110,7 +110,7 @@ fn quoted(rest: &str, place: usize) -> Result<(Token, usize), Mistake> {
 }
 
 /// Signs of other languages, and what is written here instead.
-const ELSEWHERE: [(&str, &str); 13] = [
+const ELSEWHERE: [(&str, &str); 14] = [
     ("&&", "write `and`"),
     ("||", "write `or`"),
     ("&", "write `and`"),
@@ -121,10 +121,14 @@ const ELSEWHERE: [(&str, &str); 13] = [
     ("!", "write `not`"),
     ("~", "write `not`"),
     ("//", "a comment begins with `#`"),
+    ("/*", "a comment begins with `#`, on each of its lines"),
     ("--", "a comment begins with `#`"),
     ("->", "write from, relation, to: `dora owns saw`"),
     (".", "delete it: nothing ends a statement"),
 ];
+
+/// How `target's owner` and `target.owner` are said.
+const LOOKED_FOR: &str = "somebody's owner has to be looked for: `some owner owns target: ...`";
 
 /// Marks that names are put into elsewhere.
 const QUOTES: [char; 8] = ['"', '\'', '`', '“', '”', '„', '‘', '’'];
@@ -143,6 +147,11 @@ fn unknown(rest: &str, letter: char, place: usize) -> Mistake {
             "words are written out: `target is not preset`, or `not` before a sentence, `not me owns target`",
         );
     }
+    let possessive = rest.strip_prefix(['\'', '’']).and_then(|rest| rest.strip_prefix("s "));
+    if possessive.is_some() {
+        let message = format!("`{letter}s` has no meaning here");
+        return Mistake::new(Span { start: place, end: end + 1 }, message).advise(LOOKED_FOR);
+    }
     if QUOTES.contains(&letter) {
         let message = format!("`{letter}` has no meaning here");
         return Mistake::new(Span { start: place, end }, message).advise(
@@ -154,8 +163,8 @@ fn unknown(rest: &str, letter: char, place: usize) -> Mistake {
         return Mistake::new(Span { start: place, end }, message).advise("delete it");
     }
     if rest.strip_prefix('.').is_some_and(|rest| rest.starts_with(char::is_alphabetic)) {
-        let advice = "somebody's owner has to be looked for: `some owner owns target: ...`";
-        return Mistake::new(Span { start: place, end }, "`.` has no meaning here").advise(advice);
+        return Mistake::new(Span { start: place, end }, "`.` has no meaning here")
+            .advise(LOOKED_FOR);
     }
     let found = ELSEWHERE.iter().find(|(sign, _)| rest.starts_with(sign));
     let length = found.map_or(letter.len_utf8(), |(sign, _)| sign.len());

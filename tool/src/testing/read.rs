@@ -76,6 +76,9 @@ pub(super) struct Reader<'a> {
 
 impl<'a> Reader<'a> {
     fn statement(mut self) -> Result<Vec<Statement>, Mistake> {
+        if let Some(mistake) = cures::of_first(self.words) {
+            return Err(mistake);
+        }
         if self.take("given") || self.take("then") {
             let mut read = vec![self.given()?];
             while self.take(",") {

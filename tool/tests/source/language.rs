@@ -112,3 +112,22 @@ fn the_grammar_has_every_word() {
         assert!(shown, "{word} isn't in the grammar");
     }
 }
+
+#[test]
+fn what_a_request_may_cost_is_told_as_shown() {
+    let blocks = blocks(&document(), "What a request may cost");
+    let folder = Path::new(env!("CARGO_TARGET_TMPDIR")).join("cost/mine");
+    fs::create_dir_all(&folder).unwrap();
+    let check = |source: &str| {
+        fs::write(folder.join("terms.say"), source).unwrap();
+        let mut command = Command::new(env!("CARGO_BIN_EXE_cuckooormolu"));
+        let said = command.args(["check", "mine"]).current_dir(folder.join("..")).output().unwrap();
+        String::from_utf8(said.stdout).unwrap()
+    };
+    let shown = blocks[0].trim().split_once('\n').unwrap().1;
+    assert_eq!(check(cuckooormolu_tool::commands::new::START).trim(), shown);
+    let members: Vec<String> = (0..64).map(|member| format!("m{member}")).collect();
+    let declared = format!("members {}\nrelation friend\nfirst m0 friend m1\n", members.join(", "));
+    let said = check(&format!("{declared}{}", blocks[1]));
+    assert!(said.contains("speaks of 3 members who are sought one inside the other"), "{said}");
+}

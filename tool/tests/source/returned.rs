@@ -120,3 +120,59 @@ fn awkward_names_are_made_to_fit() {
     let shown = "members Jo-Ann, member-1\nrelation p\n\nevent event-0\n  when me p target\n";
     assert_eq!(text, shown);
 }
+
+/// The source of the terms and names of a source.
+fn returned(text: &str) -> String {
+    let compiled = compile(text).unwrap();
+    let source = decompile(&compiled.terms, &compiled.names);
+    assert!(agrees(&source, &compiled.terms));
+    assert_eq!(parse(&print(&source)).unwrap(), source);
+    print(&source)
+}
+
+#[test]
+fn definitions_come_back() {
+    let text = "members players: dora, pete; presets: saw
+relation owns
+
+define p is suspended: not someone lift p since someone suspend p
+
+define p trusts q: not q suspend p since q share p
+
+define between(p, q, r): once (p share q and q owns r)
+
+event share, suspend, lift by anyone
+
+event load
+  when some p owns target: me trusts p and me is not suspended
+
+event edit
+  when some p owns target: between(p, me, target)
+
+first dora owns saw
+";
+    let told = returned(text);
+    for line in [
+        "define p is suspended: not someone lift p since someone suspend p\n",
+        "define p trusts q: not q suspend p since q share p\n",
+        "me trusts p and me is not suspended\n",
+        "define between(p, q, r): once (p share q and q owns r)\n",
+        "between(p, me, target)\n",
+    ] {
+        assert!(told.contains(line), "{line}{told}");
+    }
+}
+
+#[test]
+fn a_long_part_that_stands_twice_gets_a_name() {
+    let part = "(once me share target and not me blocks target and not target blocks me and \
+                (some q owns target: not q withdraw me since q share me))";
+    let text = format!(
+        "members dora, pete, saw\nrelations owns, blocks\nevent share, withdraw by anyone\n\
+         event load when {part}\nevent edit when {part} and me owns target\n\
+         event rate when {part} or me owns target\nfirst dora owns saw, pete blocks dora\n"
+    );
+    let told = returned(&text);
+    assert_eq!(told.matches("withdraw").count(), 2, "{told}");
+    assert_eq!(told.matches("define part").count(), 1, "{told}");
+}

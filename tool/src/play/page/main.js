@@ -44,7 +44,7 @@ function draw(source, told) {
   $('size').className = mistakes.length ? 'wrong' : '';
   $('size').textContent = mistakes.length
     ? `${mistakes.length} ${mistakes.length === 1 ? 'mistake' : 'mistakes'}`
-    : `${told.entries} of 256 entries, ${told.past} of 32 about the past`;
+    : `${told.entries} of 256 entries, ${told.past} of 32 about the past; a request works out ${told.effort}`;
   markSaved();
   document.body.dataset.drawn = asked;
   if (mistakes.length) return;

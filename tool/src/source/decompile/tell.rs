@@ -1,9 +1,10 @@
 //! Tells entries as formulas of the source.
 
+mod defined;
 mod negated;
 
 use super::super::ast::*;
-use super::Words;
+use super::{Known, Words};
 use keeper::terms::{Entry, Terms, Variables, VARIABLES};
 use std::collections::BTreeMap;
 
@@ -37,6 +38,11 @@ pub struct Teller<'a> {
     /// Which entries are told as definitions, in the exact style.
     shared: Vec<bool>,
     defined: BTreeMap<usize, Definition>,
+    /// Which entries are told by the name of a definition, in the other styles.
+    known: &'a Known,
+    definitions: Vec<Definition>,
+    /// The definitions that are being told.
+    open: Vec<String>,
 }
 
 /// Where an entry is told.
@@ -54,14 +60,20 @@ struct Place {
 }
 
 impl<'a> Teller<'a> {
-    pub fn new(terms: &'a Terms, words: &'a Words, shared: Vec<bool>) -> Teller<'a> {
+    pub fn new(
+        terms: &'a Terms,
+        words: &'a Words,
+        shared: Vec<bool>,
+        known: &'a Known,
+    ) -> Teller<'a> {
         let (free, paired) = (terms.free(), !terms.paired().is_empty());
-        Teller { terms, words, free, paired, shared, defined: BTreeMap::new() }
+        let (defined, definitions, open) = (BTreeMap::new(), Vec::new(), Vec::new());
+        Teller { terms, words, free, paired, shared, defined, known, definitions, open }
     }
 
     /// The definitions that the policies told so far use.
     pub fn definitions(self) -> Vec<Definition> {
-        self.defined.into_values().collect()
+        self.definitions.into_iter().chain(self.defined.into_values()).collect()
     }
 
     pub fn policy(&mut self, entry: usize, style: Style) -> Formula {
@@ -71,10 +83,11 @@ impl<'a> Teller<'a> {
     }
 
     fn tell(&mut self, entry: usize, place: &Place) -> Formula {
-        if place.style == Style::Exact && self.shared[entry] {
-            return self.call(entry);
+        match self.is_named(entry, place) {
+            true if place.style == Style::Exact => self.call(entry),
+            true => self.known_call(entry, place),
+            false => self.spell(entry, place),
         }
-        self.spell(entry, place)
     }
 
     /// A definition's name with the people free in it.

@@ -128,6 +128,9 @@ impl Parser {
                 self.next += 1;
                 Ok(Name { text, span })
             }
+            Token::Sign(':') if self.last_word().is_some_and(|word| STATEMENTS.contains(&word)) => {
+                Err(self.expected(what, &[]).advise("delete the `:`"))
+            }
             _ => Err(self
                 .expected(what, &[])
                 .advise("a name is missing here: letters, digits, `-` or `_`")),

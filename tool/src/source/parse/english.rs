@@ -118,20 +118,13 @@ impl Parser {
         Some(Mistake::new(span, format!("`{noun} of {whose}` names nobody")).advise(advice))
     }
 
-    /// `at most 3 friend of me`.
-    pub(super) fn at_most(&self) -> Option<Mistake> {
-        let Token::Number(most) = *self.ahead(2) else { return None };
-        if !self.is_word("at") || self.word_ahead(1) != Some("most") {
-            return None;
-        }
-        let advice = format!("write `not` before `at least {} ...`", most + 1);
-        let span = self.span().to(self.span_ahead(1));
-        Some(Mistake::new(span, "`at most` has no meaning here").advise(advice))
-    }
-
     /// Where a relation or an event is due after somebody: an auxiliary, or `not`.
     pub(super) fn english_verb(&self) -> Option<Mistake> {
-        self.auxiliary().or_else(|| self.misplaced_not()).or_else(|| self.contraction())
+        let english = self.auxiliary().or_else(|| self.misplaced_not());
+        english
+            .or_else(|| self.contraction())
+            .or_else(|| self.both_are())
+            .or_else(|| self.past_inside())
     }
 
     /// `owner has shared with me`, where the event's own name is meant.

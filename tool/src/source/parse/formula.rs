@@ -110,7 +110,7 @@ impl Parser {
     }
 
     fn sentence(&mut self) -> Result<Kind, Mistake> {
-        if self.is_word("at") && self.word_ahead(1) != Some("least") && self.at_most().is_none() {
+        if self.is_word("at") && self.word_ahead(1) != Some("least") && self.amount().is_none() {
             self.next += 1;
             let person = self.person("whom it is said of, or `least`")?;
             return Ok(Kind::At(person, self.body("after `at` and a name")?));

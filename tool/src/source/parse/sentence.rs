@@ -14,7 +14,7 @@ impl Parser {
         if self.take("every") {
             return Ok(Some(Quantifier::Every));
         }
-        if let Some(mistake) = self.at_most() {
+        if let Some(mistake) = self.amount() {
             return Err(mistake);
         }
         if !(self.is_word("at") && self.word_ahead(1) == Some("least")) {

@@ -46,6 +46,10 @@ impl Parser {
         let mistake = self.expected(what, &["when", "by"]);
         match self.word_ahead(0) {
             Some("if" | "where" | "while" | "only") => mistake.advise("write `when`"),
+            Some("allow" | "allowed" | "permit" | "permitted" | "requires" | "needs") => {
+                mistake.advise("write `when` and what has to hold")
+            }
+            None if self.is_sign(':') => mistake.advise("delete the `:`"),
             Some("unless") => mistake.advise("write `when not`"),
             Some("after") => mistake.advise("write `when once`"),
             Some("before") => mistake.advise("write `when never`"),
@@ -75,6 +79,9 @@ impl Parser {
                 let what = "what is there from the start begins with `first`";
                 Some(mistake.advise(format!("{what}: `first {word} {verb} {whom}`")))
             }
+            _ if self.statement_elsewhere().is_some() => {
+                self.statement_elsewhere().map(|advice| mistake.advise(advice))
+            }
             _ if nearest(word, STATEMENTS).is_some() => None,
             _ => Some(mistake.advise(
                 "a statement begins with `members`, `relation`, `event`, `keep denied`, `define` or `first`",
@@ -84,7 +91,7 @@ impl Parser {
 
     /// What is said of a token that can't follow a formula.
     pub(super) fn stray(&self, also: &[&str]) -> Mistake {
-        if let Some(mistake) = self.article_before() {
+        if let Some(mistake) = self.article_before().or_else(|| self.adverb_before()) {
             return mistake;
         }
         if let Some(mistake) = self.joining() {
@@ -100,12 +107,21 @@ impl Parser {
             return mistake;
         }
         if self.is_word("when") {
-            let advice = "an event has one `when`: join the two conditions with `and` or `or`";
-            return Mistake::new(self.span(), "a second `when`").advise(advice);
+            let (message, advice) = match self.habit() {
+                Some(advice) => ("`when` after `by anyone`", advice),
+                None => (
+                    "a second `when`",
+                    "an event has one `when`: join the two conditions with `and` or `or`",
+                ),
+            };
+            return Mistake::new(self.span(), message).advise(advice);
         }
         let words = ["and", "or", "since"].into_iter().chain(also.iter().copied());
         let known: Vec<&str> = words.chain(STATEMENTS).collect();
         let mistake = self.expected("`and`, `or`, `since` or the next statement", &known);
+        if let Some(advice) = self.passive().or_else(|| self.habit().map(str::to_string)) {
+            return mistake.advise(advice);
+        }
         if let Some(sought) = self.sought().filter(|_| self.is_sign(':')) {
             return mistake.advise(format!("did you mean `{sought}: ...`?"));
         }
@@ -132,6 +148,9 @@ impl Parser {
     /// How to say who may do it, for the word that follows `by` or `for`.
     pub(super) fn by_whom(&self) -> String {
         let place = usize::from(self.is_word("for"));
+        if matches!(self.word_ahead(place), Some("nobody" | "none" | "noone")) {
+            return "`when false` allows it to nobody".to_string();
+        }
         let whom = self.word_ahead(place).filter(|_| self.name_ahead(place)).map(singular);
         let whom = whom.unwrap_or_else(|| "player".to_string());
         format!("`by anyone`, or `when` and a condition, such as `when me is {whom}`")

@@ -25,13 +25,27 @@ pub fn of_exception(rest: &[Word]) -> Option<Mistake> {
     Some(Mistake::new(except.span, message).advise(format!("write `only {who}`")))
 }
 
+/// What is wrong with `expect pete may load saw` and `then pete may load saw`: a question with a
+/// word before it.
+pub fn of_first(words: &[Word]) -> Option<Mistake> {
+    const FIRST: [&str; 9] =
+        ["expect", "assert", "check", "ensure", "verify", "and", "so", "then", "given"];
+    let first = words.first().filter(|word| !word.quoted && FIRST.contains(&word.text))?;
+    // `given dora may pete` may be an event of that name.
+    let asks = matches!(words.get(2), Some(word) if word.is("may")) && words.len() > 4;
+    let question: Vec<&str> = words[1..].iter().map(|word| word.text).collect();
+    let message = "a question stands alone";
+    let advice = format!("leave out `{}`: `{}`", first.text, question.join(" "));
+    asks.then(|| Mistake::new(first.span, message).advise(advice))
+}
+
 /// What is wrong with a statement that says `can` or `cannot` for `may`.
 pub fn of_question(words: &[Word]) -> Option<Mistake> {
     let (word, instead) = words.iter().find_map(|word| {
         let instead = match word.text {
             _ if word.quoted => return None,
-            "can" | "might" | "is-allowed" => "may",
-            "cannot" | "can't" | "can’t" | "mayn't" | "mustn't" => "may not",
+            "can" | "might" | "should" | "must" | "is-allowed" => "may",
+            "cannot" | "can't" | "can’t" | "mayn't" | "mustn't" | "shouldn't" => "may not",
             _ => return None,
         };
         Some((word, instead))

@@ -26,7 +26,7 @@ impl Teller<'_> {
         };
         let doubled =
             |teller: &Self, g: usize| teller.inside(g).is_some_and(|h| teller.inside(h).is_some());
-        let told = place.style == Style::Exact && self.shared[f];
+        let told = self.is_named(f, place);
         Formula::new(match self.terms.entries[f] {
             Entry::Top => Kind::False,
             Entry::Or(g, h)
@@ -65,7 +65,7 @@ impl Teller<'_> {
     /// An entry under two negations, in no derived form.
     fn plain(&mut self, entry: usize, place: &Place) -> Part {
         match self.inside(entry) {
-            Some(f) if !(place.style == Style::Exact && self.shared[entry]) => {
+            Some(f) if !self.is_named(entry, place) => {
                 Box::new(Formula::new(Kind::Not(self.plain(f, place))))
             }
             _ => self.part(entry, place),
