@@ -5,7 +5,7 @@
 //! at the end. An entry is tested by one jump on its operator.
 
 use keeper::terms::memory::*;
-use keeper::terms::most_free;
+use keeper::terms::MOST_PAIRED;
 
 /// Words of an entry, of the effects of an event, of a relation or table, and of a cache line.
 const ENTRY: usize = 4;
@@ -55,7 +55,10 @@ fn check_terms(terms: &[u16]) -> Option<Tables> {
     let (effects, marks) = rest.split_at(FIRST_MARK - FIRST_EFFECT);
     let mut free = [0; ENTRIES];
     let tables = check_entries(&entries[..ENTRY * count], relations + 2 * events, &mut free)?;
-    let columns = |free: &u16| free.count_ones() <= most_free(members);
+    let columns = |&free: &u16| {
+        let more = but_least(free);
+        more == 0 || but_least(more) == 0 && members <= MOST_PAIRED
+    };
     let policy = |&entry: &u16| usize::from(entry) < count && free[usize::from(entry)] < 2;
     let unused = either(&entries[ENTRY * count..])
         | either(&policies[events..])
@@ -71,6 +74,11 @@ fn check_terms(terms: &[u16]) -> Option<Tables> {
 
 fn either(words: &[u16]) -> u16 {
     words.iter().fold(0, |all, word| all | word)
+}
+
+/// A set without its least element. Counting bits takes longer in plain x86-64.
+fn but_least(set: u16) -> u16 {
+    set & set.wrapping_sub(1)
 }
 
 /// Fills in the free variables of each entry.
@@ -147,9 +155,11 @@ fn fits(terms: &[u16], tables: &Tables, state: &[u64]) -> bool {
         }
     }
     for (table, free) in own.chunks_exact(BLOCK).zip(tables.free) {
-        let pairs = free.count_ones() == 2;
-        let (rows, rest) = table.split_at(if pairs { 4 * members } else { members });
-        outside |= union(rest);
+        let pairs = but_least(free) != 0;
+        let (rows, others) = table.split_at(if pairs { 4 * members } else { members });
+        if members < BLOCK {
+            outside |= union(others);
+        }
         match free {
             0 => outside |= uneven(rows, full),
             _ if pairs => outside |= beyond(rows, members, full),
