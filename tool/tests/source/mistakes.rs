@@ -100,7 +100,7 @@ fn named_precisely() {
         ("me can load target", "4:20: `can` has no meaning here"),
         ("once me load target twice", "`once (me load target and previously once me load target)`"),
         ("me owns target\ndora owns saw", "begins with `first`: `first dora owns saw`"),
-        ("me owns target\nallow share", "a statement begins with `members`"),
+        ("me owns target\nallow share", "is said where it is declared: `event load when me owns target`"),
         ("me owns target\nfirst dora, pete owns saw", "one fact for each: `first dora owns saw, pete owns saw`"),
         ("3rd owns target", "`3rd` is neither a number nor a name"),
     ];
