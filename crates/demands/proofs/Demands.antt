@@ -5,6 +5,7 @@
 use Prim.Native.Nat.{_%_, _*_, _+_, _/_, _<_, _≤_, suc, ℕ}
 use mathlib.Core.Bool.{Bool, _&&_, _||_, false, true}
 use mathlib.Core.List.{List, [], _++_, _∷_, map}
+use mathlib.Core.Logic.{_↔_}
 use mathlib.Core.Path.{_≡_}
 use lib.Dec.{eqb}
 use lib.ListN.{drop, getD, length, take}
@@ -26,22 +27,22 @@ use Rattle.theory.specs.Terms.{Alike, Terms, formula}
 use Rattle.fields.specs.Split.{lines}
 use Rattle.memory.specs.Checks.{Inside, goodMemory, goodState}
 use Rattle.memory.specs.Layout.{stateOf, stateWords, tableAt, termsOf, termsWords, wordsOf}
-use Rattle.memory.specs.Outcome.{banksOpen, checks, opens, revises}
+use Rattle.memory.specs.Outcome.{banksOpen, banksRevise, checks, opens, revises}
 use Rattle.memory.specs.Outcome.Outcome.{failed, passed}
 use Rattle.file.specs.File.{File}
 use Rattle.file.specs.Normal.{Unpadded, isPlain, normalText}
 use Rattle.file.specs.Preset.{ReadsPreset}
 use Rattle.file.specs.Reading.{reading, tests}
-use Rattle.file.specs.Reading.Reading.{accepted}
-use Rattle.file.specs.Refused.{numbersRise}
+use Rattle.file.specs.Reading.Reading.{accepted, refused as refusedAt}
+use Rattle.file.specs.Refused.{RefusedText, numbersRise}
 use Rattle.file.specs.Said.{SaidBy, edgesSaid, records, termsSaid}
 use Rattle.file.specs.Writing.{textSaid}
 use Rattle.file.specs.declared.line.Line.{Line}
 use Rattle.calls.specs.Agreement.{Agrees, KeepsTerms, Lent, LentCall, LentStep, SameSteps, fedAll, fedCalls, fedSteps, opened, openedBook, serveAll, serveSteps}
 use Rattle.calls.specs.MembersLater.{stepBy}
-use Rattle.calls.specs.Monitor.{answer, openedState, stateAfter}
+use Rattle.calls.specs.Monitor.{answer, openedState, scratchAfter, stateAfter}
 use Rattle.calls.specs.Reached.{Reaches}
-use Rattle.calls.specs.Refused.{OpeningRefusal, RenumberingRefusal, RevisionRefusal}
+use Rattle.calls.specs.Refused.{OpeningRefusal, Refusal, RenumberingRefusal, RevisionRefusal}
 use Rattle.calls.specs.Renumbering.{renumberedState, renumbering, undo}
 use Rattle.calls.specs.Revising.{revisedState}
 use Rattle.calls.specs.SetList.{Plain, blank, left as listLeft, listChecks, listed, ones, singly}
@@ -50,11 +51,11 @@ use Rattle.calls.specs.Telling.{tells}
 use Rattle.calls.specs.Telling.Telling.{refused as untold}
 use Rattle.calls.specs.declared.Record.{Record as ListRecord}
 use Rattle.banking.specs.BankList.{bankLeft, bankListChecks, bankListed, bankSingly}
-use Rattle.banking.specs.BankRefused.{Refusal as BankRefusal}
+use Rattle.banking.specs.BankRefused.{ListRefusal, OpeningRefusal as BanksOpeningRefusal, Refusal as BankRefusal, RevisionRefusal as BanksRevisionRefusal}
 use Rattle.banking.specs.BankRuns.{BanksAgree, BanksInUse, Lent as BanksLent, LentBankStep, fedBankSteps, openedBooks, openedInUse, serveBankSteps}
 use Rattle.banking.specs.BankScratch.{SameBankSteps}
-use Rattle.banking.specs.Banking.{bankAnswer, clearedAfter, otherAfter, ownAfter, relationsAfter}
-use Rattle.banking.specs.Banks.{Bank, BankStep, OfBank, Placed, firstBooks, keepBankSteps}
+use Rattle.banking.specs.Banking.{bankAnswer, clearedAfter, otherAfter, ownAfter, ownOpened, ownRevised, relationsAfter, relationsRevised}
+use Rattle.banking.specs.Banks.{Bank, BankStep, Books, OfBank, Placed, bookOf, firstBooks, keepBankSteps}
 use Rattle.banking.specs.Banks.Bank.{left, right}
 use Rattle.plans.specs.Game.{Move, Reply, hasReply, keeperRules, reaches, wins}
 use Rattle.plans.specs.Game.Ruling.{refuse}
@@ -70,11 +71,20 @@ use Rattle.text.specs.Text.{Back, readState}
 use Rattle.rulings.specs.Telling.{keeperTells}
 use Rattle.transcript.specs.Output.{output}
 use Rattle.transcript.specs.Transcript.{answers, longest}
-use Rattle.cuckooormolu.specs.Codes.{ToldAnswer, ToldOutcome, ToldRuling, ToldTelling, ToldWriting}
+use Rattle.cuckooormolu.specs.Codes.{ToldAnswer, ToldListing, ToldOutcome, ToldRuling, ToldTelling, ToldWriting}
 
--- ======== Demand 1: total, each answer under its stated condition only, a refusal changes nothing.
+-- ======== Demand 1: total, each answer under its stated condition only, a refusal changes nothing
 
 -- ---- Refusals
+
+-- A look or a request is refused with number n exactly when the line is 0 and a reason for n fits; then all memory is
+-- as lent.
+pub call-refused-only : (terms state scratch : List ℕ) (j u v n l : ℕ) →
+    (answer terms state scratch j u v ≡ refused n l →
+    (l ≡ 0) × Refusal terms state scratch j u v n
+    × (stateAfter terms state scratch j u v ≡ state) × (scratchAfter terms state scratch j u v ≡ scratch))
+    × (Refusal terms state scratch j u v n → answer terms state scratch j u v ≡ refused n 0)
+call-refused-only = Rattle.calls.proofs.Refused.refused-only
 
 -- So is an opening.
 pub opening-refused-only : (terms state : List ℕ) (n l : ℕ) →
@@ -108,6 +118,42 @@ pub bank-refused-only : (terms relations own other scratch spare : List ℕ) (j 
     bankAnswer terms relations own other scratch spare j u v ≡ refused n 0)
 bank-refused-only = Rattle.banking.proofs.Refused.bank-refused-only
 
+-- So is a set list of a bank, whatever its records.
+pub bank-list-refused-only : (terms relations own other scratch spare : List ℕ) (rs : List ListRecord) (n l : ℕ) →
+    (bankListed terms relations own other scratch spare rs ≡ refusedList n l →
+    (l ≡ 0) × ListRefusal terms relations own other scratch spare n
+    × (bankLeft terms relations own other scratch spare rs
+    ≡ record {
+      records = rs;
+      grants = 0;
+      relations = relations;
+      own = own;
+      other = other;
+      scratch = scratch;
+      spare = spare;
+    }))
+    × (ListRefusal terms relations own other scratch spare n →
+    bankListed terms relations own other scratch spare rs ≡ refusedList n 0)
+bank-list-refused-only = Rattle.banking.proofs.Refused.list-refused-only
+
+-- So is the opening of both banks, which never writes the relations.
+pub banks-opening-refused-only : (terms relations own other : List ℕ) → (n l : ℕ) →
+    (banksOpen terms relations own other ≡ failed n l →
+    (l ≡ 0) × BanksOpeningRefusal terms relations own other n
+    × ((lent : List ℕ) → ownOpened terms relations own other lent ≡ lent))
+    × (BanksOpeningRefusal terms relations own other n → banksOpen terms relations own other ≡ failed n 0)
+banks-opening-refused-only = Rattle.banking.proofs.RefusedBoth.opening-refused-only
+
+-- So are new terms for both banks.
+pub banks-revision-refused-only : (old relations own other new relations' own' other' : List ℕ) → (n l : ℕ) →
+    (banksRevise old relations own other new relations' own' other' ≡ failed n l →
+    (l ≡ 0) × BanksRevisionRefusal old relations own other new relations' own' other' n
+    × (relationsRevised old relations own other new relations' own' other' ≡ relations')
+    × ((x lent : List ℕ) → ownRevised old relations own other new relations' own' other' x lent ≡ lent))
+    × (BanksRevisionRefusal old relations own other new relations' own' other' n →
+    banksRevise old relations own other new relations' own' other' ≡ failed n 0)
+banks-revision-refused-only = Rattle.banking.proofs.RefusedBoth.revision-refused-only
+
 -- So is a plan, with scratch as lent.
 pub plan-refused-only : (terms state scratch plan : List ℕ) (planner rival goal u v n l : ℕ) →
     (ruling terms state scratch plan planner rival goal u v ≡ refuse n l →
@@ -122,6 +168,10 @@ pub telling-refused-only : (terms state : List ℕ) (n u v k l : ℕ) →
     (tells terms state n u v ≡ untold k l → (l ≡ 0) × TellingRefusal terms state n u v k)
     × (TellingRefusal terms state n u v k → tells terms state n u v ≡ untold k 0)
 telling-refused-only = Rattle.plans.proofs.Refused.telling-refused-only
+
+-- A text is refused with a number at a line exactly when a reason for these fits.
+pub text-refused-only : (text : List ℕ) (n k : ℕ) → (reading text ≡ refusedAt n k) ↔ RefusedText text n k
+text-refused-only = Rattle.file.proofs.Refused.refused-only
 
 -- The tests of a line are in the order of their numbers, so the first that fails has the lowest number.
 pub tests-rise : (f : File) (l : Line) → numbersRise 1 (tests f l) ≡ true
@@ -166,6 +216,18 @@ told-look = Rattle.cuckooormolu.proofs.Told.told-look
 pub told-read : (text terms state : List ℕ) → ToldOutcome (readGives text terms state)
 told-read = Rattle.cuckooormolu.proofs.Told.told-read
 
+-- By checking.
+pub told-check : (terms state : List ℕ) → ToldOutcome (checks terms state)
+told-check = Rattle.cuckooormolu.proofs.Told.told-check
+
+-- By opening.
+pub told-open : (terms state : List ℕ) → ToldOutcome (opens terms state)
+told-open = Rattle.cuckooormolu.proofs.Told.told-open
+
+-- By new terms.
+pub told-revise : (old state new second : List ℕ) → ToldOutcome (revises old state new second)
+told-revise = Rattle.cuckooormolu.proofs.Told.told-revise
+
 -- By new member numbers.
 pub told-renumber : (terms state numbers second : List ℕ) → ToldOutcome (renumbering terms state numbers second)
 told-renumber = Rattle.cuckooormolu.proofs.Told.told-renumber
@@ -185,6 +247,37 @@ told-store-size = Rattle.cuckooormolu.proofs.Told.told-store-size
 -- By storing.
 pub told-store : (terms state out : List ℕ) → ToldWriting (storeGives terms state out)
 told-store = Rattle.cuckooormolu.proofs.Told.told-store
+
+-- By a set list.
+pub told-list : (terms state scratch : List ℕ) (rs : List ListRecord) → ToldListing (listed terms state scratch rs)
+told-list = Rattle.cuckooormolu.proofs.Told.told-list
+
+-- A look or a request of a bank.
+pub told-bank-look :
+    (terms relations own other scratch spare : List ℕ) (j u v : ℕ) →
+    ToldAnswer (bankAnswer terms relations own other scratch spare j u v)
+told-bank-look = Rattle.cuckooormolu.proofs.ToldBanks.told-bank-look
+
+-- Reading into two banks.
+pub told-banks-read :
+    (text terms relations first second : List ℕ) → ToldOutcome (banksReadGives text terms relations first second)
+told-banks-read = Rattle.cuckooormolu.proofs.ToldBanks.told-banks-read
+
+-- Opening both.
+pub told-banks-open : (terms relations own other : List ℕ) → ToldOutcome (banksOpen terms relations own other)
+told-banks-open = Rattle.cuckooormolu.proofs.ToldBanks.told-banks-open
+
+-- New terms for both.
+pub told-banks-revise :
+    (old relations own other new edges third fourth : List ℕ) →
+    ToldOutcome (banksRevise old relations own other new edges third fourth)
+told-banks-revise = Rattle.cuckooormolu.proofs.ToldBanks.told-banks-revise
+
+-- A set list of a bank.
+pub told-bank-list :
+    (terms relations own other scratch spare : List ℕ) (rs : List ListRecord) →
+    ToldListing (bankListed terms relations own other scratch spare rs)
+told-bank-list = Rattle.cuckooormolu.proofs.ToldBanks.told-bank-list
 
 -- The codes for an accepted and a rejected plan are given for these rulings only.
 pub told-plan : (terms state scratch plan : List ℕ) (planner rival goal u v : ℕ) →
@@ -290,7 +383,7 @@ pub output-recorded : (text requests : List ℕ) (B : Book) (has : Recorded text
     output text requests ≡ answers (B .terms) (B .start) (B .moments) 1 (lines requests)
 output-recorded = Rattle.transcript.proofs.RecordedOutput.output-recorded
 
--- ======== Demand 2: a terms file means what the logic says; text and tables turn into each other exactly.
+-- ======== Demand 2: a terms file means what the logic says; text and tables turn into each other exactly
 
 -- ---- Text and memory
 
@@ -504,7 +597,7 @@ pub many-fewer : (N : ℕ) (s : Starts) (γ : Record) (i : ℕ) (g : Assignment)
     (k : ℕ) → holds N s γ (many l f (suc k)) i g m ≡ true → holds N s γ (many l f k) i g m ≡ true
 many-fewer = Rattle.theory.proofs.Many.many-fewer
 
--- ======== Demand 3: nobody who keeps the whole record can find a difference.
+-- ======== Demand 3: nobody who keeps the whole record can find a difference
 
 -- ---- From any file with a record
 
@@ -571,6 +664,13 @@ demand-3-old = Rattle.text.proofs.Demand.demand-3-old
 
 -- ---- From any opening
 
+-- For all memory that opens, and requests and looks.
+pub demand-3-calls : (terms state : List ℕ) → opens terms state ≡ passed → (cs : List LentCall) →
+    (serveAll terms (openedState terms state) cs .0 ≡ keeper (termsOf terms) (stateOf state .now .edge) (fedAll cs) .0)
+    × Agrees (termsOf terms) fromFirst state (serveAll terms (openedState terms state) cs .1)
+    (keeper (termsOf terms) (stateOf state .now .edge) (fedAll cs) .1)
+demand-3-calls = Rattle.calls.proofs.Demand.demand-3
+
 -- With set lists, new terms and new numbers.
 pub demand-3-steps : (terms state : List ℕ) → opens terms state ≡ passed → (ss : List LentStep) →
     let after = serveSteps (opened terms state) ss in
@@ -578,6 +678,15 @@ pub demand-3-steps : (terms state : List ℕ) → opens terms state ≡ passed �
     (after .0 ≡ kept .0) × Alike (kept .1 .terms) (termsOf (after .1 .terms))
     × Agrees (termsOf (after .1 .terms)) (kept .1 .start) (after .1 .before) (after .1 .state) (kept .1 .moments)
 demand-3-steps = Rattle.calls.proofs.Demand.demand-3-steps
+
+-- Every plan after them.
+pub demand-3-plans-opened :
+    (terms state : List ℕ) → opens terms state ≡ passed → (ss : List LentStep) →
+    (scratch plan : List ℕ) (planner rival goal u v : ℕ) →
+    let after = serveSteps (opened terms state) ss .1 in
+    ruling (after .terms) (after .state) scratch plan planner rival goal u v
+    ≡ keeperRules (keepSteps (openedBook terms state) (fedSteps ss) .1) (length scratch) plan planner rival goal u v
+demand-3-plans-opened = Rattle.plans.proofs.Demand.demand-3-plans
 
 -- Every first graph inside the terms is the graph of some opening.
 pub all-first-relations : (terms : List ℕ) → termsWords ≤ length terms → goodMemory terms ≡ true → (R : Relations) →
@@ -639,7 +748,7 @@ pub says-of-none :
     bit (getD m (tableAt (number (T .entry) n) a) 0) b ≡ keeperHolds T s Ms n g a
 says-of-none = Rattle.calls.proofs.TwoVariables.says-of-none
 
--- ======== Members renumbered.
+-- ======== Members renumbered
 
 -- If the members of a state and of all later calls are renumbered, the answers are the same.
 pub renumbered-answers : (terms state numbers second : List ℕ) (e : renumbering terms state numbers second ≡ passed) →
@@ -666,7 +775,7 @@ pub renumbered-keeper : (T : Terms) (p q : ℕ → ℕ) (r : Renumbering (T .mem
     ≡ map (renumberMoment p q) (keepAll T s Ms cs .1))
 renumbered-keeper = Rattle.theory.proofs.MembersRenumbered.renumbered-keeper
 
--- ======== Two banks.
+-- ======== Two banks
 
 -- Demand 3 for each bank and its own record, from all memory that opens for two banks.
 pub demand-3-banks :
@@ -713,7 +822,14 @@ pub banks-isolated-old :
     ≡ getD (serveBankSteps (loadedBanks text terms' W) ts .0) n a₀
 banks-isolated-old = Rattle.text.proofs.TwoBanks.banks-isolated-old
 
--- ======== Strangers have no say.
+-- So for the keeper.
+pub keeper-isolated : (b : Bank) →
+    (x₀ : BankStep) (a₀ : Answer) (xs ys : List BankStep) (B B' : Books) → bookOf B b ≡ bookOf B' b →
+    Placed b B B' xs ys →
+    (n : ℕ) → OfBank b (getD xs n x₀) → getD (keepBankSteps B xs .0) n a₀ ≡ getD (keepBankSteps B' ys .0) n a₀
+keeper-isolated = Rattle.banking.proofs.Isolated.isolated
+
+-- ======== Strangers have no say
 
 -- In two runs that agree inside a circle and never join it to the rest, every call inside the circle gets the same
 -- answer.
@@ -767,6 +883,23 @@ pub strangers-any-start :
     (n n' : ℕ) → length cs + n ≡ length cs' + n' → InCircle S (getD (fedCalls ss) n c₀) →
     getD (serveSteps (loaded text terms state) ss .0) n a₀ ≡ getD (serveSteps (loaded text' terms' state') ss' .0) n' a₀
 strangers-any-start = Rattle.text.proofs.StrangersAnyStart.strangers-any-start
+
+-- The first for the keeper's answers.
+pub keeper-strangers :
+    (T : Terms) (good : Good T) (without : WithoutReach T) (S : Circle) (c₀ : Call) (a₀ : Answer) (R Q : Relations)
+    (agree : AgreeWithin T S R Q) →
+    (cs ds : List Call) → Separate T S (keeper T R cs .1) → Separate T S (keeper T Q ds .1) →
+    Paired T S (first R ∷ []) (first Q ∷ []) cs ds →
+    (n : ℕ) → InCircle S (getD cs n c₀) → getD (keeper T R cs .0) n a₀ ≡ getD (keeper T Q ds .0) n a₀
+keeper-strangers = Rattle.theory.proofs.Strangers.strangers
+
+-- The second.
+pub keeper-strangers-first :
+    (T : Terms) (good : Good T) (without : WithoutReach T) (S : Circle) (c₀ : Call) (a₀ : Answer) (R Q : Relations)
+    (agree : AgreeWithin T S R Q) →
+    SeparateFirst T S R → SeparateFirst T S Q → (cs ds : List Call) → Paired T S (first R ∷ []) (first Q ∷ []) cs ds →
+    (n : ℕ) → InCircle S (getD cs n c₀) → getD (keeper T R cs .0) n a₀ ≡ getD (keeper T Q ds .0) n a₀
+keeper-strangers-first = Rattle.theory.proofs.Strangers.strangers-first
 
 -- If no first edge joins the circle to the rest and every call has both ends on one side, no edge ever does.
 pub separate-first : (T : Terms) (S : Circle) →
