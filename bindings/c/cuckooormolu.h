@@ -10,18 +10,24 @@
  *           revision take 9 KiB, writing a terms text or asking for its size
  *           30 KiB, and each 0.85 KiB more for every level by which entries
  *           nest; reading takes what opening does, and 33 KiB at least; of two
- *           banks it takes 25 KiB more, any other call 2 KiB. Where the terms
- *           need a memo (bindings/README.md, Stack), each takes 267 KiB more,
- *           at most 512 KiB with the archive. Renumbering takes 18 KiB, storing
- *           and the other calls 4 KiB. Provide CUCKOOORMOLU_STACK_BYTES, unless
- *           you know that your terms take less.
+ *           banks it takes 25 KiB more, any other call 3 KiB at most. Where the
+ *           terms need a memo (bindings/README.md, Stack), each takes 267 KiB
+ *           more, at most 512 KiB with the archive. Renumbering takes 18 KiB,
+ *           storing and the other calls 4 KiB. Provide
+ *           CUCKOOORMOLU_STACK_BYTES, unless you know that your terms take less.
  * Time      measured, not proved. Entries that share others take no more than
  *           a memo's time, and entries that read one variable N times that, N
  *           the members. What can still take long is three variables or more
  *           that are bound anew in turn, where every level reads all of them:
- *           N times as long with each level. cuckooormolu_effort says how much
- *           work a request by given terms may take; a host that accepts terms
- *           of strangers refuses those above a bound of its own.
+ *           N times as long with each level. Opening, a revision, and reading or
+ *           writing a terms file may take as long as a request; reading a
+ *           stored text and storing do not decide anything. cuckooormolu_effort
+ *           says how much work a request by given terms may take. A host that
+ *           accepts terms of strangers refuses those above a bound of its own,
+ *           before they are opened: cuckooormolu_monitor_read_within does so.
+ * Texts     are of two forms. The old form is a terms file, which has terms and
+ *           relations and is read as a fresh start. The stored form begins with
+ *           a line S 2 and has a whole state, from which it goes on.
  * Kept      terms and state are plain words: they may be copied, kept and
  *           lent again. In a file they have the machine's byte order,
  *           little-endian on x86-64. Scratch need not be kept. A stored text
@@ -94,8 +100,8 @@ extern "C" {
 /* The named words of the scratch that a plan is lent. */
 #define CUCKOOORMOLU_PLAN_WORDS 9283
 
-/* No text of the old form that is written is longer than this many bytes, and
- * none of the stored form. */
+/* No text of the old form, a terms file, that is written is longer than this
+ * many bytes, and none of the stored form. */
 #define CUCKOOORMOLU_TEXT_BYTES 728109
 #define CUCKOOORMOLU_STORED_BYTES 2169916
 
@@ -110,14 +116,16 @@ extern "C" {
 /*
  * The codes of calls. No code is 0, and a refusal's is below 100; granted and
  * denied differ in five bits. Refusals leave all memory as lent, but that the
- * records of a set list have no answers then. Where several fit, reading gives
- * 6, then the first faulty line and in it the lowest number, and 11 only where
- * no line is faulty; the other calls give 6 (terms, state, scratch), 7, 8, 9, 12,
- * 13 or 15, and last 6 for the output; a plan and a telling give 14 after 8 and
- * before 9.
+ * records of a set list have no answers then, nor a monitor that was to be read
+ * within a bound any terms. Where several fit, reading gives 6, then the first
+ * faulty line and in it the lowest number, and 11 only where no line is faulty;
+ * the other calls give 6 (terms, state, scratch), 7, 8, 9, 12, 13 or 15, and last
+ * 6 for the output; a plan and a telling give 14 after 8 and before 9.
  */
 typedef enum cuckooormolu_code {
-    /* The form of a line, its place, or a text that ends too soon. */
+    /* The form of a line, its place, or a text that ends too soon. A length that
+     * is one too long, as with the 0 after a string, has a line too many, which
+     * is refused by this number. */
     CUCKOOORMOLU_REFUSED_FORM = 1,
     /* A number out of its range, or too many of something. */
     CUCKOOORMOLU_REFUSED_RANGE = 2,
@@ -128,8 +136,8 @@ typedef enum cuckooormolu_code {
     CUCKOOORMOLU_REFUSED_PAST = 4,
     /* A policy with a free variable other than 0. */
     CUCKOOORMOLU_REFUSED_POLICY = 5,
-    /* A memory shorter than named, or an output too short for the text, or
-     * memory that overlaps other memory which the call may write. */
+    /* A memory shorter than named, a null one too, or an output too short for
+     * the text, or memory that overlaps other memory which the call may write. */
     CUCKOOORMOLU_REFUSED_SHORT = 6,
     /* Terms memory that no accepted text yields. */
     CUCKOOORMOLU_REFUSED_TERMS = 7,
@@ -168,7 +176,10 @@ typedef enum cuckooormolu_code {
     /* An entry that does not hold. */
     CUCKOOORMOLU_FAILS = 600,
     /* An entry that holds. */
-    CUCKOOORMOLU_HOLDS = 700
+    CUCKOOORMOLU_HOLDS = 700,
+    /* Terms by which a request may take more than the host allows, so that they
+     * were not opened. Only cuckooormolu_monitor_read_within gives it. */
+    CUCKOOORMOLU_COSTLY = 800
 } cuckooormolu_code;
 
 /* What a call returns: its code in a struct, so that no call can be tested as
@@ -317,6 +328,8 @@ CUCKOOORMOLU_ASSERT(CUCKOOORMOLU_REJECTED > CUCKOOORMOLU_GRANTED &&
 CUCKOOORMOLU_ASSERT(CUCKOOORMOLU_FAILS > CUCKOOORMOLU_ACCEPTED &&
                         CUCKOOORMOLU_HOLDS > CUCKOOORMOLU_FAILS,
                     "nor are those of an entry");
+CUCKOOORMOLU_ASSERT(CUCKOOORMOLU_COSTLY > CUCKOOORMOLU_HOLDS,
+                    "nor is that of costly terms");
 
 CUCKOOORMOLU_USED static inline bool
 cuckooormolu_granted(struct cuckooormolu_result result)
@@ -336,6 +349,14 @@ CUCKOOORMOLU_USED static inline bool
 cuckooormolu_done(struct cuckooormolu_result result)
 {
     return result.cuckooormolu_private == CUCKOOORMOLU_DONE;
+}
+
+/* The terms were not opened, since a request by them may take more than the host
+ * allows: neither done nor refused. */
+CUCKOOORMOLU_USED static inline bool
+cuckooormolu_costly(struct cuckooormolu_result result)
+{
+    return result.cuckooormolu_private == CUCKOOORMOLU_COSTLY;
 }
 
 /* The number by which a call was refused; 0 where it was not, which does not
@@ -400,11 +421,11 @@ static inline const char *cuckooormolu_words(struct cuckooormolu_result result)
     case CUCKOOORMOLU_REFUSED_FORM:
         return "unknown kind or word, line out of its order, wrong count of "
                "fields, ill-formed number, no last line feed, or the text "
-               "ends too soon";
+               "ends too soon; `cuckooormolu check FILE` says which";
     case CUCKOOORMOLU_REFUSED_RANGE:
         return "number out of its range, non-zero unused field, more than 32 "
                "past-time entries, more than 4 effects, or a label or entry "
-               "that doesn't exist";
+               "that doesn't exist; `cuckooormolu check FILE` says which";
     case CUCKOOORMOLU_REFUSED_OPERAND:
         return "operand not lower than its entry";
     case CUCKOOORMOLU_REFUSED_PAST:
@@ -414,7 +435,7 @@ static inline const char *cuckooormolu_words(struct cuckooormolu_result result)
         return "policy with a free variable other than 0";
     case CUCKOOORMOLU_REFUSED_SHORT:
         return "memory shorter than its named words, or output too short, or "
-               "memory that overlaps other memory";
+               "memory that overlaps other memory, or a null pointer";
     case CUCKOOORMOLU_REFUSED_TERMS:
         return "terms that no accepted text yields";
     case CUCKOOORMOLU_REFUSED_STATE:
@@ -452,6 +473,8 @@ static inline const char *cuckooormolu_words(struct cuckooormolu_result result)
         return "does not hold";
     case CUCKOOORMOLU_HOLDS:
         return "holds";
+    case CUCKOOORMOLU_COSTLY:
+        return "terms by which a request may take more than is allowed";
     default:
         return "not a code of the monitor";
     }
@@ -681,8 +704,9 @@ cuckooormolu_told(size_t code, size_t number, size_t *wanted)
  * Reads a text of the old or of the stored form. Done: the named words of terms
  * and state are filled, and *line is 0; the old form gives the state of moment
  * 0, the stored form the state that was stored. Refused with 1 to 5, 10 or 11:
- * *line is the first faulty line, from 1. Refused with 6: *line is 0. `line`
- * may be null.
+ * *line is the first faulty line, from 1; where the text ends too soon, or is
+ * lent with a byte too many, that is the line after the last. Refused with 6:
+ * *line is 0. `line` may be null.
  */
 CUCKOOORMOLU_USED static inline struct cuckooormolu_result
 cuckooormolu_read(const uint8_t *text, size_t text_length,
@@ -782,14 +806,22 @@ cuckooormolu_store(const uint16_t *terms, size_t terms_length,
  * How many rows a request may work out, at most, by terms that are accepted: a
  * row is one entry at one member. It is a bound by the shape of the terms alone,
  * whatever the relations are; a request of two banks takes at most twice as
- * many. A million rows take less than 0.1 s. Too few words give the most; of
- * other words that are no accepted terms it says nothing.
+ * many. A million rows take less than 0.1 s. Too few words, and words without
+ * members, as zeroed ones, give the most; of other words that are no accepted
+ * terms it says nothing.
+ *
+ * Only reading makes terms, and reading the old form opens their state, which
+ * may take as long as a request. To ask before that, put the line S 2, the four
+ * bytes "S\t2\n", before the text: read as a stored text it gives the same terms
+ * and relations, and nothing is opened. Then ask; and then open, which gives the
+ * words that reading the old form gives. cuckooormolu_monitor_read_within does
+ * all of this.
  */
 CUCKOOORMOLU_USED static inline size_t
 cuckooormolu_effort(const uint16_t *terms, size_t terms_length)
 {
     CUCKOOORMOLU_LENT(uint16_t, terms, terms_length)
-    if (terms_length < CUCKOOORMOLU_TERMS_WORDS)
+    if (terms_length < CUCKOOORMOLU_TERMS_WORDS || terms[0] == 0)
         return CUCKOOORMOLU_MOST_EFFORT;
     return cuckooormolu_raw_effort(terms, terms_length);
 }
@@ -1279,6 +1311,75 @@ cuckooormolu_monitor_read(struct cuckooormolu *m, const void *text,
     return cuckooormolu_read((const uint8_t *)text, length,
                              CUCKOOORMOLU_TERMS(m), CUCKOOORMOLU_STATE(m),
                              line);
+}
+
+/* How many rows a request may work out, at most: cuckooormolu_effort. Where the
+ * monitor is null, zeroed, or was never read into, it is the most. */
+CUCKOOORMOLU_USED static inline size_t
+cuckooormolu_monitor_effort(const struct cuckooormolu *m)
+{
+    return cuckooormolu_effort(CUCKOOORMOLU_TERMS(m));
+}
+
+/* Writes a text of the old form into a buffer, with a line S 2 before it, and
+ * gives the length; 0 where the buffer is too short or overlaps the text. */
+static inline size_t cuckooormolu_as_stored(const uint8_t *text, size_t length,
+                                            uint8_t *buffer, size_t room)
+{
+    const uint8_t line[] = {'S', '\t', '2', '\n'};
+    if (buffer == NULL || room < sizeof line || room - sizeof line < length ||
+        !cuckooormolu_apart(buffer, room, text, length))
+        return 0;
+    for (size_t i = 0; i < sizeof line; i++)
+        buffer[i] = line[i];
+    for (size_t i = 0; i < length; i++)
+        buffer[sizeof line + i] = text[i];
+    return sizeof line + length;
+}
+
+/*
+ * Reads a text as cuckooormolu_monitor_read does, if cuckooormolu_effort of its
+ * terms is at most `most`; else the result is costly, and nothing was opened. So
+ * a text takes no longer than such a request may, whatever it says. The buffer
+ * takes a text of the old form and four bytes more, else the call is refused
+ * with 6, and so it is where text, buffer and monitor overlap; a stored text
+ * needs no buffer. Where it is not done, `m` has no terms, whatever it had, and
+ * refuses every request: lend a monitor of its own, as for a revision.
+ */
+CUCKOOORMOLU_USED static inline struct cuckooormolu_result
+cuckooormolu_monitor_read_within(struct cuckooormolu *m, const void *text,
+                                 size_t length, void *buffer, size_t room,
+                                 size_t most, size_t *line)
+{
+    const uint8_t *stored = (const uint8_t *)text;
+    size_t stored_length = text == NULL ? 0 : length;
+    size_t code = CUCKOOORMOLU_REFUSED_SHORT;
+    size_t number = 0;
+    if (m == NULL)
+        return cuckooormolu_told(code, number, line);
+    if (!cuckooormolu_apart(m, sizeof *m, text, stored_length) ||
+        !cuckooormolu_apart(m, sizeof *m, buffer, buffer == NULL ? 0 : room)) {
+        stored_length = 0;
+    } else if (stored_length == 0 || stored[0] != 'S') {
+        stored_length = cuckooormolu_as_stored(stored, stored_length,
+                                               (uint8_t *)buffer, room);
+        stored = (const uint8_t *)buffer;
+    }
+    if (stored_length > 0) {
+        /* A stored text is read and not opened. Where that is refused, so is the
+         * text itself. */
+        if (cuckooormolu_done(cuckooormolu_monitor_read(
+                m, stored, stored_length, NULL)) &&
+            cuckooormolu_monitor_effort(m) > most)
+            code = CUCKOOORMOLU_COSTLY;
+        else
+            code = cuckooormolu_monitor_read(m, text, length, &number)
+                       .cuckooormolu_private;
+    }
+    if (code != CUCKOOORMOLU_DONE)
+        for (size_t i = 0; i < CUCKOOORMOLU_TERMS_WORDS; i++)
+            m->terms[i] = 0;
+    return cuckooormolu_told(code, number, line);
 }
 
 CUCKOOORMOLU_USED static inline struct cuckooormolu_result

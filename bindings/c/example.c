@@ -5,9 +5,12 @@
  *     example TERMS REQUESTS [STORED]
  *
  * One line for each request: its number, the answer, and for a refusal its
- * number, parted by tabs. Refused terms print one line only, and the reason on
- * standard error. Where a third file is named, the monitor is stored in it; read
- * as TERMS, later or elsewhere, it goes on from there.
+ * number, parted by tabs. Refused terms print one line only, which says so, and
+ * the reason on standard error. Where a third file is named, the monitor is
+ * stored in it; read as TERMS, later or elsewhere, it goes on from there.
+ *
+ * Exit: 0 where the answers are printed, or the line that says what is refused;
+ * 1 where nothing could be answered or stored; 2 where it is called wrongly.
  */
 #include "cuckooormolu.h"
 #include "request_line.h"
@@ -16,25 +19,29 @@
 #include <stdlib.h>
 #include <string.h>
 
-#define MOST_BYTES 65536
+/* TERMS may be any text that a monitor stores. */
+#define MOST_TERMS_BYTES CUCKOOORMOLU_STORED_BYTES
+#define MOST_REQUESTS_BYTES 65536
 
-static uint8_t terms_text[MOST_BYTES + 1];
-static uint8_t requests_text[MOST_BYTES + 1];
+static uint8_t terms_text[MOST_TERMS_BYTES + 1];
+static uint8_t requests_text[MOST_REQUESTS_BYTES + 1];
 
 static struct cuckooormolu monitor;
 
 /* The requests, and for each line whether it is one. */
-static struct cuckooormolu_record records[MOST_BYTES];
-static bool formed[MOST_BYTES];
+static struct cuckooormolu_record records[MOST_REQUESTS_BYTES];
+static bool formed[MOST_REQUESTS_BYTES];
 
 /* The bytes of a file, one more than allowed at most. A file that can't be
  * opened counts as empty. */
-static size_t contents(const char *name, uint8_t *bytes)
+static size_t contents(const char *name, uint8_t *bytes, size_t room)
 {
     FILE *file = fopen(name, "rb");
-    if (file == NULL)
+    if (file == NULL) {
+        perror(name);
         return 0;
-    size_t length = fread(bytes, 1, MOST_BYTES + 1, file);
+    }
+    size_t length = fread(bytes, 1, room, file);
     fclose(file);
     return length;
 }
@@ -73,11 +80,11 @@ static void print_answers(size_t lines)
 }
 
 /* Asks for the size, stores into memory of that size, and that to a file. */
-static int store_to(const char *name)
+static bool store_to(const char *name)
 {
     size_t size;
     if (!cuckooormolu_done(cuckooormolu_monitor_store_size(&monitor, &size)))
-        return 1;
+        return false;
     uint8_t *text = malloc(size);
     FILE *file = fopen(name, "wb");
     bool done = text != NULL && file != NULL &&
@@ -87,7 +94,7 @@ static int store_to(const char *name)
     free(text);
     if (file != NULL && fclose(file) != 0)
         done = false;
-    return done ? 0 : 1;
+    return done;
 }
 
 int main(int argc, char **argv)
@@ -96,10 +103,12 @@ int main(int argc, char **argv)
         fprintf(stderr, "usage: example TERMS REQUESTS [STORED]\n");
         return 2;
     }
-    size_t terms_bytes = contents(argv[1], terms_text);
-    size_t requests_bytes = contents(argv[2], requests_text);
-    if (terms_bytes > MOST_BYTES) {
+    size_t terms_bytes = contents(argv[1], terms_text, sizeof terms_text);
+    size_t requests_bytes =
+        contents(argv[2], requests_text, sizeof requests_text);
+    if (terms_bytes > MOST_TERMS_BYTES) {
         printf("terms\t%d\t0\n", CUCKOOORMOLU_REFUSED_SHORT);
+        fprintf(stderr, "%s: more than %d bytes\n", argv[1], MOST_TERMS_BYTES);
         return 0;
     }
     size_t line;
@@ -107,11 +116,14 @@ int main(int argc, char **argv)
         cuckooormolu_monitor_read(&monitor, terms_text, terms_bytes, &line);
     if (!cuckooormolu_done(result)) {
         printf("terms\t%zu\t%zu\n", cuckooormolu_refusal(result), line);
-        fprintf(stderr, "line %zu: %s\n", line, cuckooormolu_words(result));
+        fprintf(stderr, "%s, line %zu: %s\n", argv[1], line,
+                cuckooormolu_words(result));
         return 0;
     }
-    if (requests_bytes > MOST_BYTES) {
+    if (requests_bytes > MOST_REQUESTS_BYTES) {
         printf("requests\t%d\t0\n", CUCKOOORMOLU_REFUSED_SHORT);
+        fprintf(stderr, "%s: more than %d bytes\n", argv[2],
+                MOST_REQUESTS_BYTES);
         return 0;
     }
     size_t count;
@@ -122,5 +134,9 @@ int main(int argc, char **argv)
         return 1;
     }
     print_answers(lines);
-    return argc == 4 ? store_to(argv[3]) : 0;
+    if (argc == 4 && !store_to(argv[3])) {
+        fprintf(stderr, "%s: the state could not be stored\n", argv[3]);
+        return 1;
+    }
+    return 0;
 }

@@ -29,8 +29,9 @@ static void codes(void)
         EXPECT(cuckooormolu_denied(result) == (code == 200));
         EXPECT(cuckooormolu_done(result) == (code == 100));
         EXPECT(cuckooormolu_refusal(result) == (code < 100 ? code : 0));
+        EXPECT(cuckooormolu_costly(result) == (code == 800));
         bool known = (code >= 1 && code <= 15) ||
-                     (code >= 100 && code <= 700 && code % 100 == 0);
+                     (code >= 100 && code <= 800 && code % 100 == 0);
         EXPECT((strcmp(cuckooormolu_words(result),
                        "not a code of the monitor") != 0) == known);
         struct cuckooormolu_ruling ruling = cuckooormolu_ruling_of(code);
@@ -69,10 +70,11 @@ static void version(void)
                1000 * CUCKOOORMOLU_VERSION_MINOR + CUCKOOORMOLU_VERSION_PATCH);
 }
 
-/* Zeroed memory decides nothing. */
+/* Zeroed memory decides nothing, and does not look harmless. */
 static void zeroed(void)
 {
     memset(&m, 0, sizeof m);
+    EXPECT(cuckooormolu_monitor_effort(&m) == CUCKOOORMOLU_MOST_EFFORT);
     EXPECT_REFUSED(TERMS, cuckooormolu_monitor_check(&m));
     EXPECT_REFUSED(TERMS, cuckooormolu_monitor_request(&m, 0, 0, 0));
     EXPECT_REFUSED(TERMS, cuckooormolu_monitor_set_list(&m, NULL, 0, NULL));
@@ -100,6 +102,8 @@ static void calls(void)
     EXPECT(count == 0);
     EXPECT_REFUSED(FORM, cuckooormolu_monitor_read(&m, "M\t3\nL\t", 6, &line));
     EXPECT(line == 2);
+    EXPECT_REFUSED(FORM, cuckooormolu_monitor_read(&m, text, length + 1, &line));
+    EXPECT(line == 9);
     EXPECT(cuckooormolu_granted(cuckooormolu_monitor_look(&m, 1, 0, 2)));
 }
 
@@ -322,11 +326,13 @@ static void efforts(void)
     EXPECT(cuckooormolu_done(
         cuckooormolu_monitor_read(&far, steps, sizeof steps - 1, NULL)));
     EXPECT(cuckooormolu_effort(far.terms, CUCKOOORMOLU_TERMS_WORDS) == 4);
+    EXPECT(cuckooormolu_monitor_effort(&far) == 4);
     far.terms[3] = 257;
     EXPECT(cuckooormolu_effort(far.terms, CUCKOOORMOLU_TERMS_WORDS) ==
            CUCKOOORMOLU_MOST_EFFORT);
     EXPECT(cuckooormolu_effort(far.terms, 4) == CUCKOOORMOLU_MOST_EFFORT);
     EXPECT(cuckooormolu_effort(NULL, 5) == CUCKOOORMOLU_MOST_EFFORT);
+    EXPECT(cuckooormolu_monitor_effort(NULL) == CUCKOOORMOLU_MOST_EFFORT);
 }
 
 int main(void)

@@ -40,6 +40,12 @@ P 2 7
 G 0 0 2
 '
 
+# large: terms whose two tables are full at the start, for everybody with everybody.
+large() {
+    printf 'M\t64\nL\t0\t1\nF\t0\ttop\t0\t0\nF\t1\tvar\t0\t0\nF\t2\tor\t0\t1\n'
+    printf 'F\t3\tsince\t0\t2\nF\t4\tsince\t2\t2\nP\t0\t3\n'
+}
+
 # expect NAME TERMS REQUESTS OUTPUT: what the built host prints.
 expect() {
     tabs "$2" >"$work/terms.tsv"
@@ -93,6 +99,7 @@ run_tests() {
     silent test_overlap.c "overlapping memory" "$@"
     silent test_revise.c "new terms while playing" "$@"
     silent test_renumber.c "members renumbered" "$@"
+    silent test_within.c "terms of strangers" "$@"
     silent test_pairs.c "a past of three members" "$@"
     silent test_plans.c "plans against a rival" "$@"
     silent test_banks.c "two banks" "$@"
@@ -159,11 +166,15 @@ F 0 not 0 0
 ' >"$work/wanted"
     judge "terms that can't be opened"
 
-    head -c 65537 /dev/zero >"$work/terms.tsv"
-    "$work/$build" "$work/terms.tsv" "$work/requests.tsv" >"$work/got" 2>/dev/null
+    most=$(sed -n 's/^#define CUCKOOORMOLU_STORED_BYTES //p' "$here/cuckooormolu.h")
+    head -c $((most + 1)) /dev/zero >"$work/terms.tsv"
+    "$work/$build" "$work/terms.tsv" "$work/requests.tsv" >"$work/got" 2>"$work/said"
     tabs 'terms 6 0
 ' >"$work/wanted"
     judge "terms too long"
+    grep -o "more than $most bytes" "$work/said" >"$work/got" || true
+    echo "more than $most bytes" >"$work/wanted"
+    judge "and it says so"
 
     tabs "$preset" >"$work/terms.tsv"
     tabs "S 2
@@ -185,6 +196,11 @@ V 0 0 1
     tabs '1 grant
 ' >"$work/wanted"
     judge "a share remembered"
+    large >"$work/terms.tsv"
+    "$work/$build" "$work/terms.tsv" /dev/null "$work/wanted"
+    "$work/$build" "$work/wanted" /dev/null "$work/got" || true
+    if [ "$(wc -c <"$work/wanted")" -le 65536 ]; then echo short >>"$work/got"; fi
+    judge "a large state stored, read and stored again"
     head -c 65537 /dev/zero >"$work/requests.tsv"
     "$work/$build" "$work/terms.tsv" "$work/requests.tsv" >"$work/got" 2>/dev/null
     tabs 'requests 6 0

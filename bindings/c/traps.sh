@@ -85,6 +85,15 @@ compiling not "nor one of banks, which share relations" \
 compiling not "nor members' numbers of another width" "static struct cuckooormolu next; const int numbers[] = {1, 0};
     if (cuckooormolu_done($renumbered)) *m = next;" "$@"
 
+within='cuckooormolu_monitor_read_within(m, "", 0, NULL, 0, 1, NULL)'
+compiling ok "a bounded reading that is asked for compiles" "if (cuckooormolu_done($within)) $then" "$@"
+compiling ok "and whether its terms are costly" "if (cuckooormolu_costly($within)) $then" "$@"
+compiling not "a bounded reading as a truth value does not" "if ($within) $then" "$@"
+compiling not "nor one that is not looked at" "$within;" "$@"
+compiling not "nor a question about it that is not looked at" "cuckooormolu_costly($within);" "$@"
+compiling ok "an effort that is compared compiles" "if (cuckooormolu_monitor_effort(m) < 9) $then" "$@"
+compiling not "an effort that is not looked at does not" "cuckooormolu_monitor_effort(m);" "$@"
+
 left='cuckooormolu_left_request(b, 0, 0, 0)'
 compiling ok "a grant of a bank that is asked for compiles" "if (cuckooormolu_granted($left)) $then" "$@"
 compiling not "a bank's call as a truth value does not" "if ($left) $then" "$@"
@@ -102,6 +111,9 @@ compiling not "nor one bank's words as banks" \
     "if (cuckooormolu_granted(cuckooormolu_left_request(b->left, 0, 0, 0))) $then" "$@"
 compiling not "nor a monitor as banks" "if (cuckooormolu_granted(cuckooormolu_left_request(m, 0, 0, 0))) $then" "$@"
 compiling not "nor banks as a monitor" "if (cuckooormolu_granted(cuckooormolu_monitor_request(b, 0, 0, 0))) $then" "$@"
+compiling not "nor banks as a monitor where no other warning is an error" \
+    "if (cuckooormolu_granted(cuckooormolu_monitor_request(b, 0, 0, 0))) $then" \
+    "$@" -Wno-error -Werror=incompatible-pointer-types
 compiling not "nor a monitor as the new terms of banks" \
     "if (cuckooormolu_done(cuckooormolu_both_revise(b, m))) $then" "$@"
 compiling not "nor a request of banks that may only be read" "const struct cuckooormolu_banks *c = b;
@@ -121,6 +133,7 @@ body() {
     echo '#include "cuckooormolu.h"'
     echo '#include <stdio.h>'
     echo '#include <stdlib.h>'
+    echo '#include <string.h>'
     echo 'enum { SHARE, WITHDRAW, LOAD };'
     echo 'void load(void);'
     echo 'void complain(size_t line);'

@@ -53,7 +53,9 @@ pub struct BankStates {
 }
 
 impl Banks {
-    /// Reads a text of the old form: both banks stand at its moment 0.
+    /// Reads a text of the old form, a terms file: both banks stand at its moment 0.
+    /// Terms of strangers are read by [`Monitor::read_within`](crate::Monitor::read_within)
+    /// first; a request of banks works out at most twice as many rows.
     ///
     /// # Errors
     ///

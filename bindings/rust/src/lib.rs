@@ -8,9 +8,13 @@
 //! * **Stack**: measured, not proved. Look, request, set list, plan, opening and a
 //!   revision take 9 KiB, writing 30 KiB, and each 0.85 KiB more for every level by
 //!   which entries nest; reading takes what opening does, and 33 KiB at least; of two
-//!   banks it takes 25 KiB more, any other call 2 KiB. Where the terms need a memo
-//!   (bindings/README.md, Stack), each takes 267 KiB more, at most 512 KiB.
+//!   banks it takes 25 KiB more, any other call 3 KiB at most. Where the terms need a
+//!   memo (bindings/README.md, Stack), each takes 267 KiB more, at most 512 KiB.
 //!   Renumbering takes 18 KiB, storing 4 KiB. From the C file it is at most 1 MiB.
+//! * **Time**: measured, not proved. Terms can be written by which a request takes
+//!   minutes. Opening, a revision, and reading or writing a terms file may take as long
+//!   as a request. [`Terms::effort`] is a bound; [`Monitor::read_within`] reads terms of
+//!   strangers, and asks before it opens them.
 //! * **Terms and states are plain words** that may be copied and kept. In a
 //!   file they have the machine's byte order, little-endian. A stored text
 //!   ([`Monitor::store`]) keeps the same for any machine, and for people.
@@ -42,15 +46,15 @@
 //! * [`Banks`] are two monitors over one circle: they share terms and relations.
 //! * [`Record`] is a request of a set list: many requests in one call.
 //! * [`Plan`] asks whether a rival can keep a member from a goal.
-//! * [`Refusal`] and [`TextError`] say in words why nothing was decided.
+//! * [`Refusal`], [`TextError`] and [`WithinError`] say in words why nothing was decided.
 //! * [`raw`] has the library's functions over slices of any length.
 //!
 //! Member, relation, event and entry numbers, and the order of the words, are
 //! those of the terms file and of the memory layout.
 //!
 //! The feature `alloc`, on by default, has what owns memory: [`Monitor`],
-//! [`Banks`], [`Terms`], [`State`], [`Record`] and [`TextError`]. Without it there
-//! is [`raw`], over memory that the host has.
+//! [`Banks`], [`Terms`], [`State`], [`Record`], [`TextError`] and [`WithinError`].
+//! Without it there is [`raw`], over memory that the host has.
 #![no_std]
 #![deny(missing_docs, clippy::missing_errors_doc, clippy::missing_panics_doc)]
 
@@ -83,6 +87,8 @@ mod table;
 mod terms;
 #[cfg(feature = "alloc")]
 mod text_error;
+#[cfg(feature = "alloc")]
+mod within_error;
 
 pub use answer::Answer;
 pub use layout::{
@@ -102,6 +108,7 @@ pub use {
     table::{Holding, Table},
     terms::{Action, Direction, Effect, Terms},
     text_error::TextError,
+    within_error::WithinError,
 };
 
 /// What the README shows, compiled.

@@ -1,7 +1,7 @@
 //! The monitor: terms, the present state, and scratch for its calls.
 
 use crate::{raw, Answer, Member, Plan, Record, Refusal, Request, Ruling, State, Terms, TextError};
-use crate::{PLAN_WORDS, SCRATCH_WORDS};
+use crate::{WithinError, PLAN_WORDS, SCRATCH_WORDS};
 use alloc::boxed::Box;
 use alloc::vec;
 use alloc::vec::Vec;
@@ -19,8 +19,11 @@ pub struct Monitor {
 }
 
 impl Monitor {
-    /// Reads a text: the old form stands at its moment 0, the stored form goes
-    /// on from where it was stored.
+    /// Reads a text. The old form is a terms file, and stands at its moment 0; the
+    /// stored form begins with a line `S 2`, and goes on from where it was stored.
+    ///
+    /// The old form is opened, which may take as long as a request: terms of
+    /// strangers are read by [`Monitor::read_within`].
     ///
     /// # Errors
     ///
@@ -30,6 +33,38 @@ impl Monitor {
         raw::read(text, &mut terms.0[..], &mut state.0[..])
             .map_err(|(refusal, line)| TextError::new(refusal, line, text))?;
         Ok(Monitor::with(terms, state))
+    }
+
+    /// Reads a text as [`Monitor::read`] does, if a request by its terms works out at
+    /// most so many rows ([`Terms::effort`]). Otherwise nothing is opened: the text
+    /// takes no longer than such a request may, whatever it says.
+    ///
+    /// ```
+    /// use cuckooormolu::{Monitor, WithinError};
+    ///
+    /// let text = "M 3\nL 1 1\nF 0 var 0 0\nF 1 out 0 0\nF 2 out 0 1\nP 0 2\n".replace(' ', "\t");
+    /// assert!(Monitor::read_within(text.as_bytes(), 4).is_ok());
+    /// let costly = Monitor::read_within(text.as_bytes(), 3).unwrap_err();
+    /// assert_eq!(costly, WithinError::Costly(4));
+    /// ```
+    ///
+    /// It reads a text of the old form with a line `S 2` before it first. That is a
+    /// stored text with the same terms, and reading it opens nothing.
+    ///
+    /// # Errors
+    ///
+    /// [`WithinError::Costly`] where a request may work out more rows, and
+    /// [`WithinError::Refused`] where [`Monitor::read`] refuses the text.
+    pub fn read_within(text: &[u8], most: usize) -> Result<Monitor, WithinError> {
+        let first: &[u8] = if text.starts_with(b"S") { b"" } else { b"S\t2\n" };
+        // Where this is refused, so is the text itself.
+        if let Ok(unopened) = Monitor::read(&[first, text].concat()) {
+            let rows = unopened.terms.effort();
+            if rows > most {
+                return Err(WithinError::Costly(rows));
+            }
+        }
+        Ok(Monitor::read(text)?)
     }
 
     /// Goes on from terms and a state kept earlier, once they are checked.
@@ -59,7 +94,7 @@ impl Monitor {
     }
 
     /// Stands at moment 0 of the relations of a state; its tables and event
-    /// edge don't count.
+    /// edge don't count. It may take as long as a request.
     ///
     /// # Errors
     ///
@@ -265,8 +300,8 @@ impl Monitor {
         Ok(())
     }
 
-    /// The old form: the terms with the present relations, numbers without
-    /// leading zeros. Reading it gives the same monitor.
+    /// The old form, a terms file: the terms with the present relations, numbers
+    /// without leading zeros. Reading it gives the same monitor.
     ///
     /// ```
     /// let text = b"M\t2\nL\t1\t1\nF\t0\ttop\t0\t0\nP\t0\t0\nG\t0\t0\t1\n";
@@ -286,7 +321,9 @@ impl Monitor {
     }
 
     /// The stored form: terms, relations, what the policies need of the past,
-    /// and the event edge. Reading it gives the same monitor, anywhere.
+    /// and the event edge. Reading it gives the same monitor, anywhere. A text that
+    /// is cut at the end of a line is often read as another state: keep a length or a
+    /// checksum beside it.
     ///
     /// ```
     /// use cuckooormolu::{Answer, Event, Member, Monitor, Refusal, Request};

@@ -32,7 +32,7 @@
 //! }
 //! ```
 
-use crate::{library, Answer, Refusal, Ruling};
+use crate::{library, Answer, Refusal, Ruling, MOST_EFFORT, TERMS_WORDS};
 
 mod banks;
 mod renumber;
@@ -182,9 +182,30 @@ pub fn check(terms: &[u16], state: &[u64]) -> Result<(), Refusal> {
 }
 
 /// How many rows a request may work out, at most, by terms that are accepted: a row
-/// is one entry at one member. [`MOST_EFFORT`](crate::MOST_EFFORT) stands for more,
-/// too. Of words that are no accepted terms it says nothing.
+/// is one entry at one member. [`MOST_EFFORT`] stands for more, too. Too few words, and
+/// words without members, as zeroed ones, give that; of other words that are no
+/// accepted terms it says nothing.
+///
+/// [`read`] of the old form opens the state, which may take as long as a request. To
+/// ask before that, read the text with a line `S 2` before it, which is a stored text
+/// with the same terms and relations and opens nothing; then [`open`] gives the words
+/// that reading the old form gives.
+///
+/// ```
+/// use cuckooormolu::{raw, STATE_WORDS, TERMS_WORDS};
+///
+/// let (mut terms, mut state) = ([0; TERMS_WORDS], [0; STATE_WORDS]);
+/// let text = b"M\t2\nL\t0\t1\nF\t0\ttop\t0\t0\nF\t1\tnot\t0\t0\nP\t0\t1\n";
+/// let stored = [&b"S\t2\n"[..], text].concat();
+/// assert_eq!(raw::read(&stored, &mut terms, &mut state), Ok(()));
+/// if raw::effort(&terms) <= 1_000_000 {
+///     assert_eq!(raw::open(&terms, &mut state), Ok(()));
+/// }
+/// ```
 pub fn effort(terms: &[u16]) -> usize {
+    if terms.len() < TERMS_WORDS || terms[0] == 0 {
+        return MOST_EFFORT;
+    }
     unsafe { library::cuckooormolu_raw_effort(terms.as_ptr(), terms.len()) }
 }
 
@@ -372,8 +393,9 @@ pub fn tell(
     })
 }
 
-/// Reads a text of the old or the stored form and fills the named words of terms
-/// and state.
+/// Reads a text of the old form, a terms file, or of the stored form, which begins
+/// with a line `S 2`, and fills the named words of terms and state. The old form is
+/// opened, which may take as long as a request.
 ///
 /// # Errors
 ///
