@@ -53,7 +53,7 @@ pub fn main(arguments: &[String], out: &mut dyn Write) -> Result<i32, Stop> {
     let [directory, text] = &arguments.rest[..] else {
         return Err(Stop::Usage("give DIR and PLAN, the plan in quotes".into()));
     };
-    let folder = Folder::load(Path::new(directory))?;
+    let folder = Folder::opening(Path::new(directory))?;
     let mut both = match arguments.has("--first") {
         true => Replay::before(&folder)?.both,
         false => Replay::of(&folder)?.both,
