@@ -121,13 +121,16 @@ impl Parser {
                 let mistake = self.expected("`anyone` after `by`", &["anyone"]);
                 return Err(mistake.advise(self.by_whom()));
             }
+            if let Some(mistake) = self.anyone_joined() {
+                return Err(mistake);
+            }
             Formula { kind: Kind::True, span: self.last() }
         } else {
             return Err(self.no_policy());
         };
         let effects = match self.take("then") {
             true => self.effects(&names[0].0.text)?,
-            false => Vec::new(),
+            false => self.no_effects()?,
         };
         self.statement_ends(&["then"])?;
         for (name, said) in names {
