@@ -105,6 +105,10 @@ impl Parser {
             if !self.take_sign(';') {
                 return Ok(());
             }
+            if self.at_statement() {
+                let mistake = Mistake::new(self.last(), "nothing follows the last `;`");
+                return Err(mistake.advise("delete it"));
+            }
         }
     }
 
@@ -115,6 +119,10 @@ impl Parser {
             names.push(self.event_name()?);
         }
         let policy = if self.take("when") {
+            if self.is_sign(':') {
+                let mistake = Mistake::new(self.span(), "no `:` follows `when`");
+                return Err(mistake.advise("delete the `:`"));
+            }
             self.formula()?
         } else if self.take("by") {
             if !self.take("anyone") {

@@ -130,6 +130,8 @@ fn in_statements() {
         ("event load by players", "such as `when me is player`"),
         ("event load for players", "such as `when me is player`"),
         ("event load by everyone", "expected `anyone` after `by`, found `everyone`"),
+        ("event load when: me owns target", "4:16: no `:` follows `when`"),
+        ("members players: ann, bob;", "nothing follows the last `;`"),
         ("event load by anybody", "write `by anyone`"),
         ("event load by anyone and me owns target", "4:22: `and` after `by anyone`, which has no condition"),
         ("event load by anyone add me owns target", "4:22: `then` is missing here"),
