@@ -15,8 +15,8 @@ pub struct Arguments {
 
 impl Arguments {
     /// Reads the arguments, given the flags and the options that the
-    /// sub-command has, each with its dashes: `--json`, `-o`. After `--` nothing is
-    /// an option.
+    /// sub-command has, each with its dashes: `--json`, `-o`. An option is given once at
+    /// most. After `--` nothing is an option.
     pub fn read(given: &[String], flags: &[&str], options: &[&str]) -> Result<Arguments, Stop> {
         let mut arguments = Arguments::default();
         let mut given = given.iter();
@@ -39,6 +39,11 @@ impl Arguments {
                 let value = joined.or_else(|| given.next().cloned());
                 let value = value.filter(|value| !value.is_empty());
                 let value = value.ok_or_else(|| Stop::Usage(format!("{name} needs a value")))?;
+                if let Some(first) = arguments.options.get(name) {
+                    let twice =
+                        format!("{name} is given twice, `{first}` and `{value}`; give it once");
+                    return Err(Stop::Usage(twice));
+                }
                 arguments.options.insert(name.to_string(), value);
             } else if name.len() > 1 && name.starts_with('-') {
                 let known = flags.iter().chain(options).copied();
@@ -106,6 +111,9 @@ mod tests {
         assert_eq!(said(&["--json="]), "--json takes no value; write --json without `=`");
         assert_eq!(said(&["-o"]), "-o needs a value");
         assert_eq!(said(&["--save="]), "--save needs a value");
+        let twice = "--save is given twice, `a` and `b`; give it once";
+        assert_eq!(said(&["--save", "a", "c", "--save=b"]), twice);
+        assert!(read(&["--json", "--json", "-o", "a", "--", "-o", "b"]).is_ok());
         assert!(read(&[]).unwrap().one("FILE").is_err());
         assert!(read(&["a", "b"]).unwrap().one("FILE").is_err());
     }

@@ -6,6 +6,7 @@ mod renumbering;
 mod revising;
 mod stored;
 mod telling;
+mod unopened;
 
 pub use banks::Banks;
 use revising::allowed;
@@ -42,6 +43,8 @@ impl fmt::Display for Verdict {
 pub struct Both {
     monitor: proved::Monitor,
     record: Record,
+    /// Whether it is at hand for its terms alone.
+    unopened: bool,
 }
 
 impl Both {
@@ -50,7 +53,7 @@ impl Both {
     pub fn read(text: &[u8]) -> Result<Result<Both, Refusal>, Stop> {
         match (proved::Monitor::read(text), terms::read(text)) {
             (Ok(monitor), Ok(file)) => {
-                let both = Both { monitor, record: Record::of(file) };
+                let both = Both { monitor, record: Record::of(file), unopened: false };
                 let words = (both.monitor.terms().words(), both.monitor.state().words());
                 let same = words.0[..] == terms_words(both.terms())[..]
                     && words.1[..] == both.record.state_words()[..];
@@ -73,11 +76,7 @@ impl Both {
 
     /// The same for terms that are to be used: a refusal stops the program.
     pub fn accepted(text: &[u8]) -> Result<Both, Stop> {
-        Both::read(text)?.map_err(|refusal| {
-            let (number, line) = (refusal.number, refusal.line);
-            let advice = "`cuckooormolu check` says what is wrong";
-            Stop::Failed(format!("the terms are refused with {number} at line {line}; {advice}"))
-        })
+        Both::read(text)?.map_err(refused)
     }
 
     /// Answers a request; a grant makes the next moment, and so does a denial of
@@ -135,7 +134,7 @@ impl Both {
     /// Whether it began with a stored file, so that moments before it are not
     /// known.
     pub fn is_stored(&self) -> bool {
-        self.record.before().is_some()
+        self.record.before().is_some() && !self.unopened
     }
 
     pub fn terms(&self) -> &Terms {
@@ -203,6 +202,12 @@ fn agreed(
         let asked = format!("event {event} from {from} to {to}");
         Err(differ(&format!("{asked}: library {proved}, keeper {kept}")))
     }
+}
+
+fn refused(refusal: Refusal) -> Stop {
+    let (number, line) = (refusal.number, refusal.line);
+    let advice = "`cuckooormolu check` says what is wrong";
+    Stop::Failed(format!("the terms are refused with {number} at line {line}; {advice}"))
 }
 
 fn differ(how: &str) -> Stop {

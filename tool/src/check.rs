@@ -38,10 +38,10 @@ pub enum Checked {
     Accepted(Box<Both>, Vec<Warning>),
 }
 
-/// Checks the terms of a folder.
+/// Checks the terms of a folder. If a request may take long by them, nothing is asked of
+/// what is accepted.
 pub fn check(folder: &Folder) -> Result<Checked, Stop> {
-    let text = &folder.terms[..];
-    match Both::read(text)? {
+    match Both::read_terms(&folder.terms)? {
         Ok(both) => {
             let warnings = warnings::warnings(&both, folder)?;
             Ok(Checked::Accepted(Box::new(both), warnings))

@@ -1,10 +1,12 @@
 //! The files of a folder: terms.say or terms.tsv, requests.say or requests.tsv,
 //! names.tsv.
 //!
+//! * `asking`: the requests of a folder, or others in their place
 //! * `definitions`: definitions.tsv, beside stored terms
 //! * `request`: a line of requests.tsv
 //! * `writing`: files written so that none is lost
 
+mod asking;
 pub mod definitions;
 mod request;
 mod writing;
@@ -14,8 +16,8 @@ pub use request::Request;
 pub use writing::{make, write};
 
 use crate::bank::Bank;
+use crate::check::effort;
 use crate::names::Names;
-use crate::requests::{self, Requests};
 use crate::source::mistake::{Mistake, Mistaken};
 use crate::source::{compile, Compiled};
 use crate::stop::Stop;
@@ -49,6 +51,8 @@ pub struct Folder {
     pub requests: Vec<u8>,
     /// The bank of each request; empty if they name none.
     pub banks: Vec<Bank>,
+    /// Why the folder's own requests can't be read: what uses them stops.
+    pub unread: Option<String>,
     pub names: Names,
 }
 
@@ -85,7 +89,21 @@ impl Folder {
             let beside = text(&folder.join(DEFINITIONS)).unwrap_or_default();
             definitions::read(&beside, &read.terms, &mut names);
         }
-        Folder { path: folder, file, terms, names, ..Folder::default() }.with_requests()
+        Ok(Folder { path: folder, file, terms, names, ..Folder::default() }.with_requests())
+    }
+
+    /// The same for terms by which requests are answered: where that may take long, it is
+    /// told on standard error.
+    pub fn opening(path: &Path) -> Result<Folder, Stop> {
+        let folder = Folder::load(path)?;
+        if let Some(rows) = effort::lengthy(&folder.terms) {
+            eprintln!(
+                "this may take long: a request works out {}; `cuckooormolu check {}` says which part causes it",
+                effort::told(rows),
+                path.display()
+            );
+        }
+        Ok(folder)
     }
 
     /// The same folder with another text of its source, which stands in no file.
@@ -108,51 +126,7 @@ impl Folder {
         let folder = folder.with_source(&text).map_err(|mistakes| {
             Stop::Mistaken(Mistaken { file: file.display().to_string(), text, mistakes })
         })?;
-        Folder { file: file.to_path_buf(), ..folder }.with_requests()
-    }
-
-    /// With the folder's own requests: those of requests.say, or else of requests.tsv.
-    fn with_requests(self) -> Result<Folder, Stop> {
-        let spoken = self.path.join(SPOKEN);
-        if spoken.is_file() {
-            let text = text(&spoken)?;
-            return self.asking(spoken, &text);
-        }
-        let asked = self.path.join(REQUESTS);
-        Ok(Folder { requests: opened(&asked)?, asked, ..self })
-    }
-
-    /// With requests by name instead of its own, which come from somewhere. Under terms
-    /// that are refused nothing is asked.
-    pub fn asking(self, asked: PathBuf, text: &str) -> Result<Folder, Stop> {
-        let Requests { lines, banks } = match keeper::terms::read(&self.terms) {
-            Ok(read) => {
-                requests::read(&asked.display().to_string(), text, &read.terms, &self.names)?
-            }
-            Err(_) => Requests::default(),
-        };
-        Ok(Folder { asked, requests: lines, banks, ..self })
-    }
-
-    /// With the requests of a file instead of its own.
-    pub fn asking_file(self, file: &Path) -> Result<Folder, Stop> {
-        if !file.is_file() {
-            return Err(Stop::Failed(format!("there is no file {}", file.display())));
-        }
-        let text = text(file)?;
-        self.asking(file.to_path_buf(), &text)
-    }
-
-    /// Stops what works with one bank where the requests name two.
-    pub fn of_one_bank(&self) -> Result<(), Stop> {
-        if self.banks.is_empty() {
-            return Ok(());
-        }
-        Err(Stop::Failed(format!(
-            "{} names banks, and this works with one bank only; `cuckooormolu run`, `why` and `try` work with \
-             two, and at the prompt of `try` there are `who` and `revise`, too",
-            self.asked.display()
-        )))
+        Ok(Folder { file: file.to_path_buf(), ..folder }.with_requests())
     }
 
     /// What compiling warns of, at its place in the source.
@@ -166,11 +140,6 @@ impl Folder {
             told.collect::<String>()
         };
         self.source.as_ref().map(shown).unwrap_or_default()
-    }
-
-    /// The requests, line by line.
-    pub fn requests(&self) -> Vec<Request> {
-        self.requests.split_inclusive(|&byte| byte == b'\n').map(Request::read).collect()
     }
 }
 

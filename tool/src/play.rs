@@ -80,6 +80,9 @@ impl Play {
         }
         match request.target[1..].split_once('/') {
             Some((token, path)) if same(token, &self.token) => Ok(path),
+            Some((token, _)) if token.len() == self.token.len() => {
+                refused("this is the token of another page; open the address as it was printed")
+            }
             _ => refused("the address lacks its token; open it as it was printed"),
         }
     }

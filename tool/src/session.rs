@@ -20,6 +20,7 @@ impl Session {
     /// Reads the terms of a folder and makes its requests: to two banks if they name
     /// banks.
     pub fn of(folder: &Folder) -> Result<Session, Stop> {
+        folder.readable()?;
         if folder.banks.is_empty() {
             return Ok(Session::One(Box::new(Replay::of(folder)?)));
         }

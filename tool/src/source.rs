@@ -3,8 +3,9 @@
 //! * `tokens`, `parse`, `ast`: a text, read
 //! * `kinds`: kinds of members as attributes
 //! * `passing`: events of one moment where the past seems to be meant
+//! * `twice`: what was so twice, and is forgotten straight after
 //! * `seldom`: other sentences that say something else than they seem to
-//! * `seeker`: what these two find
+//! * `seeker`: what these three find
 //! * `resolve`, `said`: names found, definitions and derived forms unfolded
 //! * `tree`: at which member each part is said
 //! * `entries`: variables numbered, equal parts made one entry
@@ -29,6 +30,7 @@ mod seeker;
 mod seldom;
 pub mod tokens;
 mod tree;
+mod twice;
 
 pub use compile::{compile, Compiled};
 pub use entries::Origin;

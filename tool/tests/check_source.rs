@@ -102,6 +102,57 @@ fn a_policy_that_is_seldom_met_is_tried_for_long() {
     assert!(said.contains("= `cuckooormolu why` says what was lacking each time"), "{said}");
 }
 
+/// What is said of two moments is true at the second alone.
+#[test]
+fn what_was_so_twice_is_forgotten() {
+    let twice = "p denied load someone and previously once p denied load someone";
+    let with = |body: &str, policy: &str| {
+        said(&format!("keep denied load\ndefine p is suspended: {body}\nevent edit when {policy}"))
+    };
+    let policy = "me owns target and me is not suspended";
+    let told = with(twice, policy);
+    let warning = "terms.say:6:24: warning: this holds for one moment only: `p denied load someone` is forgotten";
+    assert!(told.contains(warning), "{told}");
+    assert!(told.contains("put `once (...)` around the whole"), "{told}");
+    let plain = "warning: this holds for one moment only";
+    for (body, policy) in [
+        (format!("once ({twice})"), policy),
+        (format!("not someone share p since ({twice})"), policy),
+        (twice.to_string(), "me owns target and not once me is suspended"),
+    ] {
+        let told = with(&body, policy);
+        assert!(!told.contains(plain), "{told}");
+    }
+    // Said of the one who asks, now, it may be meant.
+    let asked = said(&format!("keep denied load\nevent edit when {}", twice.replace("p ", "me ")));
+    assert!(!asked.contains(plain), "{asked}");
+}
+
+#[test]
+fn a_relation_that_only_names_somebody() {
+    let plain = "is a relation, but here it only names the one who is sought";
+    let told = said(
+        "event edit when some likes owns target\nevent befriend by anyone then add me likes target",
+    );
+    assert!(told.contains(&format!("terms.say:5:22: warning: `likes` {plain}")), "{told}");
+    assert!(
+        told.contains("`some likes of me as f: f owns target`, else choose another name"),
+        "{told}"
+    );
+    let told = said(
+        "event edit when me owns some likes\nevent befriend by anyone then add me likes target",
+    );
+    assert!(told.contains("`some likes of me as f: me owns f`"), "{told}");
+    for policy in
+        ["some likes of me as f: f owns target", "me likes some likes", "some owner owns target"]
+    {
+        let told = said(&format!(
+            "event edit when {policy}\nevent befriend by anyone then add me likes target"
+        ));
+        assert!(!told.contains(plain), "{told}");
+    }
+}
+
 /// Five requests in order: hardly met by chance, and too far for a short search.
 const SELDOM: &str = "\
 members players: p1, p2, p3, p4, p5, p6, p7, p8, p9, p10; presets: saw, pad, bell, drum; banks: north

@@ -94,6 +94,29 @@ fn terms_that_take_long() {
     assert_eq!(long(8), None);
 }
 
+/// Three people are sought one inside the other in what is remembered.
+const REMEMBERED: &str = "M 64\nL 1 2\nF 0 top 0 0\nF 1 var 1 0\nF 2 var 2 0\nF 3 var 3 0\nF 4 or 1 2\nF 5 or 3 4\n\
+    F 6 not 5 0\nF 7 out 0 6\nF 8 bind 3 7\nF 9 out 0 8\nF 10 bind 2 9\nF 11 out 0 10\nF 12 bind 1 11\n\
+    F 13 since 0 12\nP 0 0\nP 1 13\n";
+
+/// To open such terms would take minutes, where everybody is beside everybody else.
+#[test]
+fn what_would_take_long_is_told_and_not_worked_out() {
+    let pairs = (0..64).flat_map(|from| (0..64).map(move |to| (from, to)));
+    let edges =
+        pairs.filter(|(from, to)| from != to).map(|(from, to)| format!("G 0 {from} {to}\n"));
+    let terms =
+        format!("{REMEMBERED}{}", edges.collect::<String>()).replace(' ', "\t").into_bytes();
+    let folder = Folder { terms, ..Folder::default() };
+    let Checked::Accepted(both, warnings) = check(&folder).unwrap() else { panic!("refused") };
+    assert!(effort::is_lengthy(both.effort()) && !both.is_stored());
+    assert_eq!(effort::lengthy(&folder.terms), Some(both.effort()));
+    let told: Vec<_> = warnings.iter().map(|warning| (warning.kind, warning.line)).collect();
+    assert_eq!(told, [(effort::KIND, 9)]);
+    assert_eq!(effort::lengthy(b"M\t0\n"), None);
+    assert_eq!(effort::lengthy(b"M\t1\nL\t0\t1\nF\t0\ttop\t0\t0\nP\t0\t0\n"), None);
+}
+
 #[test]
 fn two_people_sought_in_turn_take_long_only_at_many_levels() {
     // Each level seeks somebody and speaks of whom the level above sought.

@@ -36,6 +36,20 @@ fn page(folder: &Folder) -> String {
     folder.read("page.html").replace('\u{a0}', " ")
 }
 
+/// Kinds of members are told apart from relations.
+#[test]
+fn kinds_are_no_relation_edges() {
+    let folder = Folder::new();
+    folder.write(
+        "terms.say",
+        "members players: ben, cleo; presets: pad\nrelation owns\n\
+         event load when me is player and me owns target\nfirst ben owns pad\n",
+    );
+    let page = page(&folder);
+    assert!(page.contains("<summary>1 relation edge</summary>"), "{page}");
+    assert!(!page.contains("<td>player</td>"), "{page}");
+}
+
 #[test]
 fn everything_is_on_the_page() {
     let folder = preset();

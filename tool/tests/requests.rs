@@ -46,6 +46,51 @@ fn mistakes_are_told_by_line() {
     ] {
         assert!(said.err.contains(part), "{}", said.err);
     }
+    // Only what uses the file stops there.
+    let said = run_with(&["run", folder.path(), "-"], "share dora pete\n");
+    assert_eq!((said.status, said.out.as_str()), (0, "1  share dora → pete  granted\n"));
+    let said = run(&["check", folder.path()]);
+    assert_eq!(said.status, 0);
+    assert!(said.out.contains("warning: the folder's requests cannot be read: "), "{}", said.out);
+    assert!(said.out.contains("requests.say:2: no event `laod`"), "{}", said.out);
+    assert_eq!(run(&["aloud", folder.path()]).status, 0);
+}
+
+#[test]
+fn no_request_is_told_where_all_are_to_be_granted() {
+    let folder = folder();
+    for (arguments, input) in [
+        (&["-"][..], ""),
+        (&["-"][..], "# nothing\n\n  # at all\n"),
+        (&["--requests", "-"][..], ""),
+    ] {
+        let given = [&["run", folder.path(), "--strict"][..], arguments].concat();
+        let said = run_with(&given, input);
+        assert_eq!((said.status, said.out.as_str()), (3, ""), "{arguments:?}");
+        assert_eq!(said.err, "cuckooormolu run: there are no requests on standard input\n");
+        let said = run_with(&[&given[..], &["--json"]].concat(), input);
+        assert_eq!((said.status, said.err.as_str()), (3, ""), "{arguments:?}");
+        assert_eq!(said.out, "{\"error\":\"there are no requests on standard input\"}\n");
+        // Otherwise there is nothing to tell.
+        let said = run_with(&[&["run", folder.path()][..], arguments].concat(), input);
+        assert_eq!((said.status, said.out.as_str(), said.err.as_str()), (0, "", ""));
+    }
+    folder.write("empty.say", "# nothing\n");
+    let file = folder.file("empty.say").display().to_string();
+    let said = run(&["run", folder.path(), "--strict", "--requests", &file]);
+    assert_eq!(said.status, 3);
+    assert_eq!(said.err, format!("cuckooormolu run: there are no requests in {file}\n"));
+    let said = run(&["run", folder.path(), "--strict"]);
+    let wanted = format!("there are no requests in {}; `-` reads them", folder.path());
+    assert!(said.status == 3 && said.err.contains(&wanted), "{}", said.err);
+    for (file, wanted) in [
+        ("/dev/null", "there are no requests in /dev/null: it is not a regular file\n"),
+        (folder.path(), ": it is not a regular file\n"),
+        ("none.say", "there is no file none.say\n"),
+    ] {
+        let said = run(&["run", folder.path(), "--requests", file]);
+        assert!(said.status == 3 && said.err.ends_with(wanted), "{}", said.err);
+    }
 }
 
 #[test]

@@ -117,9 +117,66 @@ fn one_rule_for_long_files() {
     );
     assert!(!folder.file("stored.tsv").exists());
     folder.write("requests.tsv", &"R\t0\t0\t1\n".repeat(8_200));
-    for command in ["run", "check", "why"] {
+    for command in ["run", "try", "why"] {
         let said = run(&[command, folder.path()]);
         assert_eq!((said.status, said.out.as_str()), (3, ""));
         assert!(said.err.contains("requests.tsv has 65600 bytes"), "{}", said.err);
     }
+}
+
+/// Requests that can't be read stop only what uses them.
+#[test]
+fn other_requests_are_made_beside_a_long_file() {
+    let folder = preset();
+    let path = folder.path();
+    folder.write("requests.tsv", &"R\t0\t0\t1\n".repeat(8_200));
+    folder.write("one.say", "load pete saw\n");
+    let (one, page) = (folder.file("one.say"), folder.file("page.html"));
+    let (one, page) = (one.to_str().unwrap(), page.to_str().unwrap());
+    let denied = "1  load pete → saw  denied\n";
+    assert_eq!(run(&["run", path, "--requests", one]).out, denied);
+    assert_eq!(run_with(&["run", path, "-"], "load pete saw\n").out, denied);
+    for arguments in [
+        &["aloud", path][..],
+        &["source", path],
+        &["who", path, "load", "--first"],
+        &["why", path, "--requests", one],
+    ] {
+        let said = run(arguments);
+        assert_eq!((said.status, said.err.as_str()), (0, ""), "{arguments:?}");
+    }
+    let said = run(&["check", path]);
+    assert_eq!((said.status, said.err.as_str()), (0, ""));
+    let warning = "warning: the folder's requests cannot be read: ";
+    assert!(said.out.contains(warning), "{}", said.out);
+    assert!(said.out.contains("requests.tsv has 65600 bytes, and the program"), "{}", said.out);
+    let said = run(&["check", path, "--json"]).out;
+    assert!(said.contains("{\"warning\":\"requests\",\"line\":0,"), "{said}");
+    for arguments in [
+        &["run", path][..],
+        &["who", path, "load"],
+        &["report", path, "-o", page],
+        &["revise", path, path],
+        &["play", path],
+    ] {
+        let said = run(arguments);
+        assert_eq!((said.status, said.out.as_str()), (3, ""), "{arguments:?}");
+        assert!(said.err.contains("requests.tsv has 65600 bytes"), "{}", said.err);
+    }
+    // Nothing of the file is lost.
+    let said = run_with(&["try", path, "--first"], "load pete saw\nsave\n");
+    assert!(said.out.contains("? the folder's requests have more than this"), "{}", said.out);
+    assert_eq!(folder.read("requests.tsv").len(), 65_600);
+}
+
+#[test]
+fn an_option_is_given_once() {
+    let (folder, other) = (preset(), Folder::new());
+    let (one, two) = (other.file("one.tsv"), other.file("two.tsv"));
+    let (one, two) = (one.to_str().unwrap(), two.to_str().unwrap());
+    let said = run(&["run", folder.path(), "--store", one, "--store", two]);
+    assert_eq!((said.status, said.out.as_str()), (2, ""));
+    let twice = format!("--store is given twice, `{one}` and `{two}`; give it once\n");
+    assert!(said.err.contains(&twice), "{}", said.err);
+    assert_eq!(std::fs::read_dir(other.path()).unwrap().count(), 0);
 }

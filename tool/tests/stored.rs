@@ -109,6 +109,12 @@ fn it_is_checked_and_written_as_a_source_and_drawn() {
         "{}",
         said.out
     );
+    let whole = folder.read("terms.tsv");
+    folder.write("terms.tsv", whole.split("V\t").next().unwrap());
+    let cut = run(&["check", folder.path()]).out;
+    let told = "\nstored: with 1 line of the past and no event, as before any request;";
+    assert!(cut.contains(told), "{cut}");
+    folder.write("terms.tsv", &whole);
     let json = run(&["check", folder.path(), "--json"]).out;
     assert!(json.lines().next().unwrap().contains("\"stored\":true,\"effort\":"), "{json}");
     let source = run(&["source", folder.path()]).out;

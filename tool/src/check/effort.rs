@@ -11,8 +11,13 @@ use keeper::terms::memory::terms_words;
 use keeper::terms::{Entry, Terms, Variables};
 use std::collections::HashSet;
 
+/// The word for programs of a warning of much effort.
+pub const KIND: &str = "long";
 /// More rows than this are warned of.
 const MANY: usize = 300_000;
+/// More rows than this are told of before anything is worked out: some 2 s, and more for the
+/// keeper.
+const LENGTHY: usize = 30_000_000;
 /// So many people sought one inside the other are what takes long.
 const NESTED: usize = 3;
 /// So many rows are worked out in a millisecond: docs/PERFORMANCE.md, Shared entries.
@@ -38,6 +43,18 @@ pub fn told(rows: usize) -> String {
         ms => format!("some {} s", ms.div_ceil(1_000)),
     };
     format!("at most {} row{}: {time}", grouped(rows), if rows == 1 { "" } else { "s" })
+}
+
+/// What a request may work out by the terms of a text, if that is so much that nothing
+/// should be worked out before it is told. It is asked of the terms alone.
+pub fn lengthy(text: &[u8]) -> Option<usize> {
+    let terms = keeper::terms::read(text).ok()?.terms;
+    Some(proved::raw::effort(&terms_words(&terms))).filter(|&rows| is_lengthy(rows))
+}
+
+/// Whether so many rows are so much.
+pub fn is_lengthy(rows: usize) -> bool {
+    rows > LENGTHY
 }
 
 /// A warning for what takes longest, if a request may take long.
@@ -66,12 +83,7 @@ pub fn long(subject: &Subject, rows: usize) -> Option<Warning> {
         ),
     }
     };
-    Some(subject.warn(
-        "long",
-        about,
-        || told(format!("entry {entry}")),
-        || told("this".to_string()),
-    ))
+    Some(subject.warn(KIND, about, || told(format!("entry {entry}")), || told("this".to_string())))
 }
 
 /// The event whose policy may take longest.

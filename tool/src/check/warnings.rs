@@ -74,6 +74,7 @@ pub fn warnings(both: &Both, folder: &Folder) -> Result<Vec<Warning>, Stop> {
     warnings.extend(unkept(&subject));
     warnings.extend(strangers(terms, names));
     warnings.extend(unsaid(&subject));
+    warnings.extend(unread(folder));
     let long = effort::long(&subject, both.effort());
     if long.is_none() && effort::is_quick(terms) {
         warnings.extend(tried::one_sided(both, &subject, folder)?);
@@ -91,6 +92,19 @@ pub fn warnings(both: &Both, folder: &Folder) -> Result<Vec<Warning>, Stop> {
     }
     warnings.sort_by_key(|warning| warning.line);
     Ok(warnings)
+}
+
+/// Requests of the folder that can't be read: they are not tried.
+fn unread(folder: &Folder) -> Option<Warning> {
+    let why = folder.unread.as_ref()?;
+    Some(Warning {
+        kind: "requests",
+        about: About::Nothing,
+        line: 0,
+        what: format!("the folder's requests cannot be read: {why}"),
+        right: "what makes these requests stops there; `run --requests FILE` makes others"
+            .to_string(),
+    })
 }
 
 impl Folder {

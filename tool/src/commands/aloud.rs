@@ -38,8 +38,11 @@ or compiled.
 pub fn main(arguments: &[String], out: &mut dyn Write) -> Result<i32, Stop> {
     let arguments = Arguments::read(arguments, &["--json"], &["--verify", "--quote"])?;
     let folder = Folder::load(Path::new(arguments.one("a folder or a terms file")?))?;
-    let both = Both::accepted(&folder.terms)?;
-    let aloud = Aloud::of_record(both.record(), &folder.names);
+    let both = Both::accepted_terms(&folder.terms)?;
+    let aloud = match both.is_stored() {
+        true => Aloud::of_record(both.record(), &folder.names),
+        false => Aloud::of(both.terms(), &folder.names),
+    };
     if let Some(document) = arguments.option("--verify") {
         return verify(&aloud, Path::new(document), out);
     }

@@ -45,7 +45,7 @@ pub fn main(arguments: &[String], out: &mut dyn Write) -> Result<i32, Stop> {
     let [directory, words @ ..] = &arguments.rest[..] else {
         return Err(Stop::Usage("give DIR and REQUEST".into()));
     };
-    let folder = Folder::load(Path::new(directory))?;
+    let folder = Folder::opening(Path::new(directory))?;
     let both = match arguments.has("--first") {
         true => Replay::before(&folder)?.both,
         false => Replay::of(&folder)?.both,

@@ -24,7 +24,8 @@ tabs shown as → and carriage returns as ↵. If they are, warns of what may be
 mistake all the same. That nobody is ever granted an event is said after the
 folder's requests and tests, many others, and a short search for some. The effort is
 a bound by the terms alone, with the time that it takes on a computer of today; a row
-is one entry at one member.
+is one entry at one member. Where that is seconds or more, nothing is worked out and no
+request is tried. Requests of the folder that cannot be read are warned of.
 
   --watch  check again whenever a file of the folder changes, until stopped
   --json   one line for each mistake of a source: error, file, line, column, advice;
@@ -143,13 +144,21 @@ fn accepted(out: &mut dyn Write, both: &Both, names: &Names) -> Result<(), Stop>
         parts.push(counted(terms.kept.len(), "event kept when denied", "events kept when denied"));
     }
     writeln!(out, "accepted: {}", parts.join(", "))?;
-    if let Some(tables) = both.record().before() {
+    if let Some(tables) = both.record().before().filter(|_| both.is_stored()) {
         let bits = tables.iter().map(BTreeSet::len).sum();
-        let event = if both.present().event.is_some() { "the last event" } else { "no event" };
+        let event = match both.present().event {
+            Some(_) => "the last event",
+            None if terms.past().is_empty() => "no event",
+            None => "no event, as before any request",
+        };
         let bits = counted(bits, "line of the past", "lines of the past");
         writeln!(out, "stored: with {bits} and {event}; `cuckooormolu aloud` reads them")?;
     }
-    writeln!(out, "effort: a request works out {}", effort::told(both.effort()))?;
+    let untried = match effort::is_lengthy(both.effort()) {
+        true => "; so nothing was worked out here, and no request was tried",
+        false => "",
+    };
+    writeln!(out, "effort: a request works out {}{untried}", effort::told(both.effort()))?;
     Ok(())
 }
 

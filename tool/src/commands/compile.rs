@@ -66,7 +66,7 @@ pub fn main(arguments: &[String], out: &mut dyn Write) -> Result<i32, Stop> {
 fn accepted(compiled: &Compiled) -> Result<Vec<u8>, Stop> {
     let text = compiled.text();
     let wrong = |why: &str| Stop::Failed(format!("internal error, please report it: {why}"));
-    match Both::read(&text)? {
+    match Both::read_terms(&text)? {
         Ok(both) if *both.terms() == compiled.terms => Ok(text),
         Ok(_) => Err(wrong("the compiled terms read as other terms")),
         Err(refusal) => {

@@ -40,8 +40,9 @@ pub fn main(arguments: &[String], out: &mut dyn Write) -> Result<i32, Stop> {
     let given = arguments.option("--order").ok_or_else(|| {
         Stop::Usage("give --order NAMES, all members in their new order".to_string())
     })?;
-    let folder = Folder::load(folder)?;
-    let numbering = order::read(given, Both::accepted(&folder.terms)?.terms(), &folder.names)?;
+    let folder = Folder::opening(folder)?;
+    let terms = Both::accepted_terms(&folder.terms)?;
+    let numbering = order::read(given, terms.terms(), &folder.names)?;
     let renumbered = renumber(&folder, numbering)?;
     let place = arguments.option("-o");
     if let Some(place) = place {

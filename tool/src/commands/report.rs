@@ -26,7 +26,7 @@ pub fn main(arguments: &[String], out: &mut dyn Write) -> Result<i32, Stop> {
     let arguments = Arguments::read(arguments, &[], &["-o", "--title"])?;
     let directory = Path::new(arguments.one("DIR")?);
     let file = arguments.option("-o").ok_or_else(|| Stop::Usage("give -o FILE.html".into()))?;
-    let folder = Folder::load(directory)?;
+    let folder = Folder::opening(directory)?;
     let title =
         arguments.option("--title").map_or_else(|| folder::name(&folder.path), str::to_string);
     let page = report::page(&title, &Replay::of(&folder)?, &folder.names)?;

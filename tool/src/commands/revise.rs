@@ -41,7 +41,7 @@ pub fn main(arguments: &[String], out: &mut dyn Write) -> Result<i32, Stop> {
     let [old, new] = &arguments.rest[..] else {
         return Err(Stop::Usage("give DIR and NEW, the folder of the new terms".into()));
     };
-    let (old, new) = (Folder::load(Path::new(old))?, Folder::load(Path::new(new))?);
+    let (old, new) = (Folder::opening(Path::new(old))?, Folder::opening(Path::new(new))?);
     let mut both = Replay::of(&old)?.both;
     let revised = revise(&mut both, &old, &new, arguments.has("--renamed"))?;
     let json = arguments.has("--json");

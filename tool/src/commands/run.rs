@@ -30,18 +30,22 @@ name begins with its bank, such as `left load pete saw` or `right load pete saw`
   --requests FILE
                  make the requests of FILE, in either form, instead of the folder's;
                  `-` is standard input
-  --strict       exit with 1 if a request is denied or refused, with 3 if there is none
+  --strict       exit with 1 if a request is denied or refused, with 3 if there is none,
+                 from standard input too
   --json         one JSON object per line; `made` is the moment a request made
   --store FILE   store terms, state and what they remember in FILE, before any answer
                  is printed, creating its folder if need be; if FILE is called
                  terms.tsv, the names are stored beside it and its folder can be run.
-                 One run at a time: nothing locks the folder. Of two banks nothing
-                 is stored or written
+                 If that is DIR itself, the next run makes the same requests again:
+                 empty or replace them first. A file that is cut at the end of a line
+                 is accepted as another state, which may grant what was denied: keep
+                 its length or a checksum with it. One run at a time: nothing locks the
+                 folder. Of two banks nothing is stored or written
   --write FILE   afterwards, write terms and relations as new terms to begin with;
                  refused with 12 if anything has happened
 
-Exit status: 0; 1 if --strict finds a request denied or refused; 3 if a file cannot
-be read, written or compiled.
+Exit status: 0; 1 if --strict finds a request denied or refused; 3 if --strict finds
+no request, or a file cannot be read, written or compiled.
 ";
 
 pub fn main(arguments: &[String], out: &mut dyn Write) -> Result<i32, Stop> {
@@ -76,10 +80,15 @@ pub fn main(arguments: &[String], out: &mut dyn Write) -> Result<i32, Stop> {
             writeln!(out, "{}", widths.line(step, &words))?;
         }
     }
-    if arguments.has("--strict") && !input && steps.is_empty() {
-        return Err(Stop::Failed(format!(
-            "there are no requests in {directory}; `-` reads them from standard input"
-        )));
+    let input = input || arguments.option("--requests") == Some("-");
+    if arguments.has("--strict") && steps.is_empty() {
+        return Err(Stop::Failed(match (input, arguments.option("--requests")) {
+            (true, _) => "there are no requests on standard input".to_string(),
+            (false, Some(file)) => format!("there are no requests in {file}"),
+            (false, None) => {
+                format!("there are no requests in {directory}; `-` reads them from standard input")
+            }
+        }));
     }
     if !input && !stored {
         hint(steps, directory);
@@ -94,7 +103,7 @@ pub fn main(arguments: &[String], out: &mut dyn Write) -> Result<i32, Stop> {
 
 /// A folder with its own requests, or those of standard input or of a file.
 pub fn asked(directory: &str, input: bool, file: Option<&str>) -> Result<Folder, Stop> {
-    let folder = Folder::load(Path::new(directory))?;
+    let folder = Folder::opening(Path::new(directory))?;
     let (input, file) = match file {
         Some("-") => (true, None),
         file => (input, file),

@@ -25,7 +25,7 @@ Exit status: 0; 3 if the terms are refused, or a file cannot be read or written.
 pub fn main(arguments: &[String], out: &mut dyn Write) -> Result<i32, Stop> {
     let arguments = Arguments::read(arguments, &[], &["-o"])?;
     let folder = Folder::load(Path::new(arguments.one("a folder or a terms file")?))?;
-    let both = Both::accepted(&folder.terms)?;
+    let both = Both::accepted_terms(&folder.terms)?;
     let source = decompile(both.terms(), &folder.names);
     if !agrees(&source, both.terms()) {
         let message = "internal error, please report it: the source compiles to other terms";

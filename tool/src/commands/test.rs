@@ -119,7 +119,7 @@ struct Tested {
 
 impl Tested {
     fn of(path: &Path) -> Result<Tested, Stop> {
-        let folder = Folder::load(path)?;
+        let folder = Folder::opening(path)?;
         let file = folder_of(path).join(TESTS);
         let name = file.display().to_string();
         let text = fs::read_to_string(&file).map_err(|error| {

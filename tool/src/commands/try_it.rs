@@ -44,7 +44,7 @@ carried out.
 
 pub fn main(arguments: &[String], out: &mut dyn Write) -> Result<i32, Stop> {
     let arguments = Arguments::read(arguments, &["--first"], &["--requests"])?;
-    let folder = Folder::load(Path::new(arguments.one("DIR")?))?;
+    let folder = Folder::opening(Path::new(arguments.one("DIR")?))?;
     let folder = match arguments.option("--requests") {
         Some(file) => folder.asking_file(Path::new(file))?,
         None => folder,

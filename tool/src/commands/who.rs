@@ -34,13 +34,13 @@ pub fn main(arguments: &[String], out: &mut dyn Write) -> Result<i32, Stop> {
         [directory, event] => (directory, event),
         [directory] => {
             let folder = Folder::load(Path::new(directory))?;
-            let both = Both::accepted(&folder.terms)?;
+            let both = Both::accepted_terms(&folder.terms)?;
             let events = folder.names.events(both.terms()).join(", ");
             return Err(Stop::Usage(format!("give DIR and EVENT; events: {events}")));
         }
         _ => return Err(Stop::Usage("give DIR and EVENT".into())),
     };
-    let folder = Folder::load(Path::new(directory))?;
+    let folder = Folder::opening(Path::new(directory))?;
     let replay = match arguments.has("--first") {
         true => Replay::before(&folder)?,
         false => Replay::of(&folder)?,

@@ -47,10 +47,11 @@ impl Files {
 
     /// Reads the folder. Terms without a source are written as one.
     pub fn found(&self) -> Result<Found, Stop> {
-        match Folder::load(&self.path) {
+        let loaded = Folder::load(&self.path).and_then(|folder| folder.readable().map(|()| folder));
+        match loaded {
             Ok(folder) => {
                 folder.of_one_bank()?;
-                let both = Both::accepted(&folder.terms)?;
+                let both = Both::accepted_terms(&folder.terms)?;
                 let (requests, more) = named(&folder, both.terms(), &self.requests());
                 let source = match &folder.source {
                     Some(source) => source.text.clone(),
@@ -89,7 +90,7 @@ impl Files {
     /// The folder, if its terms were stored with a past.
     pub fn stored(&self) -> Option<Folder> {
         let folder = Folder::load(&self.path).ok().filter(|folder| folder.source.is_none())?;
-        Both::accepted(&folder.terms).is_ok_and(|both| both.is_stored()).then_some(folder)
+        Both::accepted_terms(&folder.terms).is_ok_and(|both| both.is_stored()).then_some(folder)
     }
 
     /// Where the requests are read from.

@@ -25,6 +25,10 @@ pub fn told(files: &Files, asked: &Asked) -> Result<Json, Stop> {
             return Ok(Json::Object(vec![("mistakes", Json::List(mistakes.collect()))]));
         }
     };
+    if let Some(long) = lengthy(&folder)? {
+        let mistakes = Json::List(vec![mistaken(&long, &asked.source)]);
+        return Ok(Json::Object(vec![("mistakes", mistakes)]));
+    }
     let mut replay = Replay::before(&folder)?;
     let (made, taken_back) = asked.requests.split_at(asked.at);
     let mut steps = Vec::new();
@@ -46,6 +50,21 @@ pub fn told(files: &Files, asked: &Asked) -> Result<Json, Stop> {
     }
     fields.push(("steps", Json::List(steps.into_iter().map(|made| made.json).collect())));
     Ok(Json::Object(fields))
+}
+
+/// What takes so long that the page would stand still, told as a mistake.
+fn lengthy(folder: &Folder) -> Result<Option<Mistake>, Stop> {
+    if effort::lengthy(&folder.terms).is_none() {
+        return Ok(None);
+    }
+    let Checked::Accepted(_, warnings) = check(folder)? else { return Ok(None) };
+    let long = warnings.into_iter().find(|warning| warning.kind == effort::KIND);
+    Ok(long.map(|long| {
+        let place = folder.place(long.about);
+        let span = place.map_or(Span { start: 0, end: 0 }, |(_, span)| span);
+        let message = format!("{}; that is too long for this page", long.what);
+        Mistake::new(span, message).advise(long.right)
+    }))
 }
 
 /// What `check` warns of.

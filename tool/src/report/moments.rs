@@ -102,7 +102,8 @@ fn sign(verdict: Verdict) -> &'static str {
 
 /// Which line or mark stands for what, and how many moments are drawn.
 fn legend(words: &Words, drawing: &Drawing, moments: usize) -> String {
-    let mut text = String::from("<ul class=\"legend\" aria-label=\"Lines in the pictures\">\n");
+    let what = if drawing.is_wide() { "Marks" } else { "Lines" };
+    let mut text = format!("<ul class=\"legend\" aria-label=\"{what} in the pictures\">\n");
     text.push_str(&drawing.legend());
     let event = |class: &str, text: &str| {
         format!(
@@ -150,17 +151,20 @@ fn changed(verb: &str, edges: &[Edge], words: &Words) -> String {
     format!("<p>{verb} {}</p>\n", escaped(&edges.join(", ")))
 }
 
-/// The relation edges of a moment, on demand.
+/// The relation edges of a moment, on demand. Kinds of members are none.
 fn edges(graph: &Graph, words: &Words) -> String {
-    if graph.edges.is_empty() {
+    let kinds = words.names.kind_relations(words.terms);
+    let edges = graph.edges.iter().filter(|(relation, ..)| !kinds.contains(relation));
+    let edges: Vec<&Edge> = edges.collect();
+    if edges.is_empty() {
         return "<p>no relation edges</p>\n".to_string();
     }
     let mut text = format!(
         "<details><summary>{}</summary>\n<table><thead><tr><th scope=\"col\">relation</th>\
          <th scope=\"col\">from</th><th scope=\"col\">to</th></tr></thead><tbody>\n",
-        counted(graph.edges.len(), "relation edge")
+        counted(edges.len(), "relation edge")
     );
-    for &(relation, from, to) in &graph.edges {
+    for &(relation, from, to) in edges {
         let cells = [words.names.relation(relation), words.member(from), words.member(to)];
         let cells: String =
             cells.iter().map(|cell| format!("<td>{}</td>", escaped(cell))).collect();

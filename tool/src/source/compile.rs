@@ -13,6 +13,7 @@ use super::resolve::Resolver;
 use super::said::Said;
 use super::seldom::seldom;
 use super::tree::{Crowd, Placer};
+use super::twice::twice;
 use crate::names::{Called, Kind, Names, Spoken};
 use declared::{changes, declared};
 use keeper::program::MOST_BYTES;
@@ -57,6 +58,7 @@ pub fn compile(text: &str) -> Result<Compiled, Vec<Mistake>> {
     let resolved = resolved(&source, &mut notes);
     warnings.extend(resolved.warnings);
     warnings.extend(passing(&source, text));
+    warnings.extend(twice(&source, text));
     warnings.extend(seldom(&source, text));
     warnings.extend(source.events.iter().filter_map(unlike));
     mistakes.extend(notes.without(&doubtful));

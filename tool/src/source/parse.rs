@@ -105,6 +105,10 @@ impl Parser {
             if !self.take_sign(';') {
                 return Ok(());
             }
+            if self.at_statement() {
+                let mistake = Mistake::new(self.last(), "nothing follows the last `;`");
+                return Err(mistake.advise("delete it"));
+            }
         }
     }
 
@@ -115,11 +119,18 @@ impl Parser {
             names.push(self.event_name()?);
         }
         let policy = if self.take("when") {
+            if self.is_sign(':') {
+                let mistake = Mistake::new(self.span(), "no `:` follows `when`");
+                return Err(mistake.advise("delete the `:`"));
+            }
             self.formula()?
         } else if self.take("by") {
             if !self.take("anyone") {
                 let mistake = self.expected("`anyone` after `by`", &["anyone"]);
                 return Err(mistake.advise(self.by_whom()));
+            }
+            if let Some(mistake) = self.anyone_joined() {
+                return Err(mistake);
             }
             Formula { kind: Kind::True, span: self.last() }
         } else {
@@ -127,7 +138,7 @@ impl Parser {
         };
         let effects = match self.take("then") {
             true => self.effects(&names[0].0.text)?,
-            false => Vec::new(),
+            false => self.no_effects()?,
         };
         self.statement_ends(&["then"])?;
         for (name, said) in names {

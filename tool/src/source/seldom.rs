@@ -1,6 +1,6 @@
 //! Sentences that are accepted and say something else than they seem to.
 
-use super::ast::{Formula, Kind, Name, Quantifier, Source, Span, Walk, Who};
+use super::ast::{Formula, Kind, MemberKind, Name, Quantifier, Source, Span, Walk, Who};
 use super::mistake::Mistake;
 use super::seeker::Seeker;
 
@@ -19,7 +19,10 @@ impl Seeker<'_> {
         match &formula.kind {
             Kind::Since(f, g) if lasting(g, self.source, DEEPEST) => self.idle(formula.span, f, g),
             Kind::And(..) => self.forgotten(formula),
-            Kind::Walk(walk) => self.unmentioned(walk),
+            Kind::Walk(walk) => {
+                self.unmentioned(walk);
+                self.named_alike(walk);
+            }
             _ => {}
         }
         let parts = match &formula.kind {
@@ -104,13 +107,38 @@ impl Seeker<'_> {
         };
         self.warn(name.span, message, advice);
     }
+
+    /// `some friend owns target`, where `friend` is a relation, and yet anybody who owns the
+    /// target will do.
+    fn named_alike(&mut self, walk: &Walk) {
+        let Some(name) = walk.name.as_ref().filter(|name| name.text != walk.label.text) else {
+            return;
+        };
+        let is_kind = |kind: &MemberKind| kind.relation.as_ref() == Some(&name.text);
+        let is_relation = self.source.relations.iter().any(|known| known.text == name.text);
+        if !is_relation || self.source.kinds.iter().any(is_kind) {
+            return;
+        }
+        let (word, label) = (&name.text, &walk.label.text);
+        let whom = walk.person.span.words(self.text);
+        let said = match walk.outwards {
+            true => format!("{whom} {label} f"),
+            false => format!("f {label} {whom}"),
+        };
+        let message =
+            format!("`{word}` is a relation, but here it only names the one who is sought");
+        let advice = format!(
+            "for a {word} of yours write `some {word} of me as f: {said}`, else choose another name"
+        );
+        self.warn(name.span, message, advice);
+    }
 }
 
 /// So far definitions are looked into.
-const DEEPEST: usize = 3;
+pub(super) const DEEPEST: usize = 3;
 
 /// The parts of `a and b and c`.
-fn conjuncts(formula: &Formula) -> Vec<&Formula> {
+pub(super) fn conjuncts(formula: &Formula) -> Vec<&Formula> {
     match &formula.kind {
         Kind::And(f, g) => [conjuncts(f), conjuncts(g)].concat(),
         _ => vec![formula],
@@ -118,7 +146,7 @@ fn conjuncts(formula: &Formula) -> Vec<&Formula> {
 }
 
 /// The body of the definition that a formula says of people.
-fn body<'a>(formula: &Formula, source: &'a Source) -> Option<&'a Formula> {
+pub(super) fn body<'a>(formula: &Formula, source: &'a Source) -> Option<&'a Formula> {
     let name = match &formula.kind {
         Kind::Defined(name, _) | Kind::Edge(_, name, _) => &name.text,
         Kind::Is(_, other) => match &other.who {

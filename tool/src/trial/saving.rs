@@ -20,7 +20,7 @@ impl Trial {
         }
         let malformed = |step: &Step| step.request == Request::Malformed;
         let lost = self.session.steps().iter().any(malformed)
-            || !self.after && !self.folder.requests.is_empty();
+            || !self.after && (!self.folder.requests.is_empty() || self.folder.unread.is_some());
         if file.is_none() && lost {
             let said = "the folder's requests have more than this: give save a file name";
             return Reply::Wrong(said.to_string());

@@ -18,6 +18,10 @@ fn others_get_nothing() {
     for path in ["/", "/favicon.ico", wrong.as_str(), &own[..20], &format!("/{own}")] {
         assert_eq!(get(path, &[("Host", host)]), 403, "{path}");
     }
+    let told = page.sent(format!("GET {wrong} HTTP/1.1\r\nHost: {host}\r\n\r\n").as_bytes());
+    assert!(told.contains("this is the token of another page"), "{told}");
+    let told = page.sent(format!("GET / HTTP/1.1\r\nHost: {host}\r\n\r\n").as_bytes());
+    assert!(told.contains("the address lacks its token"), "{told}");
     let port = host.split(':').nth(1).unwrap();
     for other in [format!("localhost:{port}"), "evil.example".into(), "127.0.0.1".into()] {
         assert_eq!(get(&own, &[("Host", &other)]), 403, "{other}");

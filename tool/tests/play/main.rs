@@ -80,6 +80,24 @@ fn warnings_are_told() {
     assert!(run(&["check", folder.path()]).out.contains(why));
 }
 
+/// Terms that would let the page stand still are told as a mistake, at the part that does it.
+#[test]
+fn what_takes_long_is_not_answered() {
+    let folder = folder();
+    let page = Page::of(&folder);
+    let members: Vec<String> = (0..64).map(|n| format!("m{n}")).collect();
+    let source = format!(
+        "members {}\nrelation friend\nevent greet by anyone\nevent meet\n  when once (me friend some a: a friend \
+         some b: b friend some c: c friend some d: d friend a and not d friend b and not d friend c)\n",
+        members.join(", ")
+    );
+    let told = page.told(&source, r#"[["greet","m0","m1"]]"#, 1, NOTHING);
+    assert!(told.starts_with("{\"mistakes\":[{\"start\":"), "{told}");
+    assert!(told.contains("\"line\":5,"), "{told}");
+    assert!(told.contains("; that is too long for this page\""), "{told}");
+    assert!(!told.contains("\"picture\""), "{told}");
+}
+
 #[test]
 fn what_cannot_be_played() {
     assert_eq!(run(&["play", "/no/such/folder"]).status, 3);

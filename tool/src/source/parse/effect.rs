@@ -28,6 +28,16 @@ impl Parser {
         Ok(effects)
     }
 
+    /// No effects, or the mistake that some come without `then`.
+    pub(super) fn no_effects(&self) -> Result<Vec<Effect>, Mistake> {
+        if !matches!(self.word_ahead(0), Some("add" | "remove")) {
+            return Ok(Vec::new());
+        }
+        let words: Vec<&str> = (0..4).map_while(|place| self.word_ahead(place)).collect();
+        let advice = format!("write `then {}`", words.join(" "));
+        Err(Mistake::new(self.span(), "`then` is missing here").advise(advice))
+    }
+
     fn effect(&mut self, event: &str) -> Result<Effect, Mistake> {
         let add = self.take("add");
         if !add && !self.take("remove") {

@@ -145,11 +145,23 @@ impl Parser {
         mistake.advise(advice)
     }
 
+    /// `by anyone and me owns target`, at the `and`.
+    pub(super) fn anyone_joined(&self) -> Option<Mistake> {
+        let word = self.word_ahead(0).filter(|word| ["and", "or", "since"].contains(word))?;
+        let message = format!("`{word}` after `by anyone`, which has no condition");
+        let advice =
+            "write `when` and the condition in the place of `by anyone`: `when me owns target`";
+        Some(Mistake::new(self.span(), message).advise(advice))
+    }
+
     /// How to say who may do it, for the word that follows `by` or `for`.
     pub(super) fn by_whom(&self) -> String {
         let place = usize::from(self.is_word("for"));
         if matches!(self.word_ahead(place), Some("nobody" | "none" | "noone")) {
             return "`when false` allows it to nobody".to_string();
+        }
+        if matches!(self.word_ahead(place), Some("anybody" | "everybody" | "everyone" | "all")) {
+            return "write `by anyone`".to_string();
         }
         let whom = self.word_ahead(place).filter(|_| self.name_ahead(place)).map(singular);
         let whom = whom.unwrap_or_else(|| "player".to_string());

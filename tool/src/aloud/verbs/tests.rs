@@ -1,0 +1,38 @@
+//! Verbs and their forms.
+
+use super::*;
+
+fn forms(word: &str) -> String {
+    let verb = verb(word).unwrap();
+    format!("{} {} {} {} {}", verb.base, verb.third, verb.past, verb.participle, verb.preposition)
+}
+
+#[test]
+fn inflections() {
+    assert_eq!(forms("owns"), "own owns owned owned ");
+    assert_eq!(forms("forgive"), "forgive forgives forgave forgiven ");
+    assert_eq!(forms("share"), "share shares shared shared with");
+    assert_eq!(forms("withdraw"), "withdraw withdraws withdrew withdrawn from");
+    assert_eq!(forms("reply"), "reply replies replied replied to");
+    assert_eq!(forms("expel"), "expel expels expelled expelled ");
+    assert_eq!(forms("unblock"), "unblock unblocks unblocked unblocked ");
+    assert_eq!(forms("teaches"), "teach teaches taught taught ");
+    assert_eq!(forms("weak-view"), "weak-view weak-views weak-viewed weak-viewed ");
+    assert_eq!(forms("part"), "part parts parted parted from");
+}
+
+#[test]
+fn guesses() {
+    for (name, done) in
+        [("hoist", "hoisted"), ("nudge", "nudged"), ("pry", "pried"), ("zap", "zapped")]
+    {
+        assert_eq!(guessed(name), done);
+    }
+}
+
+#[test]
+fn words_that_are_no_verbs() {
+    for word in ["friend", "blacklist", "view_weak", "Own", "", "s", "-"] {
+        assert_eq!(verb(word), None, "{word}");
+    }
+}
