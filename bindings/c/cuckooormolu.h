@@ -1351,25 +1351,25 @@ cuckooormolu_monitor_read_within(struct cuckooormolu *m, const void *text,
                                  size_t length, void *buffer, size_t room,
                                  size_t most, size_t *line)
 {
-    const uint8_t *stored = (const uint8_t *)text;
-    size_t stored_length = text == NULL ? 0 : length;
+    const uint8_t *asked = (const uint8_t *)text;
+    size_t asked_length = text == NULL ? 0 : length;
     size_t code = CUCKOOORMOLU_REFUSED_SHORT;
     size_t number = 0;
     if (m == NULL)
         return cuckooormolu_told(code, number, line);
-    if (!cuckooormolu_apart(m, sizeof *m, text, stored_length) ||
+    if (!cuckooormolu_apart(m, sizeof *m, text, asked_length) ||
         !cuckooormolu_apart(m, sizeof *m, buffer, buffer == NULL ? 0 : room)) {
-        stored_length = 0;
-    } else if (stored_length == 0 || stored[0] != 'S') {
-        stored_length = cuckooormolu_as_stored(stored, stored_length,
+        asked_length = 0;
+    } else if (asked_length == 0 || asked[0] != 'S') {
+        asked_length = cuckooormolu_as_stored(asked, asked_length,
                                                (uint8_t *)buffer, room);
-        stored = (const uint8_t *)buffer;
+        asked = (const uint8_t *)buffer;
     }
-    if (stored_length > 0) {
+    if (asked_length > 0) {
         /* A stored text is read and not opened. Where that is refused, so is the
          * text itself. */
         if (cuckooormolu_done(cuckooormolu_monitor_read(
-                m, stored, stored_length, NULL)) &&
+                m, asked, asked_length, NULL)) &&
             cuckooormolu_monitor_effort(m) > most)
             code = CUCKOOORMOLU_COSTLY;
         else
