@@ -49,11 +49,10 @@ fn mistakes_are_told_by_line() {
     // Only what uses the file stops there.
     let said = run_with(&["run", folder.path(), "-"], "share dora pete\n");
     assert_eq!((said.status, said.out.as_str()), (0, "1  share dora → pete  granted\n"));
-    let said = run(&["check", folder.path()]);
-    assert_eq!(said.status, 0);
-    assert!(said.out.contains("warning: the folder's requests cannot be read: "), "{}", said.out);
-    assert!(said.out.contains("requests.say:2: no event `laod`"), "{}", said.out);
     assert_eq!(run(&["aloud", folder.path()]).status, 0);
+    let said = run(&["check", folder.path()]);
+    assert_eq!((said.status, said.out.as_str()), (3, ""));
+    assert!(said.err.contains("requests.say:2: no event `laod`"), "{}", said.err);
 }
 
 #[test]

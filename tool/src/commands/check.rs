@@ -4,7 +4,7 @@
 use crate::arguments::Arguments;
 use crate::both::Both;
 use crate::check::{check, effort, About, Checked, Fault, Warning};
-use crate::folder::{Folder, SOURCE, TERMS};
+use crate::folder::{Folder, SOURCE, SPOKEN, TERMS};
 use crate::json::Json;
 use crate::names::Names;
 use crate::source::mistake::Mistake;
@@ -25,7 +25,7 @@ mistake all the same. That nobody is ever granted an event is said after the
 folder's requests and tests, many others, and a short search for some. The effort is
 a bound by the terms alone, with the time that it takes on a computer of today; a row
 is one entry at one member. Where that is seconds or more, nothing is worked out and no
-request is tried. Requests of the folder that cannot be read are warned of.
+request is tried. The requests of requests.say are checked, too.
 
   --watch  check again whenever a file of the folder changes, until stopped
   --json   one line for each mistake of a source: error, file, line, column, advice;
@@ -33,7 +33,8 @@ request is tried. Requests of the folder that cannot be read are warned of.
            terms are accepted, one with the counts and the effort, and one for each
            warning: warning, line, what, right
 
-Exit status: 0 if the terms are accepted, with or without warnings; 3 if not.
+Exit status: 0 if the terms are accepted, with or without warnings; 3 if not, or if
+requests.say has a mistake.
 ";
 
 pub fn main(arguments: &[String], out: &mut dyn Write) -> Result<i32, Stop> {
@@ -60,6 +61,10 @@ pub fn main(arguments: &[String], out: &mut dyn Write) -> Result<i32, Stop> {
 /// Checks once.
 fn checked(path: &Path, json: bool, out: &mut dyn Write) -> Result<i32, Stop> {
     let folder = Folder::load(path)?;
+    // What people write by name is checked as a source is; a file that is too long is warned of.
+    if folder.asked.ends_with(SPOKEN) {
+        folder.readable()?;
+    }
     match check(&folder)? {
         Checked::Refused(fault) if json => writeln!(out, "{}", fault_json(&fault))?,
         Checked::Refused(fault) => refused(out, &fault, &folder.terms)?,

@@ -103,6 +103,9 @@ fn named_precisely() {
         ("me owns target\nallow share", "is said where it is declared: `event load when me owns target`"),
         ("me owns target\nfirst dora, pete owns saw", "one fact for each: `first dora owns saw, pete owns saw`"),
         ("3rd owns target", "`3rd` is neither a number nor a name"),
+        ("me owns the target", "leave out `the`: `target` stands alone"),
+        ("some owner owns target: once owner share with me", "leave it out: `owner share me`"),
+        ("some owner owns target: once owner shared with me", "leave it out: `owner share me`"),
     ];
     let told = |(formula, part): &(&str, &str)| {
         let message = policy(formula);

@@ -24,9 +24,14 @@ const CONTRACTIONS: [&str; 8] =
     ["isnt", "arent", "wasnt", "hasnt", "havent", "doesnt", "didnt", "dont"];
 
 impl Parser {
-    /// `me owns the preset` or `me is a friend of target`, after the article.
+    /// `me owns the preset`, `me is a friend of target` or `me owns the target`, after the
+    /// article.
     pub(super) fn article_before(&self) -> Option<Mistake> {
         let word = self.word_before(1).filter(|word| ARTICLES.contains(word))?;
+        if let Some(whom @ ("me" | "target" | "here")) = self.word_ahead(0) {
+            let mistake = Mistake::new(self.last(), format!("`{word}` has no meaning here"));
+            return Some(mistake.advise(format!("leave out `{word}`: `{whom}` stands alone")));
+        }
         let noun = self.word_ahead(0).filter(|_| self.name_ahead(0))?;
         let being = match (self.word_before(4), self.word_before(3), self.word_before(2)) {
             (_, Some(who), Some("is")) => Some(format!("{who} is")),

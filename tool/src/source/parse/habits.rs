@@ -90,6 +90,20 @@ impl Parser {
         Some(Mistake::new(self.span(), message).advise(advice))
     }
 
+    /// `owner share with me` or `owner shared with me`, after the `with`.
+    pub(super) fn preposition_before(&self) -> Option<Mistake> {
+        let [who, done, word] = [3, 2, 1].map(|places| self.word_before(places));
+        let word = word.filter(|word| ["with", "to", "from", "for", "on"].contains(word))?;
+        let whom = self.word_ahead(0).filter(|_| !self.begins[self.next])?;
+        let (who, done) = (who?, done?);
+        let is_done = |name: &&String| {
+            *name == done || verb(name).is_some_and(|verb| verb.participle == done)
+        };
+        let label = self.declared.iter().filter(is_done).min()?;
+        let mistake = Mistake::new(self.last(), format!("`{word}` has no meaning here"));
+        Some(mistake.advise(format!("leave it out: `{who} {label} {whom}`")))
+    }
+
     /// `target is owned by me`, at the `by`.
     pub(super) fn passive(&self) -> Option<String> {
         let [whom, is, done] = [3, 2, 1].map(|places| self.word_before(places));

@@ -91,7 +91,8 @@ impl Parser {
 
     /// What is said of a token that can't follow a formula.
     pub(super) fn stray(&self, also: &[&str]) -> Mistake {
-        if let Some(mistake) = self.article_before().or_else(|| self.adverb_before()) {
+        let before = self.article_before().or_else(|| self.adverb_before());
+        if let Some(mistake) = before.or_else(|| self.preposition_before()) {
             return mistake;
         }
         if let Some(mistake) = self.joining() {
