@@ -9,20 +9,26 @@
 //! Each request and revision has a key of the client's choice. Where the log has that key, what was answered then is
 //! told again and nothing is written: a client that heard nothing asks again with the same key.
 
+mod error;
 pub mod libpq;
 mod patient;
 pub mod words;
 
+pub use error::Error;
 pub use patient::Patient;
 
 use cuckooormolu::{raw, Answer, Monitor, Refusal, Request, Terms};
 use cuckooormolu::{SCRATCH_WORDS, STATE_WORDS, TERMS_WORDS};
-use libpq::{Connection, Lost, Rows, Statement};
+use libpq::{Connection, Rows, Statement};
 use std::ffi::CStr;
-use std::fmt;
 
 /// The tables; to be run once on an empty database.
 pub const SCHEMA: &str = include_str!("../schema.sql");
+
+/// So many rows a request by a circle's terms may work out, unless another limit is set. They take less than 0.1 s
+/// (bindings/README.md, Terms of strangers), for which others of the circle wait at its lock; the most of the examples
+/// is a quarter of it.
+pub const LIMIT: usize = 1_000_000;
 
 const LOCK: &CStr = c"lock";
 const TOLD: &CStr = c"told";
@@ -63,47 +69,10 @@ pub type Told = Result<Answer, Refusal>;
 /// What a revision is told: that it is done, or that the terms have other numbers of members, relations or events.
 pub type Revised = Result<(), Refusal>;
 
-/// Why nothing is told.
-#[derive(Clone, Debug, PartialEq, Eq)]
-pub enum Error {
-    /// The server is not there, or a statement failed. The request may have been answered or not: ask again with the
-    /// same key, by another connection.
-    Lost(Lost),
-    /// There is no such circle.
-    NoCircle,
-    /// There is such a circle already.
-    Circle,
-    /// The key was used for another request or revision.
-    OtherRequest,
-    /// The circle's words are not ones that the library accepts. Nothing was answered.
-    Damaged(Refusal),
-}
-
-impl fmt::Display for Error {
-    fn fmt(&self, out: &mut fmt::Formatter<'_>) -> fmt::Result {
-        match self {
-            Error::Lost(lost) => lost.fmt(out),
-            Error::NoCircle => out.write_str("no such circle"),
-            Error::Circle => out.write_str("there is such a circle already"),
-            Error::OtherRequest => {
-                out.write_str("the key was used for another request or revision")
-            }
-            Error::Damaged(refusal) => write!(out, "the circle is damaged: {refusal}"),
-        }
-    }
-}
-
-impl std::error::Error for Error {}
-
-impl From<Lost> for Error {
-    fn from(lost: Lost) -> Error {
-        Error::Lost(lost)
-    }
-}
-
 /// The circles of a server, by one connection. Workers have one each.
 pub struct Circles {
     connection: Connection,
+    limit: usize,
     lent: Box<Lent>,
     /// The circle whose lock was asked for with the last commit.
     ahead: Option<i64>,
@@ -118,7 +87,7 @@ struct Lent {
 }
 
 impl Circles {
-    /// Connects, by a connection string of libpq.
+    /// Connects, by a connection string of libpq. The terms of circles are held to [`LIMIT`].
     pub fn connect(to: &str) -> Result<Circles, Error> {
         let connection = Connection::open(to, STATEMENTS)?;
         let lent = Lent {
@@ -127,11 +96,18 @@ impl Circles {
             state: [0; STATE_WORDS],
             scratch: [0; SCRATCH_WORDS],
         };
-        Ok(Circles { connection, lent: Box::new(lent), ahead: None })
+        Ok(Circles { connection, limit: LIMIT, lent: Box::new(lent), ahead: None })
     }
 
-    /// Makes a circle that stands where a monitor does.
+    /// The same, where a request by the terms of a circle may work out so many rows.
+    pub fn within(self, limit: usize) -> Circles {
+        Circles { limit, ..self }
+    }
+
+    /// Makes a circle that stands where a monitor does. Terms of which a request may work out more rows than the limit
+    /// are refused; reading them may take as long, so they are to be read by [`Monitor::read_within`].
     pub fn create(&mut self, circle: i64, monitor: &Monitor) -> Result<(), Error> {
+        self.allow(monitor.terms())?;
         let terms = words::packed(monitor.terms().words());
         let state = words::packed(monitor.state().words());
         let values: [&[u8]; 3] = [&circle.to_be_bytes(), &terms, &state];
@@ -175,8 +151,10 @@ impl Circles {
 
     /// Revises the terms of a circle, once for each key: relations and event edge are carried over, and so is the past
     /// of each entry whose formula the old terms have. It makes no moment. Terms with other numbers of members,
-    /// relations or events are refused, and then the circle is as it was.
+    /// relations or events are refused, and then the circle is as it was. So it is where they are above the limit, as
+    /// for [`Circles::create`], whatever the key was told before.
     pub fn revise(&mut self, circle: i64, key: Key, new: &Terms) -> Result<Revised, Error> {
+        self.allow(new)?;
         self.lock(circle)?;
         let mut state = [0; STATE_WORDS];
         let revised = match raw::revise(&self.lent.terms, &self.lent.state, new.words(), &mut state)
@@ -199,6 +177,14 @@ impl Circles {
             Ok(words::revised(&before, 0))
         } else {
             Err(Error::OtherRequest)
+        }
+    }
+
+    /// Holds terms to the limit, before anything is locked.
+    fn allow(&self, terms: &Terms) -> Result<(), Error> {
+        match (terms.effort(), self.limit) {
+            (rows, limit) if rows > limit => Err(Error::Costly { rows, limit }),
+            _ => Ok(()),
         }
     }
 

@@ -5,32 +5,27 @@
 //!     circles revise TO CIRCLE KEY TERMS    gives a circle the terms of such a file; says `done`, or `refuse` and 13
 //!     circles serve TO                      answers the lines of standard input
 //!
+//! `create` and `revise` refuse terms of which a request may work out more than 1,000,000 rows; `--effort ROWS` after
+//! either sets another limit. Nothing is worked out before that is known.
+//!
 //! TO is a connection string of libpq. A line is `R` circle key event from to, the key 32 hexadecimal digits with or
 //! without dashes; its answer is the key and `grant`, `deny`, `refuse` and the number, or `error` and why, parted by
 //! tabs. Where the server is away, the worker asks again with the same key, for a minute. A client that sends the next
 //! line before it has the answer saves a round trip to the server.
 
 use circles::libpq::Connection;
-use circles::{Circles, Key, Patient, SCHEMA};
-use cuckooormolu::{Event, Member, Monitor, Request};
+use circles::{Circles, Key, Patient, LIMIT, SCHEMA};
+use cuckooormolu::{Event, Member, Monitor, Request, WithinError};
 use std::error::Error;
 use std::io::{self, BufRead, BufReader, Write};
 use std::process::ExitCode;
 
-const USAGE: &str =
-    "usage: circles schema TO | create TO CIRCLE TERMS | revise TO CIRCLE KEY TERMS | serve TO";
+const USAGE: &str = "usage: circles schema TO | create [--effort ROWS] TO CIRCLE TERMS | \
+     revise [--effort ROWS] TO CIRCLE KEY TERMS | serve TO";
 
 fn main() -> ExitCode {
     let arguments = std::env::args().skip(1).collect::<Vec<_>>();
-    let words = arguments.iter().map(String::as_str).collect::<Vec<_>>();
-    let done = match words[..] {
-        ["schema", to] => Connection::script(to, SCHEMA).map_err(|lost| lost.to_string().into()),
-        ["create", to, circle, terms] => create(to, circle, terms),
-        ["revise", to, circle, key, terms] => revise(to, circle, key, terms),
-        ["serve", to] => serve(to),
-        _ => Err(USAGE.into()),
-    };
-    match done {
+    match run(&arguments.iter().map(String::as_str).collect::<Vec<_>>()) {
         Ok(()) => ExitCode::SUCCESS,
         Err(error) => {
             eprintln!("circles: {error}");
@@ -39,16 +34,48 @@ fn main() -> ExitCode {
     }
 }
 
-fn create(to: &str, circle: &str, terms: &str) -> Result<(), Box<dyn Error>> {
-    let monitor = Monitor::read(&std::fs::read(terms)?)?;
-    Circles::connect(to)?.create(circle.parse()?, &monitor)?;
+fn run(words: &[&str]) -> Result<(), Box<dyn Error>> {
+    match *words {
+        ["schema", to] => Ok(Connection::script(to, SCHEMA).map_err(|lost| lost.to_string())?),
+        ["create", "--effort", rows, to, circle, terms] => create(limit(rows)?, to, circle, terms),
+        ["create", to, circle, terms] => create(LIMIT, to, circle, terms),
+        ["revise", "--effort", rows, to, circle, key, terms] => {
+            revise(limit(rows)?, to, circle, key, terms)
+        }
+        ["revise", to, circle, key, terms] => revise(LIMIT, to, circle, key, terms),
+        ["serve", to] => serve(to),
+        _ => Err(USAGE.into()),
+    }
+}
+
+fn limit(rows: &str) -> Result<usize, &'static str> {
+    rows.parse().map_err(|_| "--effort takes a number of rows")
+}
+
+/// The monitor of a file, where the limit allows its terms.
+fn read(limit: usize, terms: &str) -> Result<Monitor, Box<dyn Error>> {
+    match Monitor::read_within(&std::fs::read(terms)?, limit) {
+        Err(WithinError::Costly(rows)) => Err(circles::Error::Costly { rows, limit }.into()),
+        read => Ok(read?),
+    }
+}
+
+fn create(limit: usize, to: &str, circle: &str, terms: &str) -> Result<(), Box<dyn Error>> {
+    let monitor = read(limit, terms)?;
+    Circles::connect(to)?.within(limit).create(circle.parse()?, &monitor)?;
     Ok(())
 }
 
-fn revise(to: &str, circle: &str, shown: &str, terms: &str) -> Result<(), Box<dyn Error>> {
+fn revise(
+    limit: usize,
+    to: &str,
+    circle: &str,
+    shown: &str,
+    terms: &str,
+) -> Result<(), Box<dyn Error>> {
     let key = key(shown).ok_or("a key has 32 hexadecimal digits")?;
-    let monitor = Monitor::read(&std::fs::read(terms)?)?;
-    match Patient::new(to).revise(circle.parse()?, key, monitor.terms())? {
+    let monitor = read(limit, terms)?;
+    match Patient::new(to).within(limit).revise(circle.parse()?, key, monitor.terms())? {
         Ok(()) => println!("done"),
         Err(refusal) => println!("refuse\t{}", refusal.number()),
     }

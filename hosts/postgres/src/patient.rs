@@ -1,6 +1,6 @@
 //! A client that asks again, with the same key, until it is answered.
 
-use crate::{Circles, Error, Key, Revised, Told};
+use crate::{Circles, Error, Key, Revised, Told, LIMIT};
 use cuckooormolu::{Request, Terms};
 use std::thread;
 use std::time::{Duration, Instant};
@@ -12,13 +12,19 @@ const PAUSE: Duration = Duration::from_millis(50);
 /// Circles by a connection that is made again where it is lost.
 pub struct Patient {
     to: String,
+    limit: usize,
     circles: Option<Circles>,
 }
 
 impl Patient {
     /// A client of a server, by a connection string of libpq.
     pub fn new(to: &str) -> Patient {
-        Patient { to: to.to_string(), circles: None }
+        Patient { to: to.to_string(), limit: LIMIT, circles: None }
+    }
+
+    /// The same, with the limit of [`Circles::within`].
+    pub fn within(self, limit: usize) -> Patient {
+        Patient { limit, ..self }
     }
 
     /// Answers a request as [`Circles::request_before`] does.
@@ -44,7 +50,7 @@ impl Patient {
         loop {
             let circles = match self.circles.take() {
                 Some(circles) => Ok(circles),
-                None => Circles::connect(&self.to),
+                None => Circles::connect(&self.to).map(|circles| circles.within(self.limit)),
             };
             let done = circles.and_then(|mut circles| {
                 let told = each(&mut circles);

@@ -1,4 +1,5 @@
 //! The server that test.sh started, circles in it, and the keeper's replay of their log.
+#![allow(dead_code)] // Each test takes a part of it.
 
 use circles::libpq::{Connection, Rows};
 use circles::{words, Circles, Key, Revised, Told};
