@@ -33,8 +33,8 @@ fn costly() -> String {
     }
     put(&|last| format!("since {last} {last}"));
     writeln!(text, "P 0 {entry}").unwrap();
-    for member in 0..64 {
-        writeln!(text, "G 0 {member} {}", (member + 1) % 64).unwrap();
+    for (from, to) in (0..64).flat_map(|from| (0..64).step_by(8).map(move |to| (from, to))) {
+        writeln!(text, "G 0 {from} {to}").unwrap();
     }
     text
 }
