@@ -5,6 +5,9 @@
  *     panel FOLDER TERMS    begins: keeps the state that TERMS says
  *     panel FOLDER          goes on: answers the requests of standard input
  *
+ * It does not begin with terms of which a request may work out more than MOST_ROWS
+ * rows.
+ *
  * A request is a line `R` event from to, an answer a line `grant`, `deny` or
  * `refuse` and the number, parted by tabs. The file FOLDER/state is a line with
  * the length and the checksum of what follows, and then a text of the stored
@@ -30,6 +33,9 @@
 #include <sys/file.h>
 #include <unistd.h>
 
+/* They take less than 0.1 s, which is how long a player may wait for an answer. */
+#define MOST_ROWS 1000000
+
 #define HEAD_BYTES 64
 #define STATE "state"
 #define STATE_NEW "state.new"
@@ -40,6 +46,9 @@ static struct cuckooormolu monitor;
 
 /* A file's bytes, one more than any has. */
 static uint8_t bytes[HEAD_BYTES + CUCKOOORMOLU_STORED_BYTES + 1];
+
+/* Lent while terms are read. */
+static uint8_t buffer[sizeof bytes + 4];
 
 /* The folder, open and locked as long as the host runs. */
 static int folder;
@@ -129,21 +138,26 @@ static bool keep(void)
            replace(head, head_of(bytes, length, head), bytes, length);
 }
 
-/* Reads a text into the monitor. */
-static bool take(const uint8_t *text, size_t length)
-{
-    return cuckooormolu_done(
-        cuckooormolu_monitor_read(&monitor, text, length, NULL));
-}
-
 /* Keeps what TERMS says. A folder that has a state already is left as it is. */
 static int begin(const char *terms)
 {
     if (faccessat(folder, STATE, F_OK, 0) == 0 || errno != ENOENT)
         return fail(2, "the folder has a state already");
     ssize_t length = contents(AT_FDCWD, terms);
-    if (length < 0 || !take(bytes, (size_t)length))
-        return fail(2, "the terms can't be read, or are refused");
+    if (length < 0)
+        return fail(2, "the terms can't be read");
+    struct cuckooormolu_result result = cuckooormolu_monitor_read_within(
+        &monitor, bytes, (size_t)length, buffer, sizeof buffer, MOST_ROWS, NULL);
+    if (cuckooormolu_costly(result)) {
+        fprintf(stderr,
+                "panel: a request by these terms may work out more than the "
+                "limit of %d rows: change the part that `cuckooormolu check` "
+                "names\n",
+                MOST_ROWS);
+        return 2;
+    }
+    if (!cuckooormolu_done(result))
+        return fail(2, "the terms are refused");
     return keep() ? 0 : fail(1, UNKEPT);
 }
 
@@ -163,7 +177,9 @@ static bool resume(void)
     size_t first = (size_t)(text - bytes);
     size_t rest = (size_t)length - first;
     return head_of(text, rest, head) == first &&
-           memcmp(head, bytes, first) == 0 && take(text, rest) &&
+           memcmp(head, bytes, first) == 0 &&
+           cuckooormolu_done(
+               cuckooormolu_monitor_read(&monitor, text, rest, NULL)) &&
            fsync(folder) == 0;
 }
 

@@ -1,7 +1,8 @@
 #!/bin/sh
 # power.sh ARCHIVE [HOST...]: builds the host of panel.c over the archive and takes
 # its power at every call (power/main.c), and that of other hosts with the same
-# command line and file. Needs a C compiler (CC, else cc).
+# command line and file. None begins with costly terms. Needs a C compiler (CC, else
+# cc).
 set -eu
 
 if [ $# -lt 1 ] || [ ! -f "$1" ]; then
@@ -25,7 +26,41 @@ trap 'exit 1' HUP INT TERM
 "$CC" $strict -o "$work/power" "$here/power/main.c" "$here/power/run.c" \
     "$here/power/disk.c" "$here/power/expected.c" "$archive"
 
+# costly: terms that would take ages to open: three variables that are bound anew in
+# turn, and every level reads all of them.
+costly() {
+    printf 'M 64\nL 1 1\nF 0 var 1 0\nF 1 var 2 0\nF 2 var 3 0\nF 3 or 0 1\nF 4 or 3 2\n'
+    last=4
+    for variable in 1 2 3 1 2 3 1 2 3 1 2 3; do
+        for line in "out 0 $last" "or $((last + 1)) 4" "bind $variable $((last + 2))" "or $((last + 3)) 4"; do
+            last=$((last + 1))
+            echo "F $last $line"
+        done
+    done
+    printf 'F %d bind 1 %d\nF %d bind 2 %d\nF %d bind 3 %d\n' \
+        $((last + 1)) $last $((last + 2)) $((last + 1)) $((last + 3)) $((last + 2))
+    printf 'F %d since %d %d\nP 0 %d\n' $((last + 4)) $((last + 3)) $((last + 3)) $((last + 4))
+    for from in $(seq 0 63); do
+        for to in $(seq 0 8 63); do echo "G 0 $from $to"; done
+    done
+}
+costly | tr ' ' '\t' >"$work/costly.tsv"
+
+# refuses HOST: it ends with 2, keeps nothing and says the limit.
+refuses() {
+    mkdir "$work/run"
+    code=0
+    timeout 10 "$1" "$work/run" "$work/costly.tsv" 2>"$work/said" || code=$?
+    if [ "$code" -ne 2 ] || [ -n "$(ls "$work/run")" ] || ! grep -q 'limit.* 1000000' "$work/said"; then
+        echo "FAIL ${1##*/}: begins with costly terms, or does not say why not (status $code)"
+        exit 1
+    fi
+    rm -r "$work/run"
+    echo "ok   ${1##*/}: costly terms are refused"
+}
+
 for host in "$work/panel" "$@"; do
+    refuses "$host"
     mkdir "$work/run"
     timeout 120 "$work/power" "$host" "$work/stub.so" "$work/run"
     rm -r "$work/run"

@@ -4,6 +4,9 @@
 //!     panel FOLDER TERMS    begins: keeps the state that TERMS says
 //!     panel FOLDER          goes on: answers the requests of standard input
 //!
+//! It does not begin with terms of which a request may work out more than MOST_ROWS
+//! rows.
+//!
 //! A request is a line `R` event from to, an answer a line `grant`, `deny` or
 //! `refuse` and the number, parted by tabs. The file FOLDER/state is a line with
 //! the length and the checksum of what follows, and then a text of the stored
@@ -16,7 +19,7 @@
 //! where there is nothing to go on from. After 1 what is in the folder counts, not
 //! what was in memory: go on from there.
 
-use cuckooormolu::{Monitor, Refusal, Request};
+use cuckooormolu::{Monitor, Refusal, Request, WithinError};
 use std::fs::{self, File};
 use std::io::{self, BufRead, Write};
 use std::os::fd::AsRawFd;
@@ -29,6 +32,9 @@ extern "C" {
 }
 const LOCK_EX: i32 = 2;
 const LOCK_NB: i32 = 4;
+
+/// They take less than 0.1 s, which is how long a player may wait for an answer.
+const MOST_ROWS: usize = 1_000_000;
 
 /// A folder that keeps one monitor, locked as long as it is open.
 struct Folder {
@@ -79,7 +85,13 @@ impl Folder {
         if self.state.try_exists()? {
             return Err(io::Error::other("the folder has a state already"));
         }
-        Monitor::read(&fs::read(terms)?).map_err(io::Error::other)
+        Monitor::read_within(&fs::read(terms)?, MOST_ROWS).map_err(|error| match error {
+            WithinError::Costly(rows) => io::Error::other(format!(
+                "a request by these terms may work out {rows} rows, and the limit is \
+                 {MOST_ROWS}: change the part that `cuckooormolu check` names"
+            )),
+            refused => io::Error::other(refused),
+        })
     }
 }
 
