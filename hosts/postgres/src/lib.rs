@@ -25,9 +25,9 @@ use std::ffi::CStr;
 /// The tables; to be run once on an empty database.
 pub const SCHEMA: &str = include_str!("../schema.sql");
 
-/// So many rows a request by a circle's terms may work out, unless another limit is set. They take less than 0.1 s
-/// (bindings/README.md, Terms of strangers), for which others of the circle wait at its lock; the most of the examples
-/// is a quarter of it.
+/// The most rows that a request by a circle's terms may work out, unless another limit is set. They take less than
+/// 0.1 s (bindings/README.md, Terms of strangers), while others of the circle wait at its lock; the costliest of
+/// examples/ needs a quarter of them.
 pub const LIMIT: usize = 1_000_000;
 
 const LOCK: &CStr = c"lock";
@@ -99,7 +99,7 @@ impl Circles {
         Ok(Circles { connection, limit: LIMIT, lent: Box::new(lent), ahead: None })
     }
 
-    /// The same, where a request by the terms of a circle may work out so many rows.
+    /// The same, where a request by the terms of a circle may work out so many rows at most.
     pub fn within(self, limit: usize) -> Circles {
         Circles { limit, ..self }
     }
