@@ -5,7 +5,7 @@
  *     example TERMS REQUESTS [STORED]
  *
  * One line for each request: its number, the answer, and for a refusal its
- * number, parted by tabs. Refused terms print one line only, which says so, and
+ * number, separated by tabs. Refused terms print one line only, which says so, and
  * the reason on standard error. Where a third file is named, the monitor is
  * stored in it; read as TERMS, later or elsewhere, it goes on from there.
  *

@@ -9,7 +9,7 @@
 //! either sets another limit. Nothing is worked out before that is known.
 //!
 //! TO is a connection string of libpq. A line is `R` circle key event from to, the key 32 hexadecimal digits with or
-//! without dashes; its answer is the key and `grant`, `deny`, `refuse` and the number, or `error` and why, parted by
+//! without dashes; its answer is the key and `grant`, `deny`, `refuse` and the number, or `error` and why, separated by
 //! tabs. Where the server is away, the worker asks again with the same key, for a minute. A client that sends the next
 //! line before it has the answer saves a round trip to the server.
 
