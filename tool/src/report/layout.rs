@@ -126,7 +126,7 @@ impl Layout {
             (x + (ox * cos - oy * sin) * far, y + (ox * sin + oy * cos) * far)
         };
         let reach = (self.dot + self.loops) * (1.2 + 0.1 * (order % 4) as f64);
-        let (leaves, enters) = (turned(-0.6, self.dot), turned(0.6, self.ring() + 1.0));
+        let (leaves, enters) = (turned(-0.6, self.dot), turned(0.6, self.dot + 1.5));
         [leaves, turned(-0.75, reach), turned(0.75, reach), enters]
     }
 
