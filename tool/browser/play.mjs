@@ -89,6 +89,8 @@ try {
     return box.top - 2 >= within.top && box.bottom + 2 <= within.bottom;
   })()`);
   assert.ok(whole, 'the last request is cut off');
+  const scale = await page.value('document.querySelector("#picture .graph").getScreenCTM().a');
+  assert.ok(scale >= 0.7, `names in the graph are drawn at ${scale.toFixed(2)} of their size`);
   await page.picture(`${folder}/play-low.png`);
   await page.size(1400, 900);
 
