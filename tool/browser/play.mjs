@@ -81,6 +81,16 @@ try {
     return ${all('#looks li')}.filter((one) => one.getBoundingClientRect().bottom <= box.bottom + 1).length;
   })()`);
   assert.equal(seen, 4, 'events that are seen at a height of 757');
+  // So is the last request, with the line around it.
+  const whole = await page.value(`(() => {
+    drawStory();
+    const [strip, last] = ['#strip', '#strip [aria-current]'].map((one) => document.querySelector(one));
+    const [within, box] = [strip.getBoundingClientRect(), last.getBoundingClientRect()];
+    return box.top - 2 >= within.top && box.bottom + 2 <= within.bottom;
+  })()`);
+  assert.ok(whole, 'the last request is cut off');
+  const scale = await page.value('document.querySelector("#picture .graph").getScreenCTM().a');
+  assert.ok(scale >= 0.7, `names in the graph are drawn at ${scale.toFixed(2)} of their size`);
   await page.picture(`${folder}/play-low.png`);
   await page.size(1400, 900);
 

@@ -7,36 +7,19 @@ mod revising;
 mod stored;
 mod telling;
 mod unopened;
+mod verdict;
 
 pub use banks::Banks;
 use revising::allowed;
 pub use revising::Allowed;
+pub use verdict::Verdict;
+use verdict::{agreed, kept_verdict, named, verdict};
 
 use crate::stop::Stop;
 use keeper::expect;
 use keeper::record::{Graph, Record};
 use keeper::terms::memory::terms_words;
 use keeper::terms::{self, EventEdge, Refusal, Terms};
-use std::fmt;
-
-/// What a request or a look is answered.
-#[derive(Clone, Copy, Debug, PartialEq, Eq)]
-pub enum Verdict {
-    Grant,
-    Deny,
-    /// Refused, with the refusal's number.
-    Refused(u16),
-}
-
-impl fmt::Display for Verdict {
-    fn fmt(&self, out: &mut fmt::Formatter<'_>) -> fmt::Result {
-        match self {
-            Verdict::Grant => out.pad("grant"),
-            Verdict::Deny => out.pad("deny"),
-            Verdict::Refused(number) => write!(out, "refuse {number}"),
-        }
-    }
-}
 
 /// The proved monitor and the keeper's record, side by side.
 #[derive(Clone)]
@@ -165,43 +148,6 @@ fn same_graph(state: &proved::State, graph: &Graph) -> bool {
     });
     let edges = state.edges().map(|edge| (edge.relation.into(), edge.from.into(), edge.to.into()));
     event == graph.event && edges.eq(graph.edges.iter().copied())
-}
-
-/// A request as the binding takes it; a number that is too large for it names
-/// nothing.
-fn named(event: usize, from: usize, to: usize) -> Result<proved::Request, proved::Refusal> {
-    Ok(proved::Request { event: event.try_into()?, from: from.try_into()?, to: to.try_into()? })
-}
-
-fn verdict(answer: Result<proved::Answer, proved::Refusal>) -> Verdict {
-    match answer {
-        Ok(proved::Answer::Grant) => Verdict::Grant,
-        Ok(proved::Answer::Deny) => Verdict::Deny,
-        Err(refusal) => Verdict::Refused(refusal.number() as u16),
-    }
-}
-
-fn kept_verdict(answer: keeper::record::Answer) -> Verdict {
-    match answer {
-        keeper::record::Answer::Grant => Verdict::Grant,
-        keeper::record::Answer::Deny => Verdict::Deny,
-        keeper::record::Answer::Refused(refusal) => Verdict::Refused(refusal.number),
-    }
-}
-
-fn agreed(
-    proved: Verdict,
-    kept: Verdict,
-    event: usize,
-    from: usize,
-    to: usize,
-) -> Result<Verdict, Stop> {
-    if proved == kept {
-        Ok(proved)
-    } else {
-        let asked = format!("event {event} from {from} to {to}");
-        Err(differ(&format!("{asked}: library {proved}, keeper {kept}")))
-    }
 }
 
 fn refused(refusal: Refusal) -> Stop {

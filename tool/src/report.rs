@@ -2,18 +2,24 @@
 //!
 //! * `drawing`: graphs as SVG; `circle`: on a circle; `grid`: as a matrix, if members are many
 //! * `layout`: places on the circle; `label`: the event's name beside its line
+//! * `heads`: the ends of lines; `glyphs`: the marks in a matrix; `legend`: what stands for what
 //! * `moments`: the strip, and each moment with what was asked at it; `filter`: which of it
+//! * `edges`: the relation edges in words
 //! * `policies`: the policies read aloud; `tables`: who may do what in the end
 //! * `palette`, `colours.css`, `style.css`, `pictures.css`, `tables.css`: what is seen
 //! * `html`: text made safe for a page
 
 mod circle;
 pub mod drawing;
+mod edges;
 mod filter;
+mod glyphs;
 mod grid;
+mod heads;
 pub mod html;
 mod label;
 mod layout;
+pub mod legend;
 mod moments;
 pub mod palette;
 pub mod policies;

@@ -10,7 +10,7 @@ use crate::matrix::Matrix;
 use crate::names::{Kind, Names};
 use crate::replay::{Replay, Step};
 use crate::report::drawing::{drawn, Drawing};
-use crate::report::{policies, tables};
+use crate::report::{legend, policies, tables};
 use crate::source::ast::Span;
 use crate::source::mistake::Mistake;
 use crate::stop::Stop;
@@ -167,7 +167,7 @@ fn scene(replay: &Replay, words: &Words) -> Vec<(&'static str, Json)> {
         ("title", title.into()),
         ("begun", begun.into()),
         ("picture", drawing.alone(moment).into()),
-        ("legend", drawing.legend().into()),
+        ("legend", legend::items(&drawing).into()),
     ]
 }
 

@@ -1,5 +1,6 @@
 //! A graph on a circle: members are dots, and edges bent lines with arrows.
 
+use super::heads;
 use super::html::escaped;
 use super::label;
 use super::layout::{Area, Curve, Layout};
@@ -24,19 +25,9 @@ impl<'a> Circle<'a> {
         self.layout.bounds()
     }
 
-    /// The ends of lines, in the colours of the relations.
-    pub fn arrows(&self) -> String {
-        let arrow = |name: &str, class: &str, size: f64| {
-            format!(
-                "<marker id=\"{name}\" class=\"{class}\" viewBox=\"0 -4 8 8\" refX=\"1\" refY=\"0\" \
-                 markerWidth=\"{size}\" markerHeight=\"{size}\" markerUnits=\"userSpaceOnUse\" \
-                 orient=\"auto-start-reverse\"><path d=\"M0-3.5L8 0L0 3.5z\"/></marker>\n",
-            )
-        };
-        let relations = (0..self.words.terms.relations.min(8)).map(|relation| {
-            arrow(&format!("arrow{relation}"), &format!("a{relation}"), self.layout.arrow)
-        });
-        relations.chain([arrow("arrow", "event-arrow", 13.0)]).collect()
+    /// The ends of lines.
+    pub fn heads(&self) -> String {
+        heads::all(self.words.terms.relations, self.layout.arrow)
     }
 
     /// The dots and their names.
@@ -70,9 +61,12 @@ impl<'a> Circle<'a> {
         lines(some, all).iter().map(|&line| self.relation_line(line, more)).collect()
     }
 
-    /// The line of an edge between two members, with its arrows.
+    /// The line of an edge between two members, with its arrows. It is bent enough to stand
+    /// off an event's line between the two, and off those of other relations.
     fn relation_curve(&self, Line { relation, from, to, both }: Line) -> Curve {
-        let bend = 0.08 + 0.04 * (relation % 8) as f64;
+        let others = self.words.terms.relations.clamp(2, 8) - 1;
+        let apart = (0.26 / others as f64).min(0.08);
+        let bend = 0.16 + apart * (relation % 8) as f64;
         let room = self.layout.arrow;
         self.layout.curve(from, to, bend, [if both { room } else { 0.0 }, room])
     }
@@ -84,15 +78,16 @@ impl<'a> Circle<'a> {
             title = format!("{title}, {}", self.words.edge(relation, to, from));
         }
         let (title, classes) = (escaped(&title), palette::classes(relation));
-        let path = if from == to {
-            self.layout.loop_path(from, relation)
-        } else {
-            let path = self.relation_curve(line).path();
-            let arrow = format!("url(#arrow{})", palette::colour(relation));
-            let start = if both { format!("\" marker-start=\"{arrow}") } else { String::new() };
-            format!("{path}{start}\" marker-end=\"{arrow}")
+        let path = match from == to {
+            true => self.layout.loop_path(from, relation, self.layout.arrow),
+            false => self.relation_curve(line).path(),
         };
-        format!("<path class=\"{classes}{more}\" d=\"{path}\"><title>{title}</title></path>\n")
+        let head = heads::name(relation);
+        let start = if both { format!(" marker-start=\"url(#{head})\"") } else { String::new() };
+        format!(
+            "<path class=\"{classes}{more}\" d=\"{path}\"{start} marker-end=\"url(#{head})\">\
+             <title>{title}</title></path>\n"
+        )
     }
 
     /// The line of the event that made a moment, with its name.
@@ -108,10 +103,11 @@ impl<'a> Circle<'a> {
             ));
         }
         if from == to {
-            let path = self.layout.loop_path(from, 0);
-            return text + &format!("<path class=\"{class}\" d=\"{path}\"/>\n");
+            let path = self.layout.loop_path(from, 0, heads::EVENT);
+            return text
+                + &format!("<path class=\"{class}\" d=\"{path}\" marker-end=\"url(#arrow)\"/>\n");
         }
-        let curve = self.layout.curve(from, to, 0.0, [0.0, 13.0]);
+        let curve = self.layout.curve(from, to, 0.0, [0.0, heads::EVENT]);
         let name = self.words.names.label(self.words.terms, edge.label(self.words.terms));
         let lines = lines(graph.edges.iter(), &graph.edges);
         let curves = |&line: &Line| match line.from == line.to {

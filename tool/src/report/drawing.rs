@@ -5,7 +5,6 @@
 use super::circle::Circle;
 use super::grid::Grid;
 use super::html::escaped;
-use super::palette;
 use crate::words::Words;
 use keeper::record::Graph;
 use keeper::terms::{Edge, EventEdge};
@@ -23,7 +22,7 @@ const MOST_EDGES: usize = 20_000;
 
 /// The pictures of a record.
 pub struct Drawing<'a> {
-    words: &'a Words<'a>,
+    pub words: &'a Words<'a>,
     graphs: &'a [Graph],
     shape: Shape<'a>,
     /// The different sets of relation edges, and which one each picture has.
@@ -97,7 +96,7 @@ impl<'a> Drawing<'a> {
         let mut text = String::from(
             "<svg width=\"0\" height=\"0\" aria-hidden=\"true\" class=\"shared\"><defs>\n",
         );
-        text.push_str(&self.arrows());
+        text.push_str(&self.heads());
         text.push_str(&format!("<g id=\"members\">\n{}</g>\n", self.members()));
         for (index, edges) in self.layers.iter().enumerate() {
             text.push_str(&self.layer_edges(edges, &format!(" id=\"edges{index}\"")));
@@ -106,10 +105,10 @@ impl<'a> Drawing<'a> {
         text
     }
 
-    fn arrows(&self) -> String {
+    fn heads(&self) -> String {
         match &self.shape {
             Shape::Grid(_) => String::new(),
-            Shape::Circle(circle) => circle.arrows(),
+            Shape::Circle(circle) => circle.heads(),
         }
     }
 
@@ -127,67 +126,20 @@ impl<'a> Drawing<'a> {
         }
     }
 
-    /// Some edges of a graph.
-    fn relation_edges<'e>(
-        &self,
-        some: impl Iterator<Item = &'e Edge>,
-        all: &BTreeSet<Edge>,
-        more: &str,
-    ) -> String {
+    /// The relation edges of a graph as one group.
+    fn layer_edges(&self, edges: &BTreeSet<Edge>, name: &str) -> String {
+        let drawn = match &self.shape {
+            Shape::Grid(grid) => grid.marks(edges.iter(), edges, self.words),
+            Shape::Circle(circle) => circle.edges(edges.iter(), edges, ""),
+        };
+        format!("<g{name}>\n{drawn}</g>\n")
+    }
+
+    /// What sets edges of a graph off that it has got at its moment.
+    fn added_edges(&self, added: &[Edge], all: &BTreeSet<Edge>) -> String {
         match &self.shape {
-            Shape::Grid(grid) => grid.marks(some, all, self.words, more),
-            Shape::Circle(circle) => circle.edges(some, all, more),
-        }
-    }
-
-    /// What stands for each relation, as the items of a list.
-    pub fn legend(&self) -> String {
-        let item = |relation: usize| {
-            let sample = match self.is_wide() {
-                true => format!(
-                    "<rect class=\"mark {}\" x=\"12\" y=\"1\" width=\"10\" height=\"10\"/>",
-                    palette::filled(relation)
-                ),
-                false => format!(
-                    "<path class=\"{}\" d=\"M1 6H28\" marker-end=\"url(#arrow{})\"/>",
-                    palette::classes(relation),
-                    palette::colour(relation)
-                ),
-            };
-            format!(
-                "<li><svg width=\"38\" height=\"12\" viewBox=\"0 0 38 12\" aria-hidden=\"true\">{sample}</svg>\
-                 {}</li>\n",
-                escaped(&self.words.names.relation(relation)),
-            )
-        };
-        let kinds = self.words.names.kind_relations(self.words.terms);
-        let relations = (0..self.words.terms.relations).filter(|one| !kinds.contains(one));
-        relations.map(item).collect::<String>() + &self.kinds()
-    }
-
-    /// Who is of which kind, as items of the same list.
-    fn kinds(&self) -> String {
-        let names = self.words.names;
-        let relations = names.kind_relations(self.words.terms);
-        let item = |(kind, members): &(String, Vec<usize>)| {
-            let members: Vec<String> = members.iter().map(|one| self.words.member(*one)).collect();
-            format!("<li>{}: {}</li>\n", escaped(kind), escaped(&members.join(", ")))
-        };
-        match relations.is_empty() {
-            true => String::new(),
-            false => names.kinds().iter().map(item).collect(),
-        }
-    }
-
-    /// What stands for an event of a class.
-    pub fn sample(&self, class: &str) -> String {
-        match self.is_wide() {
-            true => {
-                format!("<rect class=\"{class}\" x=\"12\" y=\"1\" width=\"12\" height=\"12\"/>")
-            }
-            false => {
-                format!("<path class=\"{class}\" d=\"M1 7H24\" marker-end=\"url(#arrow)\"/>")
-            }
+            Shape::Grid(grid) => grid.boxes(added.iter()),
+            Shape::Circle(circle) => circle.edges(added.iter(), all, " added"),
         }
     }
 
@@ -200,7 +152,7 @@ impl<'a> Drawing<'a> {
     /// The picture of one moment for a page that has no definitions, and none but
     /// this. Members have their numbers, to be clicked at.
     pub fn alone(&self, moment: usize) -> String {
-        let defined = format!("<defs>\n{}</defs>\n", self.arrows());
+        let defined = format!("<defs>\n{}</defs>\n", self.heads());
         let edges = self.layer_edges(&self.graphs[moment].edges, "");
         self.scene(moment, &defined, &edges, &self.members())
     }
@@ -220,14 +172,14 @@ impl<'a> Drawing<'a> {
              {defined}{edges}{}{}{members}</svg>\n",
             escaped(&self.title(moment)),
             escaped(&self.description(graph)),
-            self.relation_edges(added.iter(), &graph.edges, " added"),
+            self.added_edges(&added, &graph.edges),
             graph.event.map_or_else(String::new, |edge| self.event_edge(graph, edge)),
         )
     }
 
-    /// The relation edges of a graph as one group.
-    fn layer_edges(&self, edges: &BTreeSet<Edge>, name: &str) -> String {
-        format!("<g{name}>\n{}</g>\n", self.relation_edges(edges.iter(), edges, ""))
+    /// The relation edges of a moment.
+    pub fn edges(&self, moment: usize) -> &BTreeSet<Edge> {
+        &self.graphs[moment].edges
     }
 
     /// The relation edges that a moment has and the one before has not, and the

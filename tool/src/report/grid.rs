@@ -1,18 +1,18 @@
 //! A graph of many members as a matrix: rows and columns are members, and a mark is an
 //! edge from its row to its column. Lines between so many would hide one another.
 
+use super::glyphs;
 use super::html::escaped;
 use super::layout::Area;
-use super::palette;
 use super::tables::shortened;
 use crate::words::Words;
 use keeper::terms::{Edge, EventEdge};
 use std::collections::BTreeSet;
 
-const CELL: f64 = 11.0;
-const FONT: f64 = 9.5;
+const CELL: f64 = 12.5;
+const FONT: f64 = 11.0;
 /// The width of a letter.
-const LETTER: f64 = 5.8;
+const LETTER: f64 = 7.1;
 /// Every so many rows and columns there is a line to count by.
 const COUNTED: usize = 8;
 
@@ -66,24 +66,28 @@ impl Grid {
         some: impl Iterator<Item = &'e Edge>,
         all: &BTreeSet<Edge>,
         words: &Words,
-        more: &str,
     ) -> String {
         let mark = |&(relation, from, to): &Edge| {
             let present = |other: &usize| all.contains(&(*other, from, to));
             let count = (0..words.terms.relations).filter(present).count().max(1);
             let place = (0..relation).filter(present).count();
-            let wide = (CELL - 2.0) / count as f64;
-            let x = to as f64 * CELL + 1.0 + place as f64 * wide;
-            format!(
-                "<rect class=\"mark {}{more}\" x=\"{x:.1}\" y=\"{:.1}\" width=\"{wide:.1}\" \
-                 height=\"{:.1}\"><title>{}</title></rect>\n",
-                palette::filled(relation),
-                from as f64 * CELL + 1.0,
-                CELL - 2.0,
-                escaped(&words.edge(relation, from, to)),
-            )
+            let (middle, half) = place_in_cell(place, count);
+            let at = |cell: usize, part: f64| (cell as f64 + part) * CELL;
+            let title = format!("<title>{}</title>", escaped(&words.edge(relation, from, to)));
+            glyphs::mark(relation, (at(to, middle.0), at(from, middle.1)), half, &title)
         };
         some.map(mark).collect()
+    }
+
+    /// Boxes around the cells of some edges.
+    pub fn boxes<'e>(&self, some: impl Iterator<Item = &'e Edge>) -> String {
+        let one = |&(_, from, to): &Edge| {
+            let (x, y, side) = (to as f64 * CELL + 0.5, from as f64 * CELL + 0.5, CELL - 1.0);
+            format!(
+                "<rect class=\"boxed\" x=\"{x:.1}\" y=\"{y:.1}\" width=\"{side:.1}\" height=\"{side:.1}\"/>\n"
+            )
+        };
+        some.map(one).collect()
     }
 
     /// The event's cell, with lines that lead to it from its row and its column.
@@ -101,5 +105,20 @@ impl Grid {
             CELL + 2.0,
             CELL + 2.0,
         )
+    }
+}
+
+/// Where in its cell a mark among so many has its middle, as parts of the cell, and how
+/// far it reaches. Two stand across, and more in rows.
+fn place_in_cell(place: usize, count: usize) -> ((f64, f64), f64) {
+    match (count, place) {
+        (0 | 1, _) => ((0.5, 0.5), 4.8),
+        (2, 0) => ((0.27, 0.27), 3.2),
+        (2, _) => ((0.73, 0.73), 3.2),
+        _ => {
+            let row = (2..).find(|row| row * row >= count).unwrap_or(count);
+            let part = |place: usize| (place as f64 + 0.5) / row as f64;
+            ((part(place % row), part(place / row)), CELL * 0.45 / row as f64)
+        }
     }
 }

@@ -64,7 +64,7 @@ impl Layout {
     /// `has_loop`: which members have an edge to themselves at some moment.
     pub fn new(words: &Words, has_loop: Vec<bool>) -> Layout {
         let members = words.terms.members;
-        let radius = if members == 1 { 0.0 } else { 88.0 + members as f64 * 2.5 };
+        let radius = if members == 1 { 0.0 } else { 94.0 + members as f64 * 3.0 };
         let place = |member: usize| {
             let (x, y) = direction(member, members);
             (radius * x, radius * y)
@@ -72,10 +72,10 @@ impl Layout {
         Layout {
             places: (0..members).map(place).collect(),
             dot: 8.0,
-            arrow: 8.0,
-            loops: 20.0,
+            arrow: 10.0,
+            loops: 26.0,
             has_loop,
-            font: 13.0,
+            font: 14.0,
             names: (0..members).map(|member| shortened(&words.member(member))).collect(),
             radius,
         }
@@ -126,11 +126,16 @@ impl Layout {
             (x + (ox * cos - oy * sin) * far, y + (ox * sin + oy * cos) * far)
         };
         let reach = (self.dot + self.loops) * (1.2 + 0.1 * (order % 4) as f64);
-        [turned(-0.6, self.dot), turned(-0.75, reach), turned(0.75, reach), turned(0.6, self.dot)]
+        let (leaves, enters) = (turned(-0.6, self.dot), turned(0.6, self.dot + 1.5));
+        [leaves, turned(-0.75, reach), turned(0.75, reach), enters]
     }
 
-    pub fn loop_path(&self, member: usize, order: usize) -> String {
+    /// A loop that leaves room for an arrow at its end.
+    pub fn loop_path(&self, member: usize, order: usize, arrow: f64) -> String {
         let [a, b, c, d] = self.looped(member, order);
+        let (x, y) = (c.0 - d.0, c.1 - d.1);
+        let part = arrow / x.hypot(y).max(arrow);
+        let d = (d.0 + x * part, d.1 + y * part);
         format!(
             "M{:.1} {:.1}C{:.1} {:.1} {:.1} {:.1} {:.1} {:.1}",
             a.0, a.1, b.0, b.1, c.0, c.1, d.0, d.1
@@ -148,7 +153,7 @@ impl Layout {
     pub fn name_place(&self, member: usize) -> Point {
         let (x, y) = self.outward(member);
         let loops = if self.has_loop[member] { self.loops } else { 0.0 };
-        let far = self.radius + self.dot + loops + 9.0;
+        let far = self.radius + self.dot + loops + 11.0;
         (far * x, far * y)
     }
 

@@ -1,18 +1,21 @@
 //! The strip of answers, and each moment with its graph and what was asked at it.
 
 use super::drawing::Drawing;
+use super::edges;
 use super::filter;
-use super::html::{counted, escaped, unbroken};
+use super::html::{escaped, unbroken};
+use super::legend;
 use crate::both::Verdict;
 use crate::replay::{Replay, Step};
 use crate::stop::Stop;
 use crate::why::reason::Reasons;
 use crate::words::{answered, Words};
-use keeper::record::Graph;
-use keeper::terms::Edge;
 
 /// So many links to moments and answers are shown at once.
 const MOST_LINKS: usize = 60;
+
+/// What the links are.
+const KEY: &str = "Round: a moment. Square: a request, ✓ granted, ✗ denied, ! refused.";
 
 pub fn section(replay: &Replay, words: &Words, drawing: &Drawing) -> Result<String, Stop> {
     let graphs = replay.both.record().graphs();
@@ -22,7 +25,7 @@ pub fn section(replay: &Replay, words: &Words, drawing: &Drawing) -> Result<Stri
         "<section aria-labelledby=\"story\">\n<h2 id=\"story\">What happened</h2>\n{}{}\
          <ol class=\"moments{wide}\" start=\"0\">\n",
         filter::controls(replay, words) + &strip(replay, words),
-        legend(words, drawing, graphs.len()),
+        legend::list(drawing, graphs.len()),
     );
     for (moment, graph) in graphs.iter().enumerate() {
         let event = graph.event.map(|edge| words.happened(edge));
@@ -40,9 +43,10 @@ pub fn section(replay: &Replay, words: &Words, drawing: &Drawing) -> Result<Stri
         let pictured = moment < drawing.count();
         let class = if pictured { "scene" } else { "scene bare" };
         text.push_str(&format!("<div class=\"{class}\">\n"));
-        if pictured {
-            text.push_str(&figure(graph, moment, words, drawing));
-        }
+        text.push_str(&match pictured {
+            true => figure(moment, drawing),
+            false => edges::changed(drawing, moment),
+        });
         text.push_str(&asked(replay, moment, words, &mut reasons)?);
         text.push_str("</div>\n</li>\n");
     }
@@ -89,7 +93,7 @@ fn strip(replay: &Replay, words: &Words) -> String {
             )
         }
     };
-    format!("<nav aria-label=\"Moments and answers\">{links}</nav>\n")
+    format!("<nav aria-label=\"Moments and answers\">{links}</nav>\n<p class=\"key\">{KEY}</p>\n")
 }
 
 fn sign(verdict: Verdict) -> &'static str {
@@ -100,78 +104,14 @@ fn sign(verdict: Verdict) -> &'static str {
     }
 }
 
-/// Which line or mark stands for what, and how many moments are drawn.
-fn legend(words: &Words, drawing: &Drawing, moments: usize) -> String {
-    let what = if drawing.is_wide() { "Marks" } else { "Lines" };
-    let mut text = format!("<ul class=\"legend\" aria-label=\"{what} in the pictures\">\n");
-    text.push_str(&drawing.legend());
-    let event = |class: &str, text: &str| {
-        format!(
-            "<li><svg width=\"38\" height=\"14\" viewBox=\"0 0 38 14\" aria-hidden=\"true\">{}</svg>{text}</li>\n",
-            drawing.sample(class),
-        )
-    };
-    text.push_str(&event("event-edge", "the event that made the moment"));
-    if !words.terms.kept.is_empty() {
-        text.push_str(&event("event-edge denied-edge", "the denied try that made the moment"));
-    }
-    text.push_str("</ul>\n");
-    if drawing.is_wide() {
-        text.push_str("<p class=\"quiet\">A mark is an edge from its row to its column.</p>\n");
-    }
-    if drawing.count() < moments {
-        text.push_str(&format!(
-            "<p class=\"quiet\">The first {} of {moments} moments are drawn.</p>\n",
-            drawing.count()
-        ));
-    }
-    text
-}
-
-/// A moment's picture, what changed, and its edges.
-fn figure(graph: &Graph, moment: usize, words: &Words, drawing: &Drawing) -> String {
-    let changes = drawing.changes(moment);
+/// A moment's picture, and its edges or what changed.
+fn figure(moment: usize, drawing: &Drawing) -> String {
     let focus = if drawing.is_wide() { " tabindex=\"0\"" } else { "" };
     format!(
-        "<figure{focus}>\n{}<figcaption>\n{}{}{}</figcaption>\n</figure>\n",
+        "<figure{focus}>\n{}<figcaption>\n{}</figcaption>\n</figure>\n",
         drawing.picture(moment),
-        changed("adds", &changes.added, words),
-        changed("deletes", &changes.deleted, words),
-        edges(graph, words),
+        edges::told(drawing, moment),
     )
-}
-
-/// What the event's effects did to the relations.
-fn changed(verb: &str, edges: &[Edge], words: &Words) -> String {
-    if edges.is_empty() {
-        return String::new();
-    }
-    let edge = |&(relation, from, to): &Edge| words.edge(relation, from, to);
-    let edges: Vec<String> = edges.iter().map(edge).collect();
-    format!("<p>{verb} {}</p>\n", escaped(&edges.join(", ")))
-}
-
-/// The relation edges of a moment, on demand. Kinds of members are none.
-fn edges(graph: &Graph, words: &Words) -> String {
-    let kinds = words.names.kind_relations(words.terms);
-    let edges = graph.edges.iter().filter(|(relation, ..)| !kinds.contains(relation));
-    let edges: Vec<&Edge> = edges.collect();
-    if edges.is_empty() {
-        return "<p>no relation edges</p>\n".to_string();
-    }
-    let mut text = format!(
-        "<details><summary>{}</summary>\n<table><thead><tr><th scope=\"col\">relation</th>\
-         <th scope=\"col\">from</th><th scope=\"col\">to</th></tr></thead><tbody>\n",
-        counted(edges.len(), "relation edge")
-    );
-    for &(relation, from, to) in edges {
-        let cells = [words.names.relation(relation), words.member(from), words.member(to)];
-        let cells: String =
-            cells.iter().map(|cell| format!("<td>{}</td>", escaped(cell))).collect();
-        text.push_str(&format!("<tr>{cells}</tr>\n"));
-    }
-    text.push_str("</tbody></table></details>\n");
-    text
 }
 
 /// The requests made at a moment, with answers and reasons.

@@ -1,5 +1,5 @@
-//! The colours of relations: told apart by colour-blind readers, by more than
-//! three to one from the page in light and dark, and by dashes from eight on.
+//! The colours and dashes of relations. Colours are told apart by colour-blind readers,
+//! and by more than three to one from the page in light and dark.
 
 /// Blue, vermilion, green, purple, ochre, teal, grey, wine: for a light page.
 const LIGHT: [&str; 8] =
@@ -11,6 +11,14 @@ const DARK: [&str; 8] =
 /// Which colour a relation has.
 pub fn colour(relation: usize) -> usize {
     relation % LIGHT.len()
+}
+
+/// How many dashes there are; the first is none.
+pub const DASHES: usize = 4;
+
+/// Which dash a relation's lines have.
+pub fn dash(relation: usize) -> usize {
+    relation % DASHES
 }
 
 /// The rules for so many relations.
@@ -32,14 +40,5 @@ pub fn style(relations: usize) -> String {
 
 /// The classes of a relation's lines.
 pub fn classes(relation: usize) -> String {
-    let dashes = if relation < LIGHT.len() { "" } else { " dashed" };
-    format!("edge c{}{dashes}", colour(relation))
-}
-
-/// The classes of a relation's marks: filled, or hollow from eight on.
-pub fn filled(relation: usize) -> String {
-    match relation < LIGHT.len() {
-        true => format!("a{}", colour(relation)),
-        false => format!("c{} hollow", colour(relation)),
-    }
+    format!("edge c{} dash{}", colour(relation), dash(relation))
 }

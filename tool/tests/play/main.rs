@@ -52,6 +52,29 @@ fn a_change_and_three_requests() {
     assert!(told.contains("You may always share with the target."), "{told}");
 }
 
+/// The legend shows a relation as the picture does: with its dash, and with its end, which
+/// the picture has.
+#[test]
+fn the_legend_is_that_of_the_picture() {
+    let folder = folder();
+    let page = Page::of(&folder);
+    let source = SOURCE.replace("relation owns", "relation likes, owns");
+    let told = page.told(&source, "[]", 0, NOTHING).replace("\\\"", "\"");
+    let (_, picture) = told.split_once("\"picture\":").unwrap();
+    let (picture, legend) = picture.split_once("\"legend\":").unwrap();
+    let legend = legend.split_once("\"why\":").unwrap().0;
+    let drawn = |text: &str| {
+        let item = text.split("<path").skip(1).find(|path| path.contains("owns")).unwrap();
+        let class = item.split("class=\"").nth(1).unwrap().split('"').next().unwrap();
+        let end = item.split("url(#").nth(1).unwrap().split(')').next().unwrap();
+        (class.to_string(), end.to_string())
+    };
+    assert_eq!(drawn(picture), drawn(legend));
+    let (class, end) = drawn(legend);
+    assert!(class.contains("dash1"), "{class}");
+    assert!(picture.contains(&format!("<marker id=\"{end}\"")), "{picture}");
+}
+
 #[test]
 fn mistakes_are_told_where_a_browser_finds_them() {
     let folder = folder();

@@ -22,9 +22,9 @@ function drawStory() {
     return item;
   });
   $('strip').replaceChildren(...items);
-  // The page itself stays where it is.
+  // The page itself stays where it is. The line around the request is seen, too.
   const { offsetTop, offsetHeight } = items[at] ?? items[0];
-  $('strip').scrollTop = offsetTop + offsetHeight - $('strip').clientHeight;
+  $('strip').scrollTop = offsetTop + offsetHeight + 3 - $('strip').clientHeight;
   $('undo').disabled = $('start').disabled = at === 0;
   $('redo').disabled = at === state.requests.length;
   const gone = state.dropped ? state.dropped.requests.length - state.dropped.at : 0;

@@ -1,5 +1,7 @@
 //! `report`: what is on the page, and what must not be.
 
+mod pictures;
+#[path = "../run_support/mod.rs"]
 mod run_support;
 
 use run_support::{example, preset, run, Folder};
@@ -36,20 +38,6 @@ fn page(folder: &Folder) -> String {
     folder.read("page.html").replace('\u{a0}', " ")
 }
 
-/// Kinds of members are told apart from relations.
-#[test]
-fn kinds_are_no_relation_edges() {
-    let folder = Folder::new();
-    folder.write(
-        "terms.say",
-        "members players: ben, cleo; presets: pad\nrelation owns\n\
-         event load when me is player and me owns target\nfirst ben owns pad\n",
-    );
-    let page = page(&folder);
-    assert!(page.contains("<summary>1 relation edge</summary>"), "{page}");
-    assert!(!page.contains("<td>player</td>"), "{page}");
-}
-
 #[test]
 fn everything_is_on_the_page() {
     let folder = preset();
@@ -70,6 +58,7 @@ fn everything_is_on_the_page() {
         "dora owns saw, and dora shared with pete at moment 1, but dora withdrew from pete at moment 3",
         "<title id=\"title3\">Moment 3: withdraw dora → pete</title>",
         "<desc id=\"desc0\">Relation edges: own dora → saw.</desc>",
+        "Round: a moment. Square: a request, ✓ granted, ✗ denied, ! refused.",
         "prefers-color-scheme:dark",
         "@media print",
     ] {
@@ -122,11 +111,15 @@ fn nothing_is_loaded_and_no_script_is_run() {
 #[test]
 fn names_are_made_safe() {
     let folder = preset();
-    let names = "member\t0\t<b>&\"x\nevent\t2\tload</title><script>alert(1)</script>\n";
+    let names = "member\t0\t<b>&\"x\nrelation\t0\t<i>owns\nevent\t2\tload</title><script>alert(1)</script>\n";
     folder.write("names.tsv", names);
+    let terms = folder.read("terms.tsv").replace("P\t2\t8\n", "P\t2\t8\nE\t0\tadd\t0\tfwd\n");
+    folder.write("terms.tsv", &terms);
     let page = page(&folder);
-    assert!(!page.contains("<script") && !page.contains("<b>&\""));
+    assert!(!page.contains("<script") && !page.contains("<b>&\"") && !page.contains("<i>owns"));
     assert!(page.contains("&lt;b&gt;&amp;&quot;x"));
+    assert!(page.contains("<caption><b>&lt;i&gt;owns</b> at moment 0</caption>"));
+    assert!(page.contains("<li>+ &lt;b&gt;&amp;&quot;x &lt;i&gt;owns "), "{page}");
     tags(&page);
 }
 
@@ -155,6 +148,9 @@ fn long_stories_stay_light() {
     let page = page(&folder);
     assert!(page.len() < 8_000_000, "{}", page.len());
     assert!(page.contains("of 1001 moments are drawn."));
+    // What changed is told of every moment that is not drawn, too.
+    let (_, last) = page.split_once("id=\"moment-1000\"").unwrap();
+    assert!(last.contains("<li>− relation 0: 39 → 15</li>"), "{last}");
     tags(&page);
 }
 
@@ -188,24 +184,6 @@ fn a_long_story_is_folded_and_can_be_filtered() {
     assert!(long.contains("<details class=\"folded\"><summary>141 more</summary>"));
     assert_eq!(long.matches("<li class=\"step\"").count(), 100);
     assert!(!long.contains("<option value=\"2\">saw</option>"), "saw takes no part");
-}
-
-/// Lines between many members would hide one another.
-#[test]
-fn many_members_are_a_matrix() {
-    let folder = Folder::new();
-    let terms = "M\t64\nL\t2\t1\nF\t0\ttop\t0\t0\nP\t0\t0\nE\t0\tadd\t1\tfwd\nG\t0\t3\t5\n";
-    folder.write("terms.tsv", terms);
-    folder.write("requests.tsv", "R\t0\t3\t5\nR\t0\t63\t0\n");
-    let page = page(&folder);
-    tags(&page);
-    let before = "<rect class=\"mark a0\" x=\"56.0\" y=\"34.0\" width=\"9.0\" height=\"9.0\">";
-    let shared = "<rect class=\"mark a0\" x=\"56.0\" y=\"34.0\" width=\"4.5\" height=\"9.0\">";
-    assert!(page.contains(before) && page.contains(shared));
-    assert!(page.contains("<title>relation 1: 3 → 5</title>"));
-    assert!(page.contains("<rect class=\"event-edge\" x=\"54.0\" y=\"32.0\""));
-    assert!(page.contains("A mark is an edge from its row to its column."));
-    assert!(!page.contains("class=\"event-name\""));
 }
 
 #[test]

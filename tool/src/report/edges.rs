@@ -1,0 +1,73 @@
+//! The relation edges of moments in words: all of the first, and of a later one what
+//! changed.
+
+use super::drawing::{Changes, Drawing};
+use super::html::{counted, escaped};
+use crate::names::Kind;
+use crate::words::Words;
+use keeper::terms::Edge;
+use std::collections::BTreeMap;
+
+/// What is told under the picture of a moment.
+pub fn told(drawing: &Drawing, moment: usize) -> String {
+    match (moment, drawing.edges(moment).len()) {
+        (0, 0) => "<p>no relation edges</p>\n".to_string(),
+        (0, count) => format!(
+            "<details><summary>{}</summary>\n<div class=\"edges\" tabindex=\"0\" role=\"region\" \
+             aria-label=\"Relation edges at moment {moment}\">\n{}</div></details>\n",
+            counted(count, "relation edge"),
+            tables(drawing, moment)
+        ),
+        _ => match changed(drawing, moment) {
+            none if none.is_empty() => "<p>relation edges unchanged</p>\n".to_string(),
+            some => some,
+        },
+    }
+}
+
+/// A table for each relation that has edges: from whom they lead, and to whom.
+fn tables(drawing: &Drawing, moment: usize) -> String {
+    let words = drawing.words;
+    let mut leading: BTreeMap<usize, BTreeMap<usize, Vec<String>>> = BTreeMap::new();
+    for &(relation, from, to) in drawing.edges(moment) {
+        leading.entry(relation).or_default().entry(from).or_default().push(words.member(to));
+    }
+    let row = |(from, to): (&usize, &Vec<String>)| {
+        format!(
+            "<tr><th scope=\"row\">{}</th><td>{}</td></tr>\n",
+            escaped(&words.member(*from)),
+            escaped(&to.join(", "))
+        )
+    };
+    let table = |(relation, rows): (&usize, &BTreeMap<usize, Vec<String>>)| {
+        format!(
+            "<table><caption><b>{}</b> at moment {moment}</caption>\n<thead><tr><th scope=\"col\">from</th>\
+             <th scope=\"col\">to</th></tr></thead>\n<tbody>\n{}</tbody></table>\n",
+            escaped(&words.names.relation(*relation)),
+            rows.iter().map(row).collect::<String>(),
+        )
+    };
+    leading.iter().map(table).collect()
+}
+
+/// What an event's effects did to the relations; nothing if they did nothing.
+pub fn changed(drawing: &Drawing, moment: usize) -> String {
+    let Changes { added, deleted } = drawing.changes(moment);
+    let item = |sign: &str, edge: &Edge| {
+        format!("<li>{sign} {}</li>\n", escaped(&sentence(edge, drawing.words)))
+    };
+    let added = added.iter().map(|edge| item("+", edge));
+    let items: String = added.chain(deleted.iter().map(|edge| item("−", edge))).collect();
+    match items.is_empty() {
+        true => items,
+        false => format!("<ul class=\"changes\">\n{items}</ul>\n"),
+    }
+}
+
+/// `ben friend cleo`, as sources have it.
+fn sentence(&(relation, from, to): &Edge, words: &Words) -> String {
+    match words.names.given(Kind::Relation, relation) {
+        Some(name) => format!("{} {name} {}", words.member(from), words.member(to)),
+        None => words.edge(relation, from, to),
+    }
+}
