@@ -11,7 +11,7 @@ use Rattle.theory.specs.Limits.{scratchWords}
 use Rattle.memory.specs.Layout.{termsOf}
 use Rattle.memory.specs.Outcome.{Outcome, hasPassed, checks}
 use Rattle.memory.specs.Outcome.Outcome.{passed, failed}
-use Rattle.memory.specs.Plan.{Planned}
+use Rattle.memory.specs.TableIndex.{Indexed}
 use Rattle.memory.proofs.Outcomes.{Checked, passed-checked}
 use Rattle.calls.specs.Monitor.{answer}
 use Rattle.calls.specs.SetList.{listChecks}
@@ -37,15 +37,15 @@ module _ (terms state scratch : List ℕ) where
       go true s e = absurd (false≢true (sym (ap hasPassed e)))
       go false s e = (ltb-false (length scratch) scratchWords s, passed-checked terms state e)
 
-  -- And with the terms' plan, all that a request asks of the memory.
-  pub list-ready : (plan : List ℕ) → passed ≡ listChecks terms state scratch → Planned (termsOf terms) plan → Passed terms plan state scratch
-  list-ready plan e planned =
+  -- And with the table index, all that a request asks of the memory.
+  pub list-ready : (index : List ℕ) → passed ≡ listChecks terms state scratch → Indexed (termsOf terms) index → Passed terms index state scratch
+  list-ready index e indexed =
       let p = list-passed e in
       let k : Checked terms state = p .1 in
       record {
         long-terms = k .long-terms;
         good-terms = k .good-terms;
-        planned = planned;
+        indexed = indexed;
         long-state = k .long-state;
         good-state = k .good-state;
         long-scratch = p .0;

@@ -140,7 +140,7 @@ module _ (t : List ℕ) where
     AsRequest k st′ sc′ =
         (k ≡ numberOf (answer t st sc j u v)) × (st′ ≡ stateAfter t st sc j u v) × (sc′ ≡ scratchAfter t st sc j u v)
 
-    module _ (plan : List ℕ) (p : Passed t plan st sc) where
+    module _ (index : List ℕ) (p : Passed t index st sc) where
       checked : Checked t st
       checked = record { long-terms = p .long-terms; long-state = p .long-state; good-terms = p .good-terms; good-state = p .good-state }
 
@@ -153,12 +153,12 @@ module _ (t : List ℕ) where
       good-state = after-good (k .good-terms) (k .good-state);
     }
 
-    pub after-passed : (plan : List ℕ) → Passed t plan st sc → Passed t plan (stateAfter t st sc j u v) (scratchAfter t st sc j u v)
-    after-passed plan p = record {
+    pub after-passed : (index : List ℕ) → Passed t index st sc → Passed t index (stateAfter t st sc j u v) (scratchAfter t st sc j u v)
+    after-passed index p = record {
       long-terms = p .long-terms;
       good-terms = p .good-terms;
-      planned = p .planned;
-      long-state = after-checked (checked plan p) .long-state;
-      good-state = after-checked (checked plan p) .good-state;
+      indexed = p .indexed;
+      long-state = after-checked (checked index p) .long-state;
+      good-state = after-checked (checked index p) .good-state;
       long-scratch = omega (arith, p .long-scratch, after-scratch (p .long-scratch));
     }

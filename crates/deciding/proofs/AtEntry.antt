@@ -31,8 +31,8 @@ none-left : (o : ℕ) → 8 ≤ o → o < 12 → (o ≡ 8 → ⊥) → (o ≡ 9 
 none-left o l h p q r s = omega arith
 
 -- The words of entry i as the locals o, a and b hold them, the number r of relations and the set all of the members.
-pub record Site (terms plan rel past : List ℕ) (g : Assignment) (x i want o a b r all : ℕ) : Type 0 where
-  pub ready : Ready terms plan rel past
+pub record Site (terms index rel past : List ℕ) (g : Assignment) (x i want o a b r all : ℕ) : Type 0 where
+  pub ready : Ready terms index rel past
   pub asked : Asked (termsOf terms) g i want
   pub o-is : o ≡ termsOf terms .entry i .op
   pub a-is : a ≡ termsOf terms .entry i .a
@@ -40,7 +40,7 @@ pub record Site (terms plan rel past : List ℕ) (g : Assignment) (x i want o a 
   pub r-is : r ≡ termsOf terms .relations
   pub all-is : Has all (λ k. ltb k (termsOf terms .members))
 
-module _ {terms plan rel past : List ℕ} (ready : Ready terms plan rel past) where
+module _ {terms index rel past : List ℕ} (ready : Ready terms index rel past) where
   pub entry-short : (i : ℕ) → i < termsOf terms .entries → i < 65536
   entry-short i l = let q = good terms (ready .good) .few-entries in omega arith
 
@@ -56,7 +56,7 @@ module _ {terms plan rel past : List ℕ} (ready : Ready terms plan rel past) wh
       h m ∙ ap (λ (k : ℕ). ltb m 64 && ltb m k) e
       ∙ and-implied (ltb m 64) (ltb m (termsOf terms .members)) (λ q. lt-ltb m 64 (member-short m (ltb-true m (termsOf terms .members) q)))
 
-module _ {terms plan rel past : List ℕ} {g : Assignment} {x i want o a b r all : ℕ} (s : Site terms plan rel past g x i want o a b r all) where
+module _ {terms index rel past : List ℕ} {g : Assignment} {x i want o a b r all : ℕ} (s : Site terms index rel past g x i want o a b r all) where
   abbrev T : Terms
   T = termsOf terms
 

@@ -7,7 +7,7 @@ use lib.ListN.{getD, length}
 use Rattle.theory.specs.Formula.{Entry}
 use Rattle.theory.specs.Terms.{Terms}
 use Rattle.effort.specs.Effort.{smaller, setOf, setsOf, isOne, rowsOf, callsOf, askedOf, more, moreIf, isEntry, moreOf, policies, after, total, brief, effortOf}
-use Rattle.memory.specs.Plan.{inFree}
+use Rattle.memory.specs.TableIndex.{inFree}
 use Rattle.sets.specs.Sets.{bit, pack}
 
 abbrev e : (op a b c : ℕ) → Entry

@@ -15,7 +15,7 @@ use Rattle.theory.specs.Formula.{Entry, Operand, firstOperand, secondOperand, t
 use Rattle.theory.specs.Limits.{maxEntries}
 use Rattle.theory.specs.Terms.{Terms}
 use Rattle.memory.specs.Layout.{termsOf}
-use Rattle.memory.specs.Plan.{inFree}
+use Rattle.memory.specs.TableIndex.{inFree}
 use Rattle.effort.specs.Effort.{smaller, most, cut, setOf, setsOf, isOne, rowsOf, callsOf, askedOf, more, moreIf, isEntry, moreOf, policies, Count, rowsAt, callsAfter, askedAfter, turn, after, total, kept, brief, effort}
 
 pub second-smaller : (x y : ℕ) → y < x → y ≡ smaller x y

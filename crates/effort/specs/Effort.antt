@@ -12,7 +12,7 @@ use Rattle.theory.specs.Formula.Operand.{unused, variable, binder, label, entry
 use Rattle.theory.specs.Limits.{maxEntries, pairMembers}
 use Rattle.theory.specs.Terms.{Terms}
 use Rattle.memory.specs.Layout.{termsOf}
-use Rattle.memory.specs.Plan.{inFree, restOf}
+use Rattle.memory.specs.TableIndex.{inFree, restOf}
 
 unfoldable pub smaller : ℕ → ℕ → ℕ
 smaller x y = cond (ltb y x) y x

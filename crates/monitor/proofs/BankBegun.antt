@@ -14,7 +14,7 @@ use Rattle.memory.specs.Layout.{termsWords, stateWords, relationWords, ownWords
 use Rattle.memory.specs.Checks.{goodMemory, goodState}
 use Rattle.memory.specs.Outcome.{Outcome, hasPassed, shortBanks, banksOpen, banksRevise}
 use Rattle.memory.specs.Outcome.Outcome.{passed, failed}
-use Rattle.memory.specs.Plan.{Planned}
+use Rattle.memory.specs.TableIndex.{Indexed}
 use Rattle.memory.proofs.BankOutcomes.{banks-long}
 use Rattle.memory.proofs.Words.{length-words}
 use Rattle.deciding.specs.private.Starting.{Revising}
@@ -111,20 +111,20 @@ module _ (old relations first second new edges third fourth : List ℕ) where
             same = z;
           }
 
-  -- A bank under old terms that passes, with the plans of both terms.
-  module _ (e : passed ≡ gives) {before plan : List ℕ} (b : Planned (termsOf old) before) (p : Planned (termsOf new) plan) where
-    pub revising : (own : List ℕ) → ownWords ≤ length own → goodState (termsOf old) (joined relations own) ≡ true → Revising old before (joined relations own) new plan
+  -- A bank under old terms that passes, with the indexes of both terms.
+  module _ (e : passed ≡ gives) {before index : List ℕ} (b : Indexed (termsOf old) before) (p : Indexed (termsOf new) index) where
+    pub revising : (own : List ℕ) → ownWords ≤ length own → goodState (termsOf old) (joined relations own) ≡ true → Revising old before (joined relations own) new index
     revising own l g =
         let r = revised-says e in
         record {
           long-old = r .old-long;
           good-old = r .old-good;
-          planned-old = b;
+          indexed-old = b;
           long-state = let long = joined-long relations own (r .relations-long) l in omega (arith, long);
           good-state = g;
           long-new = r .new-long;
           good-new = r .new-good;
-          planned-new = p;
+          indexed-new = p;
           same = r .same;
         }
 

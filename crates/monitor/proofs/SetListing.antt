@@ -46,9 +46,9 @@ module _ (terms state scratch : List ℕ) where
   is-passed passed e = refl
   is-passed (failed n l) e = absurd (false≢true e)
 
-  passed-all : (c : Inspected) → Seen terms state scratch c → hasPassed (outcomeOf (c .outcome)) ≡ true → Passed terms (c .plan) state scratch
+  passed-all : (c : Inspected) → Seen terms state scratch c → hasPassed (outcomeOf (c .outcome)) ≡ true → Passed terms (c .index) state scratch
   passed-all c seen e =
-      list-ready terms state scratch (c .plan) (is-passed (outcomeOf (c .outcome)) e ∙ seen .outcome) (seen .planned e)
+      list-ready terms state scratch (c .index) (is-passed (outcomeOf (c .outcome)) e ∙ seen .outcome) (seen .indexed e)
 
 module _ (t : List ℕ) (ys₀ : List Record) (st₀ sc₀ : List ℕ) (c : Inspected) (seen : Seen t st₀ sc₀ c) where
   abbrev outcome : Outcome
@@ -58,7 +58,7 @@ module _ (t : List ℕ) (ys₀ : List Record) (st₀ sc₀ : List ℕ) (c : Insp
   pub record Kept (m : Mem) : Type 0 where
     pub words : length (m .0) ≡ length st₀
     pub scraps : length (m .1) ≡ length sc₀
-    pub ready : hasPassed outcome ≡ true → Passed t (c .plan) (m .0) (m .1)
+    pub ready : hasPassed outcome ≡ true → Passed t (c .index) (m .0) (m .1)
 
   abbrev pub Facts : ℕ → ℕ → List Record → List ℕ → List ℕ → Type 0
   Facts i g ys st sc = loop.Facts (ask t) (after t) ys₀ (st₀, sc₀) Kept i g ys (st, sc)
@@ -67,7 +67,7 @@ module _ (t : List ℕ) (ys₀ : List Record) (st₀ sc₀ : List ℕ) (c : Insp
   begins = loop.begins (ask t) (after t) ys₀ (st₀, sc₀) Kept (record { words = refl; scraps = refl; ready = passed-all t st₀ sc₀ c seen })
 
   -- What `step` asks.
-  pub asks : (i g : ℕ) (ys : List Record) (st sc : List ℕ) → Facts i g ys st sc → i < turnsOf outcome (length ys₀) → Passed t (c .plan) st sc
+  pub asks : (i g : ℕ) (ys : List Record) (st sc : List ℕ) → Facts i g ys st sc → i < turnsOf outcome (length ys₀) → Passed t (c .index) st sc
   asks i g ys st sc F l = F .kept .ready (turns-passed outcome i (length ys₀) l)
 
   -- What `step` ensures of the record e.
@@ -83,7 +83,7 @@ module _ (t : List ℕ) (ys₀ : List Record) (st₀ sc₀ : List ℕ) (c : Insp
       (record {
         words = len ∙ F .kept .words;
         scraps = len′ ∙ F .kept .scraps;
-        ready = λ p. subst (λ (m : Mem). Passed t (c .plan) (m .0) (m .1)) (sym left) (after-passed t st sc (e .event) (e .from) (e .to) (c .plan) (F .kept .ready p));
+        ready = λ p. subst (λ (m : Mem). Passed t (c .index) (m .0) (m .1)) (sym left) (after-passed t st sc (e .event) (e .from) (e .to) (c .index) (F .kept .ready p));
       }) F l
 
   abbrev pub Ended : Listed → List Record → List ℕ → List ℕ → Type 0

@@ -30,8 +30,8 @@ fn inspect(
     if (scratch.len() < layout::SCRATCH) | (spare.len() < layout::SCRATCH) {
         return Outcome::Refused(6, 0);
     }
-    let mut plan = [0u16; ENTRIES];
-    memory::banks::inspect(terms, relations, own, other, &mut plan)
+    let mut index = [0u16; ENTRIES];
+    memory::banks::inspect(terms, relations, own, other, &mut index)
 }
 
 // Answers a record's request of the bank by its number.

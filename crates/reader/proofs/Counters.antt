@@ -19,7 +19,7 @@ use Rattle.theory.specs.Terms.{formula}
 use Rattle.theory.specs.Terms.{tables, pastEntry, Alike}
 use Rattle.theory.specs.Fit.{_⇒_, reachFits}
 use Rattle.theory.specs.Columns.{columnsFit}
-use Rattle.memory.specs.Plan.{Masked, setFits, reachSets}
+use Rattle.memory.specs.TableIndex.{Masked, setFits, reachSets}
 use Rattle.theory.proofs.Unfolding.{below-spelled, small-below, small-node}
 use Rattle.theory.proofs.Good.{fits-variable}
 use Rattle.memory.proofs.FreeSets.{fit-set, target-set, reach-set}

@@ -12,7 +12,7 @@ use lib.ListN.{length, getD, take, drop, replicate}
 use Rattle.theory.specs.Formula.{number}
 use Rattle.memory.specs.Layout.{termsWords, entriesAt, policiesAt, effectsAt, marksAt, entryWords, stateWords}
 use Rattle.reader.specs.Read.Filling.{old, stored, unfilled}
-use Rattle.memory.specs.Plan.{Masked}
+use Rattle.memory.specs.TableIndex.{Masked}
 use Rattle.fields.specs.Split.{lines, split, place}
 use Rattle.file.specs.Line.{parsed}
 use Rattle.file.specs.File.{File, nothing, after}

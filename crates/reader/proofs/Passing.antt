@@ -18,7 +18,7 @@ use Rattle.theory.proofs.Past.{past-entry}
 use Rattle.file.proofs.Accepted.{going-good}
 use Rattle.file.proofs.Fit.{two-few}
 use Rattle.memory.specs.Layout.{eventWord}
-use Rattle.memory.specs.Plan.{Masked}
+use Rattle.memory.specs.TableIndex.{Masked}
 use Rattle.file.specs.File.{File, withEntry, eventNamed, eventSaid, after}
 use Rattle.file.specs.Reading.{inRange, isLower, tests}
 use Rattle.reader.specs.Memory.{memoryOf}

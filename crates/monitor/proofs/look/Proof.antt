@@ -25,7 +25,7 @@ ready c =
 look-requires : tie.Need-look-requires
 look-requires c κs =
     let p = ready (c .before) in
-    ((p .long-terms, p .good-terms), (p .planned, (p .long-state, p .good-state)))
+    ((p .long-terms, p .good-terms), (p .indexed, (p .long-state, p .good-state)))
 
 returns : tie.Need-returns
 returns c =
@@ -39,7 +39,7 @@ look-spec =
     (λ c κs. search needs)
     (λ c. search needs)
     (λ c. search needs)
-    (λ c. sym (ready (c .before) .planned .long))
+    (λ c. sym (ready (c .before) .indexed .long))
     look-requires
     returns
     (λ c. c .look .ensures _ (ready (c .before .before) .long-scratch)))

@@ -12,7 +12,7 @@ use Rattle.theory.specs.Columns.{pairMember, pairFirst, pairLast}
 use Rattle.theory.specs.Fit.{_⇒_}
 use Rattle.theory.specs.Limits.{maxMembers, maxRelations, maxEvents, maxEntries, maxTables, maxEffects}
 use Rattle.memory.specs.Layout.{termsOf}
-use Rattle.memory.specs.Plan.{restOf, setFits, reachSets}
+use Rattle.memory.specs.TableIndex.{restOf, setFits, reachSets}
 use Rattle.theory.specs.Terms.{pastEntry}
 use Rattle.file.specs.File.{eventNamed}
 use Rattle.file.specs.Reading.{Test, test, inRange, isLower}

@@ -11,4 +11,4 @@ inspect-spec =
     (λ c κs. search needs)
     (λ c. search needs)
     (λ c. search needs)
-    (λ c. (record { outcome = c .inspect .ensures .0; planned = c .inspect .ensures .1 }, refl, refl)))
+    (λ c. (record { outcome = c .inspect .ensures .0; indexed = c .inspect .ensures .1 }, refl, refl)))

@@ -1,11 +1,11 @@
--- `memory::plan::is_pair` meets its contract.
+-- `memory::table_index::is_pair` meets its contract.
 use borrow.Author.Needs.{needs}
 use Prim.Native.Nat.{ℕ}
 use mathlib.Core.Path.{ap₂}
 use mathlib.Core.Bool.{not}
 use lib.Dec.{eqb}
-use Rattle.memory.proofs.plan.is_pair.Statement.{statement}
-use Rattle.memory.proofs.plan.is_pair.Tie as tie
+use Rattle.memory.proofs.table_index.is_pair.Statement.{statement}
+use Rattle.memory.proofs.table_index.is_pair.Tie as tie
 
 pub is-pair-spec : {M : Type 1} → statement M
 is-pair-spec =

@@ -1,4 +1,4 @@
--- `memory::plan::plan_of` meets its contract.
+-- `memory::table_index::index_of` meets its contract.
 use borrow.Author.Needs.{needs}
 use borrow.Author.Tests.{not-true, not-false}
 use Prim.Native.Nat.{ℕ, _+_, _*_, _%_}
@@ -6,8 +6,8 @@ use mathlib.Core.Path.{ap₂, _∙_}
 use mathlib.Core.Bool.{cond}
 use lib.Dec.{eqb}
 use Rattle.sets.specs.Sets.{least}
-use Rattle.memory.proofs.plan.plan_of.Statement.{statement}
-use Rattle.memory.proofs.plan.plan_of.Tie as tie
+use Rattle.memory.proofs.table_index.index_of.Statement.{statement}
+use Rattle.memory.proofs.table_index.index_of.Tie as tie
 
 returns-2 : tie.Need-returns-2
 returns-2 c =
@@ -17,8 +17,8 @@ returns-2 c =
     (c .last-column .ensures .0
     ∙ ap₂ (λ (r l : ℕ). cond (eqb r 0) (l % 16) (least r % 16)) (c .before .rest-of .ensures) (c .before .before .least-of .ensures)))
 
-pub plan-of-spec : {M : Type 1} → statement M
-plan-of-spec =
+pub index-of-spec : {M : Type 1} → statement M
+index-of-spec =
     tie.close
     (tie.spec
     (λ c κs. search needs)

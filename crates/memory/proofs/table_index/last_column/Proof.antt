@@ -1,4 +1,4 @@
--- `memory::plan::last_column` meets its contract.
+-- `memory::table_index::last_column` meets its contract.
 use borrow.Author.Needs.{needs}
 use borrow.Author.Tests.{eq-eqb, ne-eqb}
 use Prim.Native.Nat.{ℕ, _%_}
@@ -6,8 +6,8 @@ use native.Mathlib.Omega.{arith}
 use mathlib.Core.Path.{sym, ap, _∙_}
 use mathlib.Core.Bool.{Bool, cond}
 use Rattle.sets.specs.Sets.{least}
-use Rattle.memory.proofs.plan.last_column.Statement.{statement}
-use Rattle.memory.proofs.plan.last_column.Tie as tie
+use Rattle.memory.proofs.table_index.last_column.Statement.{statement}
+use Rattle.memory.proofs.table_index.last_column.Tie as tie
 
 returns : tie.Need-returns
 returns c = let a = c .before .args in

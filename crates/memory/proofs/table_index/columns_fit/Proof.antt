@@ -1,4 +1,4 @@
--- `memory::plan::columns_fit` meets its contract.
+-- `memory::table_index::columns_fit` meets its contract.
 use borrow.Author.Needs.{needs}
 use Prim.Native.Nat.{ℕ}
 use native.Mathlib.Omega.{arith}
@@ -7,9 +7,9 @@ use mathlib.Core.Bool.{Bool, _&&_, _||_}
 use lib.Dec.{eqb, ltb, leb}
 use borrow.Author.Tests.{lt-ltb, ltb-true, le-leb, leb-true}
 use Rattle.sets.proofs.Finite.{bool-iff}
-use Rattle.memory.specs.Plan.{restOf}
-use Rattle.memory.proofs.plan.columns_fit.Statement.{statement}
-use Rattle.memory.proofs.plan.columns_fit.Tie as tie
+use Rattle.memory.specs.TableIndex.{restOf}
+use Rattle.memory.proofs.table_index.columns_fit.Statement.{statement}
+use Rattle.memory.proofs.table_index.columns_fit.Tie as tie
 
 up-to : (n : ℕ) → leb n 16 ≡ ltb n 17
 up-to n = bool-iff _ _ (λ e. lt-ltb n 17 (omega (arith, leb-true n 16 e))) (λ e. le-leb n 16 (omega (arith, ltb-true n 17 e)))

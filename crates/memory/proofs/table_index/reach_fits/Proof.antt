@@ -1,14 +1,14 @@
--- `memory::plan::reach_fits` meets its contract.
+-- `memory::table_index::reach_fits` meets its contract.
 use borrow.Author.Needs.{needs}
 use borrow.Author.Tests.{ne-eqb}
 use native.Mathlib.Omega.{arith}
 use mathlib.Core.Path.{refl, ap₂}
 use mathlib.Core.Bool.{Bool, not, _&&_}
 use lib.Dec.{ltb}
-use Rattle.memory.specs.Plan.{reachSets}
+use Rattle.memory.specs.TableIndex.{reachSets}
 use Rattle.memory.proofs.FreeSets.{none-besides}
-use Rattle.memory.proofs.plan.reach_fits.Statement.{statement}
-use Rattle.memory.proofs.plan.reach_fits.Tie as tie
+use Rattle.memory.proofs.table_index.reach_fits.Statement.{statement}
+use Rattle.memory.proofs.table_index.reach_fits.Tie as tie
 
 returns : tie.Need-returns
 unfolding reachSets
