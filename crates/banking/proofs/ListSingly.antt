@@ -16,7 +16,7 @@ use Rattle.memory.specs.Layout.{joined, termsOf, stateOf}
 use Rattle.memory.specs.Outcome.{Outcome, hasPassed, banksCheck}
 use Rattle.memory.specs.Outcome.Outcome.{passed, failed}
 use Rattle.calls.specs.Monitor.{granted}
-use Rattle.calls.specs.SetList.{numberOf, gainOf, ones, Plain, blank}
+use Rattle.calls.specs.SetList.{answerNumber, gainOf, ones, Plain, blank}
 use Rattle.calls.specs.SetList.Listing.{counted, refused as refusedList}
 use Rattle.calls.specs.Agreement.{answerIn}
 use Rattle.calls.specs.declared.Record.{Record}
@@ -75,27 +75,27 @@ module _ (terms relations own other scratch spare : List ℕ) where
 
   module _ (j u v : ℕ) where
     -- A number of 1 is a grant.
-    one-granted : gainOf (numberOf (bankAnswer terms relations own other scratch spare j u v)) ≡ cond (granted (bankAnswer terms relations own other scratch spare j u v)) 1 0
+    one-granted : gainOf (answerNumber (bankAnswer terms relations own other scratch spare j u v)) ≡ cond (granted (bankAnswer terms relations own other scratch spare j u v)) 1 0
     unfolding gainOf
     one-granted =
-        each-answer terms relations own other scratch spare j u v (λ a. _≡_ {A = ℕ} (cond (eqb (numberOf a) 1) 1 0) (cond (granted a) 1 0)) refl refl refl refl refl refl
+        each-answer terms relations own other scratch spare j u v (λ a. _≡_ {A = ℕ} (cond (eqb (answerNumber a) 1) 1 0) (cond (granted a) 1 0)) refl refl refl refl refl refl
 
     -- A number tells its answer.
-    pub answer-back : answerIn (numberOf (bankAnswer terms relations own other scratch spare j u v)) ≡ bankAnswer terms relations own other scratch spare j u v
-    answer-back = each-answer terms relations own other scratch spare j u v (λ a. answerIn (numberOf a) ≡ a) refl refl refl refl refl refl
+    pub answer-back : answerIn (answerNumber (bankAnswer terms relations own other scratch spare j u v)) ≡ bankAnswer terms relations own other scratch spare j u v
+    answer-back = each-answer terms relations own other scratch spare j u v (λ a. answerIn (answerNumber a) ≡ a) refl refl refl refl refl refl
 
     plain-number : BanksChecked terms relations own other → scratchWords ≤ length scratch → scratchWords ≤ length spare →
-        Plain (numberOf (bankAnswer terms relations own other scratch spare j u v))
+        Plain (answerNumber (bankAnswer terms relations own other scratch spare j u v))
     plain-number c l k = by-name (named (termsOf terms) j u v) refl
       where
         by-verdict : named (termsOf terms) j u v ≡ true → (d : Bool) → d ≡ decideNow (termsOf terms) (stateOf (joined relations own)) j u v →
-            Plain (numberOf (bankAnswer terms relations own other scratch spare j u v))
-        by-verdict n true e = inr (inl (sym (ap numberOf (judged terms relations own other scratch spare j u v l k c n refl e))))
-        by-verdict n false e = inl (sym (ap numberOf (judged terms relations own other scratch spare j u v l k c n refl e)))
+            Plain (answerNumber (bankAnswer terms relations own other scratch spare j u v))
+        by-verdict n true e = inr (inl (sym (ap answerNumber (judged terms relations own other scratch spare j u v l k c n refl e))))
+        by-verdict n false e = inl (sym (ap answerNumber (judged terms relations own other scratch spare j u v l k c n refl e)))
 
-        by-name : (n : Bool) → named (termsOf terms) j u v ≡ n → Plain (numberOf (bankAnswer terms relations own other scratch spare j u v))
+        by-name : (n : Bool) → named (termsOf terms) j u v ≡ n → Plain (answerNumber (bankAnswer terms relations own other scratch spare j u v))
         by-name true n = by-verdict n (decideNow (termsOf terms) (stateOf (joined relations own)) j u v) refl
-        by-name false n = inr (inr (sym (ap numberOf (unnamed terms relations own other scratch spare j u v l k c n))))
+        by-name false n = inr (inr (sym (ap answerNumber (unnamed terms relations own other scratch spare j u v l k c n))))
 
 -- ---- single requests one after another
 

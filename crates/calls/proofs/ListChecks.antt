@@ -15,7 +15,7 @@ use Rattle.memory.specs.TableIndex.{Indexed}
 use Rattle.memory.proofs.Outcomes.{Checked, passed-checked}
 use Rattle.calls.specs.Monitor.{answer}
 use Rattle.calls.specs.SetList.{listChecks}
-use Rattle.calls.specs.private.Listing.{Passed}
+use Rattle.calls.specs.private.Listing.{MemoryPassed}
 use Rattle.calls.proofs.Answers.{short-scratch, unchecked}
 
 module _ (terms state scratch : List ℕ) where
@@ -38,7 +38,7 @@ module _ (terms state scratch : List ℕ) where
       go false s e = (ltb-false (length scratch) scratchWords s, passed-checked terms state e)
 
   -- And with the table index, all that a request asks of the memory.
-  pub list-ready : (index : List ℕ) → passed ≡ listChecks terms state scratch → Indexed (termsOf terms) index → Passed terms index state scratch
+  pub list-ready : (index : List ℕ) → passed ≡ listChecks terms state scratch → Indexed (termsOf terms) index → MemoryPassed terms index state scratch
   list-ready index e indexed =
       let p = list-passed e in
       let k : Checked terms state = p .1 in

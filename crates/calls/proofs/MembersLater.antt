@@ -24,7 +24,7 @@ use Rattle.memory.specs.Checks.{goodMemory, goodState, Inside}
 use Rattle.memory.specs.Outcome.{Outcome, hasPassed, checks}
 use Rattle.memory.specs.Outcome.Outcome.{passed, failed}
 use Rattle.calls.specs.Monitor.{answer, granted, isDecided, moves, stateAfter, scratchAfter}
-use Rattle.calls.specs.SetList.{Run, singly, listChecks, numberOf, listing, listed, left}
+use Rattle.calls.specs.SetList.{Run, singly, listChecks, answerNumber, listing, listed, left}
 use Rattle.calls.specs.Agreement.{leaves, LentStep, KeepsTerms, Lent, answerIn, answersIn, serveSteps}
 use Rattle.calls.specs.Agreement.LentStep.{once, setList, revise, renumber}
 use Rattle.calls.specs.declared.Record.{Record}
@@ -207,7 +207,7 @@ module _ (terms : List ℕ) (long-terms : termsWords ≤ length terms) (good-ter
         (told (singly terms A' w (map (recordBy numbers) rs) .records) ≡ told (singly terms A B rs .records))
         × Alike (singly terms A B rs .state) (singly terms A' w (map (recordBy numbers) rs) .state)) (sym (same-scratch m m' scratch h j u v))
         (alike-singly rs A A' B (alike-after m m' scratch h j u v)) in
-        (ap₂ (λ (a : Answer) (l : List Answer). answerIn (numberOf a) ∷ l) (same-answer m m' scratch h j u v) (later .0), later .1)
+        (ap₂ (λ (a : Answer) (l : List Answer). answerIn (answerNumber a) ∷ l) (same-answer m m' scratch h j u v) (later .0), later .1)
 
     checked-is : (m : List ℕ) → stateWords ≤ length m → goodState T m ≡ true → checks terms m ≡ passed
     checked-is m l g = sym (check-passed terms m (record { long-terms = long-terms; long-state = l; good-terms = good-terms; good-state = g }))

@@ -32,15 +32,15 @@ listingOf (Refused n l) = refused n l
 -- ---- single requests one after another
 
 -- The answer field: 0 for deny, 1 for grant, the number of a refusal. (No request is answered with done.)
-abbrev pub numberOf : Answer → ℕ
-numberOf (decided deny) = 0
-numberOf (decided grant) = 1
-numberOf done = 0
-numberOf (refusedAnswer n l) = n
+abbrev pub answerNumber : Answer → ℕ
+answerNumber (decided deny) = 0
+answerNumber (decided grant) = 1
+answerNumber done = 0
+answerNumber (refusedAnswer n l) = n
 
 -- The record with its answer field filled in, whatever that was.
 abbrev pub filled : Record → Answer → Record
-filled r a = record { event = r .event; from = r .from; to = r .to; answer = numberOf a }
+filled r a = record { event = r .event; from = r .from; to = r .to; answer = answerNumber a }
 
 -- The records at the end, how many were granted, and what is left of state and scratch.
 pub record Run : Type 0 where

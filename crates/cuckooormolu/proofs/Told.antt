@@ -30,7 +30,7 @@ use Rattle.fields.specs.Split.{Lines, split, lines}
 use Rattle.fields.specs.Split.Lines.{done, cut, line}
 use Rattle.file.specs.Line.{parsed}
 use Rattle.file.specs.Reading as file
-use Rattle.file.specs.File.{File, after, nothing}
+use Rattle.file.specs.File.{File, afterLine, nothing}
 use Rattle.file.specs.Reading.{Test, Reading, tests, tried, complete, readOn, partlyAt, levelled, reading}
 use Rattle.reader.specs.Read.{short, outcome, readGives}
 use Rattle.writer.specs.Write.{Writing, fitted, writtenText, storedText, isFresh, ifFresh, sizeGives, writeGives, oldSizeGives, oldWriteGives, storeSizeGives, storeGives}
@@ -238,7 +238,7 @@ low-read f n done = low-either (complete f) (file.accepted f) (file.refused 1 n)
 low-read f n (cut l) = low 1 refl
 low-read f n (line l r) =
     let p = parsed (split 9 l) in
-    low-tried (tests f p) n (readOn (after f p) (n + 1) r) (low-tests f p) (low-read (after f p) (n + 1) r)
+    low-tried (tests f p) n (readOn (afterLine f p) (n + 1) r) (low-tests f p) (low-read (afterLine f p) (n + 1) r)
 
 low-levelled : (ls : Lines) (r : Reading) → LowReading r → LowReading (levelled ls r)
 unfolding levelled

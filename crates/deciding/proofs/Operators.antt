@@ -17,7 +17,7 @@ use Rattle.theory.specs.Tables.{recalled}
 use Rattle.theory.specs.Terms.{Terms, formula}
 use Rattle.memory.specs.Layout.{termsOf}
 use Rattle.memory.specs.TableIndex.{indexTable, indexColumns}
-use Rattle.deciding.specs.private.Rows.{tableBit, assigned, opened, openUnder, nowAt, cell, Rows, Has, Asked}
+use Rattle.deciding.specs.private.Rows.{tableBit, assigned, opened, openUnder, nowAt, cell, Rows, Has, RowsAsked}
 use Rattle.deciding.specs.private.Rows.{inRow, Added, ahead, Recalled, remembered}
 use Rattle.theory.proofs.Unfolding.{number-lt}
 use Rattle.deciding.proofs.Loops.{rows-map}
@@ -168,7 +168,7 @@ module _ {terms index rel past : List ℕ} {g : Assignment} {x i want o a b r al
 
   -- The second is asked for at members.
   pub reached-asked : (c need : ℕ) {f : List ℕ} → c ≡ T .entry i .c → o ≡ 10 → Rows want (cell T rel past (assigned (replicate 16 0)) a b) f
-      → Has need (ahead (inRow f) want) → Asked T g c need
+      → Has need (ahead (inRow f) want) → RowsAsked T g c need
   reached-asked c need {f} z e d h = operand-reached s c need f z e h (λ m k w q. ltb-true k N (and-left (ltb k N) _ (sym (reach-row e d m k w) ∙ q)))
 
   pub decide-reach : (c need : ℕ) {f h t : List ℕ} → c ≡ T .entry i .c → o ≡ 10 → Rows want (cell T rel past (assigned (replicate 16 0)) a b) f

@@ -18,7 +18,7 @@ use Rattle.theory.specs.Terms.{Terms, formula}
 use Rattle.theory.specs.Fit.{Good}
 use Rattle.memory.specs.Layout.{termsOf}
 use Rattle.memory.specs.TableIndex.{indexTable, indexFirst, indexLast, indexColumns}
-use Rattle.deciding.specs.private.Rows.{tableBit, assigned, opened, nowAt, cell, Rows, Ready, Asked, Table, operandBits, nextPrev, nextSince, Has, inRow, Added, kept}
+use Rattle.deciding.specs.private.Rows.{tableBit, assigned, opened, nowAt, cell, Rows, Ready, RowsAsked, Table, operandBits, nextPrev, nextSince, Has, inRow, Added, kept}
 use Rattle.theory.proofs.Unfolding.{number-lt}
 use Rattle.theory.proofs.Good.{first-lower, second-lower}
 use Rattle.memory.proofs.Accepted.{good}
@@ -29,7 +29,7 @@ use Rattle.deciding.proofs.Assignments.{vars-zeros, vars-assign, opened
 abbrev fresh : Assignment
 fresh = assigned (replicate 16 0)
 
-fresh-asked : (T : Terms) (i w : ℕ) → Good T → i < T .entries → ((m : ℕ) → bit w m ≡ true → m < T .members) → Asked T fresh i w
+fresh-asked : (T : Terms) (i w : ℕ) → Good T → i < T .entries → ((m : ℕ) → bit w m ≡ true → m < T .members) → RowsAsked T fresh i w
 fresh-asked T i w h l q = record {
   exists = l;
   wanted = q;
@@ -39,7 +39,7 @@ fresh-asked T i w h l q = record {
 -- ---- a request, at u alone: variable 0 stands for v, and none is open
 module _ (v : ℕ) (g : Assignment) (target : (y : ℕ) → g y ≡ assign fresh 0 v y) where
   pub request-asked : {terms index rel past : List ℕ} (i u w : ℕ) → Ready terms index rel past → i < termsOf terms .entries → u < termsOf terms .members
-      → v < termsOf terms .members → Has w (λ m. eqb m u) → Asked (termsOf terms) g i w
+      → v < termsOf terms .members → Has w (λ m. eqb m u) → RowsAsked (termsOf terms) g i w
   request-asked {terms} i u w ready l k vl h = record {
     exists = l;
     wanted = λ m e. subst (λ (y : ℕ). y < termsOf terms .members) (sym (eqb-true m u (sym (h m) ∙ e))) k;
@@ -87,12 +87,12 @@ module _ {terms index rel past : List ℕ} {i o : ℕ} (ready : Ready terms inde
   table-small p e = subst (λ (y : ℕ). y < 32) (sym (ap indexTable e ∙ index-is .0))
       (let j = number-lt (T .entry) i (T .entries) l entry-past in let k = terms-good .few-tables in omega arith)
 
-  pub table-first : (k all : ℕ) → k ≡ T .entry i .a → firstOperand o ≡ entry → Has all (λ m. ltb m (T .members)) → Asked T fresh k all
+  pub table-first : (k all : ℕ) → k ≡ T .entry i .a → firstOperand o ≡ entry → Has all (λ m. ltb m (T .members)) → RowsAsked T fresh k all
   table-first k all e q h =
       let low : T .entry i .a < i = first-lower (terms-good .entry i l) (ap firstOperand op ∙ q) in
       fresh-asked T k all terms-good (omega arith) (λ m t. ltb-true m (T .members) (sym (h m) ∙ t))
 
-  pub table-second : (k all : ℕ) → k ≡ T .entry i .b → secondOperand o ≡ entry → Has all (λ m. ltb m (T .members)) → Asked T fresh k all
+  pub table-second : (k all : ℕ) → k ≡ T .entry i .b → secondOperand o ≡ entry → Has all (λ m. ltb m (T .members)) → RowsAsked T fresh k all
   table-second k all e q h =
       let low : T .entry i .b < i = second-lower (terms-good .entry i l) (ap secondOperand op ∙ q) in
       fresh-asked T k all terms-good (omega arith) (λ m t. ltb-true m (T .members) (sym (h m) ∙ t))

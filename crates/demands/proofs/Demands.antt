@@ -35,7 +35,7 @@ use Rattle.file.specs.Preset.{ReadsPreset}
 use Rattle.file.specs.Reading.{reading, tests}
 use Rattle.file.specs.Reading.Reading.{accepted, refused as refusedAt}
 use Rattle.file.specs.Refused.{RefusedText, numbersRise}
-use Rattle.file.specs.Said.{SaidBy, edgesSaid, records, termsSaid}
+use Rattle.file.specs.Said.{SaidBy, edgesSaid, saidLines, termsSaid}
 use Rattle.file.specs.Writing.{textSaid}
 use Rattle.file.specs.declared.line.Line.{Line}
 use Rattle.calls.specs.Agreement.{Agrees, KeepsTerms, Lent, LentCall, LentStep, SameSteps, fedAll, fedCalls, fedSteps, opened, openedBook, serveAll, serveSteps}
@@ -66,7 +66,7 @@ use Rattle.reader.specs.Read.{readGives, readTerms}
 use Rattle.writer.specs.Write.{isFresh, oldSizeGives, oldWriteGives, oldWriteLeaves, storeGives, storeLeaves, storeSizeGives, storedText, writtenText}
 use Rattle.writer.specs.Write.Writing.{bytes, unwritten}
 use Rattle.text.specs.Banks.{banksReadGives, loadedBanks, saidBooks}
-use Rattle.text.specs.Recorded.{Recorded, after, laterBook, loaded}
+use Rattle.text.specs.Recorded.{Recorded, afterSteps, laterBook, loaded}
 use Rattle.text.specs.Text.{Back, readState}
 use Rattle.rulings.specs.Telling.{keeperTells}
 use Rattle.transcript.specs.Output.{output}
@@ -481,11 +481,11 @@ normal-accepted = Rattle.file.proofs.Rewritten.normal-accepted
 
 -- Its lines say the same.
 pub normal-said :
-    (text : List ℕ) (f : File) → reading text ≡ accepted f → records (lines (normalText text)) ≡ records (lines text)
+    (text : List ℕ) (f : File) → reading text ≡ accepted f → saidLines (lines (normalText text)) ≡ saidLines (lines text)
 normal-said = Rattle.file.proofs.Rewritten.normal-said
 
 -- What reading makes of an accepted text is what its lines say, taken one by one and with no test.
-pub said : (text : List ℕ) (f : File) → reading text ≡ accepted f → SaidBy (records (lines text)) f
+pub said : (text : List ℕ) (f : File) → reading text ≡ accepted f → SaidBy (saidLines (lines text)) f
 said = Rattle.file.proofs.Said.said
 
 -- ---- The logic
@@ -606,8 +606,8 @@ many-fewer = Rattle.theory.proofs.Many.many-fewer
 pub demand-3 : (text : List ℕ) (B : Book) → Recorded text B →
     (terms state : List ℕ) → termsWords ≤ length terms → stateWords ≤ length state → (ss : List LentStep) →
     (serveSteps (loaded text terms state) ss .0 ≡ keepSteps B (fedSteps ss) .0)
-    × Agrees (laterBook B ss .terms) (laterBook B ss .start) (after text terms state ss .before)
-    (after text terms state ss .state) (laterBook B ss .moments)
+    × Agrees (laterBook B ss .terms) (laterBook B ss .start) (afterSteps text terms state ss .before)
+    (afterSteps text terms state ss .state) (laterBook B ss .moments)
     × ((f : File) → reading text ≡ accepted f → take termsWords (readTerms text terms state) ≡ memoryOf (f .terms))
 demand-3 = Rattle.text.proofs.Demand.demand-3
 
@@ -615,7 +615,7 @@ demand-3 = Rattle.text.proofs.Demand.demand-3
 pub demand-3-plans : (text : List ℕ) (B : Book) → Recorded text B →
     (terms state : List ℕ) → termsWords ≤ length terms → stateWords ≤ length state → (ss : List LentStep) →
     (scratch plan : List ℕ) (planner rival goal u v : ℕ) →
-    ruling (after text terms state ss .terms) (after text terms state ss .state) scratch plan planner rival goal u v
+    ruling (afterSteps text terms state ss .terms) (afterSteps text terms state ss .state) scratch plan planner rival goal u v
     ≡ keeperRules (laterBook B ss) (length scratch) plan planner rival goal u v
 demand-3-plans = Rattle.rulings.proofs.Demand.demand-3-plans
 
@@ -623,8 +623,8 @@ demand-3-plans = Rattle.rulings.proofs.Demand.demand-3-plans
 pub demand-3-telling : (text : List ℕ) (B : Book) → Recorded text B →
     (terms state : List ℕ) → termsWords ≤ length terms → stateWords ≤ length state → (ss : List LentStep) →
     (n u v : ℕ) →
-    tells (after text terms state ss .terms)
-    (after text terms state ss .state) n u v ≡ keeperTells (laterBook B ss) n u v
+    tells (afterSteps text terms state ss .terms)
+    (afterSteps text terms state ss .state) n u v ≡ keeperTells (laterBook B ss) n u v
 demand-3-telling = Rattle.rulings.proofs.Demand.demand-3-telling
 
 -- After loading a file that a monitor wrote, the answers are those that it would have given had it never stopped.
@@ -649,17 +649,17 @@ recorded-accepted = Rattle.text.proofs.Resuming.recorded-accepted
 pub recorded-checked :
     (text : List ℕ) (B : Book) → Recorded text B → (terms state : List ℕ) → termsWords ≤ length terms →
     stateWords ≤ length state →
-    (ss : List LentStep) → passed ≡ checks (after text terms state ss .terms) (after text terms state ss .state)
+    (ss : List LentStep) → passed ≡ checks (afterSteps text terms state ss .terms) (afterSteps text terms state ss .state)
 recorded-checked = Rattle.text.proofs.Resuming.recorded-checked
 
 -- For an old file and single calls, where the keeper is given what the lines say.
 pub demand-3-old : (text : List ℕ) (f : File) → reading text ≡ accepted f → f .stored ≡ false →
     (terms state : List ℕ) → termsWords ≤ length terms → stateWords ≤ length state → (cs : List LentCall) →
     (serveAll (readTerms text terms state) (readState text terms state) cs .0
-    ≡ keeper (termsSaid (records (lines text))) (edgesSaid (records (lines text))) (fedAll cs) .0)
-    × Agrees (termsSaid (records (lines text))) fromFirst state
+    ≡ keeper (termsSaid (saidLines (lines text))) (edgesSaid (saidLines (lines text))) (fedAll cs) .0)
+    × Agrees (termsSaid (saidLines (lines text))) fromFirst state
     (serveAll (readTerms text terms state) (readState text terms state) cs .1)
-    (keeper (termsSaid (records (lines text))) (edgesSaid (records (lines text))) (fedAll cs) .1)
+    (keeper (termsSaid (saidLines (lines text))) (edgesSaid (saidLines (lines text))) (fedAll cs) .1)
 demand-3-old = Rattle.text.proofs.Demand.demand-3-old
 
 -- ---- From any opening
@@ -836,15 +836,15 @@ keeper-isolated = Rattle.banking.proofs.Isolated.isolated
 pub strangers-have-no-say :
     (T : Terms) (without : WithoutReach T) (S : Circle) (text text' : List ℕ) (f f' : File)
     (is-read : reading text ≡ accepted f) (is-read' : reading text' ≡ accepted f') (form : f .stored ≡ false)
-    (form' : f' .stored ≡ false) (says : termsSaid (records (lines text)) ≡ T)
-    (says' : termsSaid (records (lines text')) ≡ T)
-    (agree : AgreeWithin T S (edgesSaid (records (lines text))) (edgesSaid (records (lines text'))))
+    (form' : f' .stored ≡ false) (says : termsSaid (saidLines (lines text)) ≡ T)
+    (says' : termsSaid (saidLines (lines text')) ≡ T)
+    (agree : AgreeWithin T S (edgesSaid (saidLines (lines text))) (edgesSaid (saidLines (lines text'))))
     (terms terms' state state' : List ℕ) (tl : termsWords ≤ length terms) (tl' : termsWords ≤ length terms')
     (sl : stateWords ≤ length state) (sl' : stateWords ≤ length state') (ss ss' : List LentStep) (keeps : KeepsTerms ss)
     (keeps' : KeepsTerms ss') (c₀ : Call) (a₀ : Answer) →
-    Separate T S (keeper T (edgesSaid (records (lines text))) (fedCalls ss) .1) →
-    Separate T S (keeper T (edgesSaid (records (lines text'))) (fedCalls ss') .1) →
-    Paired T S (first (edgesSaid (records (lines text))) ∷ []) (first (edgesSaid (records (lines text'))) ∷ [])
+    Separate T S (keeper T (edgesSaid (saidLines (lines text))) (fedCalls ss) .1) →
+    Separate T S (keeper T (edgesSaid (saidLines (lines text'))) (fedCalls ss') .1) →
+    Paired T S (first (edgesSaid (saidLines (lines text))) ∷ []) (first (edgesSaid (saidLines (lines text'))) ∷ [])
     (fedCalls ss) (fedCalls ss') →
     (n : ℕ) → InCircle S (getD (fedCalls ss) n c₀) →
     getD (serveSteps (loaded text terms state) ss .0) n a₀
@@ -855,14 +855,14 @@ strangers-have-no-say = Rattle.text.proofs.Strangers.strangers-have-no-say
 pub strangers-have-no-say-first :
     (T : Terms) (without : WithoutReach T) (S : Circle) (text text' : List ℕ) (f f' : File)
     (is-read : reading text ≡ accepted f) (is-read' : reading text' ≡ accepted f') (form : f .stored ≡ false)
-    (form' : f' .stored ≡ false) (says : termsSaid (records (lines text)) ≡ T)
-    (says' : termsSaid (records (lines text')) ≡ T)
-    (agree : AgreeWithin T S (edgesSaid (records (lines text))) (edgesSaid (records (lines text'))))
+    (form' : f' .stored ≡ false) (says : termsSaid (saidLines (lines text)) ≡ T)
+    (says' : termsSaid (saidLines (lines text')) ≡ T)
+    (agree : AgreeWithin T S (edgesSaid (saidLines (lines text))) (edgesSaid (saidLines (lines text'))))
     (terms terms' state state' : List ℕ) (tl : termsWords ≤ length terms) (tl' : termsWords ≤ length terms')
     (sl : stateWords ≤ length state) (sl' : stateWords ≤ length state') (ss ss' : List LentStep) (keeps : KeepsTerms ss)
     (keeps' : KeepsTerms ss') (c₀ : Call) (a₀ : Answer) →
-    SeparateFirst T S (edgesSaid (records (lines text))) → SeparateFirst T S (edgesSaid (records (lines text'))) →
-    Paired T S (first (edgesSaid (records (lines text))) ∷ []) (first (edgesSaid (records (lines text'))) ∷ [])
+    SeparateFirst T S (edgesSaid (saidLines (lines text))) → SeparateFirst T S (edgesSaid (saidLines (lines text'))) →
+    Paired T S (first (edgesSaid (saidLines (lines text))) ∷ []) (first (edgesSaid (saidLines (lines text'))) ∷ [])
     (fedCalls ss) (fedCalls ss') →
     (n : ℕ) → InCircle S (getD (fedCalls ss) n c₀) →
     getD (serveSteps (loaded text terms state) ss .0) n a₀

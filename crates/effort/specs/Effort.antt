@@ -121,12 +121,12 @@ module _ (T : Terms) (sets : List ℕ) (limit : ℕ) where
   }
 
   -- The last i entries are done.
-  unfoldable pub after : ℕ → Count
-  after zero = record { calls = policies T (T .events); asked = policies T (T .events); rows = 0 }
-  after (suc i) = turn (after i) (T .entries - suc i)
+  unfoldable pub countAfter : ℕ → Count
+  countAfter zero = record { calls = policies T (T .events); asked = policies T (T .events); rows = 0 }
+  countAfter (suc i) = turn (countAfter i) (T .entries - suc i)
 
   unfoldable pub total : ℕ
-  total = after (T .entries) .rows
+  total = countAfter (T .entries) .rows
 
 -- ---- the bound
 

@@ -13,7 +13,7 @@ ghost use mathlib.Core.Path.{_≡_};
 ghost use Prim.Native.Nat.{_+_, _<_, _≤_};
 ghost use Rattle.theory.specs.Limits.{maxEntries};
 ghost use Rattle.memory.specs.Layout.{termsOf};
-ghost use Rattle.memory.specs.private.Operands.{kindOf};
+ghost use Rattle.memory.specs.private.Operands.{operandKind};
 ghost use Rattle.effort.specs.Effort.{smaller, cut, times, setOf, setsOf, isOne, rowsOf, callsOf, askedOf, more, moreIf, isEntry, moreOf, policies, rowsAt, callsAfter, askedAfter, total, brief, effort};
 
 // The most that is counted: 2 to the power of 31, a number of any machine.
@@ -143,7 +143,7 @@ fn add_if(yes: bool, words: &mut [u64; ENTRIES], k: usize, x: u64)
 }
 
 fn is_entry(kind: Kind) -> bool
-    ensures { λ r. ⌜ r ≡ isEntry (kindOf kind) ⌝ }
+    ensures { λ r. ⌜ r ≡ isEntry (operandKind kind) ⌝ }
 {
     match kind {
         Kind::Unused => false,

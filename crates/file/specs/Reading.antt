@@ -14,7 +14,7 @@ use Rattle.theory.specs.Limits.{maxMembers, maxRelations, maxEvents, maxEntries
 use Rattle.fields.specs.Split.{Lines, split, lines}
 use Rattle.fields.specs.Split.Lines.{done, cut, line}
 use Rattle.file.specs.Line.{parsed}
-use Rattle.file.specs.File.{File, nothing, withEntry, eventNamed, pairTable, after}
+use Rattle.file.specs.File.{File, nothing, withEntry, eventNamed, pairTable, afterLine}
 use Rattle.file.specs.declared.line.Line.{Line}
 use Rattle.file.specs.declared.line.Line.the-variants.{Members, Labels, Entry, Policy, Effect, Edge, Form, TableBit, PairBit, EventEdge, Mark, Malformed}
 
@@ -165,7 +165,7 @@ tried (t ∷ ts) n r = cond (t .passes) (tried ts n r) (refused (t .number) n)
 unfoldable pub readOn : File → (n : ℕ) → Lines → Reading
 readOn f n done = cond (complete f) (accepted f) (refused 1 n)
 readOn f n (cut l) = refused 1 n
-readOn f n (line l r) = tried (tests f (parsed (split 9 l))) n (readOn (after f (parsed (split 9 l))) (n + 1) r)
+readOn f n (line l r) = tried (tests f (parsed (split 9 l))) n (readOn (afterLine f (parsed (split 9 l))) (n + 1) r)
 
 -- Word a of table t, which has a bit, is partly filled, and the table is one without a free variable.
 unfoldable pub partly : File → (t a : ℕ) → Bool

@@ -13,7 +13,7 @@ use Rattle.theory.specs.Keeper.{Answer}
 use Rattle.memory.specs.Outcome.{Outcome, hasPassed}
 use Rattle.memory.specs.Outcome.Outcome.{passed, failed}
 use Rattle.calls.specs.Monitor.{granted}
-use Rattle.calls.specs.SetList.{numberOf, filled, listing, gainOf, blank}
+use Rattle.calls.specs.SetList.{answerNumber, filled, listing, gainOf, blank}
 use Rattle.calls.specs.SetList.Listing.{counted}
 use Rattle.calls.specs.private.Listing.{turnsOf}
 use Rattle.calls.specs.declared.Record.{Record}
@@ -137,8 +137,8 @@ module _ {Mem : Type 0} (ask : Mem → Record → Answer) (after : Mem → Recor
       kept = k;
     }
 
-    module _ (one-granted : (m : Mem) (r : Record) → gainOf (numberOf (ask m r)) ≡ gain m r) (i g : ℕ) (ys : List Record) (m : Mem) (r : ℕ) (m′ : Mem)
-        (said : r ≡ numberOf (ask m (getD ys i blank))) (left : m′ ≡ after m (getD ys i blank)) (kept′ : Kept m′)
+    module _ (one-granted : (m : Mem) (r : Record) → gainOf (answerNumber (ask m r)) ≡ gain m r) (i g : ℕ) (ys : List Record) (m : Mem) (r : ℕ) (m′ : Mem)
+        (said : r ≡ answerNumber (ask m (getD ys i blank))) (left : m′ ≡ after m (getD ys i blank)) (kept′ : Kept m′)
       where
         abbrev ys′ : List Record
         ys′ = set ys i (put-answer (getD ys i blank) r)
@@ -168,8 +168,8 @@ module _ {Mem : Type 0} (ask : Mem → Record → Answer) (after : Mem → Recor
             found : getD ys i blank ≡ z
             found = (λ j. getD (cut j) (sym (F .place) j) blank) ∙ elem-is (F .done) z blank rest
 
-            number : r ≡ numberOf (ask m z)
-            number = said ∙ ap (λ (e : Record). numberOf (ask m e)) found
+            number : r ≡ answerNumber (ask m z)
+            number = said ∙ ap (λ (e : Record). answerNumber (ask m e)) found
 
             gained : gainOf r ≡ gain m z
             gained = ap gainOf number ∙ one-granted m z

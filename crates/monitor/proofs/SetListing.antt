@@ -9,7 +9,7 @@ use Rattle.memory.specs.Outcome.{Outcome, outcomeOf, hasPassed}
 use Rattle.memory.specs.Outcome.Outcome.{passed, failed}
 use Rattle.calls.specs.Monitor.{answer, granted, stateAfter, scratchAfter}
 use Rattle.calls.specs.SetList.{listingOf, filled, Run, singly, listing, listed, left, gainOf, blank}
-use Rattle.calls.specs.private.Listing.{Passed, turnsOf}
+use Rattle.calls.specs.private.Listing.{MemoryPassed, turnsOf}
 use Rattle.monitor.specs.private.Inspecting.{Seen}
 use Rattle.calls.specs.declared.Record.{Record}
 use Rattle.calls.specs.declared.Listed.{Listed}
@@ -46,7 +46,7 @@ module _ (terms state scratch : List ℕ) where
   is-passed passed e = refl
   is-passed (failed n l) e = absurd (false≢true e)
 
-  passed-all : (c : Inspected) → Seen terms state scratch c → hasPassed (outcomeOf (c .outcome)) ≡ true → Passed terms (c .index) state scratch
+  passed-all : (c : Inspected) → Seen terms state scratch c → hasPassed (outcomeOf (c .outcome)) ≡ true → MemoryPassed terms (c .index) state scratch
   passed-all c seen e =
       list-ready terms state scratch (c .index) (is-passed (outcomeOf (c .outcome)) e ∙ seen .outcome) (seen .indexed e)
 
@@ -58,7 +58,7 @@ module _ (t : List ℕ) (ys₀ : List Record) (st₀ sc₀ : List ℕ) (c : Insp
   pub record Kept (m : Mem) : Type 0 where
     pub words : length (m .0) ≡ length st₀
     pub scraps : length (m .1) ≡ length sc₀
-    pub ready : hasPassed outcome ≡ true → Passed t (c .index) (m .0) (m .1)
+    pub ready : hasPassed outcome ≡ true → MemoryPassed t (c .index) (m .0) (m .1)
 
   abbrev pub Facts : ℕ → ℕ → List Record → List ℕ → List ℕ → Type 0
   Facts i g ys st sc = loop.Facts (ask t) (after t) ys₀ (st₀, sc₀) Kept i g ys (st, sc)
@@ -67,7 +67,7 @@ module _ (t : List ℕ) (ys₀ : List Record) (st₀ sc₀ : List ℕ) (c : Insp
   begins = loop.begins (ask t) (after t) ys₀ (st₀, sc₀) Kept (record { words = refl; scraps = refl; ready = passed-all t st₀ sc₀ c seen })
 
   -- What `step` asks.
-  pub asks : (i g : ℕ) (ys : List Record) (st sc : List ℕ) → Facts i g ys st sc → i < turnsOf outcome (length ys₀) → Passed t (c .index) st sc
+  pub asks : (i g : ℕ) (ys : List Record) (st sc : List ℕ) → Facts i g ys st sc → i < turnsOf outcome (length ys₀) → MemoryPassed t (c .index) st sc
   asks i g ys st sc F l = F .kept .ready (turns-passed outcome i (length ys₀) l)
 
   -- What `step` ensures of the record e.
@@ -83,7 +83,7 @@ module _ (t : List ℕ) (ys₀ : List Record) (st₀ sc₀ : List ℕ) (c : Insp
       (record {
         words = len ∙ F .kept .words;
         scraps = len′ ∙ F .kept .scraps;
-        ready = λ p. subst (λ (m : Mem). Passed t (c .index) (m .0) (m .1)) (sym left) (after-passed t st sc (e .event) (e .from) (e .to) (c .index) (F .kept .ready p));
+        ready = λ p. subst (λ (m : Mem). MemoryPassed t (c .index) (m .0) (m .1)) (sym left) (after-passed t st sc (e .event) (e .from) (e .to) (c .index) (F .kept .ready p));
       }) F l
 
   abbrev pub Ended : Listed → List Record → List ℕ → List ℕ → Type 0

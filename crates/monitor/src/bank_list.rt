@@ -2,7 +2,7 @@
 // banks is checked before any record.
 ghost use mathlib.Core.Path.{_≡_};
 ghost use Rattle.memory.specs.Outcome.{outcomeOf};
-ghost use Rattle.calls.specs.SetList.{listingOf, numberOf};
+ghost use Rattle.calls.specs.SetList.{listingOf, answerNumber};
 ghost use Rattle.banking.specs.Banking.{bankAnswer, relationsAfter, ownAfter, otherAfter, clearedAfter};
 ghost use Rattle.banking.specs.BankList.{bankListChecks, bankListed, bankLeft};
 use crate::banks::request;
@@ -44,7 +44,7 @@ fn step(
     spare: &mut [u64],
     r: Record,
 ) -> u32
-    ensures { λ k. ⌜ (k ≡ numberOf (bankAnswer (now (terms .entry)) (now (relations .entry)) (now (own .entry)) (now (other .entry)) (now (scratch .entry)) (now (spare .entry)) (r .event) (r .from) (r .to)))
+    ensures { λ k. ⌜ (k ≡ answerNumber (bankAnswer (now (terms .entry)) (now (relations .entry)) (now (own .entry)) (now (other .entry)) (now (scratch .entry)) (now (spare .entry)) (r .event) (r .from) (r .to)))
         × (now (relations .exit) ≡ relationsAfter (now (terms .entry)) (now (relations .entry)) (now (own .entry)) (now (other .entry)) (now (scratch .entry)) (now (spare .entry)) (r .event) (r .from) (r .to))
         × (now (own .exit) ≡ ownAfter (now (terms .entry)) (now (relations .entry)) (now (own .entry)) (now (other .entry)) (now (scratch .entry)) (now (spare .entry)) (r .event) (r .from) (r .to))
         × (now (other .exit) ≡ otherAfter (now (terms .entry)) (now (relations .entry)) (now (own .entry)) (now (other .entry)) (now (scratch .entry)) (now (spare .entry)) (r .event) (r .from) (r .to))

@@ -12,7 +12,7 @@ ghost use Rattle.memory.specs.Outcome.{outcomeOf, hasPassed};
 ghost use Rattle.memory.specs.TableIndex.{Indexed};
 ghost use Rattle.calls.specs.Monitor.{answerOf, answer, granted, moves, stateAfter, scratchAfter};
 ghost use Rattle.calls.specs.SetList.{listChecks};
-ghost use Rattle.calls.specs.private.Listing.{Passed};
+ghost use Rattle.calls.specs.private.Listing.{MemoryPassed};
 use calls::Answer;
 use calls::Verdict;
 use memory::Outcome;
@@ -104,7 +104,7 @@ pub(crate) fn request(
     from: usize,
     to: usize,
 ) -> Answer
-    requires { ⌜ Passed (now terms) (now index) (now state) (now scratch) ⌝ }
+    requires { ⌜ MemoryPassed (now terms) (now index) (now state) (now scratch) ⌝ }
     ensures { λ r. ⌜ answerOf r
         ≡ answer (now (terms .entry)) (now (state .entry)) (now (scratch .entry)) event from to ⌝ }
     ensures { λ r. ⌜ now (state .exit)

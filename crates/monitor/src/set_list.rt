@@ -3,8 +3,8 @@
 ghost use mathlib.Core.Path.{_≡_};
 ghost use Rattle.memory.specs.Outcome.{outcomeOf};
 ghost use Rattle.calls.specs.Monitor.{answer, stateAfter, scratchAfter};
-ghost use Rattle.calls.specs.SetList.{listingOf, numberOf, listing, listed, left};
-ghost use Rattle.calls.specs.private.Listing.{Passed, turnsOf};
+ghost use Rattle.calls.specs.SetList.{listingOf, answerNumber, listing, listed, left};
+ghost use Rattle.calls.specs.private.Listing.{MemoryPassed, turnsOf};
 ghost use Rattle.monitor.specs.private.Inspecting.{Seen};
 use crate::lists;
 use crate::lists::number_of;
@@ -49,8 +49,8 @@ fn step(
     inspected: Inspected,
     r: Record,
 ) -> u32
-    requires { ⌜ Passed (now terms) (inspected .index) (now state) (now scratch) ⌝ }
-    ensures { λ k. ⌜ (k ≡ numberOf (answer (now (terms .entry)) (now (state .entry)) (now (scratch .entry)) (r .event) (r .from) (r .to)))
+    requires { ⌜ MemoryPassed (now terms) (inspected .index) (now state) (now scratch) ⌝ }
+    ensures { λ k. ⌜ (k ≡ answerNumber (answer (now (terms .entry)) (now (state .entry)) (now (scratch .entry)) (r .event) (r .from) (r .to)))
         × (now (state .exit) ≡ stateAfter (now (terms .entry)) (now (state .entry)) (now (scratch .entry)) (r .event) (r .from) (r .to))
         × (now (scratch .exit) ≡ scratchAfter (now (terms .entry)) (now (state .entry)) (now (scratch .entry)) (r .event) (r .from) (r .to)) ⌝ }
 {

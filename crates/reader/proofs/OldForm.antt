@@ -14,8 +14,8 @@ use Rattle.memory.proofs.Words.{length-words}
 use Rattle.fields.specs.Split.{split, lines, place}
 use Rattle.fields.proofs.Split.{place-le, lines-here, lines-cut}
 use Rattle.file.specs.Line.{parsed}
-use Rattle.file.specs.File.{File, stateSaid, after}
-use Rattle.file.specs.Said.{records, formIn, storedSaid}
+use Rattle.file.specs.File.{File, stateSaid, afterLine}
+use Rattle.file.specs.Said.{saidLines, formIn, storedSaid}
 use Rattle.file.specs.Reading.{tests, reading}
 use Rattle.file.specs.Reading.Reading.{accepted, refused}
 use Rattle.file.specs.declared.line.Line.{Line}
@@ -32,7 +32,7 @@ use Rattle.reader.proofs.Ended.{Unrefused, was-refused, was-accepted}
 
 -- An S line comes before all others.
 no-form : {f g : File} {ls : List Line} → Taken f ls g → (0 < f .phase) ⊎ (storedSaid (take 1 ls) ≡ false) → storedSaid ls ≡ false
-unfolding storedSaid tests after
+unfolding storedSaid tests afterLine
 no-form none h = refl
 no-form (one (members i) p t) h = no-form t (inl (omega arith))
 no-form (one (labels i j) p t) h = no-form t (inl (omega arith))
@@ -63,15 +63,15 @@ module _ (text : List ℕ) (f : File) where
 -- The first line, by the bytes before the first line feed.
 module _ (text : List ℕ) (e : ℕ) (p : e ≡ place 10 text) where
   pub begins-cut : length text ≤ e → false ≡ beginsStored text
-  unfolding beginsStored records storedSaid lines
+  unfolding beginsStored saidLines storedSaid lines
   begins-cut h = go text (omega (arith, place-le 10 text, p))
     where
-      go : (t : List ℕ) → place 10 t ≡ length t → false ≡ storedSaid (take 1 (records (lines t)))
+      go : (t : List ℕ) → place 10 t ≡ length t → false ≡ storedSaid (take 1 (saidLines (lines t)))
       go [] q = refl
       go (x ∷ t) q = rw (lines-cut (x ∷ t) q (omega arith)) refl
 
   pub begins-line : e < length text → (l : Line) → l ≡ parsed (split 9 (take e text)) → formIn l false ≡ beginsStored text
-  unfolding beginsStored records storedSaid
+  unfolding beginsStored saidLines storedSaid
   begins-line h l q = rw (lines-here text (omega arith), q, p) refl
 
 -- ---- the ways that filling terms and relations goes

@@ -8,7 +8,7 @@ use lib.ListN.{length, take, drop}
 use Rattle.memory.specs.Layout.{termsWords, relationWords, wordsOf}
 use Rattle.fields.specs.Split.{lines}
 use Rattle.file.specs.File.{stateSaid}
-use Rattle.file.specs.Said.{records, storedSaid}
+use Rattle.file.specs.Said.{saidLines, storedSaid}
 use Rattle.file.specs.Reading.{Reading, reading}
 use Rattle.file.specs.Reading.Reading.{accepted, refused}
 use Rattle.reader.specs.Read.{Filling, filledTerms}
@@ -16,7 +16,7 @@ use Rattle.reader.specs.Read.Filling.{old, unfilled}
 
 -- The first line is an S line, with which the stored form begins.
 unfoldable pub beginsStored : List ℕ → Bool
-beginsStored text = storedSaid (take 1 (records (lines text)))
+beginsStored text = storedSaid (take 1 (saidLines (lines text)))
 
 -- A stored text is none of the old form: refused with 1 at line 1, where its S stands.
 unfoldable pub oldReading : List ℕ → Reading

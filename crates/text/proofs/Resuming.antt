@@ -21,7 +21,7 @@ use Rattle.file.specs.Reading.{reading}
 use Rattle.file.specs.Reading.Reading.{accepted}
 use Rattle.writer.specs.Write.{writtenText, isFresh, ifFresh, writeGives, oldWriteGives, oldWriteLeaves, storedText, storeGives, fitted, filledOut}
 use Rattle.writer.specs.Write.Writing.{bytes}
-use Rattle.text.specs.Recorded.{loaded, after, Recorded}
+use Rattle.text.specs.Recorded.{loaded, afterSteps, Recorded}
 use Rattle.text.specs.Recorded.Recorded.{old, written}
 use Rattle.text.proofs.AcceptedMemory.{reread-fresh}
 use Rattle.text.proofs.Reloaded.{reloaded, reread-stored-memory}
@@ -75,7 +75,7 @@ module _ (L : Lent) (out : List ℕ) (n : ℕ) (g : oldWriteGives (L .terms) (L 
 pub recorded-accepted : {text : List ℕ} {B : Book} → Recorded text B → (f : File) × (reading text ≡ accepted f)
 recorded-accepted (old text f e form) = (f, e)
 recorded-accepted (written text B from terms state tl sl ss out n g) =
-    let L : Lent = after text terms state ss in
+    let L : Lent = afterSteps text terms state ss in
     let c = loaded-twins (L .terms) (L .state) out n g terms state tl sl .checked in
     let r = reloaded (L .terms) (L .state) (c .long-terms) (c .long-state) (c .good-terms) (c .good-state) in
     (r .0, ap reading (text-stored (L .terms) (L .state) out n g) ∙ r .1 .accepts)
@@ -83,9 +83,9 @@ recorded-accepted (written text B from terms state tl sl ss out n g) =
 -- A panel with a record can always be saved: after any list of steps terms and state pass the checks, so storing is
 -- refused for want of room only.
 pub recorded-checked : (text : List ℕ) (B : Book) → Recorded text B → (terms state : List ℕ) → termsWords ≤ length terms → stateWords ≤ length state →
-    (ss : List LentStep) → passed ≡ checks (after text terms state ss .terms) (after text terms state ss .state)
+    (ss : List LentStep) → passed ≡ checks (afterSteps text terms state ss .terms) (afterSteps text terms state ss .state)
 recorded-checked text B has terms state tl sl ss =
-    let L : Lent = after text terms state ss in
+    let L : Lent = afterSteps text terms state ss in
     let p = run ss B (loaded text terms state) (playing has terms state tl sl) .1 in
     check-passed (L .terms) (L .state) (record {
       long-terms = p .long;

@@ -13,7 +13,7 @@ use Rattle.banking.specs.Banks.{Books, firstBooks}
 use Rattle.banking.specs.Banks.Bank.{left, right}
 use Rattle.banking.specs.BankRuns.{Lent, BanksInUse}
 use Rattle.fields.specs.Split.{lines}
-use Rattle.file.specs.Said.{records, termsSaid, edgesSaid}
+use Rattle.file.specs.Said.{saidLines, termsSaid, edgesSaid}
 use Rattle.file.specs.Reading.{Reading}
 use Rattle.file.specs.Reading.Reading.{accepted, refused}
 use Rattle.reader.specs.Read.{outcome, filledTerms}
@@ -47,7 +47,7 @@ banksReadOwn text terms relations first second own = cond (shortRead terms relat
 
 -- What the keeper of two banks begins with, fed the lines of an old file.
 abbrev pub saidBooks : (text : List ℕ) → Books
-saidBooks text = firstBooks (termsSaid (records (lines text))) (edgesSaid (records (lines text)))
+saidBooks text = firstBooks (termsSaid (saidLines (lines text))) (edgesSaid (saidLines (lines text)))
 
 -- The memory of two banks that have read a text.
 abbrev pub loadedBanks : (text terms : List ℕ) → Lent → BanksInUse

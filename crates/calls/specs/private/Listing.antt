@@ -11,7 +11,7 @@ use Rattle.memory.specs.Outcome.{Outcome, hasPassed}
 use Rattle.memory.specs.TableIndex.{Indexed}
 
 -- Memory that has passed the checks that come before a request or a list, with the table index.
-pub record Passed (terms index state scratch : List ℕ) : Type 0 where
+pub record MemoryPassed (terms index state scratch : List ℕ) : Type 0 where
   pub long-terms : termsWords ≤ length terms
   pub good-terms : goodMemory terms ≡ true
   pub indexed : Indexed (termsOf terms) index

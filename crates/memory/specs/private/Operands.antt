@@ -8,13 +8,13 @@ use Rattle.theory.specs.Fit.{operandFits}
 use Rattle.memory.specs.declared.operands.Kind.{Kind}
 use Rattle.memory.specs.declared.operands.Kind.the-variants.{Unused, Variable, Binder, Label, Entry, Count}
 
-abbrev pub kindOf : Kind → Operand
-kindOf Unused = unused
-kindOf Variable = variable
-kindOf Binder = binder
-kindOf Label = label
-kindOf Entry = entry
-kindOf Count = count
+abbrev pub operandKind : Kind → Operand
+operandKind Unused = unused
+operandKind Variable = variable
+operandKind Binder = binder
+operandKind Label = label
+operandKind Entry = entry
+operandKind Count = count
 
 -- The operator exists, and its operands are in the ranges of entry n.
 abbrev pub rangesFit : (op a b c labels n : ℕ) → Bool

@@ -2,7 +2,7 @@
 use borrow.Author.Needs.{needs}
 use mathlib.Core.Path.{sym, ap, _∙_}
 use Rattle.memory.specs.Outcome.{outcomeOf, hasPassed}
-use Rattle.calls.specs.private.Listing.{Passed}
+use Rattle.calls.specs.private.Listing.{MemoryPassed}
 use Rattle.calls.proofs.ListChecks.{list-ready, refused-alike}
 use Rattle.monitor.proofs.look.Statement.{statement}
 use Rattle.monitor.proofs.look.Tie as tie
@@ -16,7 +16,7 @@ start c = c .before .before .before .before .before
 
 -- It passes.
 ready : (c : tie.After-enum-told) → let x = start (inspected c) .args in
-    Passed (x .terms .now) (inspected c .inspect .last .1 .1 .1 .0) (x .state .now) (x .scratch .now)
+    MemoryPassed (x .terms .now) (inspected c .inspect .last .1 .1 .1 .0) (x .state .now) (x .scratch .now)
 ready c =
     let i = inspected c .inspect .ensures in
     let e = ap outcomeOf (c .enum-told .given .1) in

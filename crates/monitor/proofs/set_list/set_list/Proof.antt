@@ -56,7 +56,7 @@ use Rattle.calls.specs.declared.Record.{Record}
 use Rattle.calls.specs.declared.Listed.{Listed}
 use Rattle.monitor.specs.declared.set_list.Inspected.{Inspected}
 use Rattle.calls.specs.SetList.{listingOf, listing, gainOf, blank}
-use Rattle.calls.specs.private.Listing.{Passed, turnsOf}
+use Rattle.calls.specs.private.Listing.{MemoryPassed, turnsOf}
 use Rattle.monitor.specs.private.Inspecting.{Seen}
 use Rattle.calls.proofs.Record as T
 use Rattle.calls.proofs.Record.Laws as T′
@@ -213,7 +213,7 @@ module _ {M : Type 1} (𝓤 : URA M) (H : Heap 𝓤) (A : Atoms 𝓤) (W : Given
   abbrev to-step : ℕ → GName → ℕ → GName → List ℕ → List ℕ → Inspected → Val → Record → Step 𝓤 H A at-mem run .Ghost
   to-step νs δs νc δc st sc c wc e = (((κt, (νs ∷ [], (νc ∷ [], tt))), (qt, (fullShare, (fullShare, tt))), tt, asked-step δs δc st sc c e, (mt ∷ [], (ms ∷ [], (mc ∷ [], (wc ∷ [], (vals e, tt)))))), tt)
 
-  goes-step : (νs : ℕ) (δs : GName) (νc : ℕ) (δc : GName) (st sc : List ℕ) (c : Inspected) (wc : Val) (e : Record) → Is I.the-row c (wc ∷ []) → Is R e (vals e) → Passed ts (c .index) st sc
+  goes-step : (νs : ℕ) (δs : GName) (νc : ℕ) (δc : GName) (st sc : List ℕ) (c : Inspected) (wc : Val) (e : Record) → Is I.the-row c (wc ∷ []) → Is R e (vals e) → MemoryPassed ts (c .index) st sc
       → ent 𝓤 (sep 𝓤 (sep 𝓤 (A .lft κt qt) (sep 𝓤 (A .lft (νs ∷ []) fullShare) (A .lft (νc ∷ []) fullShare))) (sep 𝓤 (sem 𝓤 H A own-t) (sep 𝓤 (sem 𝓤 H A (own-s (νs ∷ []) δs st)) (sem 𝓤 H A (own-c (νc ∷ []) δc sc)))))
       (Step 𝓤 H A at-mem run .pre (to-step νs δs νc δc st sc c wc e))
   goes-step νs δs νc δc st sc c wc e isc g ready =
@@ -337,7 +337,7 @@ module _ {M : Type 1} (𝓤 : URA M) (H : Heap 𝓤) (A : Atoms 𝓤) (W : Given
         g-small : g + 1 < 2 ^ 64
         g-small = count-below g i n (F .small) l n-fits
 
-        ready : Passed ts (c .index) st sc
+        ready : MemoryPassed ts (c .index) st sc
         ready = asks ts ys₀ st₀ sc₀ c seen i g ys st sc F l
 
         g-fits : g < 2 ^ 64
