@@ -13,7 +13,7 @@ use Rattle.theory.specs.Moment.{Moment}
 use Rattle.theory.specs.Keeper.{Answer, judge}
 use Rattle.theory.specs.Keeper.Answer.{refused}
 use Rattle.memory.specs.Outcome.{Outcome}
-use Rattle.memory.specs.Outcome.Outcome.{passed, failed}
+use Rattle.memory.specs.Outcome.Outcome.{passed, refused as refusedOutcome}
 use Rattle.calls.specs.Agreement.{answerIn, answersIn}
 use Rattle.calls.specs.declared.Record.{Record}
 use Rattle.memory.proofs.Accepted.{good}
@@ -117,7 +117,7 @@ module _ (B : Books) (P : BanksInUse) (p : BanksPlaying B P) (b : Bank) (scratch
   refused-list : (ltb (length scratch) scratchWords || ltb (length spare) scratchWords) ≡ true → Played
   unfolding bankListed bankLeft
   refused-list s =
-      let e : checks ≡ failed 6 0 = list-short (P .terms) (W .relations) (W .own b) (W .own (other b)) scratch spare s in
+      let e : checks ≡ refusedOutcome 6 0 = list-short (P .terms) (W .relations) (W .own b) (W .own (other b)) scratch spare s in
       rw (e, keep-short b (length scratch) (length spare) s B rs, same-lent) (refl, p)
 
   played-list : scratchWords ≤ length scratch → scratchWords ≤ length spare → Played

@@ -10,7 +10,7 @@ use Rattle.theory.specs.Keeper.Answer.{refused}
 use Rattle.theory.specs.Limits.{scratchWords}
 use Rattle.theory.specs.Tables.{named, decideNow}
 use Rattle.memory.specs.Layout.{termsOf, stateOf}
-use Rattle.memory.specs.Outcome.Outcome.{passed, failed}
+use Rattle.memory.specs.Outcome.Outcome.{passed, refused as refusedOutcome}
 use Rattle.memory.proofs.Outcomes.{Checked}
 use Rattle.calls.specs.Monitor.{answer, stateAfter, scratchAfter}
 use Rattle.calls.specs.SetList.{answerNumber, singly, listChecks, listed, left, ones, Plain, blank}
@@ -63,7 +63,7 @@ module _ (terms state scratch : List ℕ) (rs : List Record) where
 
   -- Where a check fails, the list is refused by its number and line, all memory is as lent, and every single
   -- request would be refused alike.
-  pub refused-whole : (n l : ℕ) → listChecks terms state scratch ≡ failed n l →
+  pub refused-whole : (n l : ℕ) → listChecks terms state scratch ≡ refusedOutcome n l →
       (listed terms state scratch rs ≡ refusedList n l)
       × (left terms state scratch rs ≡ record { records = rs; grants = 0; state = state; scratch = scratch })
       × ((j u v : ℕ) → answer terms state scratch j u v ≡ refused n l)

@@ -22,7 +22,7 @@ use Rattle.theory.specs.Tables.{State, named, decideNow, made, advance}
 use Rattle.memory.specs.Layout.{termsWords, stateWords, termsOf, stateOf, tableColumns, wordsOf}
 use Rattle.memory.specs.Checks.{goodMemory, goodState, Inside}
 use Rattle.memory.specs.Outcome.{Outcome, hasPassed, checks}
-use Rattle.memory.specs.Outcome.Outcome.{passed, failed}
+use Rattle.memory.specs.Outcome.Outcome.{passed, refused as refusedOutcome}
 use Rattle.calls.specs.Monitor.{answer, granted, isDecided, moves, stateAfter, scratchAfter}
 use Rattle.calls.specs.SetList.{Run, singly, listChecks, answerNumber, listing, listed, left}
 use Rattle.calls.specs.Agreement.{leaves, LentStep, KeepsTerms, Lent, answerIn, answersIn, serveSteps}
@@ -227,9 +227,9 @@ module _ (terms : List ℕ) (long-terms : termsWords ≤ length terms) (good-ter
         ran w xs o = cond (hasPassed o) (singly terms w scratch xs) (record { records = xs; grants = 0; state = w; scratch = scratch })
 
         go : (b : Bool) →
-            (answersIn (listing (cond b (failed 6 0) passed) (singly terms m' scratch (map (recordBy numbers) rs) .grants)) (ran m' (map (recordBy numbers) rs) (cond b (failed 6 0) passed) .records)
-            ≡ answersIn (listing (cond b (failed 6 0) passed) (singly terms m scratch rs .grants)) (ran m rs (cond b (failed 6 0) passed) .records))
-            × Alike (ran m rs (cond b (failed 6 0) passed) .state) (ran m' (map (recordBy numbers) rs) (cond b (failed 6 0) passed) .state)
+            (answersIn (listing (cond b (refusedOutcome 6 0) passed) (singly terms m' scratch (map (recordBy numbers) rs) .grants)) (ran m' (map (recordBy numbers) rs) (cond b (refusedOutcome 6 0) passed) .records)
+            ≡ answersIn (listing (cond b (refusedOutcome 6 0) passed) (singly terms m scratch rs .grants)) (ran m rs (cond b (refusedOutcome 6 0) passed) .records))
+            × Alike (ran m rs (cond b (refusedOutcome 6 0) passed) .state) (ran m' (map (recordBy numbers) rs) (cond b (refusedOutcome 6 0) passed) .state)
         go true = (map-told 6 0 rs, h)
         go false = alike-singly rs m m' scratch h
 

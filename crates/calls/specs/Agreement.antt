@@ -17,7 +17,7 @@ use Rattle.theory.specs.Keeper.Step.{call, revise as reviseStep, renumber as re
 use Rattle.memory.specs.Layout.{stateWords, relationAt, tableAt, eventAt, eventWord, termsOf, tableColumns, stateOf}
 use Rattle.memory.specs.Checks.{goodMemory}
 use Rattle.memory.specs.Outcome.{Outcome, hasPassed, revises}
-use Rattle.memory.specs.Outcome.Outcome.{passed, failed}
+use Rattle.memory.specs.Outcome.Outcome.{passed, refused as refusedOutcome}
 use Rattle.theory.specs.Keeper.Verdict.{grant, deny}
 use Rattle.theory.specs.Keeper.Answer.{decided, done, refused}
 use Rattle.calls.specs.Monitor.{answer, stateAfter, openedState}
@@ -119,7 +119,7 @@ answersIn (refusedList n l) rs = map (λ r. refused n l) rs
 -- What new terms and new numbers answer.
 abbrev pub outcomeIn : Outcome → Answer
 outcomeIn passed = done
-outcomeIn (failed n l) = refused n l
+outcomeIn (refusedOutcome n l) = refused n l
 
 -- The lent memory in use: terms, and state, with what stood in the state's memory when it was lent.
 pub record Lent : Type 0 where

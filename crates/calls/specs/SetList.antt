@@ -12,7 +12,7 @@ use Rattle.theory.specs.Keeper.Verdict.{grant, deny}
 use Rattle.theory.specs.Keeper.Answer.{decided, done, refused as refusedAnswer}
 use Rattle.theory.specs.Limits.{scratchWords}
 use Rattle.memory.specs.Outcome.{Outcome, hasPassed, checks}
-use Rattle.memory.specs.Outcome.Outcome.{passed, failed}
+use Rattle.memory.specs.Outcome.Outcome.{passed, refused as refusedOutcome}
 use Rattle.calls.specs.Monitor.{answer, granted, stateAfter, scratchAfter}
 use Rattle.calls.specs.declared.Record.{Record}
 use Rattle.calls.specs.declared.Listed.{Listed}
@@ -61,11 +61,11 @@ singly terms state scratch (r ∷ rs) =
 
 -- The checks that come before any record, of an empty list too: those of a request less 9.
 unfoldable pub listChecks : (terms state scratch : List ℕ) → Outcome
-listChecks terms state scratch = cond (ltb (length scratch) scratchWords) (failed 6 0) (checks terms state)
+listChecks terms state scratch = cond (ltb (length scratch) scratchWords) (refusedOutcome 6 0) (checks terms state)
 
 abbrev pub listing : Outcome → (grants : ℕ) → Listing
 listing passed n = counted n
-listing (failed n l) _ = refused n l
+listing (refusedOutcome n l) _ = refused n l
 
 -- What a set list gives: how many were granted, or which check failed.
 unfoldable pub listed : (terms state scratch : List ℕ) → List Record → Listing

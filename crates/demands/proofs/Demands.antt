@@ -28,12 +28,12 @@ use Rattle.fields.specs.Split.{lines}
 use Rattle.memory.specs.Checks.{Inside, goodMemory, goodState}
 use Rattle.memory.specs.Layout.{stateOf, stateWords, tableAt, termsOf, termsWords, wordsOf}
 use Rattle.memory.specs.Outcome.{banksOpen, banksRevise, checks, opens, revises}
-use Rattle.memory.specs.Outcome.Outcome.{failed, passed}
+use Rattle.memory.specs.Outcome.Outcome.{refused as refusedOutcome, passed}
 use Rattle.file.specs.File.{File}
 use Rattle.file.specs.Normal.{Unpadded, isPlain, normalText}
 use Rattle.file.specs.Preset.{ReadsPreset}
 use Rattle.file.specs.Reading.{reading, tests}
-use Rattle.file.specs.Reading.Reading.{accepted, refused as refusedAt}
+use Rattle.file.specs.Reading.Reading.{accepted, refused as refusedReading}
 use Rattle.file.specs.Refused.{RefusedText, numbersRise}
 use Rattle.file.specs.Said.{SaidBy, edgesSaid, saidLines, termsSaid}
 use Rattle.file.specs.Writing.{textSaid}
@@ -48,7 +48,7 @@ use Rattle.calls.specs.Revising.{revisedState}
 use Rattle.calls.specs.SetList.{Plain, blank, left as listLeft, listChecks, listed, ones, singly}
 use Rattle.calls.specs.SetList.Listing.{counted, refused as refusedList}
 use Rattle.calls.specs.Telling.{tells}
-use Rattle.calls.specs.Telling.Telling.{refused as untold}
+use Rattle.calls.specs.Telling.Telling.{refused as refusedTelling}
 use Rattle.calls.specs.declared.Record.{Record as ListRecord}
 use Rattle.banking.specs.BankList.{bankLeft, bankListChecks, bankListed, bankSingly}
 use Rattle.banking.specs.BankRefused.{ListRefusal, OpeningRefusal as BanksOpeningRefusal, Refusal as BankRefusal, RevisionRefusal as BanksRevisionRefusal}
@@ -64,7 +64,7 @@ use Rattle.plans.specs.Refused.{PlanRefusal, TellingRefusal}
 use Rattle.reader.specs.Memory.{memoryOf}
 use Rattle.reader.specs.Read.{readGives, readTerms}
 use Rattle.writer.specs.Write.{isFresh, oldSizeGives, oldWriteGives, oldWriteLeaves, storeGives, storeLeaves, storeSizeGives, storedText, writtenText}
-use Rattle.writer.specs.Write.Writing.{bytes, unwritten}
+use Rattle.writer.specs.Write.Writing.{bytes, refused as refusedWriting}
 use Rattle.text.specs.Banks.{banksReadGives, loadedBanks, saidBooks}
 use Rattle.text.specs.Recorded.{Recorded, afterSteps, laterBook, loaded}
 use Rattle.text.specs.Text.{Back, readState}
@@ -88,22 +88,22 @@ call-refused-only = Rattle.calls.proofs.Refused.refused-only
 
 -- So is an opening.
 pub opening-refused-only : (terms state : List ℕ) (n l : ℕ) →
-    (opens terms state ≡ failed n l → (l ≡ 0) × OpeningRefusal terms state n × (openedState terms state ≡ state))
-    × (OpeningRefusal terms state n → opens terms state ≡ failed n 0)
+    (opens terms state ≡ refusedOutcome n l → (l ≡ 0) × OpeningRefusal terms state n × (openedState terms state ≡ state))
+    × (OpeningRefusal terms state n → opens terms state ≡ refusedOutcome n 0)
 opening-refused-only = Rattle.calls.proofs.Refused.failed-only
 
 -- So are new terms, with the second state as lent.
 pub revision-refused-only : (old state new second : List ℕ) → (n l : ℕ) →
-    (revises old state new second ≡ failed n l → (l ≡ 0) × RevisionRefusal old state new second n
+    (revises old state new second ≡ refusedOutcome n l → (l ≡ 0) × RevisionRefusal old state new second n
     × (revisedState old state new second ≡ second))
-    × (RevisionRefusal old state new second n → revises old state new second ≡ failed n 0)
+    × (RevisionRefusal old state new second n → revises old state new second ≡ refusedOutcome n 0)
 revision-refused-only = Rattle.calls.proofs.RefusedRevision.revision-refused-only
 
 -- So are new member numbers.
 pub renumber-refused-only : (terms state numbers second : List ℕ) → (n l : ℕ) →
-    (renumbering terms state numbers second ≡ failed n l → (l ≡ 0) × RenumberingRefusal terms state numbers second n
+    (renumbering terms state numbers second ≡ refusedOutcome n l → (l ≡ 0) × RenumberingRefusal terms state numbers second n
     × (renumberedState terms state numbers second ≡ second))
-    × (RenumberingRefusal terms state numbers second n → renumbering terms state numbers second ≡ failed n 0)
+    × (RenumberingRefusal terms state numbers second n → renumbering terms state numbers second ≡ refusedOutcome n 0)
 renumber-refused-only = Rattle.calls.proofs.RefusedRenumbering.renumber-refused-only
 
 -- So is a look or a request of one of two banks, with all memory of both as lent.
@@ -138,20 +138,20 @@ bank-list-refused-only = Rattle.banking.proofs.Refused.list-refused-only
 
 -- So is the opening of both banks, which never writes the relations.
 pub banks-opening-refused-only : (terms relations own other : List ℕ) → (n l : ℕ) →
-    (banksOpen terms relations own other ≡ failed n l →
+    (banksOpen terms relations own other ≡ refusedOutcome n l →
     (l ≡ 0) × BanksOpeningRefusal terms relations own other n
     × ((lent : List ℕ) → ownOpened terms relations own other lent ≡ lent))
-    × (BanksOpeningRefusal terms relations own other n → banksOpen terms relations own other ≡ failed n 0)
+    × (BanksOpeningRefusal terms relations own other n → banksOpen terms relations own other ≡ refusedOutcome n 0)
 banks-opening-refused-only = Rattle.banking.proofs.RefusedBoth.opening-refused-only
 
 -- So are new terms for both banks.
 pub banks-revision-refused-only : (old relations own other new relations' own' other' : List ℕ) → (n l : ℕ) →
-    (banksRevise old relations own other new relations' own' other' ≡ failed n l →
+    (banksRevise old relations own other new relations' own' other' ≡ refusedOutcome n l →
     (l ≡ 0) × BanksRevisionRefusal old relations own other new relations' own' other' n
     × (relationsRevised old relations own other new relations' own' other' ≡ relations')
     × ((x lent : List ℕ) → ownRevised old relations own other new relations' own' other' x lent ≡ lent))
     × (BanksRevisionRefusal old relations own other new relations' own' other' n →
-    banksRevise old relations own other new relations' own' other' ≡ failed n 0)
+    banksRevise old relations own other new relations' own' other' ≡ refusedOutcome n 0)
 banks-revision-refused-only = Rattle.banking.proofs.RefusedBoth.revision-refused-only
 
 -- So is a plan, with scratch as lent.
@@ -165,12 +165,12 @@ plan-refused-only = Rattle.plans.proofs.Refused.plan-refused-only
 
 -- So is an entry that is to be told. Nothing is written.
 pub telling-refused-only : (terms state : List ℕ) (n u v k l : ℕ) →
-    (tells terms state n u v ≡ untold k l → (l ≡ 0) × TellingRefusal terms state n u v k)
-    × (TellingRefusal terms state n u v k → tells terms state n u v ≡ untold k 0)
+    (tells terms state n u v ≡ refusedTelling k l → (l ≡ 0) × TellingRefusal terms state n u v k)
+    × (TellingRefusal terms state n u v k → tells terms state n u v ≡ refusedTelling k 0)
 telling-refused-only = Rattle.plans.proofs.Refused.telling-refused-only
 
 -- A text is refused with a number at a line exactly when a reason for these fits.
-pub text-refused-only : (text : List ℕ) (n k : ℕ) → (reading text ≡ refusedAt n k) ↔ RefusedText text n k
+pub text-refused-only : (text : List ℕ) (n k : ℕ) → (reading text ≡ refusedReading n k) ↔ RefusedText text n k
 text-refused-only = Rattle.file.proofs.Refused.refused-only
 
 -- The tests of a line are in the order of their numbers, so the first that fails has the lowest number.
@@ -183,8 +183,8 @@ tests-rise = Rattle.file.proofs.Refused.tests-rise
 -- refuses the writing.
 pub old-size-told : (terms state out : List ℕ) →
     ((n : ℕ) → oldSizeGives terms state ≡ bytes n → n ≤ length out → oldWriteGives terms state out ≡ bytes n)
-    × ((n : ℕ) → oldSizeGives terms state ≡ bytes n → length out < n → oldWriteGives terms state out ≡ unwritten 6 0)
-    × ((k l : ℕ) → oldSizeGives terms state ≡ unwritten k l → oldWriteGives terms state out ≡ unwritten k l)
+    × ((n : ℕ) → oldSizeGives terms state ≡ bytes n → length out < n → oldWriteGives terms state out ≡ refusedWriting 6 0)
+    × ((k l : ℕ) → oldSizeGives terms state ≡ refusedWriting k l → oldWriteGives terms state out ≡ refusedWriting k l)
 old-size-told = Rattle.writer.proofs.Sized.old-size-told
 
 -- An output of the stated size is stored.
@@ -194,12 +194,12 @@ store-size-enough = Rattle.writer.proofs.Sized.store-size-enough
 
 -- A shorter one is refused with 6.
 pub store-size-short : (terms state out : List ℕ) →
-    (n : ℕ) → storeSizeGives terms state ≡ bytes n → length out < n → storeGives terms state out ≡ unwritten 6 0
+    (n : ℕ) → storeSizeGives terms state ≡ bytes n → length out < n → storeGives terms state out ≡ refusedWriting 6 0
 store-size-short = Rattle.writer.proofs.Sized.store-size-short
 
 -- What refuses the size refuses the storing.
 pub store-size-refused : (terms state out : List ℕ) →
-    (k l : ℕ) → storeSizeGives terms state ≡ unwritten k l → storeGives terms state out ≡ unwritten k l
+    (k l : ℕ) → storeSizeGives terms state ≡ refusedWriting k l → storeGives terms state out ≡ refusedWriting k l
 store-size-refused = Rattle.writer.proofs.Sized.store-size-refused
 
 -- No output of the program is longer than 15 bytes for each of 65,536 lines.
@@ -302,7 +302,7 @@ as-single-requests = Rattle.calls.proofs.AsSingle.as-single-requests
 -- Where a check fails, the list gets the number and line that every single request would get, and all memory is as
 -- lent.
 pub refused-whole : (terms state scratch : List ℕ) (rs : List ListRecord) →
-    (n l : ℕ) → listChecks terms state scratch ≡ failed n l →
+    (n l : ℕ) → listChecks terms state scratch ≡ refusedOutcome n l →
     (listed terms state scratch rs ≡ refusedList n l)
     × (listLeft terms state scratch rs ≡ record { records = rs; grants = 0; state = state; scratch = scratch })
     × ((j u v : ℕ) → answer terms state scratch j u v ≡ refused n l)
@@ -316,7 +316,7 @@ pub bank-list-singly : (terms relations own other scratch spare : List ℕ) (rs 
     ≡ counted (ones (bankLeft terms relations own other scratch spare rs .records)))
     × ((i : ℕ) → i < length rs →
     Plain (getD (bankLeft terms relations own other scratch spare rs .records) i blank .answer)))
-    × ((n l : ℕ) → bankListChecks terms relations own other scratch spare ≡ failed n l →
+    × ((n l : ℕ) → bankListChecks terms relations own other scratch spare ≡ refusedOutcome n l →
     (bankListed terms relations own other scratch spare rs ≡ refusedList n l)
     × (bankLeft terms relations own other scratch spare rs
     ≡ record {

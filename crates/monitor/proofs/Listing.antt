@@ -11,7 +11,7 @@ use lib.Dec.{eqb, lit≤}
 use lib.ListN.{length, getD, set, length-append, length-set}
 use Rattle.theory.specs.Keeper.{Answer}
 use Rattle.memory.specs.Outcome.{Outcome, hasPassed}
-use Rattle.memory.specs.Outcome.Outcome.{passed, failed}
+use Rattle.memory.specs.Outcome.Outcome.{passed, refused}
 use Rattle.calls.specs.Monitor.{granted}
 use Rattle.calls.specs.SetList.{answerNumber, filled, listing, gainOf, blank}
 use Rattle.calls.specs.SetList.Listing.{counted}
@@ -226,10 +226,10 @@ module _ {Mem : Type 0} (ask : Mem → Record → Answer) (after : Mem → Recor
       pub counts : (o : Outcome) (k : ℕ) → each m₀ ys₀ .grants ≡ k → Facts (turnsOf o (length ys₀)) g ys m → listing o g ≡ listing o k
       unfolding turnsOf
       counts passed k e F = ap counted (ap (λ (X : Ran Mem). X .grants) (ran F) ∙ e)
-      counts (failed n l) k e F = refl
+      counts (refused n l) k e F = refl
 
       pub leaves : {Out : Type 0} (see : Ran Mem → Out) (all : Out) → see (each m₀ ys₀) ≡ all → (o : Outcome) → Facts (turnsOf o (length ys₀)) g ys m →
           see now ≡ cond (hasPassed o) all (see lent)
       unfolding turnsOf
       leaves see all e passed F = ap see (ran F) ∙ e
-      leaves see all e (failed n l) F = ap see (stayed F)
+      leaves see all e (refused n l) F = ap see (stayed F)

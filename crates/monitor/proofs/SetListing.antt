@@ -6,7 +6,7 @@ use mathlib.Core.List.{List, [], _∷_}
 use lib.ListN.{length, getD, set}
 use Rattle.theory.specs.Keeper.{Answer}
 use Rattle.memory.specs.Outcome.{Outcome, outcomeOf, hasPassed}
-use Rattle.memory.specs.Outcome.Outcome.{passed, failed}
+use Rattle.memory.specs.Outcome.Outcome.{passed, refused}
 use Rattle.calls.specs.Monitor.{answer, granted, stateAfter, scratchAfter}
 use Rattle.calls.specs.SetList.{listingOf, filled, Run, singly, listing, listed, left, gainOf, blank}
 use Rattle.calls.specs.private.Listing.{MemoryPassed, turnsOf}
@@ -44,7 +44,7 @@ module _ (t : List ℕ) where
 module _ (terms state scratch : List ℕ) where
   is-passed : (o : Outcome) → hasPassed o ≡ true → passed ≡ o
   is-passed passed e = refl
-  is-passed (failed n l) e = absurd (false≢true e)
+  is-passed (refused n l) e = absurd (false≢true e)
 
   passed-all : (c : Inspected) → Seen terms state scratch c → hasPassed (outcomeOf (c .outcome)) ≡ true → MemoryPassed terms (c .index) state scratch
   passed-all c seen e =

@@ -11,7 +11,7 @@ use lib.Dec.{ltb}
 use lib.ListN.{length, getD, take, drop, replicate}
 use Rattle.theory.specs.Formula.{number}
 use Rattle.memory.specs.Layout.{termsWords, entriesAt, policiesAt, effectsAt, marksAt, entryWords, stateWords}
-use Rattle.reader.specs.Read.Filling.{old, stored, unfilled}
+use Rattle.reader.specs.Read.Filling.{old, stored, refused as refusedFilling}
 use Rattle.memory.specs.TableIndex.{Masked}
 use Rattle.fields.specs.Split.{lines, split, place}
 use Rattle.file.specs.Line.{parsed}
@@ -94,7 +94,7 @@ along-first text terms state masks p q r = record {
 -- ---- the ways out of the loop
 
 -- A text that is refused.
-refuses : (text terms state masks : List ℕ) (k n : ℕ) → allRead text ≡ refused k n → Reads text (unfilled k n) terms state masks
+refuses : (text terms state masks : List ℕ) (k n : ℕ) → allRead text ≡ refused k n → Reads text (refusedFilling k n) terms state masks
 refuses text terms state masks k n e = record {
   given = rw e;
   filled = λ f h. let z : _≡_ {A = ℕ} 0 1 = cc in absurd (omega arith);
@@ -131,11 +131,11 @@ module _ (text terms state masks t : List ℕ) (c : Context) (n : ℕ) (s : Alon
         filled = λ f e. let z : s .file ≡ f = cc in subst (λ (y : File). Holds y terms state masks) z (holding b);
       }
 
-  pub along-short : length t ≤ 0 → isComplete c ≡ false → Reads text (unfilled 1 n) terms state masks
+  pub along-short : length t ≤ 0 → isComplete c ≡ false → Reads text (refusedFilling 1 n) terms state masks
   along-short h b = refuses text terms state masks 1 n (read-end h ∙ rw b)
 
   -- No line feed is left.
-  pub along-cut : (e : ℕ) → e ≡ place 10 t → 0 < length t → length t ≤ e → Reads text (unfilled 1 n) terms state masks
+  pub along-cut : (e : ℕ) → e ≡ place 10 t → 0 < length t → length t ≤ e → Reads text (refusedFilling 1 n) terms state masks
   unfolding readOn
   along-cut e p h k =
       refuses text terms state masks 1 n
@@ -200,7 +200,7 @@ module _ {text terms state masks t : List ℕ} {c : Context} {n e : ℕ} {l : Li
     few-tables = subst (λ (d : Context). d .tables < 33) (sym (s .along .context)) (s .along .going .entries .few-tables)
 
     -- The line is refused.
-    pub turn-refused : 0 < k → Reads text (unfilled k n) terms state masks
+    pub turn-refused : 0 < k → Reads text (refusedFilling k n) terms state masks
     turn-refused h =
         refuses text terms state masks k n
         (read-line ∙ sym (tests-are .come n later)

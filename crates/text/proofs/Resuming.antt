@@ -12,7 +12,7 @@ use borrow.Author.Tests.{le-ltb}
 use Rattle.theory.specs.Keeper.{Book}
 use Rattle.memory.specs.Layout.{termsWords, stateWords}
 use Rattle.memory.specs.Outcome.{Outcome, checks}
-use Rattle.memory.specs.Outcome.Outcome.{passed, failed}
+use Rattle.memory.specs.Outcome.Outcome.{passed, refused}
 use Rattle.memory.proofs.Outcomes.{Checked, passed-checked, check-passed}
 use Rattle.calls.specs.Agreement.{LentStep, Lent, serveSteps}
 use Rattle.calls.proofs.Demand.{run}
@@ -34,7 +34,7 @@ was-written : (o : Outcome) (b c : Bool) (k n : ℕ) → ifFresh b o (fitted c k
 was-written passed true true k n e = let z : _≡_ {A = ℕ} 0 1 = cc in absurd (omega arith)
 was-written passed true false k n e = (refl, refl, cc)
 was-written passed false c k n e = let z : _≡_ {A = ℕ} 0 1 = cc in absurd (omega arith)
-was-written (failed i j) b c k n e = let z : _≡_ {A = ℕ} 0 1 = cc in absurd (omega arith)
+was-written (refused i j) b c k n e = let z : _≡_ {A = ℕ} 0 1 = cc in absurd (omega arith)
 
 module _ (L : Lent) (out : List ℕ) (n : ℕ) (g : oldWriteGives (L .terms) (L .state) out ≡ bytes n) where
   was : (passed ≡ checks (L .terms) (L .state)) × (isFresh (L .terms) (L .state) ≡ true) × (length (writtenText (L .terms) (L .state)) ≡ n)

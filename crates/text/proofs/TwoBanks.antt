@@ -14,7 +14,7 @@ use Rattle.theory.specs.Keeper.{Answer}
 use Rattle.theory.specs.Fit.{Good}
 use Rattle.memory.specs.Layout.{termsWords, relationWords, ownWords, joined, termsOf, wordsOf}
 use Rattle.memory.specs.Outcome.{banksOpen}
-use Rattle.memory.specs.Outcome.Outcome.{passed, failed}
+use Rattle.memory.specs.Outcome.Outcome.{passed, refused as refusedOutcome}
 use Rattle.memory.proofs.Words.{length-words}
 use Rattle.calls.proofs.MemoryInvariant.{Held}
 use Rattle.calls.proofs.Demand.{or-false-right}
@@ -43,7 +43,7 @@ done-read : (text terms relations first second : List ℕ) → banksReadGives te
 unfolding banksReadGives
 done-read text terms relations first second = go (shortRead terms relations first second) (oldReading text)
   where
-    go : (b : Bool) (r : Reading) → cond b (failed 6 0) (outcome r) ≡ passed → (b ≡ false) × ((f : File) × (r ≡ accepted f))
+    go : (b : Bool) (r : Reading) → cond b (refusedOutcome 6 0) (outcome r) ≡ passed → (b ≡ false) × ((f : File) × (r ≡ accepted f))
     go true r e = let z : _≡_ {A = ℕ} 0 1 = cc in absurd (omega arith)
     go false (accepted f) e = (refl, (f, refl))
     go false (refused i j) e = let z : _≡_ {A = ℕ} 0 1 = cc in absurd (omega arith)

@@ -8,7 +8,7 @@ use lib.ListN.{length, drop}
 use Rattle.theory.specs.Tables.{opening}
 use Rattle.memory.specs.Layout.{termsWords, relationWords, ownWords, wordsOf}
 use Rattle.memory.specs.Outcome.{Outcome, shortBanks}
-use Rattle.memory.specs.Outcome.Outcome.{failed}
+use Rattle.memory.specs.Outcome.Outcome.{refused as refusedOutcome}
 use Rattle.banking.specs.Banks.{Books, firstBooks}
 use Rattle.banking.specs.Banks.Bank.{left, right}
 use Rattle.banking.specs.BankRuns.{Lent, BanksInUse}
@@ -24,7 +24,7 @@ abbrev pub shortRead : (terms relations first second : List ℕ) → Bool
 shortRead terms relations first second = ltb (length terms) termsWords || shortBanks relations first second
 
 unfoldable pub banksReadGives : (text terms relations first second : List ℕ) → Outcome
-banksReadGives text terms relations first second = cond (shortRead terms relations first second) (failed 6 0) (outcome (oldReading text))
+banksReadGives text terms relations first second = cond (shortRead terms relations first second) (refusedOutcome 6 0) (outcome (oldReading text))
 
 -- An accepted text fills the named words of terms and of relations with what it says, and those of a bank's own with
 -- the tables and the event word of moment 0; a refusal leaves all memory as lent. Further words are not touched.
