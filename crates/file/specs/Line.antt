@@ -69,17 +69,20 @@ tableLine fs = cond (eqb (length fs) 5) (pairLine fs) (tripleLine TableBit fs)
 
 -- What a line of kind k, in the order of the kinds' words, says.
 unfoldable pub lineOf : ℕ → List (List ℕ) → Line
-lineOf zero fs = singleLine Members fs
-lineOf (suc zero) fs = labelsLine fs
-lineOf (suc (suc zero)) fs = entryLine fs
-lineOf (suc (suc (suc zero))) fs = policyLine fs
-lineOf (suc (suc (suc (suc zero)))) fs = effectLine fs
-lineOf (suc (suc (suc (suc (suc zero))))) fs = tripleLine Edge fs
-lineOf (suc (suc (suc (suc (suc (suc zero)))))) fs = singleLine Form fs
-lineOf (suc (suc (suc (suc (suc (suc (suc zero))))))) fs = tableLine fs
-lineOf (suc (suc (suc (suc (suc (suc (suc (suc zero)))))))) fs = tripleLine EventEdge fs
-lineOf (suc (suc (suc (suc (suc (suc (suc (suc (suc zero))))))))) fs = singleLine Mark fs
-lineOf (suc (suc (suc (suc (suc (suc (suc (suc (suc (suc k)))))))))) fs = Malformed
+lineOf k fs =
+    getD (
+    singleLine Members fs
+    ∷ labelsLine fs
+    ∷ entryLine fs
+    ∷ policyLine fs
+    ∷ effectLine fs
+    ∷ tripleLine Edge fs
+    ∷ singleLine Form fs
+    ∷ tableLine fs
+    ∷ tripleLine EventEdge fs
+    ∷ singleLine Mark fs
+    ∷ []
+    ) k Malformed
 
 -- What the fields of a line say.
 unfoldable pub parsed : List (List ℕ) → Line
