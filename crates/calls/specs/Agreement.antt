@@ -7,7 +7,7 @@ use mathlib.Core.List.{List, [], _∷_, _++_, map}
 use lib.Dec.{eqb, ltb}
 use lib.ListN.{length, getD, drop}
 use Rattle.sets.specs.Sets.{bit}
-use Rattle.theory.specs.Limits.{scratchWords}
+use Rattle.theory.specs.Limits.{scratchWords, maxMembers, maxRelations, maxTables}
 use Rattle.theory.specs.Meaning.{Starts}
 use Rattle.theory.specs.Columns.{inside, standing, member}
 use Rattle.theory.specs.Terms.{Terms, formula, tables, pastEntry}
@@ -169,8 +169,8 @@ serveSteps L (renumber numbers second ∷ ss) =
 -- columns, one or two: word and bit are those of members, there is a past-time entry t, and it holds at the last
 -- moment, at the member and with its free variables standing for the members that word and bit say.
 pub record Agrees (T : Terms) (s : Starts) (m₀ m : List ℕ) (Ms : List Moment) : Type 0 where
-  pub edges : (k a b : ℕ) → k < 16 → a < 64 → b < 64 → bit (getD m (relationAt k a) 0) b ≡ lastMoment Ms .edge k a b
-  pub tables : (t a b : ℕ) → t < 32 → a < 64 → b < 64 →
+  pub edges : (k a b : ℕ) → k < maxRelations → a < maxMembers → b < maxMembers → bit (getD m (relationAt k a) 0) b ≡ lastMoment Ms .edge k a b
+  pub tables : (t a b : ℕ) → t < maxTables → a < maxMembers → b < maxMembers →
       bit (getD m (tableAt t a) 0) b
       ≡ ltb t (tables T) && (inside (T .members) (tableColumns T t) a b
       && keeperHolds T s Ms (pastEntry T t) (standing (formula T (pastEntry T t)) a b) (member (formula T (pastEntry T t)) a))

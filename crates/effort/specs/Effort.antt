@@ -7,7 +7,7 @@ use mathlib.Core.List.{List}
 use lib.Dec.{eqb, ltb}
 use lib.ListN.{getD, set, replicate}
 use Rattle.sets.specs.Sets.{pack}
-use Rattle.theory.specs.Formula.{Entry, Operand, firstOperand, secondOperand, thirdOperand, isPast}
+use Rattle.theory.specs.Formula.{Entry, Operand, firstOperand, secondOperand, thirdOperand, isPast, outOperator, bindOperator}
 use Rattle.theory.specs.Formula.Operand.{unused, variable, binder, label, entry, count}
 use Rattle.theory.specs.Limits.{maxEntries, pairMembers}
 use Rattle.theory.specs.Terms.{Terms}
@@ -56,11 +56,11 @@ rowsOf op one asked limit = cond (ltb op 2 || isPast op) 0 (cond one (smaller as
 -- How often an entry that is worked out so often, for so many rows, asks for each of its operands. A bind asks for each
 -- row apart. A past-time entry's table asks once, or, with two columns, once for each member.
 unfoldable pub callsOf : (members op : ℕ) → (one : Bool) → (works rows : ℕ) → ℕ
-callsOf N op one works rows = cond (isPast op) (cond one 1 N) (cond (eqb op 8) rows works)
+callsOf N op one works rows = cond (isPast op) (cond one 1 N) (cond (eqb op bindOperator) rows works)
 
 -- For how many rows: not, or and bind for as many as their own, any other for those of all members each time.
 unfoldable pub askedOf : (members op : ℕ) → (one : Bool) → (works rows : ℕ) → ℕ
-askedOf N op one works rows = cond (isPast op) (cond one N (N * N)) (cond (ltb op 4 || eqb op 8) rows (times N works))
+askedOf N op one works rows = cond (isPast op) (cond one N (N * N)) (cond (ltb op outOperator || eqb op bindOperator) rows (times N works))
 
 -- ---- counting
 

@@ -5,7 +5,7 @@ use mathlib.Core.List.{List, [], _∷_}
 use lib.Dec.{eqb, ltb, leb}
 use lib.ListN.{length}
 use Rattle.sets.specs.Sets.{allBelow}
-use Rattle.theory.specs.Formula.{Operand, firstOperand, secondOperand, thirdOperand, number, isPast, columns}
+use Rattle.theory.specs.Formula.{Operand, firstOperand, secondOperand, thirdOperand, number, isPast, columns, reachOperator}
 use Rattle.theory.specs.Formula.Operand.{unused, variable, binder, label, entry, count}
 use Rattle.theory.specs.Terms.{labels, formula, tables, pastEntry}
 use Rattle.theory.specs.Columns.{columnsFit, pairMember, pairFirst, pairLast}
@@ -85,7 +85,7 @@ tests f (Entry n o a b c) =
     ∷ test 3 (isLower (secondOperand o) n b)
     ∷ test 3 (isLower (thirdOperand o) n c)
     ∷ test 4 (isPast o ⇒ columnsFit (f .terms .members) (columns (formula (withEntry (f .terms) n o a b c) n)))
-    ∷ test 10 (eqb o 10 ⇒ reachFits a (formula (f .terms) b) (formula (f .terms) c))
+    ∷ test 10 (eqb o reachOperator ⇒ reachFits a (formula (f .terms) b) (formula (f .terms) c))
     ∷ []
 tests f (Policy j n) =
     test 1 (leb 2 (f .phase) && leb (f .phase) 4)
