@@ -80,8 +80,8 @@ module _ (b : Bank) (n k : ℕ) where
     play-records : (rs : List Record) (B : Books) (relations own beside scratch spare : List ℕ) → length scratch ≡ n → length spare ≡ k →
         BanksPlaying B (withLent P (lentTo b relations own beside)) →
         let run = bankSingly (P .terms) relations own beside scratch spare rs in
-        let kept = keepBankSteps B (fedRecords rs) in
-        (map (λ (r : Record). answerIn (r .answer)) (run .records) ≡ kept .0) × BanksPlaying (kept .1) (withLent P (leftBy b run))
+        let byKeeper = keepBankSteps B (fedRecords rs) in
+        (map (λ (r : Record). answerIn (r .answer)) (run .records) ≡ byKeeper .0) × BanksPlaying (byKeeper .1) (withLent P (leftBy b run))
     unfolding bankSingly keepBankSteps
     play-records [] B relations own beside scratch spare en ek p = (refl, p)
     play-records (r ∷ rs) B relations own beside scratch spare en ek p =
@@ -111,8 +111,8 @@ module _ (B : Books) (P : BanksInUse) (p : BanksPlaying B P) (b : Bank) (scratch
   abbrev Played : Type 0
   Played =
       let after = listedIn (P .terms) W b scratch spare rs in
-      let kept = keepBankSteps B (fedRecords b (length scratch) (length spare) rs) in
-      (answersIn (listsIn (P .terms) W b scratch spare rs) (after .records) ≡ kept .0) × BanksPlaying (kept .1) (withLent P (leftBy b after))
+      let byKeeper = keepBankSteps B (fedRecords b (length scratch) (length spare) rs) in
+      (answersIn (listsIn (P .terms) W b scratch spare rs) (after .records) ≡ byKeeper .0) × BanksPlaying (byKeeper .1) (withLent P (leftBy b after))
 
   refused-list : (ltb (length scratch) scratchWords || ltb (length spare) scratchWords) ≡ true → Played
   unfolding bankListed bankLeft

@@ -421,9 +421,9 @@ opened-playing terms state e =
 -- the relations that stood there.
 pub demand-3-steps : (terms state : List ℕ) → opens terms state ≡ passed → (ss : List LentStep) →
     let after = serveSteps (opened terms state) ss in
-    let kept = keepSteps (openedBook terms state) (fedSteps ss) in
-    (after .0 ≡ kept .0) × Alike (kept .1 .terms) (termsOf (after .1 .terms))
-    × Agrees (termsOf (after .1 .terms)) (kept .1 .start) (after .1 .before) (after .1 .state) (kept .1 .moments)
+    let byKeeper = keepSteps (openedBook terms state) (fedSteps ss) in
+    (after .0 ≡ byKeeper .0) × Alike (byKeeper .1 .terms) (termsOf (after .1 .terms))
+    × Agrees (termsOf (after .1 .terms)) (byKeeper .1 .start) (after .1 .before) (after .1 .state) (byKeeper .1 .moments)
 demand-3-steps terms state e ss =
     let r = run ss (openedBook terms state) (opened terms state) (opened-playing terms state e) in
     (r .0, r .1 .like, playing-agrees _ _ (r .1))

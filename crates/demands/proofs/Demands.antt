@@ -674,9 +674,9 @@ demand-3-calls = Rattle.calls.proofs.Demand.demand-3
 -- With set lists, new terms and new numbers.
 pub demand-3-steps : (terms state : List ℕ) → opens terms state ≡ passed → (ss : List LentStep) →
     let after = serveSteps (opened terms state) ss in
-    let kept = keepSteps (openedBook terms state) (fedSteps ss) in
-    (after .0 ≡ kept .0) × Alike (kept .1 .terms) (termsOf (after .1 .terms))
-    × Agrees (termsOf (after .1 .terms)) (kept .1 .start) (after .1 .before) (after .1 .state) (kept .1 .moments)
+    let byKeeper = keepSteps (openedBook terms state) (fedSteps ss) in
+    (after .0 ≡ byKeeper .0) × Alike (byKeeper .1 .terms) (termsOf (after .1 .terms))
+    × Agrees (termsOf (after .1 .terms)) (byKeeper .1 .start) (after .1 .before) (after .1 .state) (byKeeper .1 .moments)
 demand-3-steps = Rattle.calls.proofs.Demand.demand-3-steps
 
 -- Every plan after them.
@@ -722,12 +722,12 @@ says-of-two = Rattle.calls.proofs.TwoVariables.says-of-two
 pub steps-say-of-two : (terms state : List ℕ) → opens terms state ≡ passed → (ss : List LentStep) →
     let T = termsOf (serveSteps (opened terms state) ss .1 .terms) in
     let m = serveSteps (opened terms state) ss .1 .state in
-    let kept = keepSteps (openedBook terms state) (fedSteps ss) .1 in
+    let byKeeper = keepSteps (openedBook terms state) (fedSteps ss) .1 in
     (n : ℕ) → n < T .entries → isPast (T .entry n .op) ≡ true →
     (x y : ℕ) → x < y → ((z : ℕ) → free (formula T n) z ≡ (eqb z x || eqb z y)) →
     (a b c : ℕ) → a < T .members → b < T .members → c < T .members →
     bit (getD m (tableAt (number (T .entry) n) (4 * a + b / 4)) 0) (16 * (b % 4) + c)
-    ≡ keeperHolds T (kept .start) (kept .moments) n (assign (alone y c) x b) a
+    ≡ keeperHolds T (byKeeper .start) (byKeeper .moments) n (assign (alone y c) x b) a
 steps-say-of-two = Rattle.calls.proofs.TwoVariables.steps-say-of-two
 
 -- A table with one column.
@@ -782,9 +782,9 @@ pub demand-3-banks :
     (terms : List ℕ) (W : BanksLent) → banksOpen terms (W .relations) (W .own left) (W .own right) ≡ passed →
     (ss : List LentBankStep) →
     let after = serveBankSteps (openedInUse terms W) ss in
-    let kept = keepBankSteps (openedBooks terms W) (fedBankSteps ss) in
-    (after .0 ≡ kept .0) × Alike (kept .1 .terms) (termsOf (after .1 .terms))
-    × BanksAgree (termsOf (after .1 .terms)) (kept .1 .start) (after .1 .before) (after .1 .lent) (kept .1 .moments)
+    let byKeeper = keepBankSteps (openedBooks terms W) (fedBankSteps ss) in
+    (after .0 ≡ byKeeper .0) × Alike (byKeeper .1 .terms) (termsOf (after .1 .terms))
+    × BanksAgree (termsOf (after .1 .terms)) (byKeeper .1 .start) (after .1 .before) (after .1 .lent) (byKeeper .1 .moments)
 demand-3-banks = Rattle.banking.proofs.Demand.demand-3-banks
 
 -- From one terms file that is read into both banks, where the keeper is given what its lines say.
@@ -793,9 +793,9 @@ pub demand-3-banks-old :
     (done : banksReadGives text terms (W .relations) (W .own left) (W .own right) ≡ passed) →
     (ss : List LentBankStep) →
     let after = serveBankSteps (loadedBanks text terms W) ss in
-    let kept = keepBankSteps (saidBooks text) (fedBankSteps ss) in
-    (after .0 ≡ kept .0) × Alike (kept .1 .terms) (termsOf (after .1 .terms))
-    × BanksAgree (termsOf (after .1 .terms)) (kept .1 .start) (after .1 .before) (after .1 .lent) (kept .1 .moments)
+    let byKeeper = keepBankSteps (saidBooks text) (fedBankSteps ss) in
+    (after .0 ≡ byKeeper .0) × Alike (byKeeper .1 .terms) (termsOf (after .1 .terms))
+    × BanksAgree (termsOf (after .1 .terms)) (byKeeper .1 .start) (after .1 .before) (after .1 .lent) (byKeeper .1 .moments)
 demand-3-banks-old = Rattle.text.proofs.TwoBanks.demand-3-banks-old
 
 -- In two runs in which bank b gets the same calls, and the other bank makes moments at the same places with equal

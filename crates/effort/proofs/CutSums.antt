@@ -16,7 +16,7 @@ use Rattle.theory.specs.Limits.{maxEntries}
 use Rattle.theory.specs.Terms.{Terms}
 use Rattle.memory.specs.Layout.{termsOf}
 use Rattle.memory.specs.TableIndex.{inFree}
-use Rattle.effort.specs.Effort.{smaller, most, cut, setOf, setsOf, isOne, rowsOf, callsOf, askedOf, more, moreIf, isEntry, moreOf, policies, Count, rowsAt, callsAfter, askedAfter, turn, countAfter, total, kept, brief, effort}
+use Rattle.effort.specs.Effort.{smaller, most, cut, setOf, setsOf, isOne, rowsOf, callsOf, askedOf, more, moreIf, isEntry, moreOf, policies, Count, rowsAt, callsAfter, askedAfter, turn, countAfter, total, memoRows, brief, effort}
 
 pub second-smaller : (x y : ℕ) → y < x → y ≡ smaller x y
 unfolding smaller
@@ -108,7 +108,7 @@ module _ (w : List ℕ) where
   so-few sets plain l k es ep = rw (le-ltb maxEntries (T .entries) l, lt-ltb (T .entries) 10 k, ep, es)
 
   pub more-than-few : (sets : List ℕ) (plain shared n b s r : ℕ) → T .entries ≤ maxEntries → 10 ≤ T .entries → sets ≡ setsOf T (T .entries) →
-      plain ≡ total T sets most → n ≡ T .members → shared ≡ total T sets (kept n) → b ≡ brief n → s ≡ cut (shared + b) → r ≡ smaller plain s → r ≡ effort w
+      plain ≡ total T sets most → n ≡ T .members → shared ≡ total T sets (memoRows n) → b ≡ brief n → s ≡ cut (shared + b) → r ≡ smaller plain s → r ≡ effort w
   unfolding effort
   more-than-few sets plain shared n b s r l k es ep en eh eb ec er =
       rw (le-ltb maxEntries (T .entries) l, le-ltb (T .entries) 10 k, er, ec, eb, eh, en, ep, es)

@@ -132,8 +132,8 @@ module _ (T : Terms) (sets : List ℕ) (limit : ℕ) where
 
 -- A memo works out each member and value of the one variable once, and each whole row once: for the decision, for the
 -- prev tables and for the since tables.
-abbrev pub kept : (members : ℕ) → ℕ
-kept N = 3 * (N * N + N)
+abbrev pub memoRows : (members : ℕ) → ℕ
+memoRows N = 3 * (N * N + N)
 
 -- What is decided without a memo: 1,024 entries for the decision and 1,024 for the tables, at each member, and for each
 -- member once more where tables may have two columns.
@@ -145,7 +145,7 @@ abbrev pub effortOf : Terms → ℕ
 effortOf T =
     let sets = setsOf T (T .entries) in
     let plain = total T sets most in
-    cond (ltb (T .entries) 10) plain (smaller plain (cut (total T sets (kept (T .members)) + brief (T .members))))
+    cond (ltb (T .entries) 10) plain (smaller plain (cut (total T sets (memoRows (T .members)) + brief (T .members))))
 
 -- How many rows a request may work out by accepted terms; of other words it says nothing.
 unfoldable pub effort : List ℕ → ℕ

@@ -146,9 +146,9 @@ module _ (text terms : List ℕ) (W : Lent) (done : banksReadGives text terms (W
   -- records, who is fed the lines of the text.
   pub demand-3-banks-old : (ss : List LentBankStep) →
       let after = serveBankSteps (loadedBanks text terms W) ss in
-      let kept = keepBankSteps (saidBooks text) (fedBankSteps ss) in
-      (after .0 ≡ kept .0) × Alike (kept .1 .terms) (termsOf (after .1 .terms))
-      × BanksAgree (termsOf (after .1 .terms)) (kept .1 .start) (after .1 .before) (after .1 .lent) (kept .1 .moments)
+      let byKeeper = keepBankSteps (saidBooks text) (fedBankSteps ss) in
+      (after .0 ≡ byKeeper .0) × Alike (byKeeper .1 .terms) (termsOf (after .1 .terms))
+      × BanksAgree (termsOf (after .1 .terms)) (byKeeper .1 .start) (after .1 .before) (after .1 .lent) (byKeeper .1 .moments)
   demand-3-banks-old ss =
       let n = run-banks ss (saidBooks text) (loadedBanks text terms W) playing in
       (n .0, n .1 .like, banks-agree _ _ (n .1))
