@@ -17,7 +17,7 @@ use memory::layout;
 use memory::limits::ENTRIES;
 
 // The checks of a list.
-fn inspect(
+fn inspect_bank_list(
     terms: &[u16],
     relations: &[u64],
     own: &[u64],
@@ -87,7 +87,7 @@ pub fn set_list(
         × (now (scratch .exit) ≡ bankLeft (now (terms .entry)) (now (relations .entry)) (now (own .entry)) (now (other .entry)) (now (scratch .entry)) (now (spare .entry)) (now (records .entry)) .scratch)
         × (now (spare .exit) ≡ bankLeft (now (terms .entry)) (now (relations .entry)) (now (own .entry)) (now (other .entry)) (now (scratch .entry)) (now (spare .entry)) (now (records .entry)) .spare) ⌝ }
 {
-    let checked = inspect(terms, relations, own, other, scratch, spare);
+    let checked = inspect_bank_list(terms, relations, own, other, scratch, spare);
     let n = turns(checked, records.len());
     let mut count = 0;
     let mut i = 0;

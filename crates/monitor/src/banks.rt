@@ -28,7 +28,7 @@ const TABLES: usize = layout::TABLES_AT;
 const OWN: usize = layout::OWN;
 
 // The answer to a call of a bank. Where it is a verdict, index is the table index.
-fn judge(
+fn answer_call(
     terms: &[u16],
     relations: &[u64],
     own: &[u64],
@@ -79,7 +79,7 @@ pub fn look(
     ensures { λ r. ⌜ answerOf r ≡ bankAnswer (now (terms .entry)) (now (relations .entry)) (now (own .entry)) (now (other .entry)) (now (scratch .entry)) (now (spare .entry)) event from to ⌝ }
 {
     let mut index = [0u16; ENTRIES];
-    judge(
+    answer_call(
         terms,
         relations,
         own,
@@ -114,7 +114,7 @@ pub fn request(
     ensures { λ r. ⌜ now (spare .exit) ≡ clearedAfter (now (terms .entry)) (now (relations .entry)) (now (own .entry)) (now (other .entry)) (now (scratch .entry)) (now (spare .entry)) event from to (now (spare .entry)) ⌝ }
 {
     let mut index = [0u16; ENTRIES];
-    let a = judge(
+    let a = answer_call(
         terms,
         relations,
         own,

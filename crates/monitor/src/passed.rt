@@ -21,7 +21,7 @@ use memory::limits::ENTRIES;
 use moments::moment;
 
 // Checks terms, state and scratch, and leaves the table index where they pass.
-pub(crate) fn inspect(
+pub(crate) fn inspect_call(
     terms: &[u16],
     state: &[u64],
     scratch: &[u64],

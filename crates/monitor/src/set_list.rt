@@ -22,11 +22,11 @@ struct Inspected {
 }
 
 // The checks of a list. Nothing is changed.
-fn inspect(terms: &[u16], state: &mut [u64], scratch: &mut [u64]) -> Inspected
+fn inspect_list(terms: &[u16], state: &mut [u64], scratch: &mut [u64]) -> Inspected
     ensures { λ r. ⌜ Seen (now (terms .entry)) (now (state .entry)) (now (scratch .entry)) r × (now (state .exit) ≡ now (state .entry)) × (now (scratch .exit) ≡ now (scratch .entry)) ⌝ }
 {
     let mut index = [0u16; ENTRIES];
-    let outcome = passed::inspect(terms, state, scratch, &mut index);
+    let outcome = passed::inspect_call(terms, state, scratch, &mut index);
     Inspected {
         outcome: outcome,
         index: index,
@@ -83,7 +83,7 @@ pub fn set_list(
         × (now (state .exit) ≡ left (now (terms .entry)) (now (state .entry)) (now (scratch .entry)) (now (records .entry)) .state)
         × (now (scratch .exit) ≡ left (now (terms .entry)) (now (state .entry)) (now (scratch .entry)) (now (records .entry)) .scratch) ⌝ }
 {
-    let inspected = inspect(terms, state, scratch);
+    let inspected = inspect_list(terms, state, scratch);
     let n = turns(inspected, records.len());
     let mut count = 0;
     let mut i = 0;

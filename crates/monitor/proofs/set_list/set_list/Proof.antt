@@ -68,10 +68,10 @@ use Rattle.monitor.proofs.Records.{R, val, vals, tells, scaled, at-plac
 use Rattle.monitor.proofs.LentAgain.{LentAgain, takes-slice, gives-slice}
 use Rattle.monitor.proofs.Listing.{next-fits, count-below, turns-within}
 use Rattle.monitor.proofs.SetListing.{Facts, begins, asks, Said, turn, ends as ended-facts}
-use Rattle.monitor.proofs.set_list.inspect as inspect
-use Rattle.monitor.proofs.set_list.inspect.Symbol as inspect-def
-use Rattle.monitor.proofs.set_list.inspect.Symbol.{name as #inspect}
-use Rattle.monitor.proofs.set_list.inspect.Met as inspect-thm
+use Rattle.monitor.proofs.set_list.inspect_list as inspect
+use Rattle.monitor.proofs.set_list.inspect_list.Symbol as inspect-def
+use Rattle.monitor.proofs.set_list.inspect_list.Symbol.{name as #inspect}
+use Rattle.monitor.proofs.set_list.inspect_list.Met as inspect-thm
 use Rattle.monitor.proofs.set_list.turns as limit
 use Rattle.monitor.proofs.set_list.turns.Symbol as limit-def
 use Rattle.monitor.proofs.set_list.turns.Symbol.{name as #limit}
@@ -203,7 +203,7 @@ module _ {M : Type 1} (𝓤 : URA M) (H : Heap 𝓤) (A : Atoms 𝓤) (W : Given
       split ! $ move ! (1 ∷ []) $ split ! $ nothing ! $ move ! (2 ∷ 0 ∷ []) $ join ! $ move ! (1 ∷ 0 ∷ []) $ join ! $ move ! (1 ∷ 0 ∷ []) $ join ! $
       move ! (1 ∷ []) $ split ! $ move ! (1 ∷ []) $ split ! $ nothing ! $ move ! (2 ∷ 0 ∷ []) $ fjoin ! $ move ! (1 ∷ 0 ∷ []) $ fjoin ! $ move ! (1 ∷ 0 ∷ []) $ fjoin ! $ move ! (1 ∷ 0 ∷ []) $ join ! $ frame ! $ done !
 
-  -- The struct that `inspect` leaves, by value.
+  -- The struct that `inspect_list` leaves, by value.
   abbrev makes-i : (c : Inspected) (vs : List Val) → Is I.the-row c vs → ent 𝓤 (emp 𝓤) (sem 𝓤 H A (I.the-row .own c vs))
   makes-i = LL.makes I.the-type I′.the-plain 𝓤 H A
 

@@ -1,12 +1,12 @@
--- `monitor::banks::judge` meets its contract.
+-- `monitor::banks::answer_call` meets its contract.
 use borrow.Author.Needs.{needs}
 use borrow.Author.Tests.{not-true, not-false}
 use mathlib.Core.Path.{sym, ap, _∙_}
 use mathlib.Core.Bool.{false≢true}
 use Rattle.memory.specs.Outcome.{outcomeOf, hasPassed}
 use Rattle.banking.proofs.BankAnswers as answers
-use Rattle.monitor.proofs.banks.judge.Statement.{statement}
-use Rattle.monitor.proofs.banks.judge.Tie as tie
+use Rattle.monitor.proofs.banks.answer_call.Statement.{statement}
+use Rattle.monitor.proofs.banks.answer_call.Tie as tie
 
 -- Both scratches are long enough, and terms and banks are looked at.
 abbrev inspected : tie.After-enum-told → tie.After-inspect
@@ -68,8 +68,8 @@ returns-6 c =
       λ _. inspected k .inspect .ensures .1 .0 (ap hasPassed (ap outcomeOf (k .enum-told .given .1))),
     )
 
-pub judge-spec : {M : Type 1} → statement M
-judge-spec =
+pub answer-call-spec : {M : Type 1} → statement M
+answer-call-spec =
     tie.close
     (tie.spec
     (λ c. (answers.short-scratch _ _ _ _ _ _ _ _ _ (c .if1 .taken), λ e. absurd (false≢true e)))
