@@ -1,5 +1,5 @@
 // Free variables as sets of bits, one for each entry.
-use crate::partly::past_entry;
+use crate::refusal_11::past_entry;
 use file::line::Line;
 use memory::table_index::free_of;
 use memory::table_index::reach_fits;

@@ -1,8 +1,8 @@
--- `reader::partly::table_word` meets its contract.
+-- `reader::refusal_11::table_word` meets its contract.
 use borrow.Author.Needs.{needs}
 use borrow.Author.Tests.{lt-ltb, le-ltb}
-use Rattle.reader.proofs.partly.table_word.Statement.{statement}
-use Rattle.reader.proofs.partly.table_word.Tie as tie
+use Rattle.reader.proofs.refusal_11.table_word.Statement.{statement}
+use Rattle.reader.proofs.refusal_11.table_word.Tie as tie
 
 returns-3 : tie.Need-returns-3
 returns-3 c =

@@ -1,4 +1,4 @@
--- `reader::partly::find_partly` meets its contract. The loop's invariant is `Looking`.
+-- `reader::refusal_11::find_partly` meets its contract. The loop's invariant is `Looking`.
 use native.Mathlib.Omega.{arith}
 use Prim.Native.Nat.{ℕ}
 use mathlib.Core.Path.{sym, ap, _∙_}
@@ -9,8 +9,8 @@ use lib.Seq.{length-take-le}
 use borrow.Author.Needs.{needs}
 use Rattle.fields.proofs.Split.{rest-shorter}
 use Rattle.reader.proofs.PartlyFilled.{Looking, Look, looking-first, looking-done, looking-cut, looking-here, looking-next}
-use Rattle.reader.proofs.partly.find_partly.Statement.{statement}
-use Rattle.reader.proofs.partly.find_partly.Tie as tie
+use Rattle.reader.proofs.refusal_11.find_partly.Statement.{statement}
+use Rattle.reader.proofs.refusal_11.find_partly.Tie as tie
 
 abbrev Inv-loop : tie.InvT-loop
 Inv-loop text terms state masks full t₀ n₀ t n = Looking text terms state masks t n

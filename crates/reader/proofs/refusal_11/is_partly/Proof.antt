@@ -1,4 +1,4 @@
--- `reader::partly::is_partly` meets its contract, kind by kind.
+-- `reader::refusal_11::is_partly` meets its contract, kind by kind.
 use Prim.Native.Nat.{ℕ}
 use mathlib.Core.Path.{_≡_, refl}
 use mathlib.Core.Bool.{false}
@@ -10,8 +10,8 @@ use Rattle.file.specs.declared.line.Line.{Line}
 use Rattle.file.specs.declared.line.Line.the-variants.{Members, Labels, Entry, Policy, Effect, Edge, Form, TableBit, PairBit, EventEdge, Mark, Malformed}
 use Rattle.file.proofs.line.Line.{the-type}
 use borrow.Author.Needs.{needs}
-use Rattle.reader.proofs.partly.is_partly.Statement.{statement}
-use Rattle.reader.proofs.partly.is_partly.Tie as tie
+use Rattle.reader.proofs.refusal_11.is_partly.Statement.{statement}
+use Rattle.reader.proofs.refusal_11.is_partly.Tie as tie
 
 -- The kinds that are no T line.
 no-bit : (terms state masks : List ℕ) (full : ℕ) (l : Line) → OneOf (0 ∷ 1 ∷ 2 ∷ 3 ∷ 4 ∷ 5 ∷ 6 ∷ 8 ∷ 9 ∷ 10 ∷ 11 ∷ []) (tagOf the-type l) →

@@ -1,4 +1,4 @@
--- `reader::partly::past_entry` meets its contract. The invariant: k past-time entries have been passed, and found is
+-- `reader::refusal_11::past_entry` meets its contract. The invariant: k past-time entries have been passed, and found is
 -- the last of them that has table t.
 use Prim.Native.Nat.{ℕ, _+_, _-_, _≤_}
 use native.Mathlib.Omega.{arith}
@@ -10,8 +10,8 @@ use lib.Dec.{eqb}
 use Rattle.theory.specs.Formula.{Entry, number, isPast, highest}
 use Rattle.memory.specs.Layout.{termsOf}
 use Rattle.memory.proofs.StateTests.{number-past, number-other}
-use Rattle.reader.proofs.partly.past_entry.Statement.{statement}
-use Rattle.reader.proofs.partly.past_entry.Tie as tie
+use Rattle.reader.proofs.refusal_11.past_entry.Statement.{statement}
+use Rattle.reader.proofs.refusal_11.past_entry.Tie as tie
 
 -- Entry n has table t.
 abbrev chosen : (ℕ → Entry) → (t n : ℕ) → Bool

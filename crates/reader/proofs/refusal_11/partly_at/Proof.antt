@@ -1,10 +1,10 @@
--- `reader::partly::partly_at` meets its contract.
+-- `reader::refusal_11::partly_at` meets its contract.
 use mathlib.Core.Path.{sym, ap, _∙_}
 use Rattle.memory.specs.Outcome.{outcomeOf}
 use borrow.Author.Needs.{needs}
 use Rattle.reader.proofs.PartlyFilled.{found-none}
-use Rattle.reader.proofs.partly.partly_at.Statement.{statement}
-use Rattle.reader.proofs.partly.partly_at.Tie as tie
+use Rattle.reader.proofs.refusal_11.partly_at.Statement.{statement}
+use Rattle.reader.proofs.refusal_11.partly_at.Tie as tie
 
 enum-told : tie.Need-enum-told
 enum-told c = search needs
