@@ -25,7 +25,7 @@ SOURCES = [
 LATER = [
     "theory/specs/Columns", "theory/specs/NewNumbers", "theory/specs/MembersRenumbered", "calls/specs/Revising",
     "calls/specs/Renumbering", "calls/specs/MembersLater", "calls/specs/Telling", "reader/specs/OldForm",
-    "memory/specs/Plan", "text/specs/Banks", "banking/", "plans/", "rulings/", "effort/",
+    "memory/specs/TableIndex", "text/specs/Banks", "banking/", "plans/", "rulings/", "effort/",
 ]
 NAME = r'[^\s(){}.;,@"«»⌜⌝⟦⟧]+'
 USE = re.compile(r"^(?:ghost )?(?:pub )?use ([^\s{;]+)\.\{([^}]*)\};?", re.M)
