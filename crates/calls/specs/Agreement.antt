@@ -1,4 +1,4 @@
--- What demand 3 asks (docs/SCOPE.md, The keeper): a list of calls, set lists and new terms over lent
+-- What demand 3 asks (docs/SCOPE.md, The keeper): a list of calls, set lists, new terms and new numbers over lent
 -- memory, and the words afterwards.
 use Prim.Native.Nat.{ℕ, _<_, _≤_}
 use mathlib.Core.Path.{_≡_}

@@ -1,7 +1,7 @@
--- The statements of all top theorems in one file, in the order of docs/GUARANTEES.md, each with the law that proves it.
--- What they speak of is defined in specs/ of the crates; tests/believed.py counts these definitions. The other half of
--- the promises are the contracts of the public functions, in src/. Names that mean two things in two crates have a name
--- of their own here.
+-- The statements of all top theorems in one file, under the titles of docs/GUARANTEES.md, each with the law that proves
+-- it. What they speak of is defined in specs/ of the crates; tests/believed.py counts these definitions. The other half
+-- of the promises are the contracts of the public functions, in src/. Names that mean two things in two crates have a
+-- name of their own here.
 use Prim.Native.Nat.{_%_, _*_, _+_, _/_, _<_, _≤_, suc, ℕ}
 use mathlib.Core.Bool.{Bool, _&&_, _||_, false, true}
 use mathlib.Core.List.{List, [], _++_, _∷_, map}

@@ -1,5 +1,5 @@
 -- Demand 3 for plans and for entries that are told, entire: from any file with a record, after any list of requests,
--- looks, set lists and new terms.
+-- looks, set lists, new terms and new numbers.
 use Prim.Native.Nat.{ℕ, _≤_}
 use mathlib.Core.Path.{_≡_}
 use mathlib.Core.List.{List}

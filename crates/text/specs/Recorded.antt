@@ -1,5 +1,5 @@
--- Which files have a record, and what the keeper holds of it (docs/SCOPE.md, The stored form): an old file, or a stored
--- file written by a panel that itself began so and was kept from other hands until then.
+-- Which files have a record, and what the keeper holds of it (docs/SCOPE.md, The keeper): an old file, or a stored
+-- file written by a monitor that itself began so and was kept from other hands until then.
 use Prim.Native.Nat.{ℕ, _≤_}
 use mathlib.Core.Path.{_≡_}
 use mathlib.Core.Bool.{false}
@@ -26,11 +26,11 @@ saidBook text = firstBook (termsSaid (saidLines (lines text))) (edgesSaid (saidL
 abbrev pub laterBook : Book → List LentStep → Book
 laterBook B ss = keepSteps B (fedSteps ss) .1
 
--- The memory of a panel that has read a text.
+-- The memory of a monitor that has read a text.
 abbrev pub loaded : (text terms state : List ℕ) → Lent
 loaded text terms state = record { terms = readTerms text terms state; state = readState text terms state; before = state }
 
--- The memory in use of a panel that read a text and took a list of steps since.
+-- The memory in use of a monitor that read a text and took a list of steps since.
 abbrev pub afterSteps : (text terms state : List ℕ) → List LentStep → Lent
 afterSteps text terms state ss = serveSteps (loaded text terms state) ss .1
 
