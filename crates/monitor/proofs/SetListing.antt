@@ -1,4 +1,4 @@
--- `Listing` for a set list of one panel: over terms t, from the state st₀ and the scratch sc₀.
+-- `Listing` for a set list of one monitor: over terms t, from the state st₀ and the scratch sc₀.
 use mathlib.Core.Path.{_≡_, refl, sym, ap, _∙_, subst}
 use Prim.Native.Nat.{ℕ, _+_, _<_}
 use mathlib.Core.Bool.{true, cond, false≢true}

@@ -1,4 +1,4 @@
--- A panel that stops and goes on: what it wrote is read, can be written at all, and, in the old form too, has it
+-- A monitor that stops and goes on: what it wrote is read, can be written at all, and, in the old form too, has it
 -- answer as if it had never stopped.
 use Prim.Native.Nat.{ℕ, _≤_}
 use native.Mathlib.Omega.{arith}
@@ -56,8 +56,8 @@ module _ (L : Lent) (out : List ℕ) (n : ℕ) (g : oldWriteGives (L .terms) (L 
   unfolding storeGives
   stored-fits = rw (← was .0, le-ltb (length stored) (length stored) (omega arith)) refl
 
-  -- After loading a file of the old form that a panel wrote, answers are those of that panel had it never stopped: of
-  -- any panel, whether it has a record or not, and whatever memory is lent.
+  -- After loading a file of the old form that a monitor wrote, answers are those of that monitor had it never stopped:
+  -- of any monitor, whether it has a record or not, and whatever memory is lent.
   pub never-stopped-old : (text : List ℕ) → text ≡ take n (oldWriteLeaves (L .terms) (L .state) out) →
       (terms' state' : List ℕ) → termsWords ≤ length terms' → stateWords ≤ length state' → (ss : List LentStep) →
       serveSteps (loaded text terms' state') ss .0 ≡ serveSteps L ss .0
@@ -80,7 +80,7 @@ recorded-accepted (written text B from terms state tl sl ss out n g) =
     let r = reloaded (L .terms) (L .state) (c .long-terms) (c .long-state) (c .good-terms) (c .good-state) in
     (r .0, ap reading (text-stored (L .terms) (L .state) out n g) ∙ r .1 .accepts)
 
--- A panel with a record can always be saved: after any list of steps terms and state pass the checks, so storing is
+-- A monitor with a record can always be saved: after any list of steps terms and state pass the checks, so storing is
 -- refused for want of room only.
 pub recorded-checked : (text : List ℕ) (B : Book) → Recorded text B → (terms state : List ℕ) → termsWords ≤ length terms → stateWords ≤ length state →
     (ss : List LentStep) → passed ≡ checks (afterSteps text terms state ss .terms) (afterSteps text terms state ss .state)
