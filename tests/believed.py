@@ -181,9 +181,10 @@ def statements():
     title = ""
     for line in read(DEMANDS).split("\n"):
         title = line[len("-- ======== "):] if line.startswith("-- ======== ") else title
-        m = re.match(r"(\S+) = Rattle·(\w+)\.proofs\.([\w.]+)\.", line)
+        m = re.match(r"(\S+) = (.*)", line)
         if m:
-            yield title, m.group(1), "%s/proofs/%s.antt" % (m.group(2), m.group(3).replace(".", "/"))
+            law = re.sub(r"^Rattle·(\w+)\.proofs\.(\w+)\..*", r"\1/proofs/\2.antt", m.group(2))
+            yield title, m.group(1), law
 
 
 def paragraphs(text):
