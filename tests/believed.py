@@ -6,7 +6,8 @@ calls, and follows each name to its definition in specs/ and on to the names the
 definitions, without blank lines, comments and imports.
 
 With `--check` it prints nothing, unless a module of specs/private/ is reached or another one is not, or
-docs/GUARANTEES.md says other numbers.
+docs/GUARANTEES.md says other numbers, or lacks a statement of Demands.antt: each is named in the section of its title,
+in a paragraph that gives the file of its law.
 """
 import os
 import re
@@ -14,6 +15,7 @@ import sys
 
 ROOT = os.path.join(os.path.dirname(os.path.abspath(__file__)), "..")
 DEMANDS = "crates/demands/proofs/Demands.antt"
+PAGE = "docs/GUARANTEES.md"
 # The sources with functions that a host calls.
 SOURCES = [
     "cuckooormolu/src/lib", "cuckooormolu/src/banks", "cuckooormolu/src/plan", "memory/src/lib:check",
@@ -25,7 +27,7 @@ SOURCES = [
 LATER = [
     "theory/specs/Columns", "theory/specs/NewNumbers", "theory/specs/MembersRenumbered", "calls/specs/Revising",
     "calls/specs/Renumbering", "calls/specs/MembersLater", "calls/specs/Telling", "reader/specs/OldForm",
-    "memory/specs/Plan", "text/specs/Banks", "banking/", "plans/", "rulings/", "effort/",
+    "memory/specs/TableIndex", "text/specs/Banks", "banking/", "plans/", "rulings/", "effort/",
 ]
 NAME = r'[^\s(){}.;,@"«»⌜⌝⟦⟧]+'
 USE = re.compile(r"^(?:ghost )?(?:pub )?use ([^\s{;]+)\.\{([^}]*)\};?", re.M)
@@ -174,8 +176,38 @@ def is_later(path):
     return any(path.startswith("crates/" + p) for p in LATER)
 
 
+def statements():
+    """The title, the name and the file of the law of each statement."""
+    title = ""
+    for line in read(DEMANDS).split("\n"):
+        title = line[len("-- ======== "):] if line.startswith("-- ======== ") else title
+        m = re.match(r"(\S+) = (.*)", line)
+        if m:
+            law = re.sub(r"^Rattle·(\w+)\.proofs\.(\w+)\..*", r"\1/proofs/\2.antt", m.group(2))
+            yield title, m.group(1), law
+
+
+def paragraphs(text):
+    """The names and the files of each paragraph or item: `proofs/X.antt` is of the crate that was named before it."""
+    for part in re.split(r"\n(?:\n|(?=- ))", text):
+        crate, files = "", set()
+        for m in re.finditer(r"(?:(\w+)/)?((?:specs|src|proofs)/[\w/]+\.\w+)", part):
+            crate = m.group(1) or crate
+            files.add("%s/%s" % (crate, m.group(2)))
+        yield set(re.findall(r"`([^`]+)`", part)), files
+
+
+def unnamed():
+    """The statements that the page does not name in their section, or not with the file of their law."""
+    sections = dict(s.split("\n", 1) for s in read(PAGE).split("\n## ")[1:])
+    for title, name, path in statements():
+        found = [files for names, files in paragraphs(sections.get(title, "")) if name in names]
+        if not any(path in files for files in found):
+            yield "%s (%s) in the section %s" % (name, path, title)
+
+
 def check(counts):
-    """Private modules are those of which nothing is reached, and the page says the right numbers."""
+    """Private modules are those of which nothing is reached; the page says the right numbers and names every theorem."""
     wrong = 0
     for folder, _, files in os.walk(os.path.join(ROOT, "crates")):
         for name in files:
@@ -186,8 +218,8 @@ def check(counts):
                 print(path, "is reached" if path in counts else "is not reached")
                 wrong = 1
     says = "{:,} for the base and Q-1 to Q-8, {:,} for Q-9 to Q-14".format(*totals(counts))
-    if says not in " ".join(read("docs/GUARANTEES.md").split()):
-        print("docs/GUARANTEES.md does not say:", says)
+    for missing in ([] if says in " ".join(read(PAGE).split()) else [says]) + list(unnamed()):
+        print(PAGE, "does not say:", missing)
         wrong = 1
     return wrong
 

@@ -107,11 +107,11 @@ fn goals(all: &[Row]) -> Vec<Goal> {
         of_floor("large", |row| row.check, 1.4, "the check"),
         of_floor("large", |row| row.request, 3.0, "a request"),
         Goal::new(
-            "preset: at least 200 times as fast as 001's algorithm",
+            "preset: at least 200 times as fast as the report's algorithm",
             format!("{matrices:.0}"),
             matrices >= 200.0,
         ),
-        Goal::at_most("every row: at most the time of 001's algorithm", slowest, 1.0),
+        Goal::at_most("every row: at most the time of the report's algorithm", slowest, 1.0),
         within("random", |row| row.request, 50_000.0, "a request"),
         within("random", |row| row.look, 5_000.0, "a look"),
     ];

@@ -158,12 +158,12 @@ pub fn print() -> Vec<Goal> {
             MOST_REQUEST,
         ),
         Goal::at_most(
-            format!("{every}: a look at most the time of 001's algorithm"),
+            format!("{every}: a look at most the time of the report's algorithm"),
             worst(|times| times.look),
             1.0,
         ),
         Goal::at_most(
-            format!("{every}: a request at most the time of 001's algorithm"),
+            format!("{every}: a request at most the time of the report's algorithm"),
             worst(|times| times.request),
             1.0,
         ),

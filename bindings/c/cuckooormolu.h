@@ -854,7 +854,7 @@ cuckooormolu_open(const uint16_t *terms, size_t terms_length,
 }
 
 /*
- * Revises the terms while playing: from old terms, the state under them and new
+ * Revises terms that are in use: from old terms, the state under them and new
  * terms with as many members, relations and events, fills in the state with
  * which the new terms go on. Relations and event edge are carried over, and a
  * prev or since takes the table of the first old entry with the same formula,

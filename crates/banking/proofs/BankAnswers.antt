@@ -16,7 +16,7 @@ use Rattle.theory.specs.Tables.{named, decideNow}
 use Rattle.memory.specs.Layout.{termsWords, relationWords, ownWords, joined, termsOf, stateOf}
 use Rattle.memory.specs.Checks.{goodMemory, goodState}
 use Rattle.memory.specs.Outcome.{hasPassed, shortBanks, goodBanks, banksCheck}
-use Rattle.memory.specs.Outcome.Outcome.{passed, failed}
+use Rattle.memory.specs.Outcome.Outcome.{passed, refused as refusedOutcome}
 use Rattle.calls.specs.Monitor.{isDecided}
 use Rattle.banking.specs.Banking.{bankAnswer, bankMoves, movedOwn, movedOther, relationsAfter, ownAfter, otherAfter, clearedAfter}
 use Rattle.banking.specs.BankRefused.{LongBanks}
@@ -44,7 +44,7 @@ module _ (terms relations own other : List ℕ) where
     where
       go : (a : Bool) → ltb (length terms) termsWords ≡ a → (b : Bool) → shortBanks relations own other ≡ b → (g : Bool) → goodMemory terms ≡ g →
           (s : Bool) → goodState (termsOf terms) (joined relations own) ≡ s → (t : Bool) → goodState (termsOf terms) (joined relations other) ≡ t →
-          true ≡ hasPassed (cond (a || b) (failed 6 0) (cond (not g) (failed 7 0) (cond (not (s && t)) (failed 8 0) passed))) → BanksChecked terms relations own other
+          true ≡ hasPassed (cond (a || b) (refusedOutcome 6 0) (cond (not g) (refusedOutcome 7 0) (cond (not (s && t)) (refusedOutcome 8 0) passed))) → BanksChecked terms relations own other
       go true _ _ _ _ _ _ _ _ _ z = absurd (true≢false z)
       go false _ true _ _ _ _ _ _ _ z = absurd (true≢false z)
       go false _ false _ false _ _ _ _ _ z = absurd (true≢false z)
@@ -76,14 +76,14 @@ module _ (terms relations own other scratch spare : List ℕ) (j u v : ℕ) wher
 
   module _ (ls : scratchWords ≤ length scratch) (lp : scratchWords ≤ length spare) where
     -- What fails a check fails a call.
-    pub unchecked : (n l : ℕ) → failed n l ≡ banksCheck terms relations own other → refused n l ≡ Given
+    pub unchecked : (n l : ℕ) → refusedOutcome n l ≡ banksCheck terms relations own other → refused n l ≡ Given
     unfolding bankAnswer banksCheck
     unchecked n l e =
         rw (le-ltb (length scratch) scratchWords ls, le-ltb (length spare) scratchWords lp)
         (go (ltb (length terms) termsWords) (shortBanks relations own other) (goodMemory terms) (goodBanks (termsOf terms) relations own other)
         (cond (not (named (termsOf terms) j u v)) (refused 9 0) (decided (cond (decideNow (termsOf terms) (stateOf (joined relations own)) j u v) grant deny))) e)
       where
-        go : (a b g s : Bool) (x : Answer) → failed n l ≡ cond (a || b) (failed 6 0) (cond (not g) (failed 7 0) (cond (not s) (failed 8 0) passed)) →
+        go : (a b g s : Bool) (x : Answer) → refusedOutcome n l ≡ cond (a || b) (refusedOutcome 6 0) (cond (not g) (refusedOutcome 7 0) (cond (not s) (refusedOutcome 8 0) passed)) →
             refused n l ≡ cond (a || (b || (false || false))) (refused 6 0) (cond (not g) (refused 7 0) (cond (not s) (refused 8 0) x))
         go true b g s x e = cc
         go false true g s x e = cc

@@ -15,7 +15,7 @@ use Rattle.theory.specs.Tables.{opening}
 use Rattle.memory.specs.Layout.{termsWords, stateWords, relationWords, ownWords, joined, termsOf, stateOf, wordsOf}
 use Rattle.memory.specs.Checks.{goodMemory, goodRelations}
 use Rattle.memory.specs.Outcome.{hasPassed, opens, shortBanks, banksOpen}
-use Rattle.memory.specs.Outcome.Outcome.{passed, failed}
+use Rattle.memory.specs.Outcome.Outcome.{passed, refused}
 use Rattle.calls.specs.Monitor.{openedState}
 use Rattle.memory.proofs.Accepted.{good}
 use Rattle.memory.proofs.Words.{length-words}
@@ -48,7 +48,7 @@ module _ (terms relations own other : List ℕ) where
     where
       go : (a : Bool) → ltb (length terms) termsWords ≡ a → (b : Bool) → shortBanks relations own other ≡ b → (g : Bool) → goodMemory terms ≡ g →
           (s : Bool) → goodRelations (termsOf terms) relations ≡ s →
-          true ≡ hasPassed (cond (a || b) (failed 6 0) (cond (not g) (failed 7 0) (cond (not s) (failed 8 0) passed))) → BanksOpened
+          true ≡ hasPassed (cond (a || b) (refused 6 0) (cond (not g) (refused 7 0) (cond (not s) (refused 8 0) passed))) → BanksOpened
       go true _ _ _ _ _ _ _ z = absurd (true≢false z)
       go false _ true _ _ _ _ _ z = absurd (true≢false z)
       go false _ false _ false _ _ _ z = absurd (true≢false z)
@@ -61,7 +61,7 @@ module _ (terms relations own other : List ℕ) where
       }
 
   -- What is left of a bank's own words.
-  pub own-unopened : (n l : ℕ) → failed n l ≡ banksOpen terms relations own other → (x : List ℕ) → x ≡ ownOpened terms relations own other x
+  pub own-unopened : (n l : ℕ) → refused n l ≡ banksOpen terms relations own other → (x : List ℕ) → x ≡ ownOpened terms relations own other x
   unfolding ownOpened
   own-unopened n l e x = rw (sym e)
 

@@ -52,9 +52,9 @@ run-banks (revise new X ∷ ss) B P p =
 -- which the other bank's moments have no event edge, each past-time entry judged from its own start.
 pub demand-3-banks : (terms : List ℕ) (W : Lent) → banksOpen terms (W .relations) (W .own left) (W .own right) ≡ passed → (ss : List LentBankStep) →
     let after = serveBankSteps (openedInUse terms W) ss in
-    let kept = keepBankSteps (openedBooks terms W) (fedBankSteps ss) in
-    (after .0 ≡ kept .0) × Alike (kept .1 .terms) (termsOf (after .1 .terms))
-    × BanksAgree (termsOf (after .1 .terms)) (kept .1 .start) (after .1 .before) (after .1 .lent) (kept .1 .moments)
+    let byKeeper = keepBankSteps (openedBooks terms W) (fedBankSteps ss) in
+    (after .0 ≡ byKeeper .0) × Alike (byKeeper .1 .terms) (termsOf (after .1 .terms))
+    × BanksAgree (termsOf (after .1 .terms)) (byKeeper .1 .start) (after .1 .before) (after .1 .lent) (byKeeper .1 .moments)
 demand-3-banks terms W e ss =
     let r = run-banks ss (openedBooks terms W) (openedInUse terms W) (opened-playing terms W e) in
     (r .0, r .1 .like, banks-agree _ _ (r .1))

@@ -14,9 +14,9 @@ use Rattle.theory.specs.Limits.{scratchWords}
 use Rattle.theory.specs.Tables.{named, decideNow}
 use Rattle.memory.specs.Layout.{joined, termsOf, stateOf}
 use Rattle.memory.specs.Outcome.{Outcome, hasPassed, banksCheck}
-use Rattle.memory.specs.Outcome.Outcome.{passed, failed}
+use Rattle.memory.specs.Outcome.Outcome.{passed, refused as refusedOutcome}
 use Rattle.calls.specs.Monitor.{granted}
-use Rattle.calls.specs.SetList.{numberOf, gainOf, ones, Plain, blank}
+use Rattle.calls.specs.SetList.{answerNumber, gainOf, ones, Plain, blank}
 use Rattle.calls.specs.SetList.Listing.{counted, refused as refusedList}
 use Rattle.calls.specs.Agreement.{answerIn}
 use Rattle.calls.specs.declared.Record.{Record}
@@ -28,7 +28,7 @@ use Rattle.banking.proofs.Moved.{after-checked, cleared-long}
 -- ---- the checks
 
 module _ (terms relations own other scratch spare : List ℕ) where
-  pub list-short : (ltb (length scratch) scratchWords || ltb (length spare) scratchWords) ≡ true → bankListChecks terms relations own other scratch spare ≡ failed 6 0
+  pub list-short : (ltb (length scratch) scratchWords || ltb (length spare) scratchWords) ≡ true → bankListChecks terms relations own other scratch spare ≡ refusedOutcome 6 0
   unfolding bankListChecks
   list-short e = rw e
 
@@ -43,27 +43,27 @@ module _ (terms relations own other scratch spare : List ℕ) where
   list-passed e = go (ltb (length scratch) scratchWords) refl (ltb (length spare) scratchWords) refl (sym e)
     where
       go : (a : Bool) → ltb (length scratch) scratchWords ≡ a → (b : Bool) → ltb (length spare) scratchWords ≡ b →
-          passed ≡ cond (a || b) (failed 6 0) (banksCheck terms relations own other) →
+          passed ≡ cond (a || b) (refusedOutcome 6 0) (banksCheck terms relations own other) →
           (scratchWords ≤ length scratch) × (scratchWords ≤ length spare) × BanksChecked terms relations own other
       go true _ b _ e = absurd (false≢true (sym (ap hasPassed e)))
       go false _ true _ e = absurd (false≢true (sym (ap hasPassed e)))
       go false s false t e = (ltb-false (length scratch) scratchWords s, ltb-false (length spare) scratchWords t, passed-checked terms relations own other e)
 
   -- What fails a list's check fails each single request by the same number and line.
-  pub refused-alike : (n l : ℕ) → bankListChecks terms relations own other scratch spare ≡ failed n l → (j u v : ℕ) → bankAnswer terms relations own other scratch spare j u v ≡ refused n l
+  pub refused-alike : (n l : ℕ) → bankListChecks terms relations own other scratch spare ≡ refusedOutcome n l → (j u v : ℕ) → bankAnswer terms relations own other scratch spare j u v ≡ refused n l
   unfolding bankListChecks
   refused-alike n l e j u v = go (ltb (length scratch) scratchWords) refl (ltb (length spare) scratchWords) refl e
     where
       numberAt : Outcome → ℕ
       numberAt passed = 0
-      numberAt (failed n l) = n
+      numberAt (refusedOutcome n l) = n
 
       lineAt : Outcome → ℕ
       lineAt passed = 0
-      lineAt (failed n l) = l
+      lineAt (refusedOutcome n l) = l
 
       go : (a : Bool) → ltb (length scratch) scratchWords ≡ a → (b : Bool) → ltb (length spare) scratchWords ≡ b →
-          cond (a || b) (failed 6 0) (banksCheck terms relations own other) ≡ failed n l → bankAnswer terms relations own other scratch spare j u v ≡ refused n l
+          cond (a || b) (refusedOutcome 6 0) (banksCheck terms relations own other) ≡ refusedOutcome n l → bankAnswer terms relations own other scratch spare j u v ≡ refused n l
       go true s b t e =
           sym (short-scratch terms relations own other scratch spare j u v (ltb-true (length scratch) scratchWords s)) ∙ (λ i. refused (numberAt (e i)) (lineAt (e i)))
       go false s true t e =
@@ -75,27 +75,27 @@ module _ (terms relations own other scratch spare : List ℕ) where
 
   module _ (j u v : ℕ) where
     -- A number of 1 is a grant.
-    one-granted : gainOf (numberOf (bankAnswer terms relations own other scratch spare j u v)) ≡ cond (granted (bankAnswer terms relations own other scratch spare j u v)) 1 0
+    one-granted : gainOf (answerNumber (bankAnswer terms relations own other scratch spare j u v)) ≡ cond (granted (bankAnswer terms relations own other scratch spare j u v)) 1 0
     unfolding gainOf
     one-granted =
-        each-answer terms relations own other scratch spare j u v (λ a. _≡_ {A = ℕ} (cond (eqb (numberOf a) 1) 1 0) (cond (granted a) 1 0)) refl refl refl refl refl refl
+        each-answer terms relations own other scratch spare j u v (λ a. _≡_ {A = ℕ} (cond (eqb (answerNumber a) 1) 1 0) (cond (granted a) 1 0)) refl refl refl refl refl refl
 
     -- A number tells its answer.
-    pub answer-back : answerIn (numberOf (bankAnswer terms relations own other scratch spare j u v)) ≡ bankAnswer terms relations own other scratch spare j u v
-    answer-back = each-answer terms relations own other scratch spare j u v (λ a. answerIn (numberOf a) ≡ a) refl refl refl refl refl refl
+    pub answer-back : answerIn (answerNumber (bankAnswer terms relations own other scratch spare j u v)) ≡ bankAnswer terms relations own other scratch spare j u v
+    answer-back = each-answer terms relations own other scratch spare j u v (λ a. answerIn (answerNumber a) ≡ a) refl refl refl refl refl refl
 
     plain-number : BanksChecked terms relations own other → scratchWords ≤ length scratch → scratchWords ≤ length spare →
-        Plain (numberOf (bankAnswer terms relations own other scratch spare j u v))
+        Plain (answerNumber (bankAnswer terms relations own other scratch spare j u v))
     plain-number c l k = by-name (named (termsOf terms) j u v) refl
       where
         by-verdict : named (termsOf terms) j u v ≡ true → (d : Bool) → d ≡ decideNow (termsOf terms) (stateOf (joined relations own)) j u v →
-            Plain (numberOf (bankAnswer terms relations own other scratch spare j u v))
-        by-verdict n true e = inr (inl (sym (ap numberOf (judged terms relations own other scratch spare j u v l k c n refl e))))
-        by-verdict n false e = inl (sym (ap numberOf (judged terms relations own other scratch spare j u v l k c n refl e)))
+            Plain (answerNumber (bankAnswer terms relations own other scratch spare j u v))
+        by-verdict n true e = inr (inl (sym (ap answerNumber (judged terms relations own other scratch spare j u v l k c n refl e))))
+        by-verdict n false e = inl (sym (ap answerNumber (judged terms relations own other scratch spare j u v l k c n refl e)))
 
-        by-name : (n : Bool) → named (termsOf terms) j u v ≡ n → Plain (numberOf (bankAnswer terms relations own other scratch spare j u v))
+        by-name : (n : Bool) → named (termsOf terms) j u v ≡ n → Plain (answerNumber (bankAnswer terms relations own other scratch spare j u v))
         by-name true n = by-verdict n (decideNow (termsOf terms) (stateOf (joined relations own)) j u v) refl
-        by-name false n = inr (inr (sym (ap numberOf (unnamed terms relations own other scratch spare j u v l k c n))))
+        by-name false n = inr (inr (sym (ap answerNumber (unnamed terms relations own other scratch spare j u v l k c n))))
 
 -- ---- single requests one after another
 
@@ -137,7 +137,7 @@ pub bank-list-singly : (terms relations own other scratch spare : List ℕ) (rs 
     (bankLeft terms relations own other scratch spare rs ≡ bankSingly terms relations own other scratch spare rs)
     × (bankListed terms relations own other scratch spare rs ≡ counted (ones (bankLeft terms relations own other scratch spare rs .records)))
     × ((i : ℕ) → i < length rs → Plain (getD (bankLeft terms relations own other scratch spare rs .records) i blank .answer)))
-    × ((n l : ℕ) → bankListChecks terms relations own other scratch spare ≡ failed n l →
+    × ((n l : ℕ) → bankListChecks terms relations own other scratch spare ≡ refusedOutcome n l →
     (bankListed terms relations own other scratch spare rs ≡ refusedList n l)
     × (bankLeft terms relations own other scratch spare rs
     ≡ record { records = rs; grants = 0; relations = relations; own = own; other = other; scratch = scratch; spare = spare })

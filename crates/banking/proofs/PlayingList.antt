@@ -13,7 +13,7 @@ use Rattle.theory.specs.Moment.{Moment}
 use Rattle.theory.specs.Keeper.{Answer, judge}
 use Rattle.theory.specs.Keeper.Answer.{refused}
 use Rattle.memory.specs.Outcome.{Outcome}
-use Rattle.memory.specs.Outcome.Outcome.{passed, failed}
+use Rattle.memory.specs.Outcome.Outcome.{passed, refused as refusedOutcome}
 use Rattle.calls.specs.Agreement.{answerIn, answersIn}
 use Rattle.calls.specs.declared.Record.{Record}
 use Rattle.memory.proofs.Accepted.{good}
@@ -80,8 +80,8 @@ module _ (b : Bank) (n k : ℕ) where
     play-records : (rs : List Record) (B : Books) (relations own beside scratch spare : List ℕ) → length scratch ≡ n → length spare ≡ k →
         BanksPlaying B (withLent P (lentTo b relations own beside)) →
         let run = bankSingly (P .terms) relations own beside scratch spare rs in
-        let kept = keepBankSteps B (fedRecords rs) in
-        (map (λ (r : Record). answerIn (r .answer)) (run .records) ≡ kept .0) × BanksPlaying (kept .1) (withLent P (leftBy b run))
+        let byKeeper = keepBankSteps B (fedRecords rs) in
+        (map (λ (r : Record). answerIn (r .answer)) (run .records) ≡ byKeeper .0) × BanksPlaying (byKeeper .1) (withLent P (leftBy b run))
     unfolding bankSingly keepBankSteps
     play-records [] B relations own beside scratch spare en ek p = (refl, p)
     play-records (r ∷ rs) B relations own beside scratch spare en ek p =
@@ -111,13 +111,13 @@ module _ (B : Books) (P : BanksInUse) (p : BanksPlaying B P) (b : Bank) (scratch
   abbrev Played : Type 0
   Played =
       let after = listedIn (P .terms) W b scratch spare rs in
-      let kept = keepBankSteps B (fedRecords b (length scratch) (length spare) rs) in
-      (answersIn (listsIn (P .terms) W b scratch spare rs) (after .records) ≡ kept .0) × BanksPlaying (kept .1) (withLent P (leftBy b after))
+      let byKeeper = keepBankSteps B (fedRecords b (length scratch) (length spare) rs) in
+      (answersIn (listsIn (P .terms) W b scratch spare rs) (after .records) ≡ byKeeper .0) × BanksPlaying (byKeeper .1) (withLent P (leftBy b after))
 
   refused-list : (ltb (length scratch) scratchWords || ltb (length spare) scratchWords) ≡ true → Played
   unfolding bankListed bankLeft
   refused-list s =
-      let e : checks ≡ failed 6 0 = list-short (P .terms) (W .relations) (W .own b) (W .own (other b)) scratch spare s in
+      let e : checks ≡ refusedOutcome 6 0 = list-short (P .terms) (W .relations) (W .own b) (W .own (other b)) scratch spare s in
       rw (e, keep-short b (length scratch) (length spare) s B rs, same-lent) (refl, p)
 
   played-list : scratchWords ≤ length scratch → scratchWords ≤ length spare → Played

@@ -15,7 +15,7 @@ use Rattle.theory.specs.Tables.{State, revised}
 use Rattle.memory.specs.Layout.{termsWords, stateWords, relationWords, ownWords, joined, termsOf, stateOf, wordsOf}
 use Rattle.memory.specs.Checks.{goodMemory}
 use Rattle.memory.specs.Outcome.{shortBanks, banksRevise}
-use Rattle.memory.specs.Outcome.Outcome.{passed, failed}
+use Rattle.memory.specs.Outcome.Outcome.{passed, refused as refusedOutcome}
 use Rattle.calls.specs.Agreement.{outcomeIn}
 use Rattle.theory.proofs.RunInvariant.{Kept}
 use Rattle.theory.proofs.AlikeTerms.{alike-refl, start-alike, size-alike}
@@ -68,7 +68,7 @@ module _ (B : Books) (P : BanksInUse) (p : BanksPlaying B P) (new : List ℕ) (X
   relations-are = relations-now (P .terms) (p .long) (good (P .terms) (p .good-memory)) (p .good-memory) (B .start) (P .before) (P .lent) (B .moments) (p .stands)
 
   revises-is : revisesIn P new X
-      ≡ cond short (failed 6 0) (cond (not (goodMemory new)) (failed 7 0) (cond (not (sameSize (B .terms) Z)) (failed 13 0) passed))
+      ≡ cond short (refusedOutcome 6 0) (cond (not (goodMemory new)) (refusedOutcome 7 0) (cond (not (sameSize (B .terms) Z)) (refusedOutcome 13 0) passed))
   unfolding banksRevise
   revises-is = rw (
     le-ltb (length (P .terms)) termsWords (p .long),
@@ -91,7 +91,7 @@ module _ (B : Books) (P : BanksInUse) (p : BanksPlaying B P) (new : List ℕ) (X
   Played = (outcomeIn (revisesIn P new X) ≡ K .0) × BanksPlaying (K .1) (inUse P new X)
 
   -- Refused: all is as before.
-  stays : (n l : ℕ) → revisesIn P new X ≡ failed n l → K ≡ (refused n l, B) → Played
+  stays : (n l : ℕ) → revisesIn P new X ≡ refusedOutcome n l → K ≡ (refused n l, B) → Played
   stays n l e k = rw (e, k) (refl, p)
 
   -- Done: the new terms and the second memory are in use.

@@ -15,7 +15,7 @@ use Rattle.theory.specs.Tables.{named, decideNow}
 use Rattle.memory.specs.Layout.{termsWords, joined, termsOf, stateOf}
 use Rattle.memory.specs.Checks.{goodMemory, goodState}
 use Rattle.memory.specs.Outcome.{Outcome, hasPassed, shortBanks, goodBanks, banksCheck}
-use Rattle.memory.specs.Outcome.Outcome.{passed, failed}
+use Rattle.memory.specs.Outcome.Outcome.{passed, refused as refusedOutcome}
 use Rattle.calls.specs.SetList.{Listing, listing}
 use Rattle.calls.specs.SetList.Listing.{counted, refused as refusedList}
 use Rattle.calls.specs.declared.Record.{Record}
@@ -29,7 +29,7 @@ use Rattle.banking.proofs.BankAnswers.{BanksChecked, unnamed, judged}
 use Rattle.banking.proofs.ListSingly.{refused-alike}
 
 -- Of two tests, one of which fails the lengths.
-six : (p q : Bool) (x : Outcome) → (p || q) ≡ true → cond p (failed 6 0) (cond q (failed 6 0) x) ≡ failed 6 0
+six : (p q : Bool) (x : Outcome) → (p || q) ≡ true → cond p (refusedOutcome 6 0) (cond q (refusedOutcome 6 0) x) ≡ refusedOutcome 6 0
 six true q x e = refl
 six false true x e = refl
 six false false x e = absurd (false≢true e)
@@ -43,10 +43,10 @@ module _ (terms relations own other scratch spare : List ℕ) where
   -- What the checks say of the memory.
   abbrev Told : Outcome → Type 0
   Told passed = Fits terms relations own other scratch spare
-  Told (failed n l) = (l ≡ 0) × ListRefusal terms relations own other scratch spare n
+  Told (refusedOutcome n l) = (l ≡ 0) × ListRefusal terms relations own other scratch spare n
 
   abbrev by-good : Outcome
-  by-good = cond (not (goodMemory terms)) (failed 7 0) (cond (not (goodBanks (termsOf terms) relations own other)) (failed 8 0) passed)
+  by-good = cond (not (goodMemory terms)) (refusedOutcome 7 0) (cond (not (goodBanks (termsOf terms) relations own other)) (refusedOutcome 8 0) passed)
 
   told : Told checks
   unfolding bankListChecks banksCheck
@@ -54,19 +54,19 @@ module _ (terms relations own other scratch spare : List ℕ) where
       by-length (ltb (length scratch) scratchWords) refl (ltb (length spare) scratchWords) refl (ltb (length terms) termsWords) refl (shortBanks relations own other) refl
     where
       by-state : Long terms relations own other scratch spare → goodMemory terms ≡ true → (s : Bool) → goodState (termsOf terms) (joined relations own) ≡ s →
-          (t : Bool) → goodState (termsOf terms) (joined relations other) ≡ t → Told (cond (not (s && t)) (failed 8 0) passed)
+          (t : Bool) → goodState (termsOf terms) (joined relations other) ≡ t → Told (cond (not (s && t)) (refusedOutcome 8 0) passed)
       by-state L g true s true t = record { long = L; terms-good = g; own-good = s; other-good = t }
       by-state L g true s false t = (refl, bad-other L g t)
       by-state L g false s t q = (refl, bad-own L g s)
 
       by-terms : Long terms relations own other scratch spare → (c : Bool) → goodMemory terms ≡ c →
-          Told (cond (not c) (failed 7 0) (cond (not (goodBanks (termsOf terms) relations own other)) (failed 8 0) passed))
+          Told (cond (not c) (refusedOutcome 7 0) (cond (not (goodBanks (termsOf terms) relations own other)) (refusedOutcome 8 0) passed))
       by-terms L true q = by-state L q (goodState (termsOf terms) (joined relations own)) refl (goodState (termsOf terms) (joined relations other)) refl
       by-terms L false q = (refl, bad-terms L q)
 
       by-length : (c : Bool) → ltb (length scratch) scratchWords ≡ c → (d : Bool) → ltb (length spare) scratchWords ≡ d →
           (a : Bool) → ltb (length terms) termsWords ≡ a → (b : Bool) → shortBanks relations own other ≡ b →
-          Told (cond (c || d) (failed 6 0) (cond (a || b) (failed 6 0) by-good))
+          Told (cond (c || d) (refusedOutcome 6 0) (cond (a || b) (refusedOutcome 6 0) by-good))
       by-length true c d _ a _ b _ = (refl, short-scratch (ltb-true (length scratch) scratchWords c))
       by-length false c true d a _ b _ = (refl, short-spare (ltb-true (length spare) scratchWords d))
       by-length false c false d true a b _ = (refl, short-terms (ltb-true (length terms) termsWords a))
@@ -88,11 +88,11 @@ module _ (terms relations own other scratch spare : List ℕ) where
     not-short relations own other (L .banks-long),
   )
 
-  short-is : ((ltb (length scratch) scratchWords || ltb (length spare) scratchWords) || (ltb (length terms) termsWords || shortBanks relations own other)) ≡ true → checks ≡ failed 6 0
+  short-is : ((ltb (length scratch) scratchWords || ltb (length spare) scratchWords) || (ltb (length terms) termsWords || shortBanks relations own other)) ≡ true → checks ≡ refusedOutcome 6 0
   unfolding bankListChecks banksCheck
   short-is e = six (ltb (length scratch) scratchWords || ltb (length spare) scratchWords) (ltb (length terms) termsWords || shortBanks relations own other) by-good e
 
-  list-because : (n : ℕ) → ListRefusal terms relations own other scratch spare n → checks ≡ failed n 0
+  list-because : (n : ℕ) → ListRefusal terms relations own other scratch spare n → checks ≡ refusedOutcome n 0
   list-because n (short-terms h) = short-is (or-right (ltb (length scratch) scratchWords || ltb (length spare) scratchWords) _ (or-left _ (shortBanks relations own other) (lt-ltb (length terms) termsWords h)))
   list-because n (short-banks h) = short-is (or-right (ltb (length scratch) scratchWords || ltb (length spare) scratchWords) _ (or-right (ltb (length terms) termsWords) _ (is-short relations own other h)))
   list-because n (short-scratch h) = short-is (or-left _ (ltb (length terms) termsWords || shortBanks relations own other) (or-left _ (ltb (length spare) scratchWords) (lt-ltb (length scratch) scratchWords h)))
@@ -120,7 +120,7 @@ module _ (terms relations own other scratch spare : List ℕ) where
       where
         go : (o : Outcome) → Told o → Heard (listing o (bankSingly terms relations own other scratch spare rs .grants))
         go passed t = tt
-        go (failed n l) t = t
+        go (refusedOutcome n l) t = t
 
     list-unmoved : (n l : ℕ) → bankListed terms relations own other scratch spare rs ≡ refusedList n l → bankLeft terms relations own other scratch spare rs ≡ lent
     unfolding bankListed bankLeft
@@ -129,7 +129,7 @@ module _ (terms relations own other scratch spare : List ℕ) where
         go : (o : Outcome) → listing o (bankSingly terms relations own other scratch spare rs .grants) ≡ refusedList n l →
             cond (hasPassed o) (bankSingly terms relations own other scratch spare rs) lent ≡ lent
         go passed e = absurd (true≢false (ap isCounted e))
-        go (failed n l) e = refl
+        go (refusedOutcome n l) e = refl
 
   module _ (j u v : ℕ) where
     abbrev given : Answer
@@ -174,7 +174,7 @@ module _ (terms relations own other scratch spare : List ℕ) where
 
         go : (o : Outcome) → checks ≡ o → Told o → Said given
         go passed e f = by-name f (named (termsOf terms) j u v) refl
-        go (failed n l) e t = subst Said (sym (refused-alike terms relations own other scratch spare n l e j u v)) (t .0, as-list (t .1))
+        go (refusedOutcome n l) e t = subst Said (sym (refused-alike terms relations own other scratch spare n l e j u v)) (t .0, as-list (t .1))
 
     because : (n : ℕ) → Refusal terms relations own other scratch spare j u v n → given ≡ refused n 0
     because n (as-list r) = refused-alike terms relations own other scratch spare n 0 (list-because n r) j u v

@@ -12,7 +12,7 @@ use Rattle.theory.specs.Terms.{sameSize}
 use Rattle.memory.specs.Layout.{termsWords, joined, termsOf}
 use Rattle.memory.specs.Checks.{goodMemory, goodState, goodRelations}
 use Rattle.memory.specs.Outcome.{Outcome, shortBanks, goodBanks, banksOpen, banksRevise}
-use Rattle.memory.specs.Outcome.Outcome.{passed, failed}
+use Rattle.memory.specs.Outcome.Outcome.{passed, refused}
 use Rattle.banking.specs.Banking.{ownOpened, relationsRevised, ownRevised}
 use Rattle.banking.specs.BankRefused.{OpeningRefusal, LongToRevise, RevisionRefusal}
 use Rattle.banking.specs.BankRefused.RevisionRefusal.{short-old, short-new, short-second, bad-old, bad-new, other-size}
@@ -23,7 +23,7 @@ use Rattle.banking.proofs.Lengths.{long-banks, not-short, why-short, is
 module _ (terms relations own other : List ℕ) where
   abbrev Told : Outcome → Type 0
   Told passed = Unit {0}
-  Told (failed n l) = (l ≡ 0) × OpeningRefusal terms relations own other n
+  Told (refused n l) = (l ≡ 0) × OpeningRefusal terms relations own other n
 
   told : Told (banksOpen terms relations own other)
   unfolding banksOpen
@@ -31,14 +31,14 @@ module _ (terms relations own other : List ℕ) where
     where
       by-length : (a : Bool) → ltb (length terms) termsWords ≡ a → (b : Bool) → shortBanks relations own other ≡ b → (g : Bool) → goodMemory terms ≡ g →
           (s : Bool) → goodRelations (termsOf terms) relations ≡ s →
-          Told (cond (a || b) (failed 6 0) (cond (not g) (failed 7 0) (cond (not s) (failed 8 0) passed)))
+          Told (cond (a || b) (refused 6 0) (cond (not g) (refused 7 0) (cond (not s) (refused 8 0) passed)))
       by-length true a b _ g _ s _ = (refl, OpeningRefusal.short-terms (ltb-true (length terms) termsWords a))
       by-length false a true b g _ s _ = (refl, OpeningRefusal.short-banks (why-short relations own other b))
       by-length false a false b false g s _ = (refl, OpeningRefusal.bad-terms (ltb-false (length terms) termsWords a) (long-banks relations own other b) g)
       by-length false a false b true g false s = (refl, OpeningRefusal.bad-relations (ltb-false (length terms) termsWords a) (long-banks relations own other b) g s)
       by-length false a false b true g true s = tt
 
-  opening-because : (n : ℕ) → OpeningRefusal terms relations own other n → banksOpen terms relations own other ≡ failed n 0
+  opening-because : (n : ℕ) → OpeningRefusal terms relations own other n → banksOpen terms relations own other ≡ refused n 0
   unfolding banksOpen
   opening-because n (OpeningRefusal.short-terms h) = rw (lt-ltb (length terms) termsWords h)
   opening-because n (OpeningRefusal.short-banks h) =
@@ -49,9 +49,9 @@ module _ (terms relations own other : List ℕ) where
   -- Opening both banks is refused with number n and a line exactly when the line is 0 and a reason for n fits; then
   -- both banks' own words are as lent. (The relations are never written.)
   pub opening-refused-only : (n l : ℕ) →
-      (banksOpen terms relations own other ≡ failed n l →
+      (banksOpen terms relations own other ≡ refused n l →
       (l ≡ 0) × OpeningRefusal terms relations own other n × ((lent : List ℕ) → ownOpened terms relations own other lent ≡ lent))
-      × (OpeningRefusal terms relations own other n → banksOpen terms relations own other ≡ failed n 0)
+      × (OpeningRefusal terms relations own other n → banksOpen terms relations own other ≡ refused n 0)
   unfolding ownOpened
   opening-refused-only n l = (
     (λ e. let s = subst Told e told in (s .0, s .1, λ lent. rw e)),
@@ -69,12 +69,12 @@ module _ (old relations own other new relations' own' other' : List ℕ) where
 
   abbrev RevisionTold : Outcome → Type 0
   RevisionTold passed = Unit {0}
-  RevisionTold (failed n l) = (l ≡ 0) × Why n
+  RevisionTold (refused n l) = (l ≡ 0) × Why n
 
   abbrev by-good : Outcome
   by-good =
-      cond (not (goodMemory old && goodMemory new)) (failed 7 0) (cond (not (goodBanks (termsOf old) relations own other)) (failed 8 0)
-      (cond (not (sameSize (termsOf old) (termsOf new))) (failed 13 0) passed))
+      cond (not (goodMemory old && goodMemory new)) (refused 7 0) (cond (not (goodBanks (termsOf old) relations own other)) (refused 8 0)
+      (cond (not (sameSize (termsOf old) (termsOf new))) (refused 13 0) passed))
 
   abbrev short : Bool
   short = (ltb (length old) termsWords || shortBanks relations own other) || (ltb (length new) termsWords || shortBanks relations' own' other')
@@ -86,7 +86,7 @@ module _ (old relations own other new relations' own' other' : List ℕ) where
     where
       go : (g : Bool) → goodMemory old ≡ g → (h : Bool) → goodMemory new ≡ h → (s : Bool) → goodState (termsOf old) (joined relations own) ≡ s →
           (t : Bool) → goodState (termsOf old) (joined relations other) ≡ t → (z : Bool) → sameSize (termsOf old) (termsOf new) ≡ z →
-          RevisionTold (cond (not (g && h)) (failed 7 0) (cond (not (s && t)) (failed 8 0) (cond (not z) (failed 13 0) passed)))
+          RevisionTold (cond (not (g && h)) (refused 7 0) (cond (not (s && t)) (refused 8 0) (cond (not z) (refused 13 0) passed)))
       go false g h _ s _ t _ z _ = (refl, bad-old L g)
       go true g false h s _ t _ z _ = (refl, bad-new L h)
       go true g true h false s t _ z _ = (refl, RevisionRefusal.bad-own L g h s)
@@ -99,7 +99,7 @@ module _ (old relations own other new relations' own' other' : List ℕ) where
   revision-told = go (ltb (length old) termsWords) refl (shortBanks relations own other) refl (ltb (length new) termsWords) refl (shortBanks relations' own' other') refl
     where
       go : (a : Bool) → ltb (length old) termsWords ≡ a → (b : Bool) → shortBanks relations own other ≡ b → (c : Bool) → ltb (length new) termsWords ≡ c →
-          (d : Bool) → shortBanks relations' own' other' ≡ d → RevisionTold (cond ((a || b) || (c || d)) (failed 6 0) by-good)
+          (d : Bool) → shortBanks relations' own' other' ≡ d → RevisionTold (cond ((a || b) || (c || d)) (refused 6 0) by-good)
       go true a b _ c _ d _ = (refl, short-old (ltb-true (length old) termsWords a))
       go false a true b c _ d _ = (refl, RevisionRefusal.short-banks (why-short relations own other b))
       go false a false b true c d _ = (refl, short-new (ltb-true (length new) termsWords c))
@@ -121,11 +121,11 @@ module _ (old relations own other new relations' own' other' : List ℕ) where
     not-short relations' own' other' (L .second-long),
   )
 
-  short-is : short ≡ true → banksRevise old relations own other new relations' own' other' ≡ failed 6 0
+  short-is : short ≡ true → banksRevise old relations own other new relations' own' other' ≡ refused 6 0
   unfolding banksRevise
   short-is e = rw e
 
-  revision-because : (n : ℕ) → Why n → banksRevise old relations own other new relations' own' other' ≡ failed n 0
+  revision-because : (n : ℕ) → Why n → banksRevise old relations own other new relations' own' other' ≡ refused n 0
   revision-because n (short-old h) = short-is (or-left _ _ (or-left _ (shortBanks relations own other) (lt-ltb (length old) termsWords h)))
   revision-because n (RevisionRefusal.short-banks h) = short-is (or-left _ _ (or-right (ltb (length old) termsWords) _ (is-short relations own other h)))
   revision-because n (short-new h) =
@@ -141,11 +141,11 @@ module _ (old relations own other new relations' own' other' : List ℕ) where
   -- New terms for both banks are refused with number n and a line exactly when the line is 0 and a reason for n fits;
   -- then the second memory is as lent.
   pub revision-refused-only : (n l : ℕ) →
-      (banksRevise old relations own other new relations' own' other' ≡ failed n l →
+      (banksRevise old relations own other new relations' own' other' ≡ refused n l →
       (l ≡ 0) × RevisionRefusal old relations own other new relations' own' other' n
       × (relationsRevised old relations own other new relations' own' other' ≡ relations')
       × ((x lent : List ℕ) → ownRevised old relations own other new relations' own' other' x lent ≡ lent))
-      × (RevisionRefusal old relations own other new relations' own' other' n → banksRevise old relations own other new relations' own' other' ≡ failed n 0)
+      × (RevisionRefusal old relations own other new relations' own' other' n → banksRevise old relations own other new relations' own' other' ≡ refused n 0)
   unfolding relationsRevised ownRevised
   revision-refused-only n l = (
     (λ e. let s = subst RevisionTold e revision-told in (s .0, s .1, rw e, λ x lent. rw e)),

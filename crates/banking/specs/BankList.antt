@@ -6,7 +6,7 @@ use lib.Dec.{ltb}
 use lib.ListN.{length}
 use Rattle.theory.specs.Limits.{scratchWords}
 use Rattle.memory.specs.Outcome.{Outcome, hasPassed, banksCheck}
-use Rattle.memory.specs.Outcome.Outcome.{failed}
+use Rattle.memory.specs.Outcome.Outcome.{refused}
 use Rattle.calls.specs.Monitor.{granted}
 use Rattle.calls.specs.SetList.{Listing, filled, listing}
 use Rattle.calls.specs.declared.Record.{Record}
@@ -48,7 +48,7 @@ module _ (terms relations own other scratch spare : List ℕ) where
   -- The checks that come before any record, of an empty list too: those of a request of the bank less 9.
   unfoldable pub bankListChecks : Outcome
   bankListChecks =
-      cond (ltb (length scratch) scratchWords || ltb (length spare) scratchWords) (failed 6 0) (banksCheck terms relations own other)
+      cond (ltb (length scratch) scratchWords || ltb (length spare) scratchWords) (refused 6 0) (banksCheck terms relations own other)
 
   -- What a set list gives: how many were granted, or which check failed.
   unfoldable pub bankListed : List Record → Listing

@@ -19,7 +19,7 @@ use Rattle.theory.specs.Tables.{named, opening, decideNow, made, advance, revis
 use Rattle.calls.specs.Revising.{revisedState}
 use Rattle.memory.specs.Outcome.{hasPassed, checks, opens, revises}
 use Rattle.calls.specs.Monitor.{answer, granted, isDecided, moves, stateAfter, scratchAfter, openedState}
-use Rattle.memory.specs.Outcome.Outcome.{passed, failed}
+use Rattle.memory.specs.Outcome.Outcome.{passed, refused as refusedOutcome}
 use Rattle.memory.proofs.Outcomes.{Checked}
 
 -- Whether the call names an event and two members.
@@ -50,7 +50,7 @@ module _ (terms state scratch : List ℕ) (j u v : ℕ) where
 
   module _ (ls : scratchWords ≤ length scratch) where
     -- What fails a check fails a call.
-    pub unchecked : (n l : ℕ) → failed n l ≡ checks terms state → refused n l ≡ Given
+    pub unchecked : (n l : ℕ) → refusedOutcome n l ≡ checks terms state → refused n l ≡ Given
     unfolding answer checks
     unchecked n l e =
         go (ltb (length terms) termsWords) (ltb (length state) stateWords) (ltb (length scratch) scratchWords) (le-ltb (length scratch) scratchWords ls)
@@ -60,7 +60,7 @@ module _ (terms state scratch : List ℕ) (j u v : ℕ) where
         rest = decided (cond (decideNow (termsOf terms) (stateOf state) j u v) grant deny)
 
         go : (a b c : Bool) → c ≡ false → (g s m : Bool) →
-            failed n l ≡ cond (a || b) (failed 6 0) (cond (not g) (failed 7 0) (cond (not s) (failed 8 0) passed)) →
+            refusedOutcome n l ≡ cond (a || b) (refusedOutcome 6 0) (cond (not g) (refusedOutcome 7 0) (cond (not s) (refusedOutcome 8 0) passed)) →
             refused n l ≡ cond (a || (b || c)) (refused 6 0) (cond (not g) (refused 7 0) (cond (not s) (refused 8 0) (cond (not m) (refused 9 0) rest)))
         go true b c z g s m e = cc
         go false true c z g s m e = cc
@@ -155,7 +155,7 @@ module _ (terms state scratch : List ℕ) (j u v : ℕ) where
   scratch-cleared e h = rw e h
 
 module _ (terms state : List ℕ) where
-  pub open-kept : (n l : ℕ) → failed n l ≡ opens terms state → state ≡ openedState terms state
+  pub open-kept : (n l : ℕ) → refusedOutcome n l ≡ opens terms state → state ≡ openedState terms state
   unfolding openedState
   open-kept n l e = rw (sym e)
 
@@ -165,7 +165,7 @@ module _ (terms state : List ℕ) where
   open-done e = rw (sym e)
 
 module _ (old state new second : List ℕ) where
-  pub revise-kept : (n l : ℕ) → failed n l ≡ revises old state new second → second ≡ revisedState old state new second
+  pub revise-kept : (n l : ℕ) → refusedOutcome n l ≡ revises old state new second → second ≡ revisedState old state new second
   unfolding revisedState
   revise-kept n l e = rw (sym e)
 

@@ -10,10 +10,10 @@ use Rattle.theory.specs.Keeper.Answer.{refused}
 use Rattle.theory.specs.Limits.{scratchWords}
 use Rattle.theory.specs.Tables.{named, decideNow}
 use Rattle.memory.specs.Layout.{termsOf, stateOf}
-use Rattle.memory.specs.Outcome.Outcome.{passed, failed}
+use Rattle.memory.specs.Outcome.Outcome.{passed, refused as refusedOutcome}
 use Rattle.memory.proofs.Outcomes.{Checked}
 use Rattle.calls.specs.Monitor.{answer, stateAfter, scratchAfter}
-use Rattle.calls.specs.SetList.{numberOf, singly, listChecks, listed, left, ones, Plain, blank}
+use Rattle.calls.specs.SetList.{answerNumber, singly, listChecks, listed, left, ones, Plain, blank}
 use Rattle.calls.specs.SetList.Listing.{counted, refused as refusedList}
 use Rattle.calls.specs.declared.Record.{Record}
 use Rattle.calls.proofs.Answers.{unnamed, judged}
@@ -28,16 +28,16 @@ module _ (terms : List ℕ) where
       ap₂ _+_ (sym (one-granted terms state scratch (r .event) (r .from) (r .to)))
       (counts-ones (stateAfter terms state scratch (r .event) (r .from) (r .to)) (scratchAfter terms state scratch (r .event) (r .from) (r .to)) rs)
 
-  plain-number : (state scratch : List ℕ) → Checked terms state → scratchWords ≤ length scratch → (j u v : ℕ) → Plain (numberOf (answer terms state scratch j u v))
+  plain-number : (state scratch : List ℕ) → Checked terms state → scratchWords ≤ length scratch → (j u v : ℕ) → Plain (answerNumber (answer terms state scratch j u v))
   plain-number state scratch k l j u v = by-name (named (termsOf terms) j u v) refl
     where
-      by-verdict : named (termsOf terms) j u v ≡ true → (d : Bool) → d ≡ decideNow (termsOf terms) (stateOf state) j u v → Plain (numberOf (answer terms state scratch j u v))
-      by-verdict n true e = inr (inl (sym (ap numberOf (judged terms state scratch j u v l k n refl e))))
-      by-verdict n false e = inl (sym (ap numberOf (judged terms state scratch j u v l k n refl e)))
+      by-verdict : named (termsOf terms) j u v ≡ true → (d : Bool) → d ≡ decideNow (termsOf terms) (stateOf state) j u v → Plain (answerNumber (answer terms state scratch j u v))
+      by-verdict n true e = inr (inl (sym (ap answerNumber (judged terms state scratch j u v l k n refl e))))
+      by-verdict n false e = inl (sym (ap answerNumber (judged terms state scratch j u v l k n refl e)))
 
-      by-name : (n : Bool) → named (termsOf terms) j u v ≡ n → Plain (numberOf (answer terms state scratch j u v))
+      by-name : (n : Bool) → named (termsOf terms) j u v ≡ n → Plain (answerNumber (answer terms state scratch j u v))
       by-name true n = by-verdict n (decideNow (termsOf terms) (stateOf state) j u v) refl
-      by-name false n = inr (inr (sym (ap numberOf (unnamed terms state scratch j u v l k n))))
+      by-name false n = inr (inr (sym (ap answerNumber (unnamed terms state scratch j u v l k n))))
 
   plain-answers : (state scratch : List ℕ) → Checked terms state → scratchWords ≤ length scratch → (rs : List Record) (i : ℕ) → i < length rs →
       Plain (getD (singly terms state scratch rs .records) i blank .answer)
@@ -63,7 +63,7 @@ module _ (terms state scratch : List ℕ) (rs : List Record) where
 
   -- Where a check fails, the list is refused by its number and line, all memory is as lent, and every single
   -- request would be refused alike.
-  pub refused-whole : (n l : ℕ) → listChecks terms state scratch ≡ failed n l →
+  pub refused-whole : (n l : ℕ) → listChecks terms state scratch ≡ refusedOutcome n l →
       (listed terms state scratch rs ≡ refusedList n l)
       × (left terms state scratch rs ≡ record { records = rs; grants = 0; state = state; scratch = scratch })
       × ((j u v : ℕ) → answer terms state scratch j u v ≡ refused n l)

@@ -22,7 +22,7 @@ use Rattle.memory.specs.Checks.{goodMemory}
 use Rattle.theory.specs.Tables.{State, opening, revised}
 use Rattle.theory.specs.Fit.{Good}
 use Rattle.memory.specs.Outcome.{opens, revises}
-use Rattle.memory.specs.Outcome.Outcome.{passed, failed}
+use Rattle.memory.specs.Outcome.Outcome.{passed, refused as refusedOutcome}
 use Rattle.calls.specs.Monitor.{answer, stateAfter, scratchAfter, openedState}
 use Rattle.calls.specs.SetList.{singly, listChecks, listed, left}
 use Rattle.calls.specs.Revising.{revisedState}
@@ -129,7 +129,7 @@ module _ (terms : List ℕ) (long-terms : termsWords ≤ length terms) (fine : G
             (answersIn (listed terms m scratch rs) (left terms m scratch rs .records) ≡ keepAll T s Ms (map (fedRecord (length scratch)) rs) .0)
             × Held T s fine m₀ (left terms m scratch rs .state) (keepAll T s Ms (map (fedRecord (length scratch)) rs) .1)
         go true z =
-            let e : listChecks terms m scratch ≡ failed 6 0 = sym (list-short terms m scratch (ltb-true (length scratch) scratchWords z)) in
+            let e : listChecks terms m scratch ≡ refusedOutcome 6 0 = sym (list-short terms m scratch (ltb-true (length scratch) scratchWords z)) in
             rw (e, keep-short T s Ms (length scratch) z rs) (refl, h)
         go false z =
             let l : scratchWords ≤ length scratch = ltb-false (length scratch) scratchWords z in
@@ -199,7 +199,7 @@ module _ (B : Book) (L : Lent) (p : Playing B L) where
     short = ltb (length new) termsWords || ltb (length second) stateWords
 
     revises-is : revises (L .terms) (L .state) new second
-        ≡ cond short (failed 6 0) (cond (not (goodMemory new)) (failed 7 0) (cond (not (sameSize (B .terms) Z)) (failed 13 0) passed))
+        ≡ cond short (refusedOutcome 6 0) (cond (not (goodMemory new)) (refusedOutcome 7 0) (cond (not (sameSize (B .terms) Z)) (refusedOutcome 13 0) passed))
     unfolding revises
     revises-is = rw (
       le-ltb (length (L .terms)) termsWords (p .long),
@@ -220,7 +220,7 @@ module _ (B : Book) (L : Lent) (p : Playing B L) where
     Played = (outcomeIn (revises (L .terms) (L .state) new second) ≡ K .0) × Playing (K .1) (inUse L new second)
 
     -- Refused: all is as before.
-    stays : (n l : ℕ) → revises (L .terms) (L .state) new second ≡ failed n l → K ≡ (refused n l, B) → Played
+    stays : (n l : ℕ) → revises (L .terms) (L .state) new second ≡ refusedOutcome n l → K ≡ (refused n l, B) → Played
     stays n l e k = rw (e, k) (refl, p)
 
     -- Done: the new terms and the second state are in use.
@@ -303,7 +303,7 @@ module _ (B : Book) (L : Lent) (p : Playing B L) where
     Numbered = (outcomeIn (renumbering (L .terms) (L .state) numbers second) ≡ J .0) × Playing (J .1) (inUseBy L numbers second)
 
     -- Refused: all is as before.
-    numbers-stay : (n l : ℕ) → failed n l ≡ renumbering (L .terms) (L .state) numbers second → J ≡ (refused n l, B) → Numbered
+    numbers-stay : (n l : ℕ) → refusedOutcome n l ≡ renumbering (L .terms) (L .state) numbers second → J ≡ (refused n l, B) → Numbered
     numbers-stay n l e k = rw (sym e, k) (refl, p)
 
     -- Done: the second state holds what the renumbered list says.
@@ -421,9 +421,9 @@ opened-playing terms state e =
 -- the relations that stood there.
 pub demand-3-steps : (terms state : List ℕ) → opens terms state ≡ passed → (ss : List LentStep) →
     let after = serveSteps (opened terms state) ss in
-    let kept = keepSteps (openedBook terms state) (fedSteps ss) in
-    (after .0 ≡ kept .0) × Alike (kept .1 .terms) (termsOf (after .1 .terms))
-    × Agrees (termsOf (after .1 .terms)) (kept .1 .start) (after .1 .before) (after .1 .state) (kept .1 .moments)
+    let byKeeper = keepSteps (openedBook terms state) (fedSteps ss) in
+    (after .0 ≡ byKeeper .0) × Alike (byKeeper .1 .terms) (termsOf (after .1 .terms))
+    × Agrees (termsOf (after .1 .terms)) (byKeeper .1 .start) (after .1 .before) (after .1 .state) (byKeeper .1 .moments)
 demand-3-steps terms state e ss =
     let r = run ss (openedBook terms state) (opened terms state) (opened-playing terms state e) in
     (r .0, r .1 .like, playing-agrees _ _ (r .1))

@@ -84,8 +84,8 @@ module _ (N : ℕ) (G : Graph) (X : Tables) where
 -- ---- the tables of all past-time entries
 
 -- Check 8: a table without a free variable has equal bits in a word.
-abbrev pub Level : Terms → Tables → Type 0
-Level T X = (n : ℕ) → n < T .entries → isPast (T .entry n .op) ≡ true → ((x : ℕ) → free (formula T n) x ≡ true → ⊥) →
+abbrev pub LevelTables : Terms → Tables → Type 0
+LevelTables T X = (n : ℕ) → n < T .entries → isPast (T .entry n .op) ≡ true → ((x : ℕ) → free (formula T n) x ≡ true → ⊥) →
     (a b c : ℕ) → a < T .members → b < T .members → c < T .members → X (number (T .entry) n) a b ≡ X (number (T .entry) n) a c
 
 -- What is free in an operand is free in its entry.
@@ -117,7 +117,7 @@ module _ (T : Terms) (n : ℕ) (none : (x : ℕ) → free (formula T n) x ≡ tr
 
 module _ (T : Terms) (fine : Good T) (G : Graph) where
   -- An operand of an entry without a free variable does not depend on the column.
-  operand-level : (X : Tables) → Level T X → (n : ℕ) → n < T .entries → ((x : ℕ) → free (formula T n) x ≡ true → ⊥) →
+  operand-level : (X : Tables) → LevelTables T X → (n : ℕ) → n < T .entries → ((x : ℕ) → free (formula T n) x ≡ true → ⊥) →
       (k : ℕ) → ((x : ℕ) → free (below (T .entry) n k) x ≡ true → ⊥) →
       (a b c : ℕ) → a < T .members → b < T .members → c < T .members → operandNow T G n k X a b ≡ operandNow T G n k X a c
   operand-level X lev n l closed k none a b c al bl cl =
@@ -130,7 +130,7 @@ module _ (T : Terms) (fine : Good T) (G : Graph) where
       (alone 0 c) (alone 0 b) a (among-alone (T .members) 0 c cl) (among-alone (T .members) 0 b bl) al
       (λ x f. absurd (none x f)))
 
-  pub prev-level : (X : Tables) → Level T X → Level T (prevTables T G (T .entries) X)
+  pub prev-level : (X : Tables) → LevelTables T X → LevelTables T (prevTables T G (T .entries) X)
   prev-level X lev n l e none a b c al bl cl = by-kind (T .entry n .op) e six seven
     where
       six : T .entry n .op ≡ 6 → prevTables T G (T .entries) X (number (T .entry) n) a b ≡ prevTables T G (T .entries) X (number (T .entry) n) a c
@@ -142,7 +142,7 @@ module _ (T : Terms) (fine : Good T) (G : Graph) where
       seven : T .entry n .op ≡ 7 → prevTables T G (T .entries) X (number (T .entry) n) a b ≡ prevTables T G (T .entries) X (number (T .entry) n) a c
       seven z = prev-keeps T G (T .entries) X n z a b ∙ lev n l e none a b c al bl cl ∙ sym (prev-keeps T G (T .entries) X n z a c)
 
-  since-bits-level : (X : Tables) → Level T X → (n : ℕ) → n < T .entries → T .entry n .op ≡ 7 → ((x : ℕ) → free (formula T n) x ≡ true → ⊥) →
+  since-bits-level : (X : Tables) → LevelTables T X → (n : ℕ) → n < T .entries → T .entry n .op ≡ 7 → ((x : ℕ) → free (formula T n) x ≡ true → ⊥) →
       (a b c : ℕ) → a < T .members → b < T .members → c < T .members → sinceBits T G n X a b ≡ sinceBits T G n X a c
   since-bits-level X lev n l z none a b c al bl cl =
       ap₂ _||_ (operand-level X lev n l none (T .entry n .b) (λ x f. none x (free-since-b T n z x f)) a b c al bl cl)
@@ -150,9 +150,9 @@ module _ (T : Terms) (fine : Good T) (G : Graph) where
       (lev n l (rw z) none a b c al bl cl))
 
   -- A table stored, or not.
-  store-level : (X : Tables) → Level T X → (n : ℕ) → (D : ℕ → ℕ → Bool) (stores : Bool) → (stores ≡ true → isPast (T .entry n .op) ≡ true) →
+  store-level : (X : Tables) → LevelTables T X → (n : ℕ) → (D : ℕ → ℕ → Bool) (stores : Bool) → (stores ≡ true → isPast (T .entry n .op) ≡ true) →
       (stores ≡ true → ((x : ℕ) → free (formula T n) x ≡ true → ⊥) → (a b c : ℕ) → a < T .members → b < T .members → c < T .members → D a b ≡ D a c) →
-      Level T (cond stores (store (number (T .entry) n) D X) X)
+      LevelTables T (cond stores (store (number (T .entry) n) D X) X)
   store-level X lev n D stores past even k kl e none a b c al bl cl = by-op stores refl
     where
       s : ℕ
@@ -171,12 +171,12 @@ module _ (T : Terms) (fine : Good T) (G : Graph) where
       by-op true z = by-table z (eqb s t) refl
       by-op false z = lev k kl e none a b c al bl cl
 
-  since-step-level : (X : Tables) → Level T X → (n : ℕ) → n < T .entries → Level T (sinceStep T G n X)
+  since-step-level : (X : Tables) → LevelTables T X → (n : ℕ) → n < T .entries → LevelTables T (sinceStep T G n X)
   since-step-level X lev n l =
       store-level X lev n (sinceBits T G n X) (eqb (T .entry n .op) 7) (λ z. rw (eqb-true (T .entry n .op) 7 z))
       (λ z none. since-bits-level X lev n l (eqb-true (T .entry n .op) 7 z) none)
 
-  pub since-level : (X : Tables) → Level T X → (n : ℕ) → n ≤ T .entries → Level T (sinceTables T G n X)
+  pub since-level : (X : Tables) → LevelTables T X → (n : ℕ) → n ≤ T .entries → LevelTables T (sinceTables T G n X)
   unfolding sinceTables
   since-level X lev zero l = lev
   since-level X lev (suc n) l = since-step-level (sinceTables T G n X) (since-level X lev n (omega arith)) n l
@@ -191,7 +191,7 @@ level-bits N w e b c bl cl =
 
 module _ (T : Terms) (fine : Good T) where
   -- Words that keep the layout have equal bits where they must.
-  pub level-good : (w : List ℕ) → goodState T w ≡ true → Level T (stateOf w .table)
+  pub level-good : (w : List ℕ) → goodState T w ≡ true → LevelTables T (stateOf w .table)
   unfolding goodState stateOf closed
   level-good w g n l e no-free a b c al bl cl =
       ap (λ x. ltb t 32 && (ltb a 64 && x)) (level-bits (T .members) (getD w (tableAt t a) 0) even b c bl cl)
@@ -213,7 +213,7 @@ module _ (T : Terms) (fine : Good T) where
       rw (word-relation T S k a kl al) (fits-row (T .members) (ltb k (T .relations)) (S .now .edge k) a)))
 
   -- And the words of a state that has them keep the layout.
-  pub words-level : (S : State) → Level T (S .table) → Inside T (S .now) → goodState T (wordsOf T S) ≡ true
+  pub words-level : (S : State) → LevelTables T (S .table) → Inside T (S .now) → goodState T (wordsOf T S) ≡ true
   unfolding goodState closed
   words-level S lev i = every-in (stateTests T (wordsOf T S)) test
     where
@@ -256,11 +256,11 @@ module _ (T : Terms) (fine : Good T) where
 
 -- ---- new terms
 
-module _ (T : Terms) (S : State) (lev : Level T (S .table)) (U : Terms) (fine : Good U) (em : T .members ≡ U .members) where
+module _ (T : Terms) (S : State) (lev : LevelTables T (S .table)) (U : Terms) (fine : Good U) (em : T .members ≡ U .members) where
   abbrev G : Graph
   G = graph U (S .now)
 
-  start-bits-level : (X : Tables) → Level U X → (n : ℕ) → n < U .entries → isPast (U .entry n .op) ≡ true → ((x : ℕ) → free (formula U n) x ≡ true → ⊥) →
+  start-bits-level : (X : Tables) → LevelTables U X → (n : ℕ) → n < U .entries → isPast (U .entry n .op) ≡ true → ((x : ℕ) → free (formula U n) x ≡ true → ⊥) →
       (a b c : ℕ) → a < U .members → b < U .members → c < U .members → startBits T S U n X a b ≡ startBits T S U n X a c
   start-bits-level X lower n l p none a b c al bl cl = go (ltb k (T .entries)) refl
     where
@@ -282,7 +282,7 @@ module _ (T : Terms) (S : State) (lev : Level T (S .table)) (U : Terms) (fine : 
           a b c (omega arith) (omega arith) (omega arith)
       go false z = anew (eqb (U .entry n .op) 7) refl
 
-  start-level : (n : ℕ) → n ≤ U .entries → Level U (startTables T S U n (λ t a b. false))
+  start-level : (n : ℕ) → n ≤ U .entries → LevelTables U (startTables T S U n (λ t a b. false))
   unfolding startTables
   start-level zero l = λ n nl p none a b c al bl cl. refl
   start-level (suc n) l =

@@ -10,16 +10,16 @@ use Rattle.theory.specs.Keeper.Answer.{refused}
 use Rattle.theory.specs.Limits.{scratchWords}
 use Rattle.memory.specs.Layout.{termsOf}
 use Rattle.memory.specs.Outcome.{Outcome, hasPassed, checks}
-use Rattle.memory.specs.Outcome.Outcome.{passed, failed}
-use Rattle.memory.specs.Plan.{Planned}
+use Rattle.memory.specs.Outcome.Outcome.{passed, refused as refusedOutcome}
+use Rattle.memory.specs.TableIndex.{Indexed}
 use Rattle.memory.proofs.Outcomes.{Checked, passed-checked}
 use Rattle.calls.specs.Monitor.{answer}
 use Rattle.calls.specs.SetList.{listChecks}
-use Rattle.calls.specs.private.Listing.{Passed}
+use Rattle.calls.specs.private.Listing.{MemoryPassed}
 use Rattle.calls.proofs.Answers.{short-scratch, unchecked}
 
 module _ (terms state scratch : List ℕ) where
-  pub list-short : length scratch < scratchWords → failed 6 0 ≡ listChecks terms state scratch
+  pub list-short : length scratch < scratchWords → refusedOutcome 6 0 ≡ listChecks terms state scratch
   unfolding listChecks
   list-short l = rw (lt-ltb (length scratch) scratchWords l)
 
@@ -32,38 +32,38 @@ module _ (terms state scratch : List ℕ) where
   unfolding listChecks
   list-passed e = go (ltb (length scratch) scratchWords) refl e
     where
-      go : (b : Bool) → ltb (length scratch) scratchWords ≡ b → passed ≡ cond b (failed 6 0) (checks terms state) →
+      go : (b : Bool) → ltb (length scratch) scratchWords ≡ b → passed ≡ cond b (refusedOutcome 6 0) (checks terms state) →
           (scratchWords ≤ length scratch) × Checked terms state
       go true s e = absurd (false≢true (sym (ap hasPassed e)))
       go false s e = (ltb-false (length scratch) scratchWords s, passed-checked terms state e)
 
-  -- And with the terms' plan, all that a request asks of the memory.
-  pub list-ready : (plan : List ℕ) → passed ≡ listChecks terms state scratch → Planned (termsOf terms) plan → Passed terms plan state scratch
-  list-ready plan e planned =
+  -- And with the table index, all that a request asks of the memory.
+  pub list-ready : (index : List ℕ) → passed ≡ listChecks terms state scratch → Indexed (termsOf terms) index → MemoryPassed terms index state scratch
+  list-ready index e indexed =
       let p = list-passed e in
       let k : Checked terms state = p .1 in
       record {
         long-terms = k .long-terms;
         good-terms = k .good-terms;
-        planned = planned;
+        indexed = indexed;
         long-state = k .long-state;
         good-state = k .good-state;
         long-scratch = p .0;
       }
 
   -- What fails a list's check fails each single request by the same number and line.
-  pub refused-alike : (n l : ℕ) → listChecks terms state scratch ≡ failed n l → (j u v : ℕ) → answer terms state scratch j u v ≡ refused n l
+  pub refused-alike : (n l : ℕ) → listChecks terms state scratch ≡ refusedOutcome n l → (j u v : ℕ) → answer terms state scratch j u v ≡ refused n l
   unfolding listChecks
   refused-alike n l e j u v = go (ltb (length scratch) scratchWords) refl e
     where
       numberAt : Outcome → ℕ
       numberAt passed = 0
-      numberAt (failed n l) = n
+      numberAt (refusedOutcome n l) = n
 
       lineAt : Outcome → ℕ
       lineAt passed = 0
-      lineAt (failed n l) = l
+      lineAt (refusedOutcome n l) = l
 
-      go : (b : Bool) → ltb (length scratch) scratchWords ≡ b → cond b (failed 6 0) (checks terms state) ≡ failed n l → answer terms state scratch j u v ≡ refused n l
+      go : (b : Bool) → ltb (length scratch) scratchWords ≡ b → cond b (refusedOutcome 6 0) (checks terms state) ≡ refusedOutcome n l → answer terms state scratch j u v ≡ refused n l
       go true s e = sym (short-scratch terms state scratch j u v (ltb-true (length scratch) scratchWords s)) ∙ (λ i. refused (numberAt (e i)) (lineAt (e i)))
       go false s e = sym (unchecked terms state scratch j u v (ltb-false (length scratch) scratchWords s) n l (sym e))

@@ -22,7 +22,7 @@ use Rattle.theory.proofs.Good.{small, column-free}
 use Rattle.theory.proofs.Places.{Among, among-assign, among-alone, columns-free, place-cong, place-inside, inside-among, inside-member}
 use Rattle.theory.proofs.MembersPlaces.{under-inside, under-member, under-standing, place-under}
 use Rattle.theory.proofs.Sweeps.{prev-keeps, prev-worked}
-use Rattle.calls.proofs.LayoutKept.{Level, free-prev, free-since-a, free-since-b, by-kind, prev-level, since-level}
+use Rattle.calls.proofs.LayoutKept.{LevelTables, free-prev, free-since-a, free-since-b, by-kind, prev-level, since-level}
 use Rattle.theory.specs.NewNumbers.{renumberMoment}
 use Rattle.theory.specs.Fit.{Good}
 use Rattle.theory.specs.MembersRenumbered.{Renumbering}
@@ -105,7 +105,7 @@ Carry T q X Y = (n : ℕ) → n < T .entries → isPast (T .entry n .op) ≡ tru
 
 -- Two graphs and tables, the second the first renumbered.
 module _ (T : Terms) (good : Good T) (p q : ℕ → ℕ) (r : Renumbering (T .members) p q) (G H : Graph) (edge : (l a b : ℕ) → H l a b ≡ G l (q a) (q b))
-    (X Y : Tables) (carry : Carry T q X Y) (level : Level T X)
+    (X Y : Tables) (carry : Carry T q X Y) (level : LevelTables T X)
   where
     abbrev N : ℕ
     N = T .members
@@ -150,7 +150,7 @@ module _ (T : Terms) (good : Good T) (p q : ℕ → ℕ) (r : Renumbering (T .me
         (λ x f. sym (ap p (under-standing N q (r .old) cs i k fit o x (column-free T good n l x (free-in x f))) ∙ r .forth (standing (formula T n) i k x)))
 
 module _ (T : Terms) (good : Good T) (p q : ℕ → ℕ) (r : Renumbering (T .members) p q) (G H : Graph) (edge : (l a b : ℕ) → H l a b ≡ G l (q a) (q b)) where
-  prev-carried : (X Y : Tables) → Carry T q X Y → Level T X → Carry T q (prevTables T G (T .entries) X) (prevTables T H (T .entries) Y)
+  prev-carried : (X Y : Tables) → Carry T q X Y → LevelTables T X → Carry T q (prevTables T G (T .entries) X) (prevTables T H (T .entries) Y)
   prev-carried X Y carry level n l e i k o = by-kind (T .entry n .op) e six seven
     where
       t : ℕ
@@ -172,7 +172,7 @@ module _ (T : Terms) (good : Good T) (p q : ℕ → ℕ) (r : Renumbering (T .me
       seven : T .entry n .op ≡ 7 → prevTables T H (T .entries) Y t i k ≡ prevTables T G (T .entries) X t w b
       seven z = prev-keeps T H (T .entries) Y n z i k ∙ carry n l e i k o ∙ sym (prev-keeps T G (T .entries) X n z w b)
 
-  since-step-carried : (X Y : Tables) → Carry T q X Y → Level T X → (n : ℕ) → n < T .entries → Carry T q (sinceStep T G n X) (sinceStep T H n Y)
+  since-step-carried : (X Y : Tables) → Carry T q X Y → LevelTables T X → (n : ℕ) → n < T .entries → Carry T q (sinceStep T G n X) (sinceStep T H n Y)
   since-step-carried X Y carry level n l j jl e i k o = by-op (eqb (T .entry n .op) 7) refl
     where
       s : ℕ
@@ -210,7 +210,7 @@ module _ (T : Terms) (good : Good T) (p q : ℕ → ℕ) (r : Renumbering (T .me
       by-op true z = by-table (eqb-true (T .entry n .op) 7 z) (eqb s t) refl
       by-op false z = carry j jl e i k o
 
-  since-carried : (X Y : Tables) → Carry T q X Y → Level T X → (n : ℕ) → n ≤ T .entries → Carry T q (sinceTables T G n X) (sinceTables T H n Y)
+  since-carried : (X Y : Tables) → Carry T q X Y → LevelTables T X → (n : ℕ) → n ≤ T .entries → Carry T q (sinceTables T G n X) (sinceTables T H n Y)
   unfolding sinceTables
   since-carried X Y carry level zero l = carry
   since-carried X Y carry level (suc n) l =
@@ -224,7 +224,7 @@ module _ (T : Terms) (good : Good T) (p q : ℕ → ℕ) (r : Renumbering (T .me
   pub record Matched (S S' : State) : Type 0 where
     pub now : S' .now ≡ renumberMoment p q (S .now)
     pub tables : Carry T q (S .table) (S' .table)
-    pub level : Level T (S .table)
+    pub level : LevelTables T (S .table)
 
   graph-matched : (M M' : Moment) → M' ≡ renumberMoment p q M → (l a b : ℕ) → graph T M' l a b ≡ graph T M l (q a) (q b)
   graph-matched M M' e l a b = ap (λ (L : Moment). graph T L l a b) e ∙ graph-renumbered T p q r M l a b
@@ -251,5 +251,5 @@ module _ (T : Terms) (good : Good T) (p q : ℕ → ℕ) (r : Renumbering (T .me
       Y : Tables
       Y = prevTables T (graph T (S' .now)) (T .entries) (S' .table)
 
-      level : Level T X
+      level : LevelTables T X
       level = prev-level T good (graph T (S .now)) (S .table) (m .level)

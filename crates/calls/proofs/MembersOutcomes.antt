@@ -10,7 +10,7 @@ use Rattle.sets.proofs.Finite.{or-right}
 use Rattle.memory.specs.Layout.{termsWords, stateWords, termsOf}
 use Rattle.memory.specs.Checks.{goodMemory, goodState}
 use Rattle.memory.specs.Outcome.{Outcome, hasPassed, checks}
-use Rattle.memory.specs.Outcome.Outcome.{passed, failed}
+use Rattle.memory.specs.Outcome.Outcome.{passed, refused}
 use Rattle.memory.proofs.Outcomes.{Checked}
 use Rattle.theory.specs.NewNumbers.{renumbers}
 use Rattle.calls.specs.Renumbering.{renumbering, renumberedWords, renumberedState}
@@ -19,22 +19,22 @@ module _ (terms state numbers second : List ℕ) where
   abbrev Given : Outcome
   Given = renumbering terms state numbers second
 
-  pub short-second : length second < stateWords → failed 6 0 ≡ Given
+  pub short-second : length second < stateWords → refused 6 0 ≡ Given
   unfolding renumbering
   short-second l = rw (or-right (ltb (length terms) termsWords) (ltb (length state) stateWords || ltb (length second) stateWords)
       (or-right (ltb (length state) stateWords) (ltb (length second) stateWords) (lt-ltb (length second) stateWords l)))
 
   module _ (ls : stateWords ≤ length second) where
     -- What fails a check fails a renumbering.
-    pub unchecked : (n l : ℕ) → failed n l ≡ checks terms state → failed n l ≡ Given
+    pub unchecked : (n l : ℕ) → refused n l ≡ checks terms state → refused n l ≡ Given
     unfolding renumbering checks
     unchecked n l e =
         go (ltb (length terms) termsWords) (ltb (length state) stateWords) (ltb (length second) stateWords) (le-ltb (length second) stateWords ls)
         (goodMemory terms) (goodState (termsOf terms) state) (renumbers (termsOf terms .members) numbers) e
       where
         go : (a b c : Bool) → c ≡ false → (g s m : Bool) →
-            failed n l ≡ cond (a || b) (failed 6 0) (cond (not g) (failed 7 0) (cond (not s) (failed 8 0) passed)) →
-            failed n l ≡ cond (a || (b || c)) (failed 6 0) (cond (not g) (failed 7 0) (cond (not s) (failed 8 0) (cond (not m) (failed 15 0) passed)))
+            refused n l ≡ cond (a || b) (refused 6 0) (cond (not g) (refused 7 0) (cond (not s) (refused 8 0) passed)) →
+            refused n l ≡ cond (a || (b || c)) (refused 6 0) (cond (not g) (refused 7 0) (cond (not s) (refused 8 0) (cond (not m) (refused 15 0) passed)))
         go true b c z g s m e = e
         go false true c z g s m e = e
         go false false true z g s m e = absurd (true≢false z)
@@ -43,7 +43,7 @@ module _ (terms state numbers second : List ℕ) where
         go false false false z true true m e = absurd (true≢false (sym (ap hasPassed e)))
 
     module _ (c : Checked terms state) where
-      pub wrong-numbers : renumbers (termsOf terms .members) numbers ≡ false → failed 15 0 ≡ Given
+      pub wrong-numbers : renumbers (termsOf terms .members) numbers ≡ false → refused 15 0 ≡ Given
       unfolding renumbering
       wrong-numbers e =
           rw (
@@ -82,7 +82,7 @@ module _ (terms state numbers second : List ℕ) where
       go : (a : Bool) → ltb (length terms) termsWords ≡ a → (b : Bool) → ltb (length state) stateWords ≡ b →
           (c : Bool) → ltb (length second) stateWords ≡ c → (g : Bool) → goodMemory terms ≡ g →
           (s : Bool) → goodState (termsOf terms) state ≡ s → (n : Bool) → renumbers (termsOf terms .members) numbers ≡ n →
-          true ≡ hasPassed (cond (a || (b || c)) (failed 6 0) (cond (not g) (failed 7 0) (cond (not s) (failed 8 0) (cond (not n) (failed 15 0) passed)))) → Renumbered
+          true ≡ hasPassed (cond (a || (b || c)) (refused 6 0) (cond (not g) (refused 7 0) (cond (not s) (refused 8 0) (cond (not n) (refused 15 0) passed)))) → Renumbered
       go true _ _ _ _ _ _ _ _ _ _ _ z = absurd (true≢false z)
       go false _ true _ _ _ _ _ _ _ _ _ z = absurd (true≢false z)
       go false _ false _ true _ _ _ _ _ _ _ z = absurd (true≢false z)
@@ -101,7 +101,7 @@ module _ (terms state numbers second : List ℕ) where
       }
 
   -- What it leaves, by what it gives.
-  pub second-kept : (n l : ℕ) → failed n l ≡ Given → second ≡ renumberedState terms state numbers second
+  pub second-kept : (n l : ℕ) → refused n l ≡ Given → second ≡ renumberedState terms state numbers second
   unfolding renumberedState
   second-kept n l e = rw (sym e)
 

@@ -24,7 +24,7 @@ use Rattle.theory.proofs.MeaningNow.{Same, SameAt}
 use Rattle.memory.proofs.Row.{row-cong, table-row-cong}
 use Rattle.memory.proofs.Inside.{state-inside}
 use Rattle.memory.proofs.Words.{now-back, columns-fitting, table-back, canonical}
-use Rattle.calls.proofs.LayoutKept.{Level, level-good, words-level}
+use Rattle.calls.proofs.LayoutKept.{LevelTables, level-good, words-level}
 use Rattle.theory.specs.NewNumbers.{newNumber, oldNumber, renumbers, renumberEvent, renumberMoment}
 use Rattle.theory.specs.MembersRenumbered.{renumberTables, renumberState, Renumbering}
 use Rattle.theory.specs.Fit.{Good}
@@ -70,7 +70,7 @@ module _ (T : Terms) (fine : Good T) (p q : ℕ → ℕ) (r : Renumbering (T .me
       event (happened j u v) h = (h .0, r .new u (h .1), r .new v (h .2))
       event (tried j u v) h = (h .0, r .new u (h .1), r .new v (h .2))
 
-  level-renumbered : (X : Tables) → Level T X → Level T (renumberTables p q T X)
+  level-renumbered : (X : Tables) → LevelTables T X → LevelTables T (renumberTables p q T X)
   level-renumbered X lev n l e no-free a b c al bl cl =
       rw (past-is T n l e, closed-columns (formula T n) (λ x _. is-false (free (formula T n) x) (no-free x)))
       (lev n l e no-free (q a) (q b) (q c) (r .old a al) (r .old b bl) (r .old c cl))

@@ -30,7 +30,7 @@ use Rattle.memory.proofs.Inside.{word-of-event}
 use Rattle.memory.proofs.Front.{state-front, good-front}
 use Rattle.memory.proofs.Words.{length-words, word-table, now-back, table-back, no-table, canonical}
 use Rattle.theory.proofs.Past.{PastEntry, past-entry, past-is}
-use Rattle.calls.proofs.LayoutKept.{Level, one-inside, words-level}
+use Rattle.calls.proofs.LayoutKept.{LevelTables, one-inside, words-level}
 
 module _ (T : Terms) (s : Starts) (fine : Good T) where
   -- ---- the words of a state that is kept
@@ -48,7 +48,7 @@ module _ (T : Terms) (s : Starts) (fine : Good T) where
   }
 
   -- A table without a free variable has equal bits in a word.
-  level-kept : (S : State) (Ms : List Moment) → Kept T s S Ms → Level T (S .table)
+  level-kept : (S : State) (Ms : List Moment) → Kept T s S Ms → LevelTables T (S .table)
   level-kept S Ms kept n l p none a b c al bl cl =
       kept .tables n l p a b (one-inside T n none a b al bl)
       ∙ coincidence (T .members) s (recordOf T Ms) (formula T n) (last Ms) (standing (formula T n) a b) (standing (formula T n) a c) (member (formula T n) a)

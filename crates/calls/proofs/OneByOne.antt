@@ -24,9 +24,9 @@ use Rattle.memory.proofs.Accepted.{good}
 use Rattle.memory.proofs.Inside.{made-inside, state-inside}
 use Rattle.memory.proofs.Words.{length-words}
 use Rattle.calls.specs.Monitor.{answer, granted, moves, stateAfter, scratchAfter}
-use Rattle.calls.specs.SetList.{numberOf, filled, Run, singly, gainOf}
+use Rattle.calls.specs.SetList.{answerNumber, filled, Run, singly, gainOf}
 use Rattle.calls.specs.Agreement.{answerIn}
-use Rattle.calls.specs.private.Listing.{Passed}
+use Rattle.calls.specs.private.Listing.{MemoryPassed}
 use Rattle.calls.specs.declared.Record.{Record}
 use Rattle.calls.proofs.LayoutKept.{advance-good}
 use Rattle.calls.proofs.Answers.{moves-decided, decided-says}
@@ -82,16 +82,16 @@ module _ (t : List ℕ) where
         go false true true true false = nil
 
     -- A number of 1 is a grant.
-    pub one-granted : gainOf (numberOf (answer t st sc j u v)) ≡ cond (granted (answer t st sc j u v)) 1 0
+    pub one-granted : gainOf (answerNumber (answer t st sc j u v)) ≡ cond (granted (answer t st sc j u v)) 1 0
     unfolding gainOf
-    one-granted = each-answer (λ a. _≡_ {A = ℕ} (cond (eqb (numberOf a) 1) 1 0) (cond (granted a) 1 0)) refl refl refl refl refl refl
+    one-granted = each-answer (λ a. _≡_ {A = ℕ} (cond (eqb (answerNumber a) 1) 1 0) (cond (granted a) 1 0)) refl refl refl refl refl refl
 
-    pub number-small : numberOf (answer t st sc j u v) < 2 ^ 32
-    number-small = each-answer (λ a. numberOf a < 2 ^ 32) (lit< tt) (lit< tt) (lit< tt) (lit< tt) (lit< tt) (lit< tt)
+    pub number-small : answerNumber (answer t st sc j u v) < 2 ^ 32
+    number-small = each-answer (λ a. answerNumber a < 2 ^ 32) (lit< tt) (lit< tt) (lit< tt) (lit< tt) (lit< tt) (lit< tt)
 
     -- A number tells its answer.
-    pub answer-back : answerIn (numberOf (answer t st sc j u v)) ≡ answer t st sc j u v
-    answer-back = each-answer (λ a. answerIn (numberOf a) ≡ a) refl refl refl refl refl refl
+    pub answer-back : answerIn (answerNumber (answer t st sc j u v)) ≡ answer t st sc j u v
+    answer-back = each-answer (λ a. answerIn (answerNumber a) ≡ a) refl refl refl refl refl refl
 
     -- The moment that it makes, if it makes one.
     abbrev moment : Moment
@@ -138,9 +138,9 @@ module _ (t : List ℕ) where
     -- What a step gives and leaves is what a request does.
     abbrev pub AsRequest : ℕ → List ℕ → List ℕ → Type 0
     AsRequest k st′ sc′ =
-        (k ≡ numberOf (answer t st sc j u v)) × (st′ ≡ stateAfter t st sc j u v) × (sc′ ≡ scratchAfter t st sc j u v)
+        (k ≡ answerNumber (answer t st sc j u v)) × (st′ ≡ stateAfter t st sc j u v) × (sc′ ≡ scratchAfter t st sc j u v)
 
-    module _ (plan : List ℕ) (p : Passed t plan st sc) where
+    module _ (index : List ℕ) (p : MemoryPassed t index st sc) where
       checked : Checked t st
       checked = record { long-terms = p .long-terms; long-state = p .long-state; good-terms = p .good-terms; good-state = p .good-state }
 
@@ -153,12 +153,12 @@ module _ (t : List ℕ) where
       good-state = after-good (k .good-terms) (k .good-state);
     }
 
-    pub after-passed : (plan : List ℕ) → Passed t plan st sc → Passed t plan (stateAfter t st sc j u v) (scratchAfter t st sc j u v)
-    after-passed plan p = record {
+    pub after-passed : (index : List ℕ) → MemoryPassed t index st sc → MemoryPassed t index (stateAfter t st sc j u v) (scratchAfter t st sc j u v)
+    after-passed index p = record {
       long-terms = p .long-terms;
       good-terms = p .good-terms;
-      planned = p .planned;
-      long-state = after-checked (checked plan p) .long-state;
-      good-state = after-checked (checked plan p) .good-state;
+      indexed = p .indexed;
+      long-state = after-checked (checked index p) .long-state;
+      good-state = after-checked (checked index p) .good-state;
       long-scratch = omega (arith, p .long-scratch, after-scratch (p .long-scratch));
     }

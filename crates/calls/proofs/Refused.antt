@@ -20,7 +20,7 @@ use Rattle.calls.specs.Refused.{Long, Refusal, OpeningRefusal}
 use Rattle.calls.specs.Refused.Refusal.{short-terms, short-state, short-scratch, bad-terms, bad-state, no-event, no-initiator, no-target}
 use Rattle.calls.specs.Monitor.{answer, stateAfter, scratchAfter, openedState}
 use Rattle.memory.specs.Outcome.{Outcome, opens}
-use Rattle.memory.specs.Outcome.Outcome.{passed, failed}
+use Rattle.memory.specs.Outcome.Outcome.{passed, refused as refusedOutcome}
 
 neither : (a b : Bool) → (a || b) ≡ false → (a ≡ false) × (b ≡ false)
 neither true b e = absurd (true≢false e)
@@ -140,37 +140,37 @@ module _ (terms state : List ℕ) where
 
   abbrev OpeningSaid : Outcome → Type 0
   OpeningSaid passed = Opens
-  OpeningSaid (failed n l) = (l ≡ 0) × OpeningRefusal terms state n
+  OpeningSaid (refusedOutcome n l) = (l ≡ 0) × OpeningRefusal terms state n
 
   opening-says : OpeningSaid (opens terms state)
   unfolding opens
   opening-says = by-terms-length (ltb (length terms) termsWords) refl
     where
       by-relations : termsWords ≤ length terms → stateWords ≤ length state → goodMemory terms ≡ true →
-          (c : Bool) → goodRelations (termsOf terms) state ≡ c → OpeningSaid (cond (not c) (failed 8 0) passed)
+          (c : Bool) → goodRelations (termsOf terms) state ≡ c → OpeningSaid (cond (not c) (refusedOutcome 8 0) passed)
       by-relations tl sl g true q = record { terms-long = tl; state-long = sl; terms-good = g; relations-good = q }
       by-relations tl sl g false q = (refl, OpeningRefusal.bad-relations tl sl g q)
 
       by-terms : termsWords ≤ length terms → stateWords ≤ length state → (c : Bool) → goodMemory terms ≡ c →
-          OpeningSaid (cond (not c) (failed 7 0) (cond (not (goodRelations (termsOf terms) state)) (failed 8 0) passed))
+          OpeningSaid (cond (not c) (refusedOutcome 7 0) (cond (not (goodRelations (termsOf terms) state)) (refusedOutcome 8 0) passed))
       by-terms tl sl true q = by-relations tl sl q (goodRelations (termsOf terms) state) refl
       by-terms tl sl false q = (refl, OpeningRefusal.bad-terms tl sl q)
 
       rest : Outcome
-      rest = cond (not (goodMemory terms)) (failed 7 0) (cond (not (goodRelations (termsOf terms) state)) (failed 8 0) passed)
+      rest = cond (not (goodMemory terms)) (refusedOutcome 7 0) (cond (not (goodRelations (termsOf terms) state)) (refusedOutcome 8 0) passed)
 
-      by-state-length : termsWords ≤ length terms → (c : Bool) → ltb (length state) stateWords ≡ c → OpeningSaid (cond c (failed 6 0) rest)
+      by-state-length : termsWords ≤ length terms → (c : Bool) → ltb (length state) stateWords ≡ c → OpeningSaid (cond c (refusedOutcome 6 0) rest)
       by-state-length tl true q = (refl, OpeningRefusal.short-state (ltb-true (length state) stateWords q))
       by-state-length tl false q = by-terms tl (ltb-false (length state) stateWords q) (goodMemory terms) refl
 
-      by-terms-length : (c : Bool) → ltb (length terms) termsWords ≡ c → OpeningSaid (cond (c || ltb (length state) stateWords) (failed 6 0) rest)
+      by-terms-length : (c : Bool) → ltb (length terms) termsWords ≡ c → OpeningSaid (cond (c || ltb (length state) stateWords) (refusedOutcome 6 0) rest)
       by-terms-length true q = (refl, OpeningRefusal.short-terms (ltb-true (length terms) termsWords q))
       by-terms-length false q = by-state-length (ltb-false (length terms) termsWords q) (ltb (length state) stateWords) refl
 
   pub opened-says : opens terms state ≡ passed → Opens
   opened-says e = subst OpeningSaid e opening-says
 
-  opening-because : (n : ℕ) → OpeningRefusal terms state n → opens terms state ≡ failed n 0
+  opening-because : (n : ℕ) → OpeningRefusal terms state n → opens terms state ≡ refusedOutcome n 0
   unfolding opens
   opening-because n (OpeningRefusal.short-terms h) = rw (lt-ltb (length terms) termsWords h)
   opening-because n (OpeningRefusal.short-state h) =
@@ -180,7 +180,7 @@ module _ (terms state : List ℕ) where
   opening-because n (OpeningRefusal.bad-terms tl sl g) = rw (le-ltb (length terms) termsWords tl, le-ltb (length state) stateWords sl, g)
   opening-because n (OpeningRefusal.bad-relations tl sl g r) = rw (le-ltb (length terms) termsWords tl, le-ltb (length state) stateWords sl, g, r)
 
-  failed-unmoved : (n l : ℕ) → opens terms state ≡ failed n l → openedState terms state ≡ state
+  failed-unmoved : (n l : ℕ) → opens terms state ≡ refusedOutcome n l → openedState terms state ≡ state
   unfolding openedState
   failed-unmoved n l e = rw e
 
@@ -201,8 +201,8 @@ refused-only terms state scratch j u v n l = (
 
 -- The same of an opening.
 pub failed-only : (terms state : List ℕ) (n l : ℕ) →
-    (opens terms state ≡ failed n l → (l ≡ 0) × OpeningRefusal terms state n × (openedState terms state ≡ state))
-    × (OpeningRefusal terms state n → opens terms state ≡ failed n 0)
+    (opens terms state ≡ refusedOutcome n l → (l ≡ 0) × OpeningRefusal terms state n × (openedState terms state ≡ state))
+    × (OpeningRefusal terms state n → opens terms state ≡ refusedOutcome n 0)
 failed-only terms state n l = (
   (λ e.
       let s = subst (OpeningSaid terms state) e (opening-says terms state) in

@@ -13,7 +13,7 @@ use Rattle.theory.specs.NewNumbers.{renumbers}
 use Rattle.memory.specs.Layout.{termsWords, stateWords, termsOf}
 use Rattle.memory.specs.Checks.{goodMemory, goodState}
 use Rattle.memory.specs.Outcome.{Outcome}
-use Rattle.memory.specs.Outcome.Outcome.{passed, failed}
+use Rattle.memory.specs.Outcome.Outcome.{passed, refused}
 use Rattle.calls.specs.Renumbering.{renumbering, renumberedState}
 use Rattle.calls.specs.Refused.{LongToRenumber, RenumberingRefusal}
 use Rattle.calls.specs.Refused.RenumberingRefusal.{short-terms, short-state, short-second, bad-terms, bad-state, other-length, number-missing}
@@ -35,7 +35,7 @@ module _ (terms state numbers second : List ℕ) where
 
   abbrev Told : Outcome → Type 0
   Told passed = Unit {0}
-  Told (failed n l) = (l ≡ 0) × RenumberingRefusal terms state numbers second n
+  Told (refused n l) = (l ≡ 0) × RenumberingRefusal terms state numbers second n
 
   -- Check 15, by the length and by the number that is missing.
   wrong : LongToRenumber terms state second → goodMemory terms ≡ true → goodState (termsOf terms) state ≡ true → renumbers N numbers ≡ false →
@@ -59,25 +59,25 @@ module _ (terms state numbers second : List ℕ) where
       by-length (ltb (length terms) termsWords) refl (ltb (length state) stateWords) refl (ltb (length second) stateWords) refl
     where
       by-numbers : LongToRenumber terms state second → goodMemory terms ≡ true → goodState (termsOf terms) state ≡ true →
-          (c : Bool) → renumbers N numbers ≡ c → Told (cond (not c) (failed 15 0) passed)
+          (c : Bool) → renumbers N numbers ≡ c → Told (cond (not c) (refused 15 0) passed)
       by-numbers L g s true q = tt
       by-numbers L g s false q = (refl, wrong L g s q)
 
       by-state : LongToRenumber terms state second → goodMemory terms ≡ true → (c : Bool) → goodState (termsOf terms) state ≡ c →
-          Told (cond (not c) (failed 8 0) (cond (not (renumbers N numbers)) (failed 15 0) passed))
+          Told (cond (not c) (refused 8 0) (cond (not (renumbers N numbers)) (refused 15 0) passed))
       by-state L g true q = by-numbers L g q (renumbers N numbers) refl
       by-state L g false q = (refl, bad-state L g q)
 
       by-terms : LongToRenumber terms state second → (c : Bool) → goodMemory terms ≡ c →
-          Told (cond (not c) (failed 7 0) (cond (not (goodState (termsOf terms) state)) (failed 8 0) (cond (not (renumbers N numbers)) (failed 15 0) passed)))
+          Told (cond (not c) (refused 7 0) (cond (not (goodState (termsOf terms) state)) (refused 8 0) (cond (not (renumbers N numbers)) (refused 15 0) passed)))
       by-terms L true q = by-state L q (goodState (termsOf terms) state) refl
       by-terms L false q = (refl, bad-terms L q)
 
       rest : Outcome
-      rest = cond (not (goodMemory terms)) (failed 7 0) (cond (not (goodState (termsOf terms) state)) (failed 8 0) (cond (not (renumbers N numbers)) (failed 15 0) passed))
+      rest = cond (not (goodMemory terms)) (refused 7 0) (cond (not (goodState (termsOf terms) state)) (refused 8 0) (cond (not (renumbers N numbers)) (refused 15 0) passed))
 
       by-length : (a : Bool) → ltb (length terms) termsWords ≡ a → (b : Bool) → ltb (length state) stateWords ≡ b →
-          (c : Bool) → ltb (length second) stateWords ≡ c → Told (cond (a || (b || c)) (failed 6 0) rest)
+          (c : Bool) → ltb (length second) stateWords ≡ c → Told (cond (a || (b || c)) (refused 6 0) rest)
       by-length true p b q c r = (refl, short-terms (ltb-true (length terms) termsWords p))
       by-length false p true q c r = (refl, short-state (ltb-true (length state) stateWords q))
       by-length false p false q true r = (refl, short-second (ltb-true (length second) stateWords r))
@@ -91,7 +91,7 @@ module _ (terms state numbers second : List ℕ) where
   abbrev lengths : Bool
   lengths = ltb (length terms) termsWords || (ltb (length state) stateWords || ltb (length second) stateWords)
 
-  short : lengths ≡ true → renumbering terms state numbers second ≡ failed 6 0
+  short : lengths ≡ true → renumbering terms state numbers second ≡ refused 6 0
   unfolding renumbering
   short e = rw e
 
@@ -104,11 +104,11 @@ module _ (terms state numbers second : List ℕ) where
       )
 
   not-numbers : LongToRenumber terms state second → goodMemory terms ≡ true → goodState (termsOf terms) state ≡ true → renumbers N numbers ≡ false →
-      renumbering terms state numbers second ≡ failed 15 0
+      renumbering terms state numbers second ≡ refused 15 0
   unfolding renumbering
   not-numbers L g s e = rw (enough L, g, s, e)
 
-  because : (n : ℕ) → RenumberingRefusal terms state numbers second n → renumbering terms state numbers second ≡ failed n 0
+  because : (n : ℕ) → RenumberingRefusal terms state numbers second n → renumbering terms state numbers second ≡ refused n 0
   unfolding renumbering renumbers
   because n (short-terms h) = short (or-left _ _ (lt-ltb (length terms) termsWords h))
   because n (short-state h) = short (or-right (ltb (length terms) termsWords) _ (or-left _ _ (lt-ltb (length state) stateWords h)))
@@ -126,15 +126,15 @@ module _ (terms state numbers second : List ℕ) where
       let kl : w .0 < length numbers = subst (λ (n : ℕ). w .0 < n) (sym long) (w .1) in
       none (w .0) kl (sym (getD-any numbers (w .0) (w .0) 0 kl) ∙ eqb-true (getD numbers (w .0) (w .0)) m (w .2))))
 
-  unmoved : (n l : ℕ) → renumbering terms state numbers second ≡ failed n l → renumberedState terms state numbers second ≡ second
+  unmoved : (n l : ℕ) → renumbering terms state numbers second ≡ refused n l → renumberedState terms state numbers second ≡ second
   unfolding renumberedState
   unmoved n l e = rw e
 
   -- New numbers are refused with number n and a line exactly when the line is 0 and a reason for n fits;
   -- then the second state is as lent.
   pub renumber-refused-only : (n l : ℕ) →
-      (renumbering terms state numbers second ≡ failed n l → (l ≡ 0) × RenumberingRefusal terms state numbers second n × (renumberedState terms state numbers second ≡ second))
-      × (RenumberingRefusal terms state numbers second n → renumbering terms state numbers second ≡ failed n 0)
+      (renumbering terms state numbers second ≡ refused n l → (l ≡ 0) × RenumberingRefusal terms state numbers second n × (renumberedState terms state numbers second ≡ second))
+      × (RenumberingRefusal terms state numbers second n → renumbering terms state numbers second ≡ refused n 0)
   renumber-refused-only n l = (
     (λ e. let s = subst Told e renumbering-told in (s .0, s .1, unmoved n l e)),
     because n,

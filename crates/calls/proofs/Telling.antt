@@ -9,14 +9,14 @@ use borrow.Author.Tests.{le-ltb}
 use Rattle.memory.specs.Layout.{termsWords, stateWords, termsOf, stateOf}
 use Rattle.memory.specs.Checks.{goodMemory, goodState}
 use Rattle.memory.specs.Outcome.{hasPassed, askable, entryChecks}
-use Rattle.memory.specs.Outcome.Outcome.{passed, failed}
+use Rattle.memory.specs.Outcome.Outcome.{passed, refused as refusedOutcome}
 use Rattle.memory.proofs.Outcomes.{Checked}
 use Rattle.calls.specs.Telling.{Telling, affirms, paired, holdsAt, tells}
 use Rattle.calls.specs.Telling.Telling.{holds, fails, refused}
 
 module _ (terms state : List ℕ) (n u v : ℕ) where
   -- What fails a check is told so.
-  pub untold : (k l : ℕ) → failed k l ≡ entryChecks terms state n → refused k l ≡ tells terms state n u v
+  pub untold : (k l : ℕ) → refusedOutcome k l ≡ entryChecks terms state n → refused k l ≡ tells terms state n u v
   unfolding entryChecks tells
   untold k l e =
       go (ltb (length terms) termsWords || ltb (length state) stateWords) (goodMemory terms)
@@ -28,8 +28,8 @@ module _ (terms state : List ℕ) (n u v : ℕ) where
           (cond (holdsAt (termsOf terms) (stateOf state) n u v) holds fails)
 
       go : (a g s r : Bool) →
-          failed k l ≡ cond a (failed 6 0) (cond (not g) (failed 7 0) (cond (not s) (failed 8 0)
-          (cond (not r) (failed 14 0) passed))) →
+          refusedOutcome k l ≡ cond a (refusedOutcome 6 0) (cond (not g) (refusedOutcome 7 0) (cond (not s) (refusedOutcome 8 0)
+          (cond (not r) (refusedOutcome 14 0) passed))) →
           refused k l ≡ cond a (refused 6 0) (cond (not g) (refused 7 0) (cond (not s) (refused 8 0)
           (cond (not r) (refused 14 0) rest)))
       go true g s r e = cc

@@ -131,12 +131,12 @@ module _ (T : Terms) (fine : Good T) (s : Starts) (m₀ m : List ℕ) (Ms : List
 pub steps-say-of-two : (terms state : List ℕ) → opens terms state ≡ passed → (ss : List LentStep) →
     let T = termsOf (serveSteps (opened terms state) ss .1 .terms) in
     let m = serveSteps (opened terms state) ss .1 .state in
-    let kept = keepSteps (openedBook terms state) (fedSteps ss) .1 in
+    let byKeeper = keepSteps (openedBook terms state) (fedSteps ss) .1 in
     (n : ℕ) → n < T .entries → isPast (T .entry n .op) ≡ true →
     (x y : ℕ) → x < y → ((z : ℕ) → free (formula T n) z ≡ (eqb z x || eqb z y)) →
     (a b c : ℕ) → a < T .members → b < T .members → c < T .members →
     bit (getD m (tableAt (number (T .entry) n) (4 * a + b / 4)) 0) (16 * (b % 4) + c)
-    ≡ keeperHolds T (kept .start) (kept .moments) n (assign (alone y c) x b) a
+    ≡ keeperHolds T (byKeeper .start) (byKeeper .moments) n (assign (alone y c) x b) a
 steps-say-of-two terms state e ss =
     let r = run ss (openedBook terms state) (opened terms state) (opened-playing terms state e) .1 in
     says-of-two _ (good _ (r .good-memory)) _ _ _ _ (playing-agrees _ _ r)

@@ -1,4 +1,4 @@
--- What demand 3 asks (docs/SCOPE.md, The keeper): a list of calls, set lists and new terms over lent
+-- What demand 3 asks (docs/SCOPE.md, The keeper): a list of calls, set lists, new terms and new numbers over lent
 -- memory, and the words afterwards.
 use Prim.Native.Nat.{ℕ, _<_, _≤_}
 use mathlib.Core.Path.{_≡_}
@@ -7,7 +7,7 @@ use mathlib.Core.List.{List, [], _∷_, _++_, map}
 use lib.Dec.{eqb, ltb}
 use lib.ListN.{length, getD, drop}
 use Rattle.sets.specs.Sets.{bit}
-use Rattle.theory.specs.Limits.{scratchWords}
+use Rattle.theory.specs.Limits.{scratchWords, maxMembers, maxRelations, maxTables}
 use Rattle.theory.specs.Meaning.{Starts}
 use Rattle.theory.specs.Columns.{inside, standing, member}
 use Rattle.theory.specs.Terms.{Terms, formula, tables, pastEntry}
@@ -17,7 +17,7 @@ use Rattle.theory.specs.Keeper.Step.{call, revise as reviseStep, renumber as re
 use Rattle.memory.specs.Layout.{stateWords, relationAt, tableAt, eventAt, eventWord, termsOf, tableColumns, stateOf}
 use Rattle.memory.specs.Checks.{goodMemory}
 use Rattle.memory.specs.Outcome.{Outcome, hasPassed, revises}
-use Rattle.memory.specs.Outcome.Outcome.{passed, failed}
+use Rattle.memory.specs.Outcome.Outcome.{passed, refused as refusedOutcome}
 use Rattle.theory.specs.Keeper.Verdict.{grant, deny}
 use Rattle.theory.specs.Keeper.Answer.{decided, done, refused}
 use Rattle.calls.specs.Monitor.{answer, stateAfter, openedState}
@@ -119,7 +119,7 @@ answersIn (refusedList n l) rs = map (λ r. refused n l) rs
 -- What new terms and new numbers answer.
 abbrev pub outcomeIn : Outcome → Answer
 outcomeIn passed = done
-outcomeIn (failed n l) = refused n l
+outcomeIn (refusedOutcome n l) = refused n l
 
 -- The lent memory in use: terms, and state, with what stood in the state's memory when it was lent.
 pub record Lent : Type 0 where
@@ -169,8 +169,8 @@ serveSteps L (renumber numbers second ∷ ss) =
 -- columns, one or two: word and bit are those of members, there is a past-time entry t, and it holds at the last
 -- moment, at the member and with its free variables standing for the members that word and bit say.
 pub record Agrees (T : Terms) (s : Starts) (m₀ m : List ℕ) (Ms : List Moment) : Type 0 where
-  pub edges : (k a b : ℕ) → k < 16 → a < 64 → b < 64 → bit (getD m (relationAt k a) 0) b ≡ lastMoment Ms .edge k a b
-  pub tables : (t a b : ℕ) → t < 32 → a < 64 → b < 64 →
+  pub edges : (k a b : ℕ) → k < maxRelations → a < maxMembers → b < maxMembers → bit (getD m (relationAt k a) 0) b ≡ lastMoment Ms .edge k a b
+  pub tables : (t a b : ℕ) → t < maxTables → a < maxMembers → b < maxMembers →
       bit (getD m (tableAt t a) 0) b
       ≡ ltb t (tables T) && (inside (T .members) (tableColumns T t) a b
       && keeperHolds T s Ms (pastEntry T t) (standing (formula T (pastEntry T t)) a b) (member (formula T (pastEntry T t)) a))

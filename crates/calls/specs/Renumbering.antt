@@ -11,16 +11,16 @@ use Rattle.theory.specs.MembersRenumbered.{stateBy}
 use Rattle.memory.specs.Layout.{termsWords, stateWords, termsOf, stateOf, wordsOf, tabulate}
 use Rattle.memory.specs.Checks.{goodMemory, goodState}
 use Rattle.memory.specs.Outcome.{Outcome, hasPassed}
-use Rattle.memory.specs.Outcome.Outcome.{passed, failed}
+use Rattle.memory.specs.Outcome.Outcome.{passed, refused}
 
 -- What renumbering gives: lengths of terms, state and second state (6), terms (7), state
 -- (8), the list of new numbers (15).
 unfoldable pub renumbering : (terms state numbers second : List ℕ) → Outcome
 renumbering terms state numbers second =
-    cond (ltb (length terms) termsWords || (ltb (length state) stateWords || ltb (length second) stateWords)) (failed 6 0)
-    (cond (not (goodMemory terms)) (failed 7 0)
-    (cond (not (goodState (termsOf terms) state)) (failed 8 0)
-    (cond (not (renumbers (termsOf terms .members) numbers)) (failed 15 0)
+    cond (ltb (length terms) termsWords || (ltb (length state) stateWords || ltb (length second) stateWords)) (refused 6 0)
+    (cond (not (goodMemory terms)) (refused 7 0)
+    (cond (not (goodState (termsOf terms) state)) (refused 8 0)
+    (cond (not (renumbers (termsOf terms .members) numbers)) (refused 15 0)
     passed)))
 
 -- The words of a state, renumbered.

@@ -12,7 +12,7 @@ use Rattle.theory.specs.Keeper.Verdict.{grant, deny}
 use Rattle.theory.specs.Keeper.Answer.{decided, done, refused as refusedAnswer}
 use Rattle.theory.specs.Limits.{scratchWords}
 use Rattle.memory.specs.Outcome.{Outcome, hasPassed, checks}
-use Rattle.memory.specs.Outcome.Outcome.{passed, failed}
+use Rattle.memory.specs.Outcome.Outcome.{passed, refused as refusedOutcome}
 use Rattle.calls.specs.Monitor.{answer, granted, stateAfter, scratchAfter}
 use Rattle.calls.specs.declared.Record.{Record}
 use Rattle.calls.specs.declared.Listed.{Listed}
@@ -32,15 +32,15 @@ listingOf (Refused n l) = refused n l
 -- ---- single requests one after another
 
 -- The answer field: 0 for deny, 1 for grant, the number of a refusal. (No request is answered with done.)
-abbrev pub numberOf : Answer → ℕ
-numberOf (decided deny) = 0
-numberOf (decided grant) = 1
-numberOf done = 0
-numberOf (refusedAnswer n l) = n
+abbrev pub answerNumber : Answer → ℕ
+answerNumber (decided deny) = 0
+answerNumber (decided grant) = 1
+answerNumber done = 0
+answerNumber (refusedAnswer n l) = n
 
 -- The record with its answer field filled in, whatever that was.
 abbrev pub filled : Record → Answer → Record
-filled r a = record { event = r .event; from = r .from; to = r .to; answer = numberOf a }
+filled r a = record { event = r .event; from = r .from; to = r .to; answer = answerNumber a }
 
 -- The records at the end, how many were granted, and what is left of state and scratch.
 pub record Run : Type 0 where
@@ -61,11 +61,11 @@ singly terms state scratch (r ∷ rs) =
 
 -- The checks that come before any record, of an empty list too: those of a request less 9.
 unfoldable pub listChecks : (terms state scratch : List ℕ) → Outcome
-listChecks terms state scratch = cond (ltb (length scratch) scratchWords) (failed 6 0) (checks terms state)
+listChecks terms state scratch = cond (ltb (length scratch) scratchWords) (refusedOutcome 6 0) (checks terms state)
 
 abbrev pub listing : Outcome → (grants : ℕ) → Listing
 listing passed n = counted n
-listing (failed n l) _ = refused n l
+listing (refusedOutcome n l) _ = refused n l
 
 -- What a set list gives: how many were granted, or which check failed.
 unfoldable pub listed : (terms state scratch : List ℕ) → List Record → Listing

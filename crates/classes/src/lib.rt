@@ -11,7 +11,7 @@ ghost use Prim.Native.Nat.{ℕ, _<_, _≤_, _+_, _%_, _/_};
 ghost use lib.ListN.{length};
 ghost use Rattle.theory.specs.Limits.{maxEntries};
 ghost use Rattle.memory.specs.Layout.{termsOf};
-ghost use Rattle.memory.specs.private.Operands.{kindOf};
+ghost use Rattle.memory.specs.private.Operands.{operandKind};
 ghost use Rattle.classes.specs.private.Keys.{normal, marked, Marked};
 ghost use Rattle.classes.specs.private.Filled.{counted, found, keyBy, ownFilled, filled, classesOf};
 
@@ -22,7 +22,7 @@ const BUCKETS: u64 = 4093;
 
 // What an operand counts for: the class c where it is an entry.
 fn normal_of(kind: Kind, x: usize, c: usize) -> usize
-    ensures { λ r. ⌜ ((f : ℕ → ℕ) → c ≡ f x → r ≡ normal (kindOf kind) f x) ⌝ }
+    ensures { λ r. ⌜ ((f : ℕ → ℕ) → c ≡ f x → r ≡ normal (operandKind kind) f x) ⌝ }
     ensures { λ r. ⌜ (x < 65536 → c < 65536 → r < 65536) ⌝ }
 {
     match kind {

@@ -19,22 +19,22 @@ use Rattle.memory.specs.Layout.{termsWords, stateWords, termsOf, stateOf}
 use Rattle.memory.specs.Checks.{goodMemory, goodState, goodRelations}
 use Rattle.theory.specs.Terms.{sameSize}
 use Rattle.memory.specs.Outcome.{Outcome, checks, opens, revises}
-use Rattle.memory.specs.Outcome.Outcome.{passed, failed}
+use Rattle.memory.specs.Outcome.Outcome.{passed, refused as refusedOutcome}
 use Rattle.theory.specs.NewNumbers.{renumbers}
 use Rattle.calls.specs.Monitor.{answer}
 use Rattle.calls.specs.Renumbering.{renumbering}
 use Rattle.calls.specs.SetList.{Listing, singly, listChecks, listing, listed}
-use Rattle.calls.specs.SetList.Listing.{counted, refused as unlisted}
+use Rattle.calls.specs.SetList.Listing.{counted, refused as refusedList}
 use Rattle.calls.specs.declared.Record.{Record}
 use Rattle.fields.specs.Split.{Lines, split, lines}
 use Rattle.fields.specs.Split.Lines.{done, cut, line}
 use Rattle.file.specs.Line.{parsed}
 use Rattle.file.specs.Reading as file
-use Rattle.file.specs.File.{File, after, nothing}
+use Rattle.file.specs.File.{File, afterLine, nothing}
 use Rattle.file.specs.Reading.{Test, Reading, tests, tried, complete, readOn, partlyAt, levelled, reading}
 use Rattle.reader.specs.Read.{short, outcome, readGives}
 use Rattle.writer.specs.Write.{Writing, fitted, writtenText, storedText, isFresh, ifFresh, sizeGives, writeGives, oldSizeGives, oldWriteGives, storeSizeGives, storeGives}
-use Rattle.writer.specs.Write.Writing.{bytes, unwritten}
+use Rattle.writer.specs.Write.Writing.{bytes, refused as refusedWriting}
 use Rattle.file.specs.declared.line.Line.{Line}
 use Rattle.file.specs.declared.line.Line.the-variants.{Members, Labels, Entry, Policy, Effect, Edge, Form, TableBit, PairBit, EventEdge, Mark, Malformed}
 use Rattle.cuckooormolu.specs.Codes.{doneCode, Low, ToldAnswer, ToldOutcome, ToldWriting, ToldListing}
@@ -48,15 +48,15 @@ LowAnswer (refused n l) = Low n
 
 abbrev pub LowOutcome : Outcome → Type 0
 LowOutcome passed = Unit {0}
-LowOutcome (failed n l) = Low n
+LowOutcome (refusedOutcome n l) = Low n
 
 abbrev LowWriting : Writing → Type 0
 LowWriting (bytes n) = Unit {0}
-LowWriting (unwritten n l) = Low n
+LowWriting (refusedWriting n l) = Low n
 
 abbrev pub LowListing : Listing → Type 0
 LowListing (counted n) = Unit {0}
-LowListing (unlisted n l) = Low n
+LowListing (refusedList n l) = Low n
 
 pub told-answer : (a : Answer) → LowAnswer a → ToldAnswer a
 told-answer (decided grant) h = record {
@@ -85,7 +85,7 @@ told-outcome passed h = record {
   done = ((λ e. refl), (λ e. refl));
   refuses = λ n l e. let z : _≡_ {A = ℕ} 0 1 = cc in absurd (omega arith);
 }
-told-outcome (failed n l) h = record {
+told-outcome (refusedOutcome n l) h = record {
   done = ((λ e. absurd (omega arith)), (λ e. let z : _≡_ {A = ℕ} 0 1 = cc in absurd (omega arith)));
   refuses = λ m k e. let z : n ≡ m = cc in (omega arith, omega arith);
 }
@@ -95,7 +95,7 @@ told-writing (bytes n) h = record {
   done = ((λ e. refl), (λ e. refl));
   refuses = λ n l e. let z : _≡_ {A = ℕ} 0 1 = cc in absurd (omega arith);
 }
-told-writing (unwritten n l) h = record {
+told-writing (refusedWriting n l) h = record {
   done = ((λ e. absurd (omega arith)), (λ e. let z : _≡_ {A = ℕ} 0 1 = cc in absurd (omega arith)));
   refuses = λ m k e. let z : n ≡ m = cc in (omega arith, omega arith);
 }
@@ -105,7 +105,7 @@ told-listing (counted n) h = record {
   done = ((λ e. refl), (λ e. refl));
   refuses = λ n l e. let z : _≡_ {A = ℕ} 0 1 = cc in absurd (omega arith);
 }
-told-listing (unlisted n l) h = record {
+told-listing (refusedList n l) h = record {
   done = ((λ e. absurd (omega arith)), (λ e. let z : _≡_ {A = ℕ} 0 1 = cc in absurd (omega arith)));
   refuses = λ m k e. let z : n ≡ m = cc in (omega arith, omega arith);
 }
@@ -115,7 +115,7 @@ told-listing (unlisted n l) h = record {
 pub low : (n : ℕ) → (ltb 0 n && ltb n doneCode) ≡ true → Low n
 low n e = (ltb-true 0 n (and-left (ltb 0 n) (ltb n doneCode) e), ltb-true n doneCode (and-right (ltb 0 n) (ltb n doneCode) e))
 
-pub low-checked : (a b c : Bool) → LowOutcome (cond a (failed 6 0) (cond b (failed 7 0) (cond c (failed 8 0) passed)))
+pub low-checked : (a b c : Bool) → LowOutcome (cond a (refusedOutcome 6 0) (cond b (refusedOutcome 7 0) (cond c (refusedOutcome 8 0) passed)))
 low-checked true b c = low 6 refl
 low-checked false true c = low 7 refl
 low-checked false false true = low 8 refl
@@ -131,7 +131,7 @@ unfolding opens
 low-opens terms state =
     low-checked (ltb (length terms) termsWords || ltb (length state) stateWords) (not (goodMemory terms)) (not (goodRelations (termsOf terms) state))
 
-pub low-revising : (a b c d : Bool) → LowOutcome (cond a (failed 6 0) (cond b (failed 7 0) (cond c (failed 8 0) (cond d (failed 13 0) passed))))
+pub low-revising : (a b c d : Bool) → LowOutcome (cond a (refusedOutcome 6 0) (cond b (refusedOutcome 7 0) (cond c (refusedOutcome 8 0) (cond d (refusedOutcome 13 0) passed))))
 low-revising true b c d = low 6 refl
 low-revising false true c d = low 7 refl
 low-revising false false true d = low 8 refl
@@ -144,7 +144,7 @@ low-revises old state new second =
     low-revising (ltb (length old) termsWords || (ltb (length state) stateWords || (ltb (length new) termsWords || ltb (length second) stateWords)))
     (not (goodMemory old && goodMemory new)) (not (goodState (termsOf old) state)) (not (sameSize (termsOf old) (termsOf new)))
 
-low-numbers : (a b c d : Bool) → LowOutcome (cond a (failed 6 0) (cond b (failed 7 0) (cond c (failed 8 0) (cond d (failed 15 0) passed))))
+low-numbers : (a b c d : Bool) → LowOutcome (cond a (refusedOutcome 6 0) (cond b (refusedOutcome 7 0) (cond c (refusedOutcome 8 0) (cond d (refusedOutcome 15 0) passed))))
 low-numbers true b c d = low 6 refl
 low-numbers false true c d = low 7 refl
 low-numbers false false true d = low 8 refl
@@ -172,7 +172,7 @@ low-answer terms state scratch j u v =
     low-decided (ltb (length terms) termsWords || (ltb (length state) stateWords || ltb (length scratch) scratchWords)) (not (goodMemory terms))
     (not (goodState T state)) (not (named T j u v)) (cond (decideNow T (stateOf state) j u v) grant deny)
 
-pub low-short : (b : Bool) (o : Outcome) → LowOutcome o → LowOutcome (cond b (failed 6 0) o)
+pub low-short : (b : Bool) (o : Outcome) → LowOutcome o → LowOutcome (cond b (refusedOutcome 6 0) o)
 low-short true o h = low 6 refl
 low-short false o h = h
 
@@ -182,15 +182,15 @@ low-list-checks terms state scratch = low-short (ltb (length scratch) scratchWor
 
 pub low-listing : (o : Outcome) (n : ℕ) → LowOutcome o → LowListing (listing o n)
 low-listing passed n h = tt
-low-listing (failed k l) n h = h
+low-listing (refusedOutcome k l) n h = h
 
 low-fitted : (short : Bool) (n : ℕ) (o : Outcome) → LowOutcome o → LowWriting (fitted short n o)
 low-fitted true n passed h = low 6 refl
 low-fitted false n passed h = tt
-low-fitted short n (failed k l) h = h
+low-fitted short n (refusedOutcome k l) h = h
 
 low-fresh : (fresh : Bool) (o : Outcome) (w : Writing) → LowWriting w → LowWriting (ifFresh fresh o w)
-low-fresh fresh (failed k l) w h = h
+low-fresh fresh (refusedOutcome k l) w h = h
 low-fresh true passed w h = h
 low-fresh false passed w h = low 12 refl
 
@@ -238,7 +238,7 @@ low-read f n done = low-either (complete f) (file.accepted f) (file.refused 1 n)
 low-read f n (cut l) = low 1 refl
 low-read f n (line l r) =
     let p = parsed (split 9 l) in
-    low-tried (tests f p) n (readOn (after f p) (n + 1) r) (low-tests f p) (low-read (after f p) (n + 1) r)
+    low-tried (tests f p) n (readOn (afterLine f p) (n + 1) r) (low-tests f p) (low-read (afterLine f p) (n + 1) r)
 
 low-levelled : (ls : Lines) (r : Reading) → LowReading r → LowReading (levelled ls r)
 unfolding levelled
@@ -246,7 +246,7 @@ low-levelled ls (file.accepted f) h =
     low-either (eqb (partlyAt f 1 ls) 0) (file.accepted f) (file.refused 11 (partlyAt f 1 ls)) tt (low 11 refl)
 low-levelled ls (file.refused n l) h = h
 
-pub low-outcome : (b : Bool) (r : Reading) → LowReading r → LowOutcome (cond b (failed 6 0) (outcome r))
+pub low-outcome : (b : Bool) (r : Reading) → LowReading r → LowOutcome (cond b (refusedOutcome 6 0) (outcome r))
 low-outcome true r h = low 6 refl
 low-outcome false (file.accepted f) h = tt
 low-outcome false (file.refused n l) h = h

@@ -7,15 +7,15 @@ use Rattle.theory.specs.Keeper.{Answer}
 use Rattle.theory.specs.Keeper.Verdict.{grant, deny}
 use Rattle.theory.specs.Keeper.Answer.{decided, done as revised, refused}
 use Rattle.memory.specs.Outcome.{Outcome}
-use Rattle.memory.specs.Outcome.Outcome.{passed, failed}
+use Rattle.memory.specs.Outcome.Outcome.{passed, refused as refusedOutcome}
 use Rattle.calls.specs.SetList.{Listing}
-use Rattle.calls.specs.SetList.Listing.{counted, refused as unlisted}
+use Rattle.calls.specs.SetList.Listing.{counted, refused as refusedList}
 use Rattle.calls.specs.Telling.{Telling}
-use Rattle.calls.specs.Telling.Telling.{holds, fails, refused as untold}
+use Rattle.calls.specs.Telling.Telling.{holds, fails, refused as refusedTelling}
 use Rattle.plans.specs.Game.{Ruling}
 use Rattle.plans.specs.Game.Ruling.{accept, reject, refuse}
 use Rattle.writer.specs.Write.{Writing}
-use Rattle.writer.specs.Write.Writing.{bytes, unwritten}
+use Rattle.writer.specs.Write.Writing.{bytes, refused as refusedWriting}
 
 abbrev pub doneCode : ℕ
 doneCode = 100
@@ -48,30 +48,30 @@ codeOf (refused n l) = n
 
 abbrev pub outcomeCode : Outcome → ℕ
 outcomeCode passed = doneCode
-outcomeCode (failed n l) = n
+outcomeCode (refusedOutcome n l) = n
 
 -- The line of a refusal; 0 where nothing is refused.
 abbrev pub outcomeLine : Outcome → ℕ
 outcomeLine passed = 0
-outcomeLine (failed n l) = l
+outcomeLine (refusedOutcome n l) = l
 
 -- A writing's code, and its count of bytes; 0 where it is refused.
 abbrev pub writingCode : Writing → ℕ
 writingCode (bytes n) = doneCode
-writingCode (unwritten n l) = n
+writingCode (refusedWriting n l) = n
 
 abbrev pub writingCount : Writing → ℕ
 writingCount (bytes n) = n
-writingCount (unwritten n l) = 0
+writingCount (refusedWriting n l) = 0
 
 -- A set list's code, and its count of grants; 0 where it is refused.
 abbrev pub listingCode : Listing → ℕ
 listingCode (counted n) = doneCode
-listingCode (unlisted n l) = n
+listingCode (refusedList n l) = n
 
 abbrev pub listingCount : Listing → ℕ
 listingCount (counted n) = n
-listingCount (unlisted n l) = 0
+listingCount (refusedList n l) = 0
 
 abbrev pub rulingCode : Ruling → ℕ
 rulingCode accept = acceptedCode
@@ -81,7 +81,7 @@ rulingCode (refuse n l) = n
 abbrev pub tellingCode : Telling → ℕ
 tellingCode holds = holdsCode
 tellingCode fails = failsCode
-tellingCode (untold n l) = n
+tellingCode (refusedTelling n l) = n
 
 -- ---- what a host may conclude from a code
 
@@ -95,15 +95,15 @@ pub record ToldAnswer (a : Answer) : Type 0 where
 
 pub record ToldOutcome (o : Outcome) : Type 0 where
   pub done : (outcomeCode o ≡ doneCode) ↔ (o ≡ passed)
-  pub refuses : (n l : ℕ) → o ≡ failed n l → Low n
+  pub refuses : (n l : ℕ) → o ≡ refusedOutcome n l → Low n
 
 pub record ToldWriting (w : Writing) : Type 0 where
   pub done : (writingCode w ≡ doneCode) ↔ (w ≡ bytes (writingCount w))
-  pub refuses : (n l : ℕ) → w ≡ unwritten n l → Low n
+  pub refuses : (n l : ℕ) → w ≡ refusedWriting n l → Low n
 
 pub record ToldListing (x : Listing) : Type 0 where
   pub done : (listingCode x ≡ doneCode) ↔ (x ≡ counted (listingCount x))
-  pub refuses : (n l : ℕ) → x ≡ unlisted n l → Low n
+  pub refuses : (n l : ℕ) → x ≡ refusedList n l → Low n
 
 -- A code of these two is that of no grant, denial or call that is done.
 abbrev pub NoAnswer : ℕ → Type 0
@@ -118,5 +118,5 @@ pub record ToldRuling (g : Ruling) : Type 0 where
 pub record ToldTelling (t : Telling) : Type 0 where
   pub affirmed : (tellingCode t ≡ holdsCode) ↔ (t ≡ holds)
   pub denied : (tellingCode t ≡ failsCode) ↔ (t ≡ fails)
-  pub refuses : (n l : ℕ) → t ≡ untold n l → Low n
+  pub refuses : (n l : ℕ) → t ≡ refusedTelling n l → Low n
   pub no-answer : NoAnswer (tellingCode t)

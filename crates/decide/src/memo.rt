@@ -11,7 +11,7 @@ use memory::layout;
 use memory::limits::ENTRIES;
 use memory::limits::MEMBERS;
 use memory::limits::VARIABLES;
-use memory::plan;
+use memory::table_index;
 use theory::operators::NOT;
 ghost use mathlib.Core.Path.{_≡_};
 ghost use mathlib.Core.Bool.{true, false, cond, _&&_, _||_};
@@ -27,7 +27,7 @@ ghost use Rattle.memory.specs.Checks.{goodMemory};
 ghost use Rattle.theory.specs.Formula.{Formula, node, firstOperand, secondOperand, thirdOperand, isPast, columns};
 ghost use Rattle.theory.specs.Formula.Operand.{variable, entry};
 ghost use Rattle.deciding.specs.private.Rows.{assigned, Has};
-ghost use Rattle.memory.specs.Plan.{planColumns, Planned};
+ghost use Rattle.memory.specs.TableIndex.{indexColumns, Indexed};
 ghost use Rattle.deciding.specs.private.Memo.{reads, slotWords, slotOf, byteOf, valueOf, haveOf, readsOf, columnOf, knows, Under, Memo, Apart, Fresh, Missing, Put, Shown, Stored};
 
 // The words of a memo with a slot for each entry.
@@ -173,7 +173,7 @@ pub(crate) fn has_slot(memo: &[u64], op: usize, entry: usize) -> bool
     requires { ⌜ entry < 65536 ⌝ }
     ensures { λ r. ⌜ (r ≡ true → slotWords * entry + slotWords ≤ length (now (memo .entry))) ⌝ }
 {
-    (SLOT * entry + SLOT <= memo.len()) & !((op < NOT) | plan::is_past(op))
+    (SLOT * entry + SLOT <= memo.len()) & !((op < NOT) | table_index::is_past(op))
 }
 
 // The members of want whose row is not remembered; all of them, if none of the entry's is.
@@ -297,14 +297,17 @@ pub(crate) fn keep(
 }
 
 // The variables that an entry reads, from those of its operands; a past-time entry, whose
-// plan word is p, reads its columns.
+// index word is p, reads its columns.
 fn reads_of(op: usize, a: usize, p: usize, f: u64, g: u64, k: u64) -> u64
-    ensures { λ r. ⌜ ((t b c x : ℕ) (h : ℕ → Formula) → (firstOperand op ≡ variable → a < maxMembers) → (isPast op ≡ true → planColumns p ≡ columns (node t h op a b c)) → (firstOperand op ≡ entry → reads (h a) x ≡ true → bit f x ≡ true) → (secondOperand op ≡ entry → reads (h b) x ≡ true → bit g x ≡ true) → (thirdOperand op ≡ entry → reads (h c) x ≡ true → bit k x ≡ true) → reads (node t h op a b c) x ≡ true → bit r x ≡ true) ⌝ }
+    ensures { λ r. ⌜ ((t b c x : ℕ) (h : ℕ → Formula) → (firstOperand op ≡ variable → a < maxMembers) → (isPast op ≡ true → indexColumns p ≡ columns (node t h op a b c)) → (firstOperand op ≡ entry → reads (h a) x ≡ true → bit f x ≡ true) → (secondOperand op ≡ entry → reads (h b) x ≡ true → bit g x ≡ true) → (thirdOperand op ≡ entry → reads (h c) x ≡ true → bit k x ≡ true) → reads (node t h op a b c) x ≡ true → bit r x ≡ true) ⌝ }
 {
-    if plan::is_past(op) {
-        sets::with(sets::single(plan::first_of(p)), plan::last_of(p))
+    if table_index::is_past(op) {
+        sets::with(
+            sets::single(table_index::first_of(p)),
+            table_index::last_of(p),
+        )
     } else {
-        plan::free_of(op, a, f, g, k)
+        table_index::free_of(op, a, f, g, k)
     }
 }
 
@@ -331,8 +334,8 @@ fn give(memo: &mut [u64], entry: usize, reads: u64)
 }
 
 // Makes lent words a memo with no rows.
-pub fn prepare(terms: &[u16], plan: &[u16], memo: &mut [u64])
-    requires { ⌜ (goodMemory (now terms) ≡ true) × Planned (termsOf (now terms)) (now plan) ⌝ }
+pub fn prepare(terms: &[u16], index: &[u16], memo: &mut [u64])
+    requires { ⌜ (goodMemory (now terms) ≡ true) × Indexed (termsOf (now terms)) (now index) ⌝ }
     ensures { λ _. ⌜ Fresh (termsOf (now (terms .entry)) .entries) 0 (now (memo .exit)) ⌝ }
     ensures { λ _. ⌜ ((rel past : List ℕ) → Memo (termsOf (now (terms .entry))) rel past (termsOf (now (terms .entry)) .entries) (now (memo .exit))) ⌝ }
 {
@@ -344,10 +347,10 @@ pub fn prepare(terms: &[u16], plan: &[u16], memo: &mut [u64])
         let r = reads_of(
             layout::op_of(terms, i),
             a,
-            layout::word(plan, i),
-            plan::set_at(&reads, a),
-            plan::set_at(&reads, layout::second_of(terms, i)),
-            plan::set_at(&reads, layout::third_of(terms, i)),
+            layout::word(index, i),
+            table_index::set_at(&reads, a),
+            table_index::set_at(&reads, layout::second_of(terms, i)),
+            table_index::set_at(&reads, layout::third_of(terms, i)),
         );
         reads[i] = r;
         give(memo, i, r);

@@ -2,7 +2,7 @@
 // is right; it is only about time.
 use memory::layout;
 use memory::limits::MEMBERS;
-use memory::plan;
+use memory::table_index;
 use theory::operators::BIND;
 use theory::operators::NOT;
 use theory::operators::OR;
@@ -32,7 +32,7 @@ fn left_after(terms: &[u16], entry: usize, bound: bool, many: bool, left: usize)
     ensures { λ r. ⌜ r ≤ left ⌝ }
 {
     let op = layout::op_of(terms, entry);
-    if (op < NOT) | plan::is_past(op) {
+    if (op < NOT) | table_index::is_past(op) {
         return left;
     }
     let one = cost(bound);
@@ -89,7 +89,7 @@ pub fn is_brief(terms: &[u16], entry: usize) -> bool {
 // What is left of so many when the operands of entry n, if that is a past-time one, are decided without a memo.
 fn left_after_turn(terms: &[u16], n: usize, left: usize) -> usize {
     let op = layout::op_of(terms, n);
-    if !plan::is_past(op) {
+    if !table_index::is_past(op) {
         return left;
     }
     let then = left_after(terms, layout::first_of(terms, n), false, true, left);

@@ -18,7 +18,7 @@ ghost use Rattle.deciding.specs.private.Memo.{Memo};
 // Whether entry holds now at u, with variable 0 standing for v and every other one for member 0.
 pub(crate) fn holds_at(
     terms: &[u16],
-    plan: &[u16],
+    index: &[u16],
     relations: &[u64],
     past: &[u64],
     memo: &mut [u64],
@@ -26,7 +26,7 @@ pub(crate) fn holds_at(
     u: usize,
     v: usize,
 ) -> bool
-    requires { ⌜ Ready (now terms) (now plan) (now relations) (now past) ⌝ }
+    requires { ⌜ Ready (now terms) (now index) (now relations) (now past) ⌝ }
     requires { ⌜ (entry < termsOf (now terms) .entries) × (u < termsOf (now terms) .members) × (v < termsOf (now terms) .members) ⌝ }
     requires { ⌜ Memo (termsOf (now terms)) (now relations) (now past) (entry + 1) (now memo) ⌝ }
     ensures { λ r. ⌜ r ≡ nowAt (termsOf (now (terms .entry))) (now (relations .entry)) (now (past .entry)) (assign (λ x. 0) 0 v) entry u ⌝ }
@@ -35,7 +35,7 @@ pub(crate) fn holds_at(
     let vars = rebind([0u8; VARIABLES], 0, v);
     decide(
         terms,
-        plan,
+        index,
         relations,
         past,
         memo,
@@ -51,20 +51,20 @@ pub(crate) fn holds_at(
 // The same, with a memo that has a slot for each entry.
 fn holds_shared(
     terms: &[u16],
-    plan: &[u16],
+    index: &[u16],
     relations: &[u64],
     past: &[u64],
     entry: usize,
     u: usize,
     v: usize,
 ) -> bool
-    requires { ⌜ Ready (now terms) (now plan) (now relations) (now past) ⌝ }
+    requires { ⌜ Ready (now terms) (now index) (now relations) (now past) ⌝ }
     requires { ⌜ (entry < termsOf (now terms) .entries) × (u < termsOf (now terms) .members) × (v < termsOf (now terms) .members) ⌝ }
     ensures { λ r. ⌜ r ≡ nowAt (termsOf (now (terms .entry))) (now (relations .entry)) (now (past .entry)) (assign (λ x. 0) 0 v) entry u ⌝ }
 {
     let mut memo = [0u64; memo::WORDS];
-    memo::prepare(terms, plan, &mut memo);
-    holds_at(terms, plan, relations, past, &mut memo, entry, u, v)
+    memo::prepare(terms, index, &mut memo);
+    holds_at(terms, index, relations, past, &mut memo, entry, u, v)
 }
 
 // The same. An entry that is brief has no memo, and its not and or are settled operand by operand: the second
@@ -72,7 +72,7 @@ fn holds_shared(
 // `holds_shared` into its frame.)
 pub fn settle(
     terms: &[u16],
-    plan: &[u16],
+    index: &[u16],
     relations: &[u64],
     past: &[u64],
     entry: usize,
@@ -80,25 +80,25 @@ pub fn settle(
     v: usize,
     brief: bool,
 ) -> bool
-    requires { ⌜ Ready (now terms) (now plan) (now relations) (now past) ⌝ }
+    requires { ⌜ Ready (now terms) (now index) (now relations) (now past) ⌝ }
     requires { ⌜ (entry < termsOf (now terms) .entries) × (u < termsOf (now terms) .members) × (v < termsOf (now terms) .members) ⌝ }
     ensures { λ r. ⌜ r ≡ nowAt (termsOf (now (terms .entry))) (now (relations .entry)) (now (past .entry)) (assign (λ x. 0) 0 v) entry u ⌝ }
 {
     if !brief {
-        return holds_shared(terms, plan, relations, past, entry, u, v);
+        return holds_shared(terms, index, relations, past, entry, u, v);
     }
     let op = layout::op_of(terms, entry);
     let a = layout::first_of(terms, entry);
     if op == NOT {
-        return !settle(terms, plan, relations, past, a, u, v, true);
+        return !settle(terms, index, relations, past, a, u, v, true);
     }
     if op == OR {
-        if settle(terms, plan, relations, past, a, u, v, true) {
+        if settle(terms, index, relations, past, a, u, v, true) {
             return true;
         }
         return settle(
             terms,
-            plan,
+            index,
             relations,
             past,
             layout::second_of(terms, entry),
@@ -108,5 +108,5 @@ pub fn settle(
         );
     }
     let mut memo = [0u64; 1];
-    holds_at(terms, plan, relations, past, &mut memo, entry, u, v)
+    holds_at(terms, index, relations, past, &mut memo, entry, u, v)
 }

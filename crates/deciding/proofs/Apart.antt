@@ -16,7 +16,7 @@ use Rattle.theory.specs.Terms.{Terms, Effect, formula}
 use Rattle.theory.specs.Moment.{Event}
 use Rattle.theory.specs.Tables.{State}
 use Rattle.theory.specs.Fit.{Good}
-use Rattle.memory.specs.Plan.{planTable}
+use Rattle.memory.specs.TableIndex.{indexTable}
 use Rattle.memory.specs.Layout.{relationWords, ownWords, stateWords, relationAt, eventWord, termsOf, wordsOf}
 use Rattle.memory.proofs.Words.{length-words}
 use Rattle.deciding.specs.private.Rows.{Ready, Table, nextPrev, nextSince}
@@ -119,12 +119,12 @@ module _ {terms : List ℕ} {f : Terms → State → State} where
 
 -- ---- turns of the sweeps, effects and the event edge, over the parts
 
-module _ {terms plan : List ℕ} (r o : List ℕ) (c : Movable terms plan (r ++ o)) (long : length r ≡ relationWords) (own-long : length o ≡ ownWords) where
+module _ {terms index : List ℕ} (r o : List ℕ) (c : Movable terms index (r ++ o)) (long : length r ≡ relationWords) (own-long : length o ≡ ownWords) where
   abbrev T : Terms
   T = termsOf terms
 
-  pub ready-apart : Ready terms plan r o
-  ready-apart = parts-joined r o long own-long (λ rel past. Ready terms plan rel past) (readied c)
+  pub ready-apart : Ready terms index r o
+  ready-apart = parts-joined r o long own-long (λ rel past. Ready terms index rel past) (readied c)
 
   pub memo-apart : (n : ℕ) (w : List ℕ) → MemoOf T (r ++ o) n w → Memo T r o n w
   memo-apart n w = parts-joined r o long own-long (λ rel past. Memo T rel past n w)
@@ -132,9 +132,9 @@ module _ {terms plan : List ℕ} (r o : List ℕ) (c : Movable terms plan (r ++ 
   pub memo-joined : (n : ℕ) (w : List ℕ) → Memo T r o n w → MemoOf T (r ++ o) n w
   memo-joined n w = joined-parts r o long own-long (λ rel past. Memo T rel past n w)
 
-  module _ (n : ℕ) (nl : n < T .entries) (vs : List ℕ) {o' : List ℕ} (q : o' ≡ put (64 * planTable (getD plan n 0)) vs o) where
-    stored : r ++ o' ≡ put (1024 + 64 * planTable (getD plan n 0)) vs (r ++ o)
-    stored = ap (λ l. r ++ l) q ∙ sym (put-behind r o long (64 * planTable (getD plan n 0)) vs)
+  module _ (n : ℕ) (nl : n < T .entries) (vs : List ℕ) {o' : List ℕ} (q : o' ≡ put (64 * indexTable (getD index n 0)) vs o) where
+    stored : r ++ o' ≡ put (1024 + 64 * indexTable (getD index n 0)) vs (r ++ o)
+    stored = ap (λ l. r ++ l) q ∙ sym (put-behind r o long (64 * indexTable (getD index n 0)) vs)
 
     pub prev-apart : T .entry n .op ≡ 6 → Table (T .members) (columns (formula T n)) (nextPrev T r o n) vs → Becomes terms (prevAt n) (r ++ o) (r ++ o')
     prev-apart e new = prev-turned c n nl vs stored e (joined-parts r o long own-long (λ rel past. Table (T .members) (columns (formula T n)) (nextPrev T rel past n) vs) new)

@@ -13,7 +13,7 @@ use Rattle.sets.specs.Sets.{bit}
 use Rattle.sets.proofs.Finite.{and-both, true-or-false}
 use Rattle.theory.specs.Meaning.{Assignment, assign, alone}
 use Rattle.theory.specs.Tables.{recalled}
-use Rattle.memory.specs.Plan.{planTable, planFirst, planLast, planColumns}
+use Rattle.memory.specs.TableIndex.{indexTable, indexFirst, indexLast, indexColumns}
 use Rattle.deciding.specs.private.Rows.{tableBit, assigned, opened, openUnder, remembered, openColumn, pairCell, Rows, Vars}
 use Rattle.deciding.proofs.Loops.{zeros, rows-map}
 
@@ -85,26 +85,26 @@ opened-zeros x v l = fun-ext (λ y. ⊎-elim
     (λ e. opened-other (assigned (replicate 16 0)) x v y (eqb-false y x e) ∙ zeros 16 y ∙ sym (ap (λ (t : Bool). cond {A = ℕ} t v 0) e))
     (true-or-false (eqb y x)))
 
--- ---- the rows of a past-time entry whose plan word is p
+-- ---- the rows of a past-time entry whose index word is p
 
 module _ (p : ℕ) where
-  pub one-columns : not (eqb (planFirst p) (planLast p)) ≡ false → planColumns p ≡ planLast p ∷ []
-  one-columns e = ap (λ (c : Bool). cond c (planLast p ∷ []) (planFirst p ∷ planLast p ∷ [])) (not-false (eqb (planFirst p) (planLast p)) e)
+  pub one-columns : not (eqb (indexFirst p) (indexLast p)) ≡ false → indexColumns p ≡ indexLast p ∷ []
+  one-columns e = ap (λ (c : Bool). cond c (indexLast p ∷ []) (indexFirst p ∷ indexLast p ∷ [])) (not-false (eqb (indexFirst p) (indexLast p)) e)
 
-  pub two-columns : not (eqb (planFirst p) (planLast p)) ≡ true → planColumns p ≡ planFirst p ∷ planLast p ∷ []
-  two-columns e = ap (λ (c : Bool). cond c (planLast p ∷ []) (planFirst p ∷ planLast p ∷ [])) (not-true (eqb (planFirst p) (planLast p)) e)
+  pub two-columns : not (eqb (indexFirst p) (indexLast p)) ≡ true → indexColumns p ≡ indexFirst p ∷ indexLast p ∷ []
+  two-columns e = ap (λ (c : Bool). cond c (indexLast p ∷ []) (indexFirst p ∷ indexLast p ∷ [])) (not-true (eqb (indexFirst p) (indexLast p)) e)
 
-pub recalled-same : (want all p x : ℕ) (past : List ℕ) (g : Assignment) {r : List ℕ} → not (eqb (planFirst p) (planLast p)) ≡ false →
-    Rows want (λ a b. bit all b && tableBit past (planTable p) a b) r → planLast p ≡ x → Rows want (remembered past g x p all) r
+pub recalled-same : (want all p x : ℕ) (past : List ℕ) (g : Assignment) {r : List ℕ} → not (eqb (indexFirst p) (indexLast p)) ≡ false →
+    Rows want (λ a b. bit all b && tableBit past (indexTable p) a b) r → indexLast p ≡ x → Rows want (remembered past g x p all) r
 recalled-same want all p x past g one h q = rows-map h (λ a b t.
-    ap (λ (k : ℕ). bit all b && tableBit past (planTable p) a k) (sym (opened-same g x b (planLast p) q (omega arith)))
-    ∙ sym (ap (λ (cs : List ℕ). bit all b && recalled (tableBit past) (planTable p) cs (opened g x b) a) (one-columns p one)))
+    ap (λ (k : ℕ). bit all b && tableBit past (indexTable p) a k) (sym (opened-same g x b (indexLast p) q (omega arith)))
+    ∙ sym (ap (λ (cs : List ℕ). bit all b && recalled (tableBit past) (indexTable p) cs (opened g x b) a) (one-columns p one)))
 
-pub recalled-other : (want all p x m : ℕ) (past : List ℕ) (g : Assignment) {r : List ℕ} → not (eqb (planFirst p) (planLast p)) ≡ false →
-    Rows want (λ a b. bit all b && tableBit past (planTable p) a m) r → (planLast p ≡ x → ⊥) → m ≡ g (planLast p) → Rows want (remembered past g x p all) r
+pub recalled-other : (want all p x m : ℕ) (past : List ℕ) (g : Assignment) {r : List ℕ} → not (eqb (indexFirst p) (indexLast p)) ≡ false →
+    Rows want (λ a b. bit all b && tableBit past (indexTable p) a m) r → (indexLast p ≡ x → ⊥) → m ≡ g (indexLast p) → Rows want (remembered past g x p all) r
 recalled-other want all p x m past g one h q f = rows-map h (λ a b t.
-    ap (λ (k : ℕ). bit all b && tableBit past (planTable p) a k) (f ∙ sym (opened-other g x b (planLast p) q))
-    ∙ sym (ap (λ (cs : List ℕ). bit all b && recalled (tableBit past) (planTable p) cs (opened g x b) a) (one-columns p one)))
+    ap (λ (k : ℕ). bit all b && tableBit past (indexTable p) a k) (f ∙ sym (opened-other g x b (indexLast p) q))
+    ∙ sym (ap (λ (cs : List ℕ). bit all b && recalled (tableBit past) (indexTable p) cs (opened g x b) a) (one-columns p one)))
 
 -- What the columns of a table with two stand for, by which one is open.
 module _ (g : Assignment) (x first last v : ℕ) (fl : first < 16) (ll : last < 16) (apart : first ≡ last → ⊥) where
@@ -124,14 +124,14 @@ module _ (g : Assignment) (x first last v : ℕ) (fl : first < 16) (ll : last < 
       go false e true f = sym (opened-same g x v last (sym (eqb-true x last f)) ll)
       go false e false f = sym (opened-other g x v last (λ z. eqb-false x last f (sym z)))
 
-pub recalled-pair : (want all p x b c : ℕ) (past : List ℕ) (g : Assignment) {r : List ℕ} → not (eqb (planFirst p) (planLast p)) ≡ true →
-    Rows want (λ a v. bit all v && pairCell past (planTable p) b c (openColumn x (planFirst p) (planLast p)) a v) r → b ≡ g (planFirst p) → c ≡ g (planLast p) →
+pub recalled-pair : (want all p x b c : ℕ) (past : List ℕ) (g : Assignment) {r : List ℕ} → not (eqb (indexFirst p) (indexLast p)) ≡ true →
+    Rows want (λ a v. bit all v && pairCell past (indexTable p) b c (openColumn x (indexFirst p) (indexLast p)) a v) r → b ≡ g (indexFirst p) → c ≡ g (indexLast p) →
     Rows want (remembered past g x p all) r
 recalled-pair want all p x b c past g two h eb ec = rows-map h (λ a v t.
-    ap₂ (λ (u w : ℕ). bit all v && tableBit past (planTable p) (4 * a + u / 4) (16 * (u % 4) + w))
-    (ap (cond (eqb (openColumn x (planFirst p) (planLast p)) 1) v) eb ∙ open-first g x (planFirst p) (planLast p) v (omega arith) (omega arith) apart)
-    (ap (cond (eqb (openColumn x (planFirst p) (planLast p)) 2) v) ec ∙ open-last g x (planFirst p) (planLast p) v (omega arith) (omega arith) apart)
-    ∙ sym (ap (λ (cs : List ℕ). bit all v && recalled (tableBit past) (planTable p) cs (opened g x v) a) (two-columns p two)))
+    ap₂ (λ (u w : ℕ). bit all v && tableBit past (indexTable p) (4 * a + u / 4) (16 * (u % 4) + w))
+    (ap (cond (eqb (openColumn x (indexFirst p) (indexLast p)) 1) v) eb ∙ open-first g x (indexFirst p) (indexLast p) v (omega arith) (omega arith) apart)
+    (ap (cond (eqb (openColumn x (indexFirst p) (indexLast p)) 2) v) ec ∙ open-last g x (indexFirst p) (indexLast p) v (omega arith) (omega arith) apart)
+    ∙ sym (ap (λ (cs : List ℕ). bit all v && recalled (tableBit past) (indexTable p) cs (opened g x v) a) (two-columns p two)))
   where
-    apart : planFirst p ≡ planLast p → ⊥
-    apart = eqb-false (planFirst p) (planLast p) (not-true (eqb (planFirst p) (planLast p)) two)
+    apart : indexFirst p ≡ indexLast p → ⊥
+    apart = eqb-false (indexFirst p) (indexLast p) (not-true (eqb (indexFirst p) (indexLast p)) two)

@@ -16,7 +16,7 @@ use Rattle.theory.specs.Meaning.{Assignment, assign}
 use Rattle.theory.specs.Terms.{Terms, labels}
 use Rattle.theory.specs.Fit.{Good, GoodEntry}
 use Rattle.memory.specs.Layout.{termsOf}
-use Rattle.deciding.specs.private.Rows.{edge, pastEvent, assigned, Ready, Asked, Has, inRow, ahead, behind, Senders}
+use Rattle.deciding.specs.private.Rows.{edge, pastEvent, assigned, Ready, RowsAsked, Has, inRow, ahead, behind, Senders}
 use Rattle.theory.proofs.Good.{first-variable, first-binder, first-label, first-lower, second-lower, third-lower, third-count}
 use Rattle.memory.proofs.Accepted.{good}
 use Rattle.deciding.proofs.Assignments.{vars-zeros, vars-assign}
@@ -31,16 +31,16 @@ none-left : (o : ℕ) → 8 ≤ o → o < 12 → (o ≡ 8 → ⊥) → (o ≡ 9 
 none-left o l h p q r s = omega arith
 
 -- The words of entry i as the locals o, a and b hold them, the number r of relations and the set all of the members.
-pub record Site (terms plan rel past : List ℕ) (g : Assignment) (x i want o a b r all : ℕ) : Type 0 where
-  pub ready : Ready terms plan rel past
-  pub asked : Asked (termsOf terms) g i want
+pub record Site (terms index rel past : List ℕ) (g : Assignment) (x i want o a b r all : ℕ) : Type 0 where
+  pub ready : Ready terms index rel past
+  pub asked : RowsAsked (termsOf terms) g i want
   pub o-is : o ≡ termsOf terms .entry i .op
   pub a-is : a ≡ termsOf terms .entry i .a
   pub b-is : b ≡ termsOf terms .entry i .b
   pub r-is : r ≡ termsOf terms .relations
   pub all-is : Has all (λ k. ltb k (termsOf terms .members))
 
-module _ {terms plan rel past : List ℕ} (ready : Ready terms plan rel past) where
+module _ {terms index rel past : List ℕ} (ready : Ready terms index rel past) where
   pub entry-short : (i : ℕ) → i < termsOf terms .entries → i < 65536
   entry-short i l = let q = good terms (ready .good) .few-entries in omega arith
 
@@ -56,7 +56,7 @@ module _ {terms plan rel past : List ℕ} (ready : Ready terms plan rel past) wh
       h m ∙ ap (λ (k : ℕ). ltb m 64 && ltb m k) e
       ∙ and-implied (ltb m 64) (ltb m (termsOf terms .members)) (λ q. lt-ltb m 64 (member-short m (ltb-true m (termsOf terms .members) q)))
 
-module _ {terms plan rel past : List ℕ} {g : Assignment} {x i want o a b r all : ℕ} (s : Site terms plan rel past g x i want o a b r all) where
+module _ {terms index rel past : List ℕ} {g : Assignment} {x i want o a b r all : ℕ} (s : Site terms index rel past g x i want o a b r all) where
   abbrev T : Terms
   T = termsOf terms
 
@@ -117,20 +117,20 @@ module _ {terms plan rel past : List ℕ} {g : Assignment} {x i want o a b r all
       (subst (λ (y : ℕ). y < 12) (sym (s .o-is)) (entry-good .known)) n8 n9 n10 n11
 
   -- ---- a call on an operand
-  operand : (f w : ℕ) → f < i → ((m : ℕ) → bit w m ≡ true → m < N) → Asked T g f w
+  operand : (f w : ℕ) → f < i → ((m : ℕ) → bit w m ≡ true → m < N) → RowsAsked T g f w
   operand f w l h = record {
     exists = (let p : i < T .entries = s .asked .exists in omega arith);
     wanted = h;
     vars = s .asked .vars;
   }
 
-  pub operand-same : (f : ℕ) → f < i → Asked T g f want
+  pub operand-same : (f : ℕ) → f < i → RowsAsked T g f want
   operand-same f l = operand f want l (s .asked .wanted)
 
-  pub operand-all : (f : ℕ) → f < i → Asked T g f all
+  pub operand-all : (f : ℕ) → f < i → RowsAsked T g f all
   operand-all f l = operand f all l (λ m e. ltb-true m N (sym (s .all-is m) ∙ e))
 
-  pub operand-one : (f w y : ℕ) → f < i → y < 16 → Has w (λ m. eqb m (g y)) → Asked T g f w
+  pub operand-one : (f w y : ℕ) → f < i → y < 16 → Has w (λ m. eqb m (g y)) → RowsAsked T g f w
   operand-one f w y l p h =
       operand f w l (λ m e. subst (λ (k : ℕ). k < N) (sym (eqb-true m (g y) (sym (h m) ∙ e))) (s .asked .vars .low y p))
 
@@ -145,18 +145,18 @@ module _ {terms plan rel past : List ℕ} {g : Assignment} {x i want o a b r all
   pub ahead-inside : (o ≡ 4) ⊎ (o ≡ 11) → (j l : ℕ) → j < 64 → E j l ≡ true → (j < N) × (l < N)
   ahead-inside = ⊎-elim (λ e. inside 4 e refl) (λ e. inside 11 e refl)
 
-  pub operand-ahead : (w from : ℕ) → (o ≡ 4) ⊎ (o ≡ 11) → Has w (ahead E from) → Asked T g b w
+  pub operand-ahead : (w from : ℕ) → (o ≡ 4) ⊎ (o ≡ 11) → Has w (ahead E from) → RowsAsked T g b w
   operand-ahead w from e h = operand b w (ahead-lower e) (λ k t.
       let y : (j : ℕ) × (j < 64) × ((bit from j && E j k) ≡ true) = any-elim 64 (λ j. bit from j && E j k) (sym (h k) ∙ t) in
       ahead-inside e (y .0) k (y .1) (and-right (bit from (y .0)) (E (y .0) k) (y .2)) .1)
 
-  pub operand-behind : (w from : ℕ) → o ≡ 5 → Senders r (pastEvent T past) a all from → Has w (behind E from want) → Asked T g b w
+  pub operand-behind : (w from : ℕ) → o ≡ 5 → Senders r (pastEvent T past) a all from → Has w (behind E from want) → RowsAsked T g b w
   operand-behind w from e send h = operand b w (b-lower 5 e refl) (λ j t.
       ltb-true j N (sym (s .all-is j) ∙ send .within j (and-left (bit from j) _ (sym (h j) ∙ t))))
 
   -- Under the binding of a, at m alone.
   pub operand-bound : (m w : ℕ) (g' : Assignment) → o ≡ 8 → bit want m ≡ true → ((y : ℕ) → g' y ≡ assign g a m y) → Has w (λ k. eqb k m)
-      → Asked T g' b w
+      → RowsAsked T g' b w
   operand-bound m w g' e t hg hw = record {
     exists = (let p : i < T .entries = s .asked .exists in let l : b < i = b-lower 8 e refl in omega arith);
     wanted = λ k q. subst (λ (v : ℕ). v < N) (sym (eqb-true k m (sym (hw k) ∙ q))) (s .asked .wanted m t);
@@ -164,7 +164,7 @@ module _ {terms plan rel past : List ℕ} {g : Assignment} {x i want o a b r all
   }
 
   -- The first formula of a reach, where every variable stands for member 0.
-  pub operand-zeros : o ≡ 10 → Asked T (assigned (replicate 16 0)) b want
+  pub operand-zeros : o ≡ 10 → RowsAsked T (assigned (replicate 16 0)) b want
   operand-zeros e = record {
     exists = (let p : i < T .entries = s .asked .exists in let l : b < i = b-lower 10 e refl in omega arith);
     wanted = s .asked .wanted;
@@ -173,11 +173,11 @@ module _ {terms plan rel past : List ℕ} {g : Assignment} {x i want o a b r all
 
   -- The second, at the members that the rows f of the first reach.
   pub operand-reached : (c need : ℕ) (f : List ℕ) → c ≡ T .entry i .c → o ≡ 10 → Has need (ahead (inRow f) want)
-      → ((m k : ℕ) → bit want m ≡ true → inRow f m k ≡ true → k < N) → Asked T g c need
+      → ((m k : ℕ) → bit want m ≡ true → inRow f m k ≡ true → k < N) → RowsAsked T g c need
   operand-reached c need f z e h inside-row = operand c need (c-lower c 10 z e refl) (λ k t.
       let y : (m : ℕ) × (m < 64) × ((bit want m && inRow f m k) ≡ true) = any-elim 64 (λ m. bit want m && inRow f m k) (sym (h k) ∙ t) in
       inside-row (y .0) k (and-left (bit want (y .0)) _ (y .2)) (and-right (bit want (y .0)) _ (y .2)))
 
 -- Fewer members of an entry.
-pub asked-fewer : {T : Terms} {g : Assignment} {i want : ℕ} (need : ℕ) → Asked T g i want → ((a : ℕ) → bit need a ≡ true → bit want a ≡ true) → Asked T g i need
+pub asked-fewer : {T : Terms} {g : Assignment} {i want : ℕ} (need : ℕ) → RowsAsked T g i want → ((a : ℕ) → bit need a ≡ true → bit want a ≡ true) → RowsAsked T g i need
 asked-fewer need h q = record { exists = h .exists; wanted = λ m e. h .wanted m (q m e); vars = h .vars }

@@ -19,12 +19,12 @@ use Rattle.theory.specs.Meaning.{Assignment}
 use Rattle.deciding.specs.private.Moving.{put}
 use Rattle.deciding.specs.private.Rows.{Has}
 use Rattle.deciding.specs.private.Memo.{slotOf, byteOf, valueOf, haveOf, readsOf, columnOf, knows, Under, asks, shows, Apart, Missing, Put, Shown, Stored}
-use Rattle.deciding.proofs.Loops.{Going, Turn, Done, going, going-on, done-all, done-more}
+use Rattle.deciding.proofs.Loops.{MembersLeft, Turn, Done, going, going-on, done-all, done-more}
 use Rattle.deciding.proofs.Stored.{put-in, put-other, put-length, put-back}
 
 -- ---- the members of set that are not in rest are shown
 pub record Showing (set : ℕ) (f : ℕ → ℕ) (r₀ : List ℕ) (rest : ℕ) (r : List ℕ) : Type 0 where
-  pub upon : Going set rest
+  pub upon : MembersLeft set rest
   pub long : length r ≡ length r₀
   pub words : (i : ℕ) → getD r i 0 ≡ cond (Done set rest i) (f i) (getD r₀ i 0)
 
@@ -57,7 +57,7 @@ shown {want} {f} {r₀} {rest} h e i = h .words i ∙ ap (λ (x : Bool). cond x 
 
 -- ---- the bits of ask in the rows of need, but of those in rest, are put into a slot
 pub record Putting (ask need : ℕ) (r s₀ : List ℕ) (rest : ℕ) (s : List ℕ) : Type 0 where
-  pub upon : Going need rest
+  pub upon : MembersLeft need rest
   pub long : length s ≡ length s₀
   pub rows : (i b : ℕ) → i < 64 → bit (getD s i 0) b ≡ cond (Done need rest i && bit ask b) (bit (getD r i 0) b) (bit (getD s₀ i 0) b)
   pub sure : (i b : ℕ) → i < 64 → bit (getD s (69 + i) 0) b ≡ cond (Done need rest i) (knows s₀ i b || bit ask b) (bit (getD s₀ (69 + i) 0) b)
@@ -164,7 +164,7 @@ put-all {ask} {need} {r} {s₀} {rest} {s} f e long = record {
 
 -- ---- the members of want that are not in need, but those in rest, have all of ask
 pub record Lacking (s : List ℕ) (ask want rest need : ℕ) : Type 0 where
-  pub upon : Going (bitAnd want (haveOf s)) rest
+  pub upon : MembersLeft (bitAnd want (haveOf s)) rest
   pub within : (a : ℕ) → bit need a ≡ true → bit want a ≡ true
   pub absent : (a : ℕ) → bit want a ≡ true → bit (haveOf s) a ≡ false → bit need a ≡ true
   pub known : (a : ℕ) → Done (bitAnd want (haveOf s)) rest a ≡ true → bit need a ≡ false → (b : ℕ) → bit ask b ≡ true → bit (getD s (69 + a) 0) b ≡ true

@@ -15,7 +15,7 @@ use Rattle.sets.specs.Sets.{anyBelow, bit}
 use Rattle.sets.proofs.Finite.{bool-iff, and-left, and-right, and-both, or-left, or-right, or-cases, is-false, not-both}
 use Rattle.sets.proofs.Finite.{any-intro, any-elim, true-or-false}
 use Rattle.sets.proofs.Bits.{bit-zero, bit-or}
-pub use Rattle.sets.proofs.MemberLoop.{Done, Going, going, Turn, turn, least-small, least-wanted, rest-less, done-all, going-on, done-more}
+pub use Rattle.sets.proofs.MemberLoop.{Done, MembersLeft, going, Turn, turn, least-small, least-wanted, rest-less, done-all, going-on, done-more}
 pub use Rattle.sets.proofs.Tally.{zeros}
 use Rattle.deciding.specs.private.Rows.{Rows, inRow, Only, Added}
 
@@ -55,7 +55,7 @@ no-rows p e n = record { long = n; bits = λ a b w. absurd (true≢false (sym w 
 
 -- ---- such a loop that fills a row a turn; the rows of r₀ stand where it has not been
 pub record Filling (want : ℕ) (p : ℕ → ℕ → Bool) (r₀ : List ℕ) (rest : ℕ) (r : List ℕ) : Type 0 where
-  pub upon : Going want rest
+  pub upon : MembersLeft want rest
   pub long : length r ≡ 64
   pub bits : (a b : ℕ) → inRow r a b ≡ cond (Done want rest a) (p a b) (inRow r₀ a b)
 
@@ -144,7 +144,7 @@ some-all want rest p e = ap (anyBelow 64) (fun-ext (λ c. ap (λ (x : Bool). x &
 
 -- ---- such a loop that adds to a set
 pub record Adding (want : ℕ) (p : ℕ → ℕ → Bool) (rest s : ℕ) : Type 0 where
-  pub upon : Going want rest
+  pub upon : MembersLeft want rest
   pub bits : (b : ℕ) → bit s b ≡ Some want rest (λ c. p c b)
 
 pub adding : (want : ℕ) (p : ℕ → ℕ → Bool) → want < 2 ^ 64 → Adding want p want 0
@@ -163,7 +163,7 @@ adding-all {want} {p} {rest} f e b = f .bits b ∙ some-all want rest (λ c. p c
 
 -- ---- such a loop that adds rows: of each c that is done, those b that have p c a b to the row of a
 pub record Scattering (from : ℕ) (p : ℕ → ℕ → ℕ → Bool) (rest : ℕ) (r : List ℕ) : Type 0 where
-  pub upon : Going from rest
+  pub upon : MembersLeft from rest
   pub long : length r ≡ 64
   pub bits : (a b : ℕ) → inRow r a b ≡ Some from rest (λ c. p c a b)
 
@@ -189,7 +189,7 @@ scattering-all {from} {p} {rest} f e a b = f .bits a b ∙ some-all from rest (�
 
 -- ---- such a loop that adds w to the row of each member
 pub record Joining (set w : ℕ) (t₀ : List ℕ) (rest : ℕ) (t : List ℕ) : Type 0 where
-  pub upon : Going set rest
+  pub upon : MembersLeft set rest
   pub long : length t ≡ length t₀
   pub bits : (a b : ℕ) → inRow t a b ≡ (inRow t₀ a b || (Done set rest a && bit w b))
 

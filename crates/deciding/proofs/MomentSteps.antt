@@ -20,7 +20,7 @@ use Rattle.theory.specs.Terms.{tables}
 use Rattle.memory.specs.Checks.{goodMemory, goodEvent, stateTests, goodState}
 use Rattle.theory.specs.Tables.{named, Tables, State, holdsNow, decideNow, prevBits, sinceBits, prevStep, prevTables, sinceTables, made, advance}
 use Rattle.theory.specs.Fit.{Good, Within, more}
-use Rattle.memory.specs.Plan.{planTable, Planned}
+use Rattle.memory.specs.TableIndex.{indexTable, Indexed}
 use Rattle.deciding.specs.private.Rows.{Ready, Table, nowAt, nextPrev, nextSince}
 use Rattle.deciding.specs.private.Moving.{known, HasState, Movable, Becomes, put, tabled, edged, prevAt, prevMoved, effectOf, affected, allAffected, evented, entered, sinceAt, sinceBelow, sinceMoved}
 use Rattle.theory.proofs.Unfolding.{number-lt}
@@ -50,32 +50,32 @@ held T few m long g = record {
   event = known-event T (getD m eventAt 0) (every-at (stateTests T m) g 3);
 }
 
-pub movable : (terms plan m : List ℕ) → termsWords ≤ length terms → goodMemory terms ≡ true → Planned (termsOf terms) plan →
-    stateWords ≤ length m → goodState (termsOf terms) m ≡ true → Movable terms plan m
-movable terms plan m lt g p lm s = record {
+pub movable : (terms index m : List ℕ) → termsWords ≤ length terms → goodMemory terms ≡ true → Indexed (termsOf terms) index →
+    stateWords ≤ length m → goodState (termsOf terms) m ≡ true → Movable terms index m
+movable terms index m lt g p lm s = record {
   long-terms = lt;
   good = g;
-  planned = p;
+  indexed = p;
   state = stateOf m;
   rest = drop stateWords m;
   has = held (termsOf terms) (good terms g .few-members) m lm s;
 }
 
-module _ {terms plan m : List ℕ} (c : Movable terms plan m) where
+module _ {terms index m : List ℕ} (c : Movable terms index m) where
   pub fine : Good (termsOf terms)
   fine = good terms (c .good)
 
   pub long : stateWords ≤ length m
   long = has-long (c .has)
 
-  pub readied : Ready terms plan (relationsOf m) (pastOf m)
-  readied = ready terms plan fine (c .has) (c .long-terms) (c .good) (c .planned)
+  pub readied : Ready terms index (relationsOf m) (pastOf m)
+  readied = ready terms index fine (c .has) (c .long-terms) (c .good) (c .indexed)
 
-  has-moved : {S : State} {rest m' : List ℕ} → HasState (termsOf terms) S rest m' → Movable terms plan m'
+  has-moved : {S : State} {rest m' : List ℕ} → HasState (termsOf terms) S rest m' → Movable terms index m'
   has-moved {S} {rest} has =
-      record { long-terms = c .long-terms; good = c .good; planned = c .planned; state = S; rest = rest; has = has }
+      record { long-terms = c .long-terms; good = c .good; indexed = c .indexed; state = S; rest = rest; has = has }
 
-  pub moved : {m' : List ℕ} {f : Terms → State → State} → Becomes terms f m m' → Movable terms plan m'
+  pub moved : {m' : List ℕ} {f : Terms → State → State} → Becomes terms f m m' → Movable terms index m'
   moved b = has-moved (b .each (c .state) (c .rest) (c .has))
 
 -- An entry asked of the two parts.
@@ -94,20 +94,20 @@ granted T fine m long g j u v n p h =
 
 -- ---- one turn of each sweep
 
-module _ {terms plan m : List ℕ} (c : Movable terms plan m) (n : ℕ) (nl : n < termsOf terms .entries) where
+module _ {terms index m : List ℕ} (c : Movable terms index m) (n : ℕ) (nl : n < termsOf terms .entries) where
   abbrev T : Terms
   T = termsOf terms
 
   abbrev place : ℕ
-  place = 1024 + 64 * planTable (getD plan n 0)
+  place = 1024 + 64 * indexTable (getD index n 0)
 
   module _ (past : isPast (T .entry n .op) ≡ true) where
     there : number (T .entry) n < tables T
     there = number-lt (T .entry) n (T .entries) nl past
 
     -- Its place in a bank's own words.
-    pub own-fits : 64 * planTable (getD plan n 0) + 64 ≤ ownWords
-    own-fits = rw (c .planned .table n nl past .0) (omega (arith, there, fine c .few-tables))
+    pub own-fits : 64 * indexTable (getD index n 0) + 64 ≤ ownWords
+    own-fits = rw (c .indexed .table n nl past .0) (omega (arith, there, fine c .few-tables))
 
   pub prev-stays : (T .entry n .op ≡ 6 → ⊥) → Becomes terms (prevAt n) m m
   prev-stays h = record { each = λ S rest has. rw (ne-eqb (T .entry n .op) 6 h) has }
@@ -118,7 +118,7 @@ module _ {terms plan m : List ℕ} (c : Movable terms plan m) (n : ℕ) (nl : n 
   module _ (vs : List ℕ) {m' : List ℕ} (e : m' ≡ put place vs m) where
     pub prev-turned : T .entry n .op ≡ 6 → Table (T .members) (columns (formula T n)) (nextPrev T (relationsOf m) (pastOf m) n) vs → Becomes terms (prevAt n) m m'
     prev-turned o new = record {
-      each = λ S rest has. rw (e, c .planned .table n nl (rw o) .0, eq-eqb (T .entry n .op) 6 o)
+      each = λ S rest has. rw (e, c .indexed .table n nl (rw o) .0, eq-eqb (T .entry n .op) 6 o)
           (table-stored T (fine c) has (number (T .entry) n) (there (rw o)) (nextPrev T (relationsOf m) (pastOf m) n)
           (prevBits T (graph T (S .now)) n (S .table)) (subst (λ j. SameAt (T .members) (columns (formula T j)) (nextPrev T (relationsOf m) (pastOf m) n) (prevBits T (graph T (S .now)) n (S .table))) (sym (past-is T n nl (rw o))) (seen-prev T (fine c) has n nl o)) vs
           (subst (λ j. Table (T .members) (columns (formula T j)) (nextPrev T (relationsOf m) (pastOf m) n) vs) (sym (past-is T n nl (rw o))) new));
@@ -126,7 +126,7 @@ module _ {terms plan m : List ℕ} (c : Movable terms plan m) (n : ℕ) (nl : n 
 
     pub since-turned : T .entry n .op ≡ 7 → Table (T .members) (columns (formula T n)) (nextSince T (relationsOf m) (pastOf m) n) vs → Becomes terms (sinceAt n) m m'
     since-turned o new = record {
-      each = λ S rest has. rw (e, c .planned .table n nl (rw o) .0, eq-eqb (T .entry n .op) 7 o)
+      each = λ S rest has. rw (e, c .indexed .table n nl (rw o) .0, eq-eqb (T .entry n .op) 7 o)
           (table-stored T (fine c) has (number (T .entry) n) (there (rw o)) (nextSince T (relationsOf m) (pastOf m) n)
           (sinceBits T (graph T (S .now)) n (S .table)) (subst (λ j. SameAt (T .members) (columns (formula T j)) (nextSince T (relationsOf m) (pastOf m) n) (sinceBits T (graph T (S .now)) n (S .table))) (sym (past-is T n nl (rw o))) (seen-since T (fine c) has n nl o)) vs
           (subst (λ j. Table (T .members) (columns (formula T j)) (nextSince T (relationsOf m) (pastOf m) n) vs) (sym (past-is T n nl (rw o))) new));
@@ -139,7 +139,7 @@ pub record Downward (terms : List ℕ) (n : ℕ) (m₀ m : List ℕ) : Type 0 wh
   pub each : (S : State) (rest : List ℕ) → HasState (termsOf terms) S rest m₀ → (X : Tables) × HasState (termsOf terms) (tabled S X) rest m
       × (prevTables (termsOf terms) (graph (termsOf terms) (S .now)) n X ≡ prevMoved (termsOf terms) S .table)
 
-pub down-movable : {n : ℕ} {terms plan m₀ m : List ℕ} → Movable terms plan m₀ → Downward terms n m₀ m → Movable terms plan m
+pub down-movable : {n : ℕ} {terms index m₀ m : List ℕ} → Movable terms index m₀ → Downward terms n m₀ m → Movable terms index m
 down-movable c d = has-moved c (d .each (c .state) (c .rest) (c .has) .1)
 
 module _ {w m₀ : List ℕ} where

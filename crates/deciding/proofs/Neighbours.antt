@@ -21,7 +21,7 @@ use Rattle.deciding.proofs.Unfolded.{now-out, now-into, now-many}
 use Rattle.deciding.proofs.AtEntry.{Site, member-short, terms-good, entry-good, op-is, inside, ahead-inside, want-below, c-some}
 use Rattle.deciding.proofs.Operators.{sure, operand-row}
 
-module _ {terms plan rel past : List ℕ} {g : Assignment} {x i want o a b r all : ℕ} (s : Site terms plan rel past g x i want o a b r all) where
+module _ {terms index rel past : List ℕ} {g : Assignment} {x i want o a b r all : ℕ} (s : Site terms index rel past g x i want o a b r all) where
   abbrev T : Terms
   T = termsOf terms
 

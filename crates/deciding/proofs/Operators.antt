@@ -16,8 +16,8 @@ use Rattle.theory.specs.Columns.{columnsFit}
 use Rattle.theory.specs.Tables.{recalled}
 use Rattle.theory.specs.Terms.{Terms, formula}
 use Rattle.memory.specs.Layout.{termsOf}
-use Rattle.memory.specs.Plan.{planTable, planColumns}
-use Rattle.deciding.specs.private.Rows.{tableBit, assigned, opened, openUnder, nowAt, cell, Rows, Has, Asked}
+use Rattle.memory.specs.TableIndex.{indexTable, indexColumns}
+use Rattle.deciding.specs.private.Rows.{tableBit, assigned, opened, openUnder, nowAt, cell, Rows, Has, RowsAsked}
 use Rattle.deciding.specs.private.Rows.{inRow, Added, ahead, Recalled, remembered}
 use Rattle.theory.proofs.Unfolding.{number-lt}
 use Rattle.deciding.proofs.Loops.{rows-map}
@@ -29,7 +29,7 @@ not-under : (w h : Bool) → (w && not (w && h)) ≡ (w && not h)
 not-under true h = refl
 not-under false h = refl
 
-module _ {terms plan rel past : List ℕ} {g : Assignment} {x i want o a b r all : ℕ} (s : Site terms plan rel past g x i want o a b r all) where
+module _ {terms index rel past : List ℕ} {g : Assignment} {x i want o a b r all : ℕ} (s : Site terms index rel past g x i want o a b r all) where
   abbrev T : Terms
   T = termsOf terms
 
@@ -95,26 +95,26 @@ module _ {terms plan rel past : List ℕ} {g : Assignment} {x i want o a b r all
   past-op : isPast o ≡ true → isPast (T .entry i .op) ≡ true
   past-op e = ap isPast (sym (s .o-is)) ∙ e
 
-  plan-is : isPast o ≡ true → (planTable (getD plan i 0) ≡ number (T .entry) i) × (planColumns (getD plan i 0) ≡ columns (formula T i))
-  plan-is e = s .ready .planned .table i (s .asked .exists) (past-op e)
+  index-is : isPast o ≡ true → (indexTable (getD index i 0) ≡ number (T .entry) i) × (indexColumns (getD index i 0) ≡ columns (formula T i))
+  index-is e = s .ready .indexed .table i (s .asked .exists) (past-op e)
 
-  pub recalling : isPast o ≡ true → Recalled plan past g i want all
+  pub recalling : isPast o ≡ true → Recalled index past g i want all
   recalling e = record {
-    exists = subst (λ (k : ℕ). k < 32) (sym (plan-is e .0))
+    exists = subst (λ (k : ℕ). k < 32) (sym (index-is e .0))
         (let p = number-lt (T .entry) i (T .entries) (s .asked .exists) (past-op e) in let q = terms-good s .few-tables in omega arith);
     long = (let n : 2049 ≤ length past = s .ready .long-past in omega arith);
     members = N;
-    fit = ap (columnsFit N) (plan-is e .1) ∙ entry-good s .columns-fit (past-op e);
+    fit = ap (columnsFit N) (index-is e .1) ∙ entry-good s .columns-fit (past-op e);
     wanted = s .asked .wanted;
     all-is = s .all-is;
     vars = s .asked .vars;
   }
 
-  pub decide-past : {t : List ℕ} → isPast o ≡ true → Rows want (remembered past g x (getD plan i 0) all) t → Sure t
+  pub decide-past : {t : List ℕ} → isPast o ≡ true → Rows want (remembered past g x (getD index i 0) all) t → Sure t
   decide-past e h = sure h (λ m v w.
-      ap (λ (z : Bool). z && recalled (tableBit past) (planTable (getD plan i 0)) (planColumns (getD plan i 0)) (opened g x v) m) (s .all-is v)
+      ap (λ (z : Bool). z && recalled (tableBit past) (indexTable (getD index i 0)) (indexColumns (getD index i 0)) (opened g x v) m) (s .all-is v)
       ∙ ap (λ (z : Bool). ltb v N && z)
-      (ap₂ (λ (j : ℕ) (cs : List ℕ). recalled (tableBit past) j cs (opened g x v) m) (plan-is e .0) (plan-is e .1)
+      (ap₂ (λ (j : ℕ) (cs : List ℕ). recalled (tableBit past) j cs (opened g x v) m) (index-is e .0) (index-is e .1)
       ∙ sym (now-past T rel past (opened g x v) i m (entry-good s) (past-op e))))
 
   -- What the loop of bind has in row m.
@@ -168,7 +168,7 @@ module _ {terms plan rel past : List ℕ} {g : Assignment} {x i want o a b r all
 
   -- The second is asked for at members.
   pub reached-asked : (c need : ℕ) {f : List ℕ} → c ≡ T .entry i .c → o ≡ 10 → Rows want (cell T rel past (assigned (replicate 16 0)) a b) f
-      → Has need (ahead (inRow f) want) → Asked T g c need
+      → Has need (ahead (inRow f) want) → RowsAsked T g c need
   reached-asked c need {f} z e d h = operand-reached s c need f z e h (λ m k w q. ltb-true k N (and-left (ltb k N) _ (sym (reach-row e d m k w) ∙ q)))
 
   pub decide-reach : (c need : ℕ) {f h t : List ℕ} → c ≡ T .entry i .c → o ≡ 10 → Rows want (cell T rel past (assigned (replicate 16 0)) a b) f

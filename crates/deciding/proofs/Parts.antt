@@ -110,7 +110,7 @@ cleared-all l zs h q =
 -- ---- own words that are cleared
 
 -- Nothing but the event word carries over into them.
-pub begun-apart : {old before new plan : List ℕ} (r o : List ℕ) {zs : List ℕ} → Revising old before (r ++ o) new plan → length r ≡ relationWords → zs ≡ replicate ownWords 0 →
+pub begun-apart : {old before new index : List ℕ} (r o : List ℕ) {zs : List ℕ} → Revising old before (r ++ o) new index → length r ≡ relationWords → zs ≡ replicate ownWords 0 →
     Begun old (r ++ o) new 0 [] (r ++ set zs tableWords (getD o tableWords 0))
 begun-apart r o {zs} rv lr z =
     begun-none rv (r ++ second) (length-append r second ∙ omega (arith, lr, size))

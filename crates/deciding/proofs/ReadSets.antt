@@ -16,7 +16,7 @@ use Rattle.theory.specs.Formula.{Formula, node, firstOperand, secondOperand, th
 use Rattle.theory.specs.Formula.Operand.{variable, entry}
 use Rattle.theory.specs.Formula.Formula.{top, var}
 use Rattle.theory.specs.Terms.{Terms, formula}
-use Rattle.memory.specs.Plan.{planFirst, planLast, planColumns}
+use Rattle.memory.specs.TableIndex.{indexFirst, indexLast, indexColumns}
 use Rattle.deciding.specs.private.Memo.{isOne, reads, slotOf, haveOf, readsOf, Memo, Apart, Fresh}
 use Rattle.theory.proofs.Unfolding.{below-spelled}
 use Rattle.memory.proofs.FreeSets.{Free}
@@ -25,7 +25,7 @@ use Rattle.deciding.proofs.Remembering.{empty-slot}
 -- r has every variable that an entry reads, where f, g and k have those of its operands.
 abbrev pub Covered : (op a p f g k r : ℕ) → Type 0
 Covered op a p f g k r =
-    (t b c x : ℕ) (h : ℕ → Formula) → (firstOperand op ≡ variable → a < 64) → (isPast op ≡ true → planColumns p ≡ columns (node t h op a b c)) →
+    (t b c x : ℕ) (h : ℕ → Formula) → (firstOperand op ≡ variable → a < 64) → (isPast op ≡ true → indexColumns p ≡ columns (node t h op a b c)) →
     (firstOperand op ≡ entry → reads (h a) x ≡ true → bit f x ≡ true) → (secondOperand op ≡ entry → reads (h b) x ≡ true → bit g x ≡ true) →
     (thirdOperand op ≡ entry → reads (h c) x ≡ true → bit k x ≡ true) →
     reads (node t h op a b c) x ≡ true → bit r x ≡ true
@@ -52,15 +52,15 @@ one-of x y z true e = or-right (eqb x y) (eqb x z) (sym (or-false (eqb x z)) ∙
 one-of x y z false e = sym (ap (λ (b : Bool). eqb x y || b) (or-false (eqb x z))) ∙ e
 
 -- s has the first column alone, and r the last one too.
-pub covered-past : (op a p f g k s r : ℕ) → isPast op ≡ true → ((x : ℕ) → bit s x ≡ ltb x 64 && eqb x (planFirst p)) →
-    ((x : ℕ) → bit r x ≡ bit s x || (ltb x 64 && eqb x (planLast p))) → Covered op a p f g k r
+pub covered-past : (op a p f g k s r : ℕ) → isPast op ≡ true → ((x : ℕ) → bit s x ≡ ltb x 64 && eqb x (indexFirst p)) →
+    ((x : ℕ) → bit r x ≡ bit s x || (ltb x 64 && eqb x (indexLast p))) → Covered op a p f g k r
 covered-past op a p f g k s r past es e t b c x h v col p' q' s' z =
-    let is : (eqb x (planFirst p) || eqb x (planLast p)) ≡ true =
-    one-of x (planFirst p) (planLast p) (eqb (planFirst p) (planLast p)) (ap (λ (cs : List ℕ). isOne cs x) (col past) ∙ reads-past op t a b c x h past z) in
+    let is : (eqb x (indexFirst p) || eqb x (indexLast p)) ≡ true =
+    one-of x (indexFirst p) (indexLast p) (eqb (indexFirst p) (indexLast p)) (ap (λ (cs : List ℕ). isOne cs x) (col past) ∙ reads-past op t a b c x h past z) in
     ⊎-elim
-    (λ q. e x ∙ or-left (bit s x) _ (es x ∙ and-both (ltb x 64) _ (lt-ltb x 64 (low x (planFirst p) (omega arith) q)) q))
-    (λ q. e x ∙ or-right (bit s x) _ (and-both (ltb x 64) _ (lt-ltb x 64 (low x (planLast p) (omega arith) q)) q))
-    (or-cases (eqb x (planFirst p)) (eqb x (planLast p)) is)
+    (λ q. e x ∙ or-left (bit s x) _ (es x ∙ and-both (ltb x 64) _ (lt-ltb x 64 (low x (indexFirst p) (omega arith) q)) q))
+    (λ q. e x ∙ or-right (bit s x) _ (and-both (ltb x 64) _ (lt-ltb x 64 (low x (indexLast p) (omega arith) q)) q))
+    (or-cases (eqb x (indexFirst p)) (eqb x (indexLast p)) is)
   where
     low : (x y : ℕ) → y < 16 → eqb x y ≡ true → x < 64
     low x y l q = let w : x ≡ y = eqb-true x y q in omega arith
@@ -160,7 +160,7 @@ module _ (T : Terms) (i : ℕ) {sets m m' : List ℕ} (r : ℕ) (few : T .entrie
 
 -- What entry i reads, from the sets of the entries below it.
 pub covers-entry : (T : Terms) (i p f g k r : ℕ) {sets m : List ℕ} → Preparing T i sets m
-    → (firstOperand (T .entry i .op) ≡ variable → T .entry i .a < 64) → (isPast (T .entry i .op) ≡ true → planColumns p ≡ columns (formula T i))
+    → (firstOperand (T .entry i .op) ≡ variable → T .entry i .a < 64) → (isPast (T .entry i .op) ≡ true → indexColumns p ≡ columns (formula T i))
     → (firstOperand (T .entry i .op) ≡ entry → T .entry i .a < i) → (secondOperand (T .entry i .op) ≡ entry → T .entry i .b < i)
     → (thirdOperand (T .entry i .op) ≡ entry → T .entry i .c < i)
     → f ≡ getD sets (T .entry i .a) 0 → g ≡ getD sets (T .entry i .b) 0 → k ≡ getD sets (T .entry i .c) 0 → Covered (T .entry i .op) (T .entry i .a) p f g k r

@@ -17,8 +17,8 @@ use Rattle.theory.specs.Columns.{columnsFit, inside}
 use Rattle.theory.specs.Terms.{Terms, formula}
 use Rattle.theory.specs.Fit.{Good}
 use Rattle.memory.specs.Layout.{termsOf}
-use Rattle.memory.specs.Plan.{planTable, planFirst, planLast, planColumns}
-use Rattle.deciding.specs.private.Rows.{tableBit, assigned, opened, nowAt, cell, Rows, Ready, Asked, Table, operandBits, nextPrev, nextSince, Has, inRow, Added, kept}
+use Rattle.memory.specs.TableIndex.{indexTable, indexFirst, indexLast, indexColumns}
+use Rattle.deciding.specs.private.Rows.{tableBit, assigned, opened, nowAt, cell, Rows, Ready, RowsAsked, Table, operandBits, nextPrev, nextSince, Has, inRow, Added, kept}
 use Rattle.theory.proofs.Unfolding.{number-lt}
 use Rattle.theory.proofs.Good.{first-lower, second-lower}
 use Rattle.memory.proofs.Accepted.{good}
@@ -29,7 +29,7 @@ use Rattle.deciding.proofs.Assignments.{vars-zeros, vars-assign, opened
 abbrev fresh : Assignment
 fresh = assigned (replicate 16 0)
 
-fresh-asked : (T : Terms) (i w : ℕ) → Good T → i < T .entries → ((m : ℕ) → bit w m ≡ true → m < T .members) → Asked T fresh i w
+fresh-asked : (T : Terms) (i w : ℕ) → Good T → i < T .entries → ((m : ℕ) → bit w m ≡ true → m < T .members) → RowsAsked T fresh i w
 fresh-asked T i w h l q = record {
   exists = l;
   wanted = q;
@@ -38,8 +38,8 @@ fresh-asked T i w h l q = record {
 
 -- ---- a request, at u alone: variable 0 stands for v, and none is open
 module _ (v : ℕ) (g : Assignment) (target : (y : ℕ) → g y ≡ assign fresh 0 v y) where
-  pub request-asked : {terms plan rel past : List ℕ} (i u w : ℕ) → Ready terms plan rel past → i < termsOf terms .entries → u < termsOf terms .members
-      → v < termsOf terms .members → Has w (λ m. eqb m u) → Asked (termsOf terms) g i w
+  pub request-asked : {terms index rel past : List ℕ} (i u w : ℕ) → Ready terms index rel past → i < termsOf terms .entries → u < termsOf terms .members
+      → v < termsOf terms .members → Has w (λ m. eqb m u) → RowsAsked (termsOf terms) g i w
   request-asked {terms} i u w ready l k vl h = record {
     exists = l;
     wanted = λ m e. subst (λ (y : ℕ). y < termsOf terms .members) (sym (eqb-true m u (sym (h m) ∙ e))) k;
@@ -65,8 +65,8 @@ module _ (v : ℕ) (g : Assignment) (target : (y : ℕ) → g y ≡ assign fresh
       ∙ ap (λ (t : Bool). t && nowAt T rel past (opened g 16 v) i u) (lt-ltb v (T .members) l)
       ∙ ap (λ (k : Assignment). nowAt T rel past k i u) opened-none
 
--- ---- the next table of past-time entry i, whose operator is o and whose plan word is p
-module _ {terms plan rel past : List ℕ} {i o : ℕ} (ready : Ready terms plan rel past) (l : i < termsOf terms .entries)
+-- ---- the next table of past-time entry i, whose operator is o and whose index word is p
+module _ {terms index rel past : List ℕ} {i o : ℕ} (ready : Ready terms index rel past) (l : i < termsOf terms .entries)
     (op : termsOf terms .entry i .op ≡ o) (past-op : isPast o ≡ true) where
   abbrev T : Terms
   T = termsOf terms
@@ -77,36 +77,36 @@ module _ {terms plan rel past : List ℕ} {i o : ℕ} (ready : Ready terms plan 
   entry-past : isPast (T .entry i .op) ≡ true
   entry-past = ap isPast op ∙ past-op
 
-  plan-is : (planTable (getD plan i 0) ≡ number (T .entry) i) × (planColumns (getD plan i 0) ≡ columns (formula T i))
-  plan-is = ready .planned .table i l entry-past
+  index-is : (indexTable (getD index i 0) ≡ number (T .entry) i) × (indexColumns (getD index i 0) ≡ columns (formula T i))
+  index-is = ready .indexed .table i l entry-past
 
-  plan-columns : (p : ℕ) → p ≡ getD plan i 0 → columns (formula T i) ≡ planColumns p
-  plan-columns p e = sym (ap planColumns e ∙ plan-is .1)
+  index-columns : (p : ℕ) → p ≡ getD index i 0 → columns (formula T i) ≡ indexColumns p
+  index-columns p e = sym (ap indexColumns e ∙ index-is .1)
 
-  pub table-small : (p : ℕ) → p ≡ getD plan i 0 → planTable p < 32
-  table-small p e = subst (λ (y : ℕ). y < 32) (sym (ap planTable e ∙ plan-is .0))
+  pub table-small : (p : ℕ) → p ≡ getD index i 0 → indexTable p < 32
+  table-small p e = subst (λ (y : ℕ). y < 32) (sym (ap indexTable e ∙ index-is .0))
       (let j = number-lt (T .entry) i (T .entries) l entry-past in let k = terms-good .few-tables in omega arith)
 
-  pub table-first : (k all : ℕ) → k ≡ T .entry i .a → firstOperand o ≡ entry → Has all (λ m. ltb m (T .members)) → Asked T fresh k all
+  pub table-first : (k all : ℕ) → k ≡ T .entry i .a → firstOperand o ≡ entry → Has all (λ m. ltb m (T .members)) → RowsAsked T fresh k all
   table-first k all e q h =
       let low : T .entry i .a < i = first-lower (terms-good .entry i l) (ap firstOperand op ∙ q) in
       fresh-asked T k all terms-good (omega arith) (λ m t. ltb-true m (T .members) (sym (h m) ∙ t))
 
-  pub table-second : (k all : ℕ) → k ≡ T .entry i .b → secondOperand o ≡ entry → Has all (λ m. ltb m (T .members)) → Asked T fresh k all
+  pub table-second : (k all : ℕ) → k ≡ T .entry i .b → secondOperand o ≡ entry → Has all (λ m. ltb m (T .members)) → RowsAsked T fresh k all
   table-second k all e q h =
       let low : T .entry i .b < i = second-lower (terms-good .entry i l) (ap secondOperand op ∙ q) in
       fresh-asked T k all terms-good (omega arith) (λ m t. ltb-true m (T .members) (sym (h m) ∙ t))
 
   -- With one column.
-  table-row : (p k k' all : ℕ) {r : List ℕ} → p ≡ getD plan i 0 → not (eqb (planFirst p) (planLast p)) ≡ false → k ≡ k' → Has all (λ m. ltb m (T .members))
-      → Rows all (cell T rel past fresh (planLast p) k) r
+  table-row : (p k k' all : ℕ) {r : List ℕ} → p ≡ getD index i 0 → not (eqb (indexFirst p) (indexLast p)) ≡ false → k ≡ k' → Has all (λ m. ltb m (T .members))
+      → Rows all (cell T rel past fresh (indexLast p) k) r
       → (a b : ℕ) → ltb a (T .members) ≡ true → inRow r a b ≡ (ltb b (T .members) && operandBits T rel past (columns (formula T i)) k' a b)
   unfolding cell operandBits
   table-row p k k' all e one q h d a b w =
       d .bits a b (h a ∙ w)
-      ∙ ap (λ (g : Assignment). ltb b (T .members) && nowAt T rel past g k a) (opened-zeros (planLast p) b (omega arith))
-      ∙ ap (λ (j : ℕ). ltb b (T .members) && nowAt T rel past (assign (λ z. 0) (planLast p) b) j a) q
-      ∙ sym (ap (λ (cs : List ℕ). ltb b (T .members) && operandBits T rel past cs k' a b) (plan-columns p e ∙ one-columns p one))
+      ∙ ap (λ (g : Assignment). ltb b (T .members) && nowAt T rel past g k a) (opened-zeros (indexLast p) b (omega arith))
+      ∙ ap (λ (j : ℕ). ltb b (T .members) && nowAt T rel past (assign (λ z. 0) (indexLast p) b) j a) q
+      ∙ sym (ap (λ (cs : List ℕ). ltb b (T .members) && operandBits T rel past cs k' a b) (index-columns p e ∙ one-columns p one))
 
   -- The rows from n on are cleared.
   abbrev Cut : ℕ → List ℕ → List ℕ → Type 0
@@ -117,14 +117,14 @@ module _ {terms plan rel past : List ℕ} {i o : ℕ} (ready : Ready terms plan 
   cut-row n r s a b y e c h = c a b ∙ ap (λ (m : ℕ). ltb a m && inRow r a b) e ∙ and-under (ltb a (T .members)) (inRow r a b) y h
 
   -- A word and a bit are those of members.
-  one-inside : (p a b : ℕ) (y : Bool) → p ≡ getD plan i 0 → not (eqb (planFirst p) (planLast p)) ≡ false →
+  one-inside : (p a b : ℕ) (y : Bool) → p ≡ getD index i 0 → not (eqb (indexFirst p) (indexLast p)) ≡ false →
       (ltb a (T .members) && (ltb b (T .members) && y)) ≡ (inside (T .members) (columns (formula T i)) a b && y)
   one-inside p a b y e one =
       sym (and-assoc (ltb a (T .members)) (ltb b (T .members)) y)
-      ∙ sym (ap (λ (cs : List ℕ). inside (T .members) cs a b && y) (plan-columns p e ∙ one-columns p one))
+      ∙ sym (ap (λ (cs : List ℕ). inside (T .members) cs a b && y) (index-columns p e ∙ one-columns p one))
 
-  pub prev-table : (p k all n : ℕ) {r s : List ℕ} → p ≡ getD plan i 0 → not (eqb (planFirst p) (planLast p)) ≡ false → k ≡ T .entry i .a
-      → Has all (λ m. ltb m (T .members)) → Rows all (cell T rel past fresh (planLast p) k) r → length s ≡ length r → n ≡ T .members → Cut n r s
+  pub prev-table : (p k all n : ℕ) {r s : List ℕ} → p ≡ getD index i 0 → not (eqb (indexFirst p) (indexLast p)) ≡ false → k ≡ T .entry i .a
+      → Has all (λ m. ltb m (T .members)) → Rows all (cell T rel past fresh (indexLast p) k) r → length s ≡ length r → n ≡ T .members → Cut n r s
       → Table (T .members) (columns (formula T i)) (nextPrev T rel past i) s
   unfolding nextPrev
   prev-table p k all n {r} {s} e one q h d l en c = record {
@@ -136,10 +136,10 @@ module _ {terms plan rel past : List ℕ} {i o : ℕ} (ready : Ready terms plan 
   since-bool true u v w = refl
   since-bool false u v w = refl
 
-  pub since-table : (p k j all n : ℕ) (r' : List ℕ) {r q s : List ℕ} → p ≡ getD plan i 0 → not (eqb (planFirst p) (planLast p)) ≡ false
+  pub since-table : (p k j all n : ℕ) (r' : List ℕ) {r q s : List ℕ} → p ≡ getD index i 0 → not (eqb (indexFirst p) (indexLast p)) ≡ false
       → k ≡ T .entry i .b → j ≡ T .entry i .a → Has all (λ m. ltb m (T .members))
-      → Rows all (cell T rel past fresh (planLast p) k) r → Rows all (cell T rel past fresh (planLast p) j) q
-      → length r' ≡ length r → Added r (kept q past (planTable p)) r' → length s ≡ length r' → n ≡ T .members → Cut n r' s
+      → Rows all (cell T rel past fresh (indexLast p) k) r → Rows all (cell T rel past fresh (indexLast p) j) q
+      → length r' ≡ length r → Added r (kept q past (indexTable p)) r' → length s ≡ length r' → n ≡ T .members → Cut n r' s
       → Table (T .members) (columns (formula T i)) (nextSince T rel past i) s
   unfolding nextSince
   since-table p k j all n r' {r} {q} {s} e one eb ea h dr dq l w l' en c = record {
@@ -148,19 +148,19 @@ module _ {terms plan rel past : List ℕ} {i o : ℕ} (ready : Ready terms plan 
         w a b
         ∙ ap₂ _||_ (table-row p k (T .entry i .b) all e one eb h dr a b t)
         (ap₂ (λ (u : Bool) (m : ℕ). u && tableBit past m a b) (table-row p j (T .entry i .a) all e one ea h dq a b t)
-        (ap planTable e ∙ plan-is .0))
+        (ap indexTable e ∙ index-is .0))
         ∙ since-bool (ltb b (T .members)) (operandBits T rel past (columns (formula T i)) (T .entry i .b) a b)
         (operandBits T rel past (columns (formula T i)) (T .entry i .a) a b) (tableBit past (number (T .entry) i) a b))
         ∙ one-inside p a b _ e one;
   }
 
   -- With two columns.
-  module _ (p : ℕ) (e : p ≡ getD plan i 0) (two : not (eqb (planFirst p) (planLast p)) ≡ true) where
+  module _ (p : ℕ) (e : p ≡ getD index i 0) (two : not (eqb (indexFirst p) (indexLast p)) ≡ true) where
     abbrev pair : List ℕ
-    pair = planFirst p ∷ planLast p ∷ []
+    pair = indexFirst p ∷ indexLast p ∷ []
 
     pair-is : columns (formula T i) ≡ pair
-    pair-is = plan-columns p e ∙ two-columns p two
+    pair-is = index-columns p e ∙ two-columns p two
 
     pub pair-few : T .members < 17
     pair-few =
@@ -183,14 +183,14 @@ module _ {terms plan rel past : List ℕ} {i o : ℕ} (ready : Ready terms plan 
     prev-pair k q h = pair-table k (T .entry i .a) q h
 
     pub since-pair : (k j : ℕ) {r q s : List ℕ} → k ≡ T .entry i .b → j ≡ T .entry i .a → Table (T .members) pair (operandBits T rel past pair k) r
-        → Table (T .members) pair (operandBits T rel past pair j) q → length s ≡ length r → Added r (kept q past (planTable p)) s
+        → Table (T .members) pair (operandBits T rel past pair j) q → length s ≡ length r → Added r (kept q past (indexTable p)) s
         → Table (T .members) (columns (formula T i)) (nextSince T rel past i) s
     unfolding nextSince
     since-pair k j {r} {q} {s} eb ea hr hq long w = record {
       long = long ∙ hr .long;
       bits = λ a b. w a b
           ∙ ap₂ _||_ (pair-table k (T .entry i .b) eb hr .bits a b)
-          (ap₂ (λ (u : Bool) (m : ℕ). u && tableBit past m a b) (pair-table j (T .entry i .a) ea hq .bits a b) (ap planTable e ∙ plan-is .0))
+          (ap₂ (λ (u : Bool) (m : ℕ). u && tableBit past m a b) (pair-table j (T .entry i .a) ea hq .bits a b) (ap indexTable e ∙ index-is .0))
           ∙ since-bool (inside (T .members) (columns (formula T i)) a b) (operandBits T rel past (columns (formula T i)) (T .entry i .b) a b)
           (operandBits T rel past (columns (formula T i)) (T .entry i .a) a b) (tableBit past (number (T .entry) i) a b);
     }

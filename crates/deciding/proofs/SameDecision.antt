@@ -22,7 +22,7 @@ use Rattle.memory.specs.Checks.{goodMemory}
 use Rattle.theory.specs.Tables.{named, State, holdsNow, prevBits, sinceBits}
 use Rattle.theory.specs.Fit.{Good}
 use Rattle.deciding.specs.private.Rows.{labelled, fired, edge, tableBit, pastEvent, nowAt, operandBits, nextPrev, nextSince, Ready}
-use Rattle.memory.specs.Plan.{Planned}
+use Rattle.memory.specs.TableIndex.{Indexed}
 use Rattle.deciding.specs.private.Moving.{known, HasState}
 use Rattle.theory.proofs.Unfolding.{number-lt, table-spelled, visible-spelled, below-spelled}
 use Rattle.theory.proofs.Good.{first-lower, second-lower}
@@ -176,7 +176,7 @@ module _ (T : Terms) (fine : Good T) where
           (seen-table n nl (rw e) a b i))
 
 -- Memory that has a state is ready to be decided from.
-module _ (terms plan : List ℕ) (fine : Good (termsOf terms)) {S : State} {rest m : List ℕ} (has : HasState (termsOf terms) S rest m) where
+module _ (terms index : List ℕ) (fine : Good (termsOf terms)) {S : State} {rest m : List ℕ} (has : HasState (termsOf terms) S rest m) where
   abbrev T : Terms
   T = termsOf terms
 
@@ -207,11 +207,11 @@ module _ (terms plan : List ℕ) (fine : Good (termsOf terms)) {S : State} {rest
           event-ends (S .now .event) (has .event) (l - T .relations) a b
           (sym (ap (λ w. fired w (l - T .relations) a b) (part-event has) ∙ fired-edge T fine (S .now .event) (has .event) (l - T .relations) a b) ∙ t)
 
-  pub ready : termsWords ≤ length terms → goodMemory terms ≡ true → Planned T plan → Ready terms plan (relationsOf m) (pastOf m)
+  pub ready : termsWords ≤ length terms → goodMemory terms ≡ true → Indexed T index → Ready terms index (relationsOf m) (pastOf m)
   ready lt g p = record {
     long-terms = lt;
     good = g;
-    planned = p;
+    indexed = p;
     long-rel = rw (length-take-le 1024 m (omega (arith, has-long has))) (omega arith);
     long-past = rw (length-take-le 2049 (drop 1024 m) (rw (length-drop 1024 m) (omega (arith, has-long has)))) (omega arith);
     inside = λ l a b _ al. edge-inside l a b al;

@@ -20,7 +20,7 @@ use Rattle.theory.specs.Moment.Event.{none as eventless, happened, tried}
 use Rattle.theory.specs.Tables.{Tables, State, store, operandNow, sinceBits, sinceStep, named, taken, startBits, startStep, startTables, revised}
 use Rattle.theory.specs.Fit.{Good}
 use Rattle.memory.specs.Layout.{stateWords, relationWords, relationAt, tableAt, eventAt, row, tableRow, tableColumns, termsOf, stateOf, wordsOf}
-use Rattle.memory.specs.Plan.{planTable}
+use Rattle.memory.specs.TableIndex.{indexTable}
 use Rattle.deciding.specs.private.Rows.{Table, tableWords}
 use Rattle.deciding.specs.private.Moving.{known, HasState, Movable, Becomes, put, tabled, sinceAt}
 use Rattle.deciding.specs.private.Memo.{MemoOf, Fresh}
@@ -67,7 +67,7 @@ has-same U fine M {X} {rest} {m} Y has e = record {
     go t a true z = table-row-cong (U .members) (fine .few-members) (tableColumns U t) (X t) (Y t) (e t (ltb-true t (tables U) z)) a
     go t a false z = refl
 
-module _ {old before state new plan : List ℕ} (r : Revising old before state new plan) where
+module _ {old before state new index : List ℕ} (r : Revising old before state new index) where
   abbrev T : Terms
   T = termsOf old
 
@@ -116,11 +116,11 @@ module _ {old before state new plan : List ℕ} (r : Revising old before state n
   unfolding revised
   begun-all m has = has .words ∙ append-nil (wordsOf U (startBelow old state (U .entries) U))
 
-  pub begun-movable : (n : ℕ) {rest m : List ℕ} → Begun old state new n rest m → Movable new plan m
+  pub begun-movable : (n : ℕ) {rest m : List ℕ} → Begun old state new n rest m → Movable new index m
   begun-movable n {rest} has = record {
     long-terms = r .long-new;
     good = r .good-new;
-    planned = r .planned-new;
+    indexed = r .indexed-new;
     state = startBelow old state n U;
     rest = rest;
     has = has;
@@ -165,13 +165,13 @@ module _ {old before state new plan : List ℕ} (r : Revising old before state n
       new-table = number-lt (U .entry) n (U .entries) nl p
 
       abbrev oldPlace : ℕ
-      oldPlace = 1024 + 64 * planTable (getD before k 0)
+      oldPlace = 1024 + 64 * indexTable (getD before k 0)
 
       abbrev newPlace : ℕ
-      newPlace = 1024 + 64 * planTable (getD plan n 0)
+      newPlace = 1024 + 64 * indexTable (getD index n 0)
 
       pub old-fits : oldPlace + 64 ≤ length state
-      old-fits = rw (r .planned-old .table k kl old-past .0) (omega (arith, old-table, old-fine .few-tables, r .long-state))
+      old-fits = rw (r .indexed-old .table k kl old-past .0) (omega (arith, old-table, old-fine .few-tables, r .long-state))
 
       abbrev words : List ℕ
       words = take 64 (drop oldPlace state)
@@ -193,7 +193,7 @@ module _ {old before state new plan : List ℕ} (r : Revising old before state n
           bits a b true e =
               let al : a < 64 = ltb-true a 64 e in
               ap (λ (w : ℕ). bit w b) (getD-take 64 (drop oldPlace state) a 0 al ∙ getD-drop oldPlace state a 0
-              ∙ ap (λ (x : ℕ). getD state (1024 + 64 * x + a) 0) (r .planned-old .table k kl old-past .0)
+              ∙ ap (λ (x : ℕ). getD state (1024 + 64 * x + a) 0) (r .indexed-old .table k kl old-past .0)
               ∙ has-table old-has (number (T .entry) k) a (omega (arith, old-table, old-fine .few-tables)) al
               ∙ ap (λ (c : Bool). cond c (tableRow (T .members) (tableColumns T (number (T .entry) k)) (S .table (number (T .entry) k)) a) 0) (lt-ltb (number (T .entry) k) (tables T) old-table))
               ∙ bit-table (T .members) (old-fine .few-members) (tableColumns T (number (T .entry) k)) (S .table (number (T .entry) k)) a b
@@ -214,7 +214,7 @@ module _ {old before state new plan : List ℕ} (r : Revising old before state n
           words taken-table)))
         where
           placed : put (1024 + 64 * t) words m ≡ m'
-          placed = ap (λ (x : ℕ). put (1024 + 64 * x) words m) (sym (r .planned-new .table n nl p .0)) ∙ sym e
+          placed = ap (λ (x : ℕ). put (1024 + 64 * x) words m) (sym (r .indexed-new .table n nl p .0)) ∙ sym e
 
     -- A new table: what the since sweep makes of an empty one.
     pub start-anew : {rest m m' : List ℕ} → T .entries ≤ k → Begun old state new n rest m → Becomes new (sinceAt n) m m' → Begun old state new (n + 1) rest m'

@@ -1,20 +1,18 @@
 -- What a store into the lent memory makes of the state whose words it has: one table, one edge, the event
 -- word; and memory that is cleared.
-use Prim.Native.Nat.{ℕ, zero, suc, _+_, _-_, _*_, _^_, _≤_, _<_}
+use Prim.Native.Nat.{ℕ, _+_, _-_, _*_, _≤_, _<_}
 use native.Mathlib.Omega.{arith}
 use native.Mathlib.Numerals.{add-one}
-use native.Mathlib.Nat.{pow-zero, pow-suc, lt-of-lt-of-le}
 use mathlib.Core.Path.{_≡_, refl, sym, ap, subst, _∙_}
 use mathlib.Core.List.{List, [], _∷_, _++_, append-assoc}
 use mathlib.Core.Bool.{Bool, true, false, cond, _&&_}
 use lib.Dec.{eqb, ltb}
-use lib.Pow.{pow-mono}
 use lib.ListN.{length, getD, take, drop, set, replicate, length-append, length-drop, length-set, getD-replicate, length-replicate, List·getD-append}
 use lib.Seq.{length-take-le, getD-append-add, getD-take, getD-drop, getD-set-same, getD-set-other, drop-drop, drop-at, drop-set-lt, take-suc, take-suc-set}
 use borrow.Author.Tests.{eqb-true, eqb-false, eq-eqb, lt-ltb, ltb-true, ltb-false}
 use borrow.Rule.Slice.PartMut.{putMid, post-is}
 use Rattle.sets.specs.Sets.{bit, pack}
-use Rattle.sets.proofs.Bits.{bits-equal}
+use Rattle.sets.proofs.Bits.{same-bits}
 use Rattle.sets.proofs.Finite.{and-left, and-right, and-both, not-both}
 use Rattle.theory.specs.Terms.{Terms}
 use Rattle.theory.specs.Moment.{Event, first}
@@ -32,14 +30,6 @@ use Rattle.memory.proofs.Words.{length-words, words-by, relation-words}
 use Rattle.deciding.proofs.SameDecision.{has-long, has-relation, has-table, has-event}
 
 -- Words with the same bits are the same.
-below-pow : (n : ℕ) → n < 2 ^ n
-below-pow zero = rw (pow-zero 2) (omega arith)
-below-pow (suc n) = rw (pow-suc 2 n) (omega (arith, below-pow n))
-
-same-bits : (v w : ℕ) → ((b : ℕ) → bit v b ≡ bit w b) → v ≡ w
-same-bits v w h =
-    bits-equal (v + w) v w (lt-of-lt-of-le (below-pow v) (pow-mono (omega arith))) (lt-of-lt-of-le (below-pow w) (pow-mono (omega arith))) (λ b _. h b)
-
 table-row : (N : ℕ) → N < 65 → (cs : List ℕ) (p : ℕ → ℕ → Bool) (s : List ℕ) → Table N cs p s → (a : ℕ) → getD s a 0 ≡ tableRow N cs p a
 table-row N few cs p s h a = same-bits (getD s a 0) (tableRow N cs p a) (λ b. h .bits a b ∙ sym (bit-table N few cs p a b))
 

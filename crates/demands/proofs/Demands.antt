@@ -1,7 +1,7 @@
--- The statements of all top theorems in one file, in the order of docs/GUARANTEES.md, each with the law that proves it.
--- What they speak of is defined in specs/ of the crates; tests/believed.py counts these definitions. The other half of
--- the promises are the contracts of the public functions, in src/. Names that mean two things in two crates have a name
--- of their own here.
+-- The statements of all top theorems in one file, under the titles of docs/GUARANTEES.md, each with the law that proves
+-- it. What they speak of is defined in specs/ of the crates; tests/believed.py counts these definitions. The other half
+-- of the promises are the contracts of the public functions, in src/. Names that mean two things in two crates have a
+-- name of their own here.
 use Prim.Native.Nat.{_%_, _*_, _+_, _/_, _<_, _≤_, suc, ℕ}
 use mathlib.Core.Bool.{Bool, _&&_, _||_, false, true}
 use mathlib.Core.List.{List, [], _++_, _∷_, map}
@@ -28,14 +28,14 @@ use Rattle.fields.specs.Split.{lines}
 use Rattle.memory.specs.Checks.{Inside, goodMemory, goodState}
 use Rattle.memory.specs.Layout.{stateOf, stateWords, tableAt, termsOf, termsWords, wordsOf}
 use Rattle.memory.specs.Outcome.{banksOpen, banksRevise, checks, opens, revises}
-use Rattle.memory.specs.Outcome.Outcome.{failed, passed}
+use Rattle.memory.specs.Outcome.Outcome.{refused as refusedOutcome, passed}
 use Rattle.file.specs.File.{File}
 use Rattle.file.specs.Normal.{Unpadded, isPlain, normalText}
 use Rattle.file.specs.Preset.{ReadsPreset}
 use Rattle.file.specs.Reading.{reading, tests}
-use Rattle.file.specs.Reading.Reading.{accepted, refused as refusedAt}
+use Rattle.file.specs.Reading.Reading.{accepted, refused as refusedReading}
 use Rattle.file.specs.Refused.{RefusedText, numbersRise}
-use Rattle.file.specs.Said.{SaidBy, edgesSaid, records, termsSaid}
+use Rattle.file.specs.Said.{SaidBy, edgesSaid, saidLines, termsSaid}
 use Rattle.file.specs.Writing.{textSaid}
 use Rattle.file.specs.declared.line.Line.{Line}
 use Rattle.calls.specs.Agreement.{Agrees, KeepsTerms, Lent, LentCall, LentStep, SameSteps, fedAll, fedCalls, fedSteps, opened, openedBook, serveAll, serveSteps}
@@ -48,7 +48,7 @@ use Rattle.calls.specs.Revising.{revisedState}
 use Rattle.calls.specs.SetList.{Plain, blank, left as listLeft, listChecks, listed, ones, singly}
 use Rattle.calls.specs.SetList.Listing.{counted, refused as refusedList}
 use Rattle.calls.specs.Telling.{tells}
-use Rattle.calls.specs.Telling.Telling.{refused as untold}
+use Rattle.calls.specs.Telling.Telling.{refused as refusedTelling}
 use Rattle.calls.specs.declared.Record.{Record as ListRecord}
 use Rattle.banking.specs.BankList.{bankLeft, bankListChecks, bankListed, bankSingly}
 use Rattle.banking.specs.BankRefused.{ListRefusal, OpeningRefusal as BanksOpeningRefusal, Refusal as BankRefusal, RevisionRefusal as BanksRevisionRefusal}
@@ -64,9 +64,9 @@ use Rattle.plans.specs.Refused.{PlanRefusal, TellingRefusal}
 use Rattle.reader.specs.Memory.{memoryOf}
 use Rattle.reader.specs.Read.{readGives, readTerms}
 use Rattle.writer.specs.Write.{isFresh, oldSizeGives, oldWriteGives, oldWriteLeaves, storeGives, storeLeaves, storeSizeGives, storedText, writtenText}
-use Rattle.writer.specs.Write.Writing.{bytes, unwritten}
+use Rattle.writer.specs.Write.Writing.{bytes, refused as refusedWriting}
 use Rattle.text.specs.Banks.{banksReadGives, loadedBanks, saidBooks}
-use Rattle.text.specs.Recorded.{Recorded, after, laterBook, loaded}
+use Rattle.text.specs.Recorded.{Recorded, afterSteps, laterBook, loaded}
 use Rattle.text.specs.Text.{Back, readState}
 use Rattle.rulings.specs.Telling.{keeperTells}
 use Rattle.transcript.specs.Output.{output}
@@ -88,22 +88,22 @@ call-refused-only = Rattle.calls.proofs.Refused.refused-only
 
 -- So is an opening.
 pub opening-refused-only : (terms state : List ℕ) (n l : ℕ) →
-    (opens terms state ≡ failed n l → (l ≡ 0) × OpeningRefusal terms state n × (openedState terms state ≡ state))
-    × (OpeningRefusal terms state n → opens terms state ≡ failed n 0)
+    (opens terms state ≡ refusedOutcome n l → (l ≡ 0) × OpeningRefusal terms state n × (openedState terms state ≡ state))
+    × (OpeningRefusal terms state n → opens terms state ≡ refusedOutcome n 0)
 opening-refused-only = Rattle.calls.proofs.Refused.failed-only
 
 -- So are new terms, with the second state as lent.
 pub revision-refused-only : (old state new second : List ℕ) → (n l : ℕ) →
-    (revises old state new second ≡ failed n l → (l ≡ 0) × RevisionRefusal old state new second n
+    (revises old state new second ≡ refusedOutcome n l → (l ≡ 0) × RevisionRefusal old state new second n
     × (revisedState old state new second ≡ second))
-    × (RevisionRefusal old state new second n → revises old state new second ≡ failed n 0)
+    × (RevisionRefusal old state new second n → revises old state new second ≡ refusedOutcome n 0)
 revision-refused-only = Rattle.calls.proofs.RefusedRevision.revision-refused-only
 
 -- So are new member numbers.
 pub renumber-refused-only : (terms state numbers second : List ℕ) → (n l : ℕ) →
-    (renumbering terms state numbers second ≡ failed n l → (l ≡ 0) × RenumberingRefusal terms state numbers second n
+    (renumbering terms state numbers second ≡ refusedOutcome n l → (l ≡ 0) × RenumberingRefusal terms state numbers second n
     × (renumberedState terms state numbers second ≡ second))
-    × (RenumberingRefusal terms state numbers second n → renumbering terms state numbers second ≡ failed n 0)
+    × (RenumberingRefusal terms state numbers second n → renumbering terms state numbers second ≡ refusedOutcome n 0)
 renumber-refused-only = Rattle.calls.proofs.RefusedRenumbering.renumber-refused-only
 
 -- So is a look or a request of one of two banks, with all memory of both as lent.
@@ -138,20 +138,20 @@ bank-list-refused-only = Rattle.banking.proofs.Refused.list-refused-only
 
 -- So is the opening of both banks, which never writes the relations.
 pub banks-opening-refused-only : (terms relations own other : List ℕ) → (n l : ℕ) →
-    (banksOpen terms relations own other ≡ failed n l →
+    (banksOpen terms relations own other ≡ refusedOutcome n l →
     (l ≡ 0) × BanksOpeningRefusal terms relations own other n
     × ((lent : List ℕ) → ownOpened terms relations own other lent ≡ lent))
-    × (BanksOpeningRefusal terms relations own other n → banksOpen terms relations own other ≡ failed n 0)
+    × (BanksOpeningRefusal terms relations own other n → banksOpen terms relations own other ≡ refusedOutcome n 0)
 banks-opening-refused-only = Rattle.banking.proofs.RefusedBoth.opening-refused-only
 
 -- So are new terms for both banks.
 pub banks-revision-refused-only : (old relations own other new relations' own' other' : List ℕ) → (n l : ℕ) →
-    (banksRevise old relations own other new relations' own' other' ≡ failed n l →
+    (banksRevise old relations own other new relations' own' other' ≡ refusedOutcome n l →
     (l ≡ 0) × BanksRevisionRefusal old relations own other new relations' own' other' n
     × (relationsRevised old relations own other new relations' own' other' ≡ relations')
     × ((x lent : List ℕ) → ownRevised old relations own other new relations' own' other' x lent ≡ lent))
     × (BanksRevisionRefusal old relations own other new relations' own' other' n →
-    banksRevise old relations own other new relations' own' other' ≡ failed n 0)
+    banksRevise old relations own other new relations' own' other' ≡ refusedOutcome n 0)
 banks-revision-refused-only = Rattle.banking.proofs.RefusedBoth.revision-refused-only
 
 -- So is a plan, with scratch as lent.
@@ -165,12 +165,12 @@ plan-refused-only = Rattle.plans.proofs.Refused.plan-refused-only
 
 -- So is an entry that is to be told. Nothing is written.
 pub telling-refused-only : (terms state : List ℕ) (n u v k l : ℕ) →
-    (tells terms state n u v ≡ untold k l → (l ≡ 0) × TellingRefusal terms state n u v k)
-    × (TellingRefusal terms state n u v k → tells terms state n u v ≡ untold k 0)
+    (tells terms state n u v ≡ refusedTelling k l → (l ≡ 0) × TellingRefusal terms state n u v k)
+    × (TellingRefusal terms state n u v k → tells terms state n u v ≡ refusedTelling k 0)
 telling-refused-only = Rattle.plans.proofs.Refused.telling-refused-only
 
 -- A text is refused with a number at a line exactly when a reason for these fits.
-pub text-refused-only : (text : List ℕ) (n k : ℕ) → (reading text ≡ refusedAt n k) ↔ RefusedText text n k
+pub text-refused-only : (text : List ℕ) (n k : ℕ) → (reading text ≡ refusedReading n k) ↔ RefusedText text n k
 text-refused-only = Rattle.file.proofs.Refused.refused-only
 
 -- The tests of a line are in the order of their numbers, so the first that fails has the lowest number.
@@ -183,8 +183,8 @@ tests-rise = Rattle.file.proofs.Refused.tests-rise
 -- refuses the writing.
 pub old-size-told : (terms state out : List ℕ) →
     ((n : ℕ) → oldSizeGives terms state ≡ bytes n → n ≤ length out → oldWriteGives terms state out ≡ bytes n)
-    × ((n : ℕ) → oldSizeGives terms state ≡ bytes n → length out < n → oldWriteGives terms state out ≡ unwritten 6 0)
-    × ((k l : ℕ) → oldSizeGives terms state ≡ unwritten k l → oldWriteGives terms state out ≡ unwritten k l)
+    × ((n : ℕ) → oldSizeGives terms state ≡ bytes n → length out < n → oldWriteGives terms state out ≡ refusedWriting 6 0)
+    × ((k l : ℕ) → oldSizeGives terms state ≡ refusedWriting k l → oldWriteGives terms state out ≡ refusedWriting k l)
 old-size-told = Rattle.writer.proofs.Sized.old-size-told
 
 -- An output of the stated size is stored.
@@ -194,12 +194,12 @@ store-size-enough = Rattle.writer.proofs.Sized.store-size-enough
 
 -- A shorter one is refused with 6.
 pub store-size-short : (terms state out : List ℕ) →
-    (n : ℕ) → storeSizeGives terms state ≡ bytes n → length out < n → storeGives terms state out ≡ unwritten 6 0
+    (n : ℕ) → storeSizeGives terms state ≡ bytes n → length out < n → storeGives terms state out ≡ refusedWriting 6 0
 store-size-short = Rattle.writer.proofs.Sized.store-size-short
 
 -- What refuses the size refuses the storing.
 pub store-size-refused : (terms state out : List ℕ) →
-    (k l : ℕ) → storeSizeGives terms state ≡ unwritten k l → storeGives terms state out ≡ unwritten k l
+    (k l : ℕ) → storeSizeGives terms state ≡ refusedWriting k l → storeGives terms state out ≡ refusedWriting k l
 store-size-refused = Rattle.writer.proofs.Sized.store-size-refused
 
 -- No output of the program is longer than 15 bytes for each of 65,536 lines.
@@ -302,7 +302,7 @@ as-single-requests = Rattle.calls.proofs.AsSingle.as-single-requests
 -- Where a check fails, the list gets the number and line that every single request would get, and all memory is as
 -- lent.
 pub refused-whole : (terms state scratch : List ℕ) (rs : List ListRecord) →
-    (n l : ℕ) → listChecks terms state scratch ≡ failed n l →
+    (n l : ℕ) → listChecks terms state scratch ≡ refusedOutcome n l →
     (listed terms state scratch rs ≡ refusedList n l)
     × (listLeft terms state scratch rs ≡ record { records = rs; grants = 0; state = state; scratch = scratch })
     × ((j u v : ℕ) → answer terms state scratch j u v ≡ refused n l)
@@ -316,7 +316,7 @@ pub bank-list-singly : (terms relations own other scratch spare : List ℕ) (rs 
     ≡ counted (ones (bankLeft terms relations own other scratch spare rs .records)))
     × ((i : ℕ) → i < length rs →
     Plain (getD (bankLeft terms relations own other scratch spare rs .records) i blank .answer)))
-    × ((n l : ℕ) → bankListChecks terms relations own other scratch spare ≡ failed n l →
+    × ((n l : ℕ) → bankListChecks terms relations own other scratch spare ≡ refusedOutcome n l →
     (bankListed terms relations own other scratch spare rs ≡ refusedList n l)
     × (bankLeft terms relations own other scratch spare rs
     ≡ record {
@@ -481,11 +481,11 @@ normal-accepted = Rattle.file.proofs.Rewritten.normal-accepted
 
 -- Its lines say the same.
 pub normal-said :
-    (text : List ℕ) (f : File) → reading text ≡ accepted f → records (lines (normalText text)) ≡ records (lines text)
+    (text : List ℕ) (f : File) → reading text ≡ accepted f → saidLines (lines (normalText text)) ≡ saidLines (lines text)
 normal-said = Rattle.file.proofs.Rewritten.normal-said
 
 -- What reading makes of an accepted text is what its lines say, taken one by one and with no test.
-pub said : (text : List ℕ) (f : File) → reading text ≡ accepted f → SaidBy (records (lines text)) f
+pub said : (text : List ℕ) (f : File) → reading text ≡ accepted f → SaidBy (saidLines (lines text)) f
 said = Rattle.file.proofs.Said.said
 
 -- ---- The logic
@@ -606,8 +606,8 @@ many-fewer = Rattle.theory.proofs.Many.many-fewer
 pub demand-3 : (text : List ℕ) (B : Book) → Recorded text B →
     (terms state : List ℕ) → termsWords ≤ length terms → stateWords ≤ length state → (ss : List LentStep) →
     (serveSteps (loaded text terms state) ss .0 ≡ keepSteps B (fedSteps ss) .0)
-    × Agrees (laterBook B ss .terms) (laterBook B ss .start) (after text terms state ss .before)
-    (after text terms state ss .state) (laterBook B ss .moments)
+    × Agrees (laterBook B ss .terms) (laterBook B ss .start) (afterSteps text terms state ss .before)
+    (afterSteps text terms state ss .state) (laterBook B ss .moments)
     × ((f : File) → reading text ≡ accepted f → take termsWords (readTerms text terms state) ≡ memoryOf (f .terms))
 demand-3 = Rattle.text.proofs.Demand.demand-3
 
@@ -615,7 +615,7 @@ demand-3 = Rattle.text.proofs.Demand.demand-3
 pub demand-3-plans : (text : List ℕ) (B : Book) → Recorded text B →
     (terms state : List ℕ) → termsWords ≤ length terms → stateWords ≤ length state → (ss : List LentStep) →
     (scratch plan : List ℕ) (planner rival goal u v : ℕ) →
-    ruling (after text terms state ss .terms) (after text terms state ss .state) scratch plan planner rival goal u v
+    ruling (afterSteps text terms state ss .terms) (afterSteps text terms state ss .state) scratch plan planner rival goal u v
     ≡ keeperRules (laterBook B ss) (length scratch) plan planner rival goal u v
 demand-3-plans = Rattle.rulings.proofs.Demand.demand-3-plans
 
@@ -623,8 +623,8 @@ demand-3-plans = Rattle.rulings.proofs.Demand.demand-3-plans
 pub demand-3-telling : (text : List ℕ) (B : Book) → Recorded text B →
     (terms state : List ℕ) → termsWords ≤ length terms → stateWords ≤ length state → (ss : List LentStep) →
     (n u v : ℕ) →
-    tells (after text terms state ss .terms)
-    (after text terms state ss .state) n u v ≡ keeperTells (laterBook B ss) n u v
+    tells (afterSteps text terms state ss .terms)
+    (afterSteps text terms state ss .state) n u v ≡ keeperTells (laterBook B ss) n u v
 demand-3-telling = Rattle.rulings.proofs.Demand.demand-3-telling
 
 -- After loading a file that a monitor wrote, the answers are those that it would have given had it never stopped.
@@ -649,17 +649,17 @@ recorded-accepted = Rattle.text.proofs.Resuming.recorded-accepted
 pub recorded-checked :
     (text : List ℕ) (B : Book) → Recorded text B → (terms state : List ℕ) → termsWords ≤ length terms →
     stateWords ≤ length state →
-    (ss : List LentStep) → passed ≡ checks (after text terms state ss .terms) (after text terms state ss .state)
+    (ss : List LentStep) → passed ≡ checks (afterSteps text terms state ss .terms) (afterSteps text terms state ss .state)
 recorded-checked = Rattle.text.proofs.Resuming.recorded-checked
 
 -- For an old file and single calls, where the keeper is given what the lines say.
 pub demand-3-old : (text : List ℕ) (f : File) → reading text ≡ accepted f → f .stored ≡ false →
     (terms state : List ℕ) → termsWords ≤ length terms → stateWords ≤ length state → (cs : List LentCall) →
     (serveAll (readTerms text terms state) (readState text terms state) cs .0
-    ≡ keeper (termsSaid (records (lines text))) (edgesSaid (records (lines text))) (fedAll cs) .0)
-    × Agrees (termsSaid (records (lines text))) fromFirst state
+    ≡ keeper (termsSaid (saidLines (lines text))) (edgesSaid (saidLines (lines text))) (fedAll cs) .0)
+    × Agrees (termsSaid (saidLines (lines text))) fromFirst state
     (serveAll (readTerms text terms state) (readState text terms state) cs .1)
-    (keeper (termsSaid (records (lines text))) (edgesSaid (records (lines text))) (fedAll cs) .1)
+    (keeper (termsSaid (saidLines (lines text))) (edgesSaid (saidLines (lines text))) (fedAll cs) .1)
 demand-3-old = Rattle.text.proofs.Demand.demand-3-old
 
 -- ---- From any opening
@@ -674,9 +674,9 @@ demand-3-calls = Rattle.calls.proofs.Demand.demand-3
 -- With set lists, new terms and new numbers.
 pub demand-3-steps : (terms state : List ℕ) → opens terms state ≡ passed → (ss : List LentStep) →
     let after = serveSteps (opened terms state) ss in
-    let kept = keepSteps (openedBook terms state) (fedSteps ss) in
-    (after .0 ≡ kept .0) × Alike (kept .1 .terms) (termsOf (after .1 .terms))
-    × Agrees (termsOf (after .1 .terms)) (kept .1 .start) (after .1 .before) (after .1 .state) (kept .1 .moments)
+    let byKeeper = keepSteps (openedBook terms state) (fedSteps ss) in
+    (after .0 ≡ byKeeper .0) × Alike (byKeeper .1 .terms) (termsOf (after .1 .terms))
+    × Agrees (termsOf (after .1 .terms)) (byKeeper .1 .start) (after .1 .before) (after .1 .state) (byKeeper .1 .moments)
 demand-3-steps = Rattle.calls.proofs.Demand.demand-3-steps
 
 -- Every plan after them.
@@ -722,12 +722,12 @@ says-of-two = Rattle.calls.proofs.TwoVariables.says-of-two
 pub steps-say-of-two : (terms state : List ℕ) → opens terms state ≡ passed → (ss : List LentStep) →
     let T = termsOf (serveSteps (opened terms state) ss .1 .terms) in
     let m = serveSteps (opened terms state) ss .1 .state in
-    let kept = keepSteps (openedBook terms state) (fedSteps ss) .1 in
+    let byKeeper = keepSteps (openedBook terms state) (fedSteps ss) .1 in
     (n : ℕ) → n < T .entries → isPast (T .entry n .op) ≡ true →
     (x y : ℕ) → x < y → ((z : ℕ) → free (formula T n) z ≡ (eqb z x || eqb z y)) →
     (a b c : ℕ) → a < T .members → b < T .members → c < T .members →
     bit (getD m (tableAt (number (T .entry) n) (4 * a + b / 4)) 0) (16 * (b % 4) + c)
-    ≡ keeperHolds T (kept .start) (kept .moments) n (assign (alone y c) x b) a
+    ≡ keeperHolds T (byKeeper .start) (byKeeper .moments) n (assign (alone y c) x b) a
 steps-say-of-two = Rattle.calls.proofs.TwoVariables.steps-say-of-two
 
 -- A table with one column.
@@ -782,9 +782,9 @@ pub demand-3-banks :
     (terms : List ℕ) (W : BanksLent) → banksOpen terms (W .relations) (W .own left) (W .own right) ≡ passed →
     (ss : List LentBankStep) →
     let after = serveBankSteps (openedInUse terms W) ss in
-    let kept = keepBankSteps (openedBooks terms W) (fedBankSteps ss) in
-    (after .0 ≡ kept .0) × Alike (kept .1 .terms) (termsOf (after .1 .terms))
-    × BanksAgree (termsOf (after .1 .terms)) (kept .1 .start) (after .1 .before) (after .1 .lent) (kept .1 .moments)
+    let byKeeper = keepBankSteps (openedBooks terms W) (fedBankSteps ss) in
+    (after .0 ≡ byKeeper .0) × Alike (byKeeper .1 .terms) (termsOf (after .1 .terms))
+    × BanksAgree (termsOf (after .1 .terms)) (byKeeper .1 .start) (after .1 .before) (after .1 .lent) (byKeeper .1 .moments)
 demand-3-banks = Rattle.banking.proofs.Demand.demand-3-banks
 
 -- From one terms file that is read into both banks, where the keeper is given what its lines say.
@@ -793,9 +793,9 @@ pub demand-3-banks-old :
     (done : banksReadGives text terms (W .relations) (W .own left) (W .own right) ≡ passed) →
     (ss : List LentBankStep) →
     let after = serveBankSteps (loadedBanks text terms W) ss in
-    let kept = keepBankSteps (saidBooks text) (fedBankSteps ss) in
-    (after .0 ≡ kept .0) × Alike (kept .1 .terms) (termsOf (after .1 .terms))
-    × BanksAgree (termsOf (after .1 .terms)) (kept .1 .start) (after .1 .before) (after .1 .lent) (kept .1 .moments)
+    let byKeeper = keepBankSteps (saidBooks text) (fedBankSteps ss) in
+    (after .0 ≡ byKeeper .0) × Alike (byKeeper .1 .terms) (termsOf (after .1 .terms))
+    × BanksAgree (termsOf (after .1 .terms)) (byKeeper .1 .start) (after .1 .before) (after .1 .lent) (byKeeper .1 .moments)
 demand-3-banks-old = Rattle.text.proofs.TwoBanks.demand-3-banks-old
 
 -- In two runs in which bank b gets the same calls, and the other bank makes moments at the same places with equal
@@ -836,15 +836,15 @@ keeper-isolated = Rattle.banking.proofs.Isolated.isolated
 pub strangers-have-no-say :
     (T : Terms) (without : WithoutReach T) (S : Circle) (text text' : List ℕ) (f f' : File)
     (is-read : reading text ≡ accepted f) (is-read' : reading text' ≡ accepted f') (form : f .stored ≡ false)
-    (form' : f' .stored ≡ false) (says : termsSaid (records (lines text)) ≡ T)
-    (says' : termsSaid (records (lines text')) ≡ T)
-    (agree : AgreeWithin T S (edgesSaid (records (lines text))) (edgesSaid (records (lines text'))))
+    (form' : f' .stored ≡ false) (says : termsSaid (saidLines (lines text)) ≡ T)
+    (says' : termsSaid (saidLines (lines text')) ≡ T)
+    (agree : AgreeWithin T S (edgesSaid (saidLines (lines text))) (edgesSaid (saidLines (lines text'))))
     (terms terms' state state' : List ℕ) (tl : termsWords ≤ length terms) (tl' : termsWords ≤ length terms')
     (sl : stateWords ≤ length state) (sl' : stateWords ≤ length state') (ss ss' : List LentStep) (keeps : KeepsTerms ss)
     (keeps' : KeepsTerms ss') (c₀ : Call) (a₀ : Answer) →
-    Separate T S (keeper T (edgesSaid (records (lines text))) (fedCalls ss) .1) →
-    Separate T S (keeper T (edgesSaid (records (lines text'))) (fedCalls ss') .1) →
-    Paired T S (first (edgesSaid (records (lines text))) ∷ []) (first (edgesSaid (records (lines text'))) ∷ [])
+    Separate T S (keeper T (edgesSaid (saidLines (lines text))) (fedCalls ss) .1) →
+    Separate T S (keeper T (edgesSaid (saidLines (lines text'))) (fedCalls ss') .1) →
+    Paired T S (first (edgesSaid (saidLines (lines text))) ∷ []) (first (edgesSaid (saidLines (lines text'))) ∷ [])
     (fedCalls ss) (fedCalls ss') →
     (n : ℕ) → InCircle S (getD (fedCalls ss) n c₀) →
     getD (serveSteps (loaded text terms state) ss .0) n a₀
@@ -855,14 +855,14 @@ strangers-have-no-say = Rattle.text.proofs.Strangers.strangers-have-no-say
 pub strangers-have-no-say-first :
     (T : Terms) (without : WithoutReach T) (S : Circle) (text text' : List ℕ) (f f' : File)
     (is-read : reading text ≡ accepted f) (is-read' : reading text' ≡ accepted f') (form : f .stored ≡ false)
-    (form' : f' .stored ≡ false) (says : termsSaid (records (lines text)) ≡ T)
-    (says' : termsSaid (records (lines text')) ≡ T)
-    (agree : AgreeWithin T S (edgesSaid (records (lines text))) (edgesSaid (records (lines text'))))
+    (form' : f' .stored ≡ false) (says : termsSaid (saidLines (lines text)) ≡ T)
+    (says' : termsSaid (saidLines (lines text')) ≡ T)
+    (agree : AgreeWithin T S (edgesSaid (saidLines (lines text))) (edgesSaid (saidLines (lines text'))))
     (terms terms' state state' : List ℕ) (tl : termsWords ≤ length terms) (tl' : termsWords ≤ length terms')
     (sl : stateWords ≤ length state) (sl' : stateWords ≤ length state') (ss ss' : List LentStep) (keeps : KeepsTerms ss)
     (keeps' : KeepsTerms ss') (c₀ : Call) (a₀ : Answer) →
-    SeparateFirst T S (edgesSaid (records (lines text))) → SeparateFirst T S (edgesSaid (records (lines text'))) →
-    Paired T S (first (edgesSaid (records (lines text))) ∷ []) (first (edgesSaid (records (lines text'))) ∷ [])
+    SeparateFirst T S (edgesSaid (saidLines (lines text))) → SeparateFirst T S (edgesSaid (saidLines (lines text'))) →
+    Paired T S (first (edgesSaid (saidLines (lines text))) ∷ []) (first (edgesSaid (saidLines (lines text'))) ∷ [])
     (fedCalls ss) (fedCalls ss') →
     (n : ℕ) → InCircle S (getD (fedCalls ss) n c₀) →
     getD (serveSteps (loaded text terms state) ss .0) n a₀

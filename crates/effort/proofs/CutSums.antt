@@ -15,8 +15,8 @@ use Rattle.theory.specs.Formula.{Entry, Operand, firstOperand, secondOperand, t
 use Rattle.theory.specs.Limits.{maxEntries}
 use Rattle.theory.specs.Terms.{Terms}
 use Rattle.memory.specs.Layout.{termsOf}
-use Rattle.memory.specs.Plan.{inFree}
-use Rattle.effort.specs.Effort.{smaller, most, cut, setOf, setsOf, isOne, rowsOf, callsOf, askedOf, more, moreIf, isEntry, moreOf, policies, Count, rowsAt, callsAfter, askedAfter, turn, after, total, kept, brief, effort}
+use Rattle.memory.specs.TableIndex.{inFree}
+use Rattle.effort.specs.Effort.{smaller, most, cut, setOf, setsOf, isOne, rowsOf, callsOf, askedOf, more, moreIf, isEntry, moreOf, policies, Count, rowsAt, callsAfter, askedAfter, turn, countAfter, total, memoRows, brief, effort}
 
 pub second-smaller : (x y : ℕ) → y < x → y ≡ smaller x y
 unfolding smaller
@@ -75,23 +75,23 @@ module _ (T : Terms) (sets : List ℕ) (limit : ℕ) where
   turned calls asked calls' asked' p n op q rows k works x y one en eo e₁ eq er ek ew ex ey ec ea =
       (rw (er, eq, e₁, eo), rw (ec, ex, ew, ek, er, eq, e₁, eo, en), rw (ea, ey, ew, ek, er, eq, e₁, eo, en))
 
-  pub no-turn : (calls asked : List ℕ) → calls ≡ policies T (T .events) → asked ≡ policies T (T .events) → counted calls asked 0 ≡ after T sets limit 0
-  unfolding after
+  pub no-turn : (calls asked : List ℕ) → calls ≡ policies T (T .events) → asked ≡ policies T (T .events) → counted calls asked 0 ≡ countAfter T sets limit 0
+  unfolding countAfter
   no-turn calls asked ec ea = ap₂ (λ (x y : List ℕ). counted x y 0) ec ea
 
-  pub one-turn : (i p rows rows' r : ℕ) (calls asked calls' asked' : List ℕ) → counted calls asked rows ≡ after T sets limit i → p ≡ T .entries - (i + 1) →
+  pub one-turn : (i p rows rows' r : ℕ) (calls asked calls' asked' : List ℕ) → counted calls asked rows ≡ countAfter T sets limit i → p ≡ T .entries - (i + 1) →
       r ≡ rowsAt T sets limit asked p → calls' ≡ callsAfter T sets limit calls asked p → asked' ≡ askedAfter T sets limit calls asked p →
-      rows' ≡ cut (rows + r) → counted calls' asked' rows' ≡ after T sets limit (i + 1)
-  unfolding after
+      rows' ≡ cut (rows + r) → counted calls' asked' rows' ≡ countAfter T sets limit (i + 1)
+  unfolding countAfter
   one-turn i p rows rows' r calls asked calls' asked' e q er ec ea ew =
       let t : counted calls' asked' rows' ≡ turn T sets limit (counted calls asked rows) p = (rw (ec, ea, ew, er)) in
       t
       ∙ ap₂ (λ (k : Count) (j : ℕ). turn T sets limit k j) e (q ∙ ap (λ (j : ℕ). T .entries - j) (add-one i))
-      ∙ ap (after T sets limit) (sym (add-one i))
+      ∙ ap (countAfter T sets limit) (sym (add-one i))
 
-  pub all-turns : (i rows : ℕ) (calls asked : List ℕ) → counted calls asked rows ≡ after T sets limit i → i ≡ T .entries → rows ≡ total T sets limit
+  pub all-turns : (i rows : ℕ) (calls asked : List ℕ) → counted calls asked rows ≡ countAfter T sets limit i → i ≡ T .entries → rows ≡ total T sets limit
   unfolding total
-  all-turns i rows calls asked e q = ap (λ (k : Count). k .rows) e ∙ ap (λ (j : ℕ). after T sets limit j .rows) q
+  all-turns i rows calls asked e q = ap (λ (k : Count). k .rows) e ∙ ap (λ (j : ℕ). countAfter T sets limit j .rows) q
 
 -- ---- the bound
 
@@ -108,7 +108,7 @@ module _ (w : List ℕ) where
   so-few sets plain l k es ep = rw (le-ltb maxEntries (T .entries) l, lt-ltb (T .entries) 10 k, ep, es)
 
   pub more-than-few : (sets : List ℕ) (plain shared n b s r : ℕ) → T .entries ≤ maxEntries → 10 ≤ T .entries → sets ≡ setsOf T (T .entries) →
-      plain ≡ total T sets most → n ≡ T .members → shared ≡ total T sets (kept n) → b ≡ brief n → s ≡ cut (shared + b) → r ≡ smaller plain s → r ≡ effort w
+      plain ≡ total T sets most → n ≡ T .members → shared ≡ total T sets (memoRows n) → b ≡ brief n → s ≡ cut (shared + b) → r ≡ smaller plain s → r ≡ effort w
   unfolding effort
   more-than-few sets plain shared n b s r l k es ep en eh eb ec er =
       rw (le-ltb maxEntries (T .entries) l, le-ltb (T .entries) 10 k, er, ec, eb, eh, en, ep, es)

@@ -7,12 +7,12 @@ use mathlib.Core.List.{List}
 use lib.Dec.{eqb, ltb}
 use lib.ListN.{getD, set, replicate}
 use Rattle.sets.specs.Sets.{pack}
-use Rattle.theory.specs.Formula.{Entry, Operand, firstOperand, secondOperand, thirdOperand, isPast}
+use Rattle.theory.specs.Formula.{Entry, Operand, firstOperand, secondOperand, thirdOperand, isPast, outOperator, bindOperator}
 use Rattle.theory.specs.Formula.Operand.{unused, variable, binder, label, entry, count}
 use Rattle.theory.specs.Limits.{maxEntries, pairMembers}
 use Rattle.theory.specs.Terms.{Terms}
 use Rattle.memory.specs.Layout.{termsOf}
-use Rattle.memory.specs.Plan.{inFree, restOf}
+use Rattle.memory.specs.TableIndex.{inFree, restOf}
 
 unfoldable pub smaller : ℕ → ℕ → ℕ
 smaller x y = cond (ltb y x) y x
@@ -56,11 +56,11 @@ rowsOf op one asked limit = cond (ltb op 2 || isPast op) 0 (cond one (smaller as
 -- How often an entry that is worked out so often, for so many rows, asks for each of its operands. A bind asks for each
 -- row apart. A past-time entry's table asks once, or, with two columns, once for each member.
 unfoldable pub callsOf : (members op : ℕ) → (one : Bool) → (works rows : ℕ) → ℕ
-callsOf N op one works rows = cond (isPast op) (cond one 1 N) (cond (eqb op 8) rows works)
+callsOf N op one works rows = cond (isPast op) (cond one 1 N) (cond (eqb op bindOperator) rows works)
 
 -- For how many rows: not, or and bind for as many as their own, any other for those of all members each time.
 unfoldable pub askedOf : (members op : ℕ) → (one : Bool) → (works rows : ℕ) → ℕ
-askedOf N op one works rows = cond (isPast op) (cond one N (N * N)) (cond (ltb op 4 || eqb op 8) rows (times N works))
+askedOf N op one works rows = cond (isPast op) (cond one N (N * N)) (cond (ltb op outOperator || eqb op bindOperator) rows (times N works))
 
 -- ---- counting
 
@@ -121,19 +121,19 @@ module _ (T : Terms) (sets : List ℕ) (limit : ℕ) where
   }
 
   -- The last i entries are done.
-  unfoldable pub after : ℕ → Count
-  after zero = record { calls = policies T (T .events); asked = policies T (T .events); rows = 0 }
-  after (suc i) = turn (after i) (T .entries - suc i)
+  unfoldable pub countAfter : ℕ → Count
+  countAfter zero = record { calls = policies T (T .events); asked = policies T (T .events); rows = 0 }
+  countAfter (suc i) = turn (countAfter i) (T .entries - suc i)
 
   unfoldable pub total : ℕ
-  total = after (T .entries) .rows
+  total = countAfter (T .entries) .rows
 
 -- ---- the bound
 
 -- A memo works out each member and value of the one variable once, and each whole row once: for the decision, for the
 -- prev tables and for the since tables.
-abbrev pub kept : (members : ℕ) → ℕ
-kept N = 3 * (N * N + N)
+abbrev pub memoRows : (members : ℕ) → ℕ
+memoRows N = 3 * (N * N + N)
 
 -- What is decided without a memo: 1,024 entries for the decision and 1,024 for the tables, at each member, and for each
 -- member once more where tables may have two columns.
@@ -145,7 +145,7 @@ abbrev pub effortOf : Terms → ℕ
 effortOf T =
     let sets = setsOf T (T .entries) in
     let plain = total T sets most in
-    cond (ltb (T .entries) 10) plain (smaller plain (cut (total T sets (kept (T .members)) + brief (T .members))))
+    cond (ltb (T .entries) 10) plain (smaller plain (cut (total T sets (memoRows (T .members)) + brief (T .members))))
 
 -- How many rows a request may work out by accepted terms; of other words it says nothing.
 unfoldable pub effort : List ℕ → ℕ

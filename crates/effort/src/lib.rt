@@ -5,7 +5,7 @@ use memory::limits::ENTRIES;
 use memory::limits::PAIR_MEMBERS;
 use memory::operands::Kind;
 use memory::operands::operands_of;
-use memory::plan;
+use memory::table_index;
 use theory::operators::BIND;
 use theory::operators::NOT;
 use theory::operators::OUT;
@@ -13,7 +13,7 @@ ghost use mathlib.Core.Path.{_≡_};
 ghost use Prim.Native.Nat.{_+_, _<_, _≤_};
 ghost use Rattle.theory.specs.Limits.{maxEntries};
 ghost use Rattle.memory.specs.Layout.{termsOf};
-ghost use Rattle.memory.specs.private.Operands.{kindOf};
+ghost use Rattle.memory.specs.private.Operands.{operandKind};
 ghost use Rattle.effort.specs.Effort.{smaller, cut, times, setOf, setsOf, isOne, rowsOf, callsOf, askedOf, more, moreIf, isEntry, moreOf, policies, rowsAt, callsAfter, askedAfter, total, brief, effort};
 
 // The most that is counted: 2 to the power of 31, a number of any machine.
@@ -57,8 +57,8 @@ fn times(n: u64, x: u64) -> u64
 fn set_of(op: usize, a: usize, f: u64, g: u64, h: u64) -> u64
     ensures { λ r. ⌜ r ≡ setOf op a f g h ⌝ }
 {
-    let s = plan::free_of(op, a, f, g, h);
-    if plan::is_past(op) {
+    let s = table_index::free_of(op, a, f, g, h);
+    if table_index::is_past(op) {
         return if s == 0 { 1 } else { s };
     }
     s
@@ -73,9 +73,9 @@ fn fill_sets(terms: &[u16], sets: &mut [u64; ENTRIES])
     let mut i: usize = 0;
     while i < n {
         let a = layout::first_of(terms, i);
-        let f = plan::set_at(&sets[..], a);
-        let g = plan::set_at(&sets[..], layout::second_of(terms, i));
-        let h = plan::set_at(&sets[..], layout::third_of(terms, i));
+        let f = table_index::set_at(&sets[..], a);
+        let g = table_index::set_at(&sets[..], layout::second_of(terms, i));
+        let h = table_index::set_at(&sets[..], layout::third_of(terms, i));
         sets[i] = set_of(layout::op_of(terms, i), a, f, g, h);
         i += 1;
     }
@@ -85,7 +85,7 @@ fn fill_sets(terms: &[u16], sets: &mut [u64; ENTRIES])
 fn is_one(sets: &[u64; ENTRIES], p: usize) -> bool
     ensures { λ r. ⌜ r ≡ isOne (now (sets .entry)) p ⌝ }
 {
-    sets::rest_of(plan::set_at(sets, p)) == 0
+    sets::rest_of(table_index::set_at(sets, p)) == 0
 }
 
 // How many rows of an entry are worked out, of those that are asked for.
@@ -95,7 +95,7 @@ fn rows_of(op: usize, one: bool, asked: u64, limit: u64) -> u64
     if op < NOT {
         return 0;
     }
-    if plan::is_past(op) {
+    if table_index::is_past(op) {
         return 0;
     }
     if one { smaller(asked, limit) } else { asked }
@@ -105,7 +105,7 @@ fn rows_of(op: usize, one: bool, asked: u64, limit: u64) -> u64
 fn calls_of(n: u64, op: usize, one: bool, works: u64, rows: u64) -> u64
     ensures { λ r. ⌜ r ≡ callsOf n op one works rows ⌝ }
 {
-    if plan::is_past(op) {
+    if table_index::is_past(op) {
         return if one { 1 } else { n };
     }
     if op == BIND { rows } else { works }
@@ -115,7 +115,7 @@ fn asked_of(n: u64, op: usize, one: bool, works: u64, rows: u64) -> u64
     requires { ⌜ n < 65536 ⌝ }
     ensures { λ r. ⌜ r ≡ askedOf n op one works rows ⌝ }
 {
-    if plan::is_past(op) {
+    if table_index::is_past(op) {
         return if one { n } else { n * n };
     }
     if op < OUT {
@@ -143,7 +143,7 @@ fn add_if(yes: bool, words: &mut [u64; ENTRIES], k: usize, x: u64)
 }
 
 fn is_entry(kind: Kind) -> bool
-    ensures { λ r. ⌜ r ≡ isEntry (kindOf kind) ⌝ }
+    ensures { λ r. ⌜ r ≡ isEntry (operandKind kind) ⌝ }
 {
     match kind {
         Kind::Unused => false,
@@ -204,8 +204,8 @@ fn turn(
     let n = members_of(terms);
     let op = layout::op_of(terms, p);
     let one = is_one(sets, p);
-    let rows = rows_of(op, one, plan::set_at(&asked[..], p), limit);
-    let works = smaller(plan::set_at(&calls[..], p), rows);
+    let rows = rows_of(op, one, table_index::set_at(&asked[..], p), limit);
+    let works = smaller(table_index::set_at(&calls[..], p), rows);
     add_to_operands(terms, p, calls, calls_of(n, op, one, works, rows));
     add_to_operands(terms, p, asked, asked_of(n, op, one, works, rows));
     rows

@@ -20,7 +20,7 @@ use Rattle.file.specs.Reading.Reading.{accepted}
 use Rattle.file.proofs.Derivation.{Accepting, accepting, reading-read, reading-level}
 use Rattle.file.proofs.LevelWords.{Level, level-from, level-to}
 use Rattle.file.proofs.Fit.{noEntry, PoliciesFit, Inside, InsideTables, EventFits}
-use Rattle.file.proofs.Invariant.{Going, going-first, going-on, complete-phase, complete-policies}
+use Rattle.file.proofs.Invariant.{FileFits, going-first, going-on, complete-phase, complete-policies}
 
 -- Nothing is said beyond the last entry and the last event, and an event has at most 4 effects.
 pub record Tidy (T : Terms) : Type 0 where
@@ -54,7 +54,7 @@ entry-passes {T} {n} g =
       implies (eqb (T .entry n .op) 10) (λ e. g .reaches (eqb-true (T .entry n .op) 10 e)),
     ) refl
 
-pub going-good : (f : File) → complete f ≡ true → Going f → Good (f .terms) × Tidy (f .terms)
+pub going-good : (f : File) → complete f ≡ true → FileFits f → Good (f .terms) × Tidy (f .terms)
 going-good f c g =
     let p = complete-phase f c in
     let m = g .members (omega arith) in

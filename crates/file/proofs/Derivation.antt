@@ -11,12 +11,12 @@ use Rattle.sets.proofs.Finite.{true-or-false}
 use Rattle.fields.specs.Split.{Lines, split, lines}
 use Rattle.fields.specs.Split.Lines.{done, cut, line}
 use Rattle.file.specs.Line.{parsed}
-use Rattle.file.specs.File.{File, after, nothing}
+use Rattle.file.specs.File.{File, afterLine, nothing}
 use Rattle.file.specs.Reading.{Test, tests, complete, Reading, tried, readOn, partlyAt, levelled, reading}
 use Rattle.file.specs.Reading.Reading.{accepted, refused}
 use Rattle.file.specs.Refused.{Passed}
 use Rattle.file.specs.Refused.Passed.{pass}
-use Rattle.file.specs.Said.{records}
+use Rattle.file.specs.Said.{saidLines}
 use Rattle.file.specs.declared.line.Line.{Line}
 use Rattle.file.proofs.Plain.{linesOf}
 use Rattle.file.proofs.Printed.{Ranged, parsed-printed, split-ranged, Formed, formed}
@@ -54,7 +54,7 @@ tried-accepted (t ∷ ts) n r g e =
 -- The lines take what f has said to what g has.
 pub data Taken : File → List Line → File → Type 0 where
   none : {f : File} → Taken f [] f
-  one : {f g : File} {l : Line} {ls : List Line} → Ranged l → Passed (tests f l) → Taken (after f l) ls g → Taken f (l ∷ ls) g
+  one : {f g : File} {l : Line} {ls : List Line} → Ranged l → Passed (tests f l) → Taken (afterLine f l) ls g → Taken f (l ∷ ls) g
 
 taken-append : {f g h : File} {ls ms : List Line} → Taken f ls g → Taken g ms h → Taken f (ls ++ ms) h
 taken-append none u = u
@@ -75,8 +75,8 @@ reached-then r h =
     record { file = s .file; taken = taken-append (r .taken) (s .taken); holds = s .holds }
 
 -- One line that passes.
-pub reached-one : {f : File} {l : Line} {P : File → Type 0} → Ranged l → Passed (tests f l) → P (after f l) → Reached f (l ∷ []) P
-reached-one {f = f} {l = l} r p h = record { file = after f l; taken = one r p Taken.none; holds = h }
+pub reached-one : {f : File} {l : Line} {P : File → Type 0} → Ranged l → Passed (tests f l) → P (afterLine f l) → Reached f (l ∷ []) P
+reached-one {f = f} {l = l} r p h = record { file = afterLine f l; taken = one r p Taken.none; holds = h }
 
 pub reached-none : {f : File} {P : File → Type 0} → P f → Reached f [] P
 reached-none {f = f} h = record { file = f; taken = Taken.none; holds = h }
@@ -85,7 +85,7 @@ reached-none {f = f} h = record { file = f; taken = Taken.none; holds = h }
 
 -- An accepted text: its lines take f to g, with which the file is complete.
 pub record Accepting (f : File) (ls : Lines) (g : File) : Type 0 where
-  pub taken : Taken f (records ls) g
+  pub taken : Taken f (saidLines ls) g
   pub whole : complete g ≡ true
 
 -- Fields that pass say a line.
@@ -98,7 +98,7 @@ passed-formed f fs p =
     (formed fs)
 
 pub accepting : (f : File) (n : ℕ) (ls : Lines) (g : File) → readOn f n ls ≡ accepted g → Accepting f ls g
-unfolding readOn records
+unfolding readOn saidLines
 accepting f n done g e =
     ⊎-elim
     (λ p. let q : accepted f ≡ accepted g = rw p at e in let z : f ≡ g = cc in
@@ -107,8 +107,8 @@ accepting f n done g e =
     (true-or-false (complete f))
 accepting f n (cut l) g e = let z : _≡_ {A = ℕ} 0 1 = cc in absurd (omega arith)
 accepting f n (line l r) g e =
-    let t = tried-accepted (tests f (parsed (split 9 l))) n (readOn (after f (parsed (split 9 l))) (n + 1) r) g e in
-    let a = accepting (after f (parsed (split 9 l))) (n + 1) r g (t .1) in
+    let t = tried-accepted (tests f (parsed (split 9 l))) n (readOn (afterLine f (parsed (split 9 l))) (n + 1) r) g e in
+    let a = accepting (afterLine f (parsed (split 9 l))) (n + 1) r g (t .1) in
     record { taken = one (passed-formed f (split 9 l) (t .0) .ranged) (t .0) (a .taken); whole = a .whole }
 
 -- All lines pass, and none is a T line of a partly filled word.

@@ -1,21 +1,16 @@
 -- Laws of lines: a test that fails makes a line malformed; a line is one of its kind.
 use Prim.Native.Nat.{ℕ, zero, suc}
 use mathlib.Core.Path.{_≡_, refl, ap, _∙_}
-use mathlib.Core.List.{List, [], _∷_}
-use mathlib.Core.Bool.{Bool, true, false, cond, and-false, true≢false}
+use mathlib.Core.List.{List, []}
+use mathlib.Core.Bool.{Bool, true, false, cond}
 use lib.Dec.{eqb}
 use lib.ListN.{length, getD}
 use Rattle.theory.specs.Fit.{every}
+use Rattle.theory.proofs.Good.{not-every}
 use Rattle.file.specs.Words.{kindOf}
 use Rattle.file.specs.Line.{num, isNum, singleLine, tripleLine, lineOf, parsed}
 use Rattle.file.specs.declared.line.Line.{Line}
 use Rattle.file.specs.declared.line.Line.the-variants.{Malformed}
-
-not-every : (bs : List Bool) (k : ℕ) → getD bs k true ≡ false → every bs ≡ false
-unfolding every
-not-every [] k e = absurd (true≢false e)
-not-every (b ∷ bs) zero e = rw e refl
-not-every (b ∷ bs) (suc k) e = rw (not-every bs k e) (and-false b)
 
 -- Test number k of a line fails.
 pub malformed : (x : Line) (bs : List Bool) (k : ℕ) → getD bs k true ≡ false → Malformed ≡ cond (every bs) x Malformed

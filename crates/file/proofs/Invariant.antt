@@ -14,7 +14,7 @@ use Rattle.theory.specs.Columns.{pairWord, pairBit}
 use Rattle.theory.specs.Terms.{tables, formula, pastEntry}
 use Rattle.theory.proofs.Past.{past-entry}
 use Rattle.theory.proofs.Good.{implied}
-use Rattle.file.specs.File.{File, hasTwo, pairTable, after}
+use Rattle.file.specs.File.{File, hasTwo, pairTable, afterLine}
 use Rattle.file.specs.Reading.{tests}
 use Rattle.file.specs.declared.line.Line.{Line}
 use Rattle.file.proofs.Printed.{Ranged}
@@ -22,11 +22,11 @@ use Rattle.file.proofs.Printed.Ranged.{members, labels, entry, policy, 
 use Rattle.file.specs.Refused.{Passed}
 use Rattle.file.proofs.Derivation.{passed-at, Taken}
 use Rattle.file.proofs.Derivation.Taken.{none, one}
-pub use Rattle.file.proofs.Phases.{Going, going-first, entry-phase, policy-phase, complete-phase, complete-policies, complete-is, rises-code, rises-pair}
+pub use Rattle.file.proofs.Phases.{FileFits, going-first, entry-phase, policy-phase, complete-phase, complete-policies, complete-is, rises-code, rises-pair}
 use Rattle.file.proofs.Fit.{EntriesFit, PoliciesFit, operand-fits, entry-put, entry-more, policies-none, policy-more, marks-none, mark-more, effects-none, effect-more, inside-none, inside-more, tables-none, tables-more, one-place, two-few, two-place, up-to-none, up-to-more, event-none, event-named}
 
-pub going : {f : File} {l : Line} → Ranged l → Passed (tests f l) → Going f → Going (after f l)
-unfolding tests after
+pub going : {f : File} {l : Line} → Ranged l → Passed (tests f l) → FileFits f → FileFits (afterLine f l)
+unfolding tests afterLine
 going {f} (members {n = n} h) p g =
     let test = passed-at p in
     let z = eqb-true (f .phase) 0 (test 0) in
@@ -368,6 +368,6 @@ going {f} (mark {j = j} h) p g =
       old = λ s. omega arith;
     }
 
-pub going-on : {f g : File} {ls : List Line} → Taken f ls g → Going f → Going g
+pub going-on : {f g : File} {ls : List Line} → Taken f ls g → FileFits f → FileFits g
 going-on none h = h
 going-on (one r p t) h = going-on t (going r p h)

@@ -19,10 +19,10 @@ use Rattle.theory.proofs.Places.{closed-columns}
 use Rattle.fields.specs.Split.{Lines, split}
 use Rattle.fields.specs.Split.Lines.{done, cut, line}
 use Rattle.file.specs.Line.{parsed}
-use Rattle.file.specs.File.{File, nothing, hasTwo, pairTable, after}
+use Rattle.file.specs.File.{File, nothing, hasTwo, pairTable, afterLine}
 use Rattle.file.specs.Reading.{tests, complete, partly, partlyFilled, partlyAt, levelled, reading}
 use Rattle.file.specs.Reading.Reading.{accepted}
-use Rattle.file.specs.Said.{records}
+use Rattle.file.specs.Said.{saidLines}
 use Rattle.file.specs.Writing.{printedAll}
 use Rattle.file.specs.declared.line.Line.{Line}
 use Rattle.file.specs.declared.line.Line.the-variants.{Members, Labels, Entry, Policy, Effect, Edge, Form, TableBit, PairBit, EventEdge, Mark, Malformed}
@@ -85,9 +85,9 @@ pair-open x t a e = by-implying (closed φ) (allBelow (x .terms .members) (x .ta
 abbrev PairThere : File → Line → Type 0
 PairThere x l = (t a b c : ℕ) → l ≡ PairBit t a b c → pairTable (x .terms) t ≡ true
 
-line-bits : (x f : File) (l : Line) → partlyFilled x l ≡ false → PairThere x l → (t a b : ℕ) → after f l .table t a b ≡ true
+line-bits : (x f : File) (l : Line) → partlyFilled x l ≡ false → PairThere x l → (t a b : ℕ) → afterLine f l .table t a b ≡ true
     → (f .table t a b ≡ true) ⊎ (partly x t a ≡ false)
-unfolding after
+unfolding afterLine
 line-bits x f (Members n) p w t a b e = inl e
 line-bits x f (Labels r m) p w t a b e = inl e
 line-bits x f (Entry n o c d i) p w t a b e = inl e
@@ -103,8 +103,8 @@ line-bits x f (Mark j) p w t a b e = inl e
 line-bits x f Malformed p w t a b e = inl e
 
 -- A bit stays.
-line-stays : (f : File) (l : Line) (t a b : ℕ) → f .table t a b ≡ true → after f l .table t a b ≡ true
-unfolding after
+line-stays : (f : File) (l : Line) (t a b : ℕ) → f .table t a b ≡ true → afterLine f l .table t a b ≡ true
+unfolding afterLine
 line-stays f (Members n) t a b e = e
 line-stays f (Labels r m) t a b e = e
 line-stays f (Entry n o c d i) t a b e = e
@@ -119,9 +119,9 @@ line-stays f (Mark j) t a b e = e
 line-stays f Malformed t a b e = e
 
 -- A T line of a level table.
-line-level : (g f : File) (l : Line) → Level (g .terms) (g .table) → ((t a b : ℕ) → after f l .table t a b ≡ true → g .table t a b ≡ true)
+line-level : (g f : File) (l : Line) → Level (g .terms) (g .table) → ((t a b : ℕ) → afterLine f l .table t a b ≡ true → g .table t a b ≡ true)
     → partlyFilled g l ≡ false
-unfolding after
+unfolding afterLine
 line-level g f (Members n) v h = refl
 line-level g f (Labels r m) v h = refl
 line-level g f (Entry n o c d i) v h = refl
@@ -142,8 +142,8 @@ data NonePartly (x : File) : List Line → Type 0 where
   none : NonePartly x []
   and : {l : Line} {ls : List Line} → partlyFilled x l ≡ false → NonePartly x ls → NonePartly x (l ∷ ls)
 
-none-partly : (x : File) (n : ℕ) (ls : Lines) → 0 < n → partlyAt x n ls ≡ 0 → NonePartly x (records ls)
-unfolding partlyAt records
+none-partly : (x : File) (n : ℕ) (ls : Lines) → 0 < n → partlyAt x n ls ≡ 0 → NonePartly x (saidLines ls)
+unfolding partlyAt saidLines
 none-partly x n done h e = none
 none-partly x n (cut l) h e = none
 none-partly x n (line l r) h e =
@@ -156,8 +156,8 @@ none-partly x n (line l r) h e =
 none-first : {x : File} {l : Line} {ls : List Line} → NonePartly x (l ∷ ls) → (partlyFilled x l ≡ false) × NonePartly x ls
 none-first (and p q) = (p, q)
 
-partly-none : (x : File) (n : ℕ) (ls : Lines) → NonePartly x (records ls) → partlyAt x n ls ≡ 0
-unfolding partlyAt records
+partly-none : (x : File) (n : ℕ) (ls : Lines) → NonePartly x (saidLines ls) → partlyAt x n ls ≡ 0
+unfolding partlyAt saidLines
 partly-none x n done h = refl
 partly-none x n (cut l) h = refl
 partly-none x n (line l r) h = let t = none-first h in rw (t .0) (partly-none x (n + 1) r (t .1))
@@ -192,8 +192,8 @@ isPairLine (Mark j) = false
 isPairLine Malformed = false
 
 -- From the first T line on, the terms stay.
-line-late : (f : File) {l : Line} → Ranged l → Passed (tests f l) → 7 ≤ f .phase → (7 ≤ after f l .phase) × (after f l .terms ≡ f .terms)
-unfolding tests after
+line-late : (f : File) {l : Line} → Ranged l → Passed (tests f l) → 7 ≤ f .phase → (7 ≤ afterLine f l .phase) × (afterLine f l .terms ≡ f .terms)
+unfolding tests afterLine
 line-late f (members h) p z = let y = eqb-true (f .phase) 0 (passed-at p 0) in absurd (omega arith)
 line-late f (labels h i) p z = let y = eqb-true (f .phase) 1 (passed-at p 0) in absurd (omega arith)
 line-late f (entry h i j k m y) p z = let w = entry-phase f (passed-at p 0) .1 in absurd (omega arith)
@@ -210,8 +210,8 @@ taken-late : {f g : File} {ls : List Line} → Taken f ls g → 7 ≤ f .phase �
 taken-late Taken.none z = refl
 taken-late {f} (one r p u) z = let w = line-late f r p z in taken-late u (w .0) ∙ w .1
 
-pair-there : (f : File) {g : File} {l : Line} {ls : List Line} → Ranged l → Passed (tests f l) → Taken (after f l) ls g → PairThere g l
-unfolding tests after
+pair-there : (f : File) {g : File} {l : Line} {ls : List Line} → Ranged l → Passed (tests f l) → Taken (afterLine f l) ls g → PairThere g l
+unfolding tests afterLine
 pair-there f {g} (pair {t = s} h i j k) p u t a b c e =
     let same : s ≡ t = ap tableOfPair e in
     subst (λ (n : ℕ). pairTable (g .terms) n ≡ true) same (ap (λ (T : Terms). pairTable T s) (taken-late u (omega arith)) ∙ passed-at p 4)
@@ -256,7 +256,7 @@ no-bits : (t a b : ℕ) → nothing .table t a b ≡ false
 unfolding nothing
 no-bits t a b = refl
 
-pub level-from : {f : File} (ls : Lines) → Taken nothing (records ls) f → partlyAt f 1 ls ≡ 0 → Level (f .terms) (f .table)
+pub level-from : {f : File} (ls : Lines) → Taken nothing (saidLines ls) f → partlyAt f 1 ls ≡ 0 → Level (f .terms) (f .table)
 level-from {f} ls u e = record {
   level = λ t a b c q h l. ⊎-elim
       (λ m. absurd (false≢true (sym (no-bits t a b) ∙ m)))
@@ -264,5 +264,5 @@ level-from {f} ls u e = record {
       (taken-bits u (none-partly f 1 ls (omega arith) e) t a b h);
 }
 
-pub level-to : {f : File} (ls : Lines) → Taken nothing (records ls) f → Level (f .terms) (f .table) → partlyAt f 1 ls ≡ 0
+pub level-to : {f : File} (ls : Lines) → Taken nothing (saidLines ls) f → Level (f .terms) (f .table) → partlyAt f 1 ls ≡ 0
 level-to {f} ls u v = partly-none f 1 ls (taken-level u v)

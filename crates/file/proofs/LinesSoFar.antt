@@ -13,7 +13,7 @@ use Rattle.theory.specs.Columns.{pairWord, pairBit}
 use Rattle.theory.specs.Terms.{Terms, formula, tables, pastEntry}
 use Rattle.theory.proofs.Past.{past-entry}
 use Rattle.theory.specs.Tables.{State}
-use Rattle.file.specs.File.{File, stateSaid, nothing, pairTable, after}
+use Rattle.file.specs.File.{File, stateSaid, nothing, pairTable, afterLine}
 use Rattle.file.specs.Reading.{tests, complete, rises}
 use Rattle.file.specs.Writing.{tableSays, eventEdgeLine, allLines, storedLines}
 use Rattle.file.specs.declared.line.Line.{Line}
@@ -24,13 +24,13 @@ use Rattle.file.proofs.Printed.Ranged.{members, labels, entry, policy, 
 use Rattle.file.proofs.Derivation.{passed-at, Taken}
 use Rattle.file.proofs.Derivation.Taken.{none, one}
 use Rattle.file.proofs.Fit.{code, UpTo, two-few}
-use Rattle.file.proofs.Invariant.{Going, going-first, going, entry-phase, policy-phase, complete-phase, complete-policies, rises-code, rises-pair}
+use Rattle.file.proofs.Invariant.{FileFits, going-first, going, entry-phase, policy-phase, complete-phase, complete-policies, rises-code, rises-pair}
 use Rattle.file.proofs.LinesAppended.{empty, here, later}
 use Rattle.file.proofs.PartsSoFar.{formLines, headLines, entryLines, policyLines, markLines, eventLines, bitLines, formsOf, headsOf, entriesOf, policiesOf, marksOf, eventsOf, edgesOf, bitsOf, afterEdges, afterEffects, afterMarks, afterPolicies, afterEntries, afterHeads, afterForm, soFar, form-more, head-none, head-first, head-second, head-late, entries-none, entries-more, policies-none, policies-more, marks-none, marks-more, events-none, events-more, bits-none, bits-more, event-line}
 
 -- ---- what comes after the present phase is empty
 
-module _ (f : File) (g : Going f) where
+module _ (f : File) (g : FileFits f) where
   no-last : f .phase < 8 → eventEdgeLine (f .last) ≡ []
   no-last l = rw (g .no-last l) refl
 
@@ -118,11 +118,11 @@ module _ (f f′ : File) (x : List Line) where
   past-edges : edgesOf f′ ≡ edgesOf f → afterEdges f′ ≡ afterEdges f ++ x → afterEffects f′ ≡ afterEffects f ++ x
   past-edges e h = later (edgesOf f) (edgesOf f′) (afterEdges f) (afterEdges f′) x e h
 
-line-more : {f : File} {l : Line} → Ranged l → Passed (tests f l) → Going f → soFar (after f l) ≡ soFar f ++ (l ∷ [])
-unfolding tests after
+line-more : {f : File} {l : Line} → Ranged l → Passed (tests f l) → FileFits f → soFar (afterLine f l) ≡ soFar f ++ (l ∷ [])
+unfolding tests afterLine
 line-more {f} (members {n = n} h) p g =
     let T = f .terms in
-    let f′ = after f (Members n) in
+    let f′ = afterLine f (Members n) in
     let z = eqb-true (f .phase) 0 (passed-at p 0) in
     past-form f f′ (Members n ∷ []) refl
     (here (headsOf f) (headsOf f′) (afterHeads f) (afterHeads f′) (Members n ∷ [])
@@ -130,7 +130,7 @@ line-more {f} (members {n = n} h) p g =
     (no-entries f g (omega arith)) (no-entries f′ (going (members h) p g) (omega arith)))
 line-more {f} (labels {r = r} {e = e} h i) p g =
     let T = f .terms in
-    let f′ = after f (Labels r e) in
+    let f′ = afterLine f (Labels r e) in
     let z = eqb-true (f .phase) 1 (passed-at p 0) in
     past-form f f′ (Labels r e ∷ []) refl
     (here (headsOf f) (headsOf f′) (afterHeads f) (afterHeads f′) (Labels r e ∷ [])
@@ -138,7 +138,7 @@ line-more {f} (labels {r = r} {e = e} h i) p g =
     (no-entries f g (omega arith)) (no-entries f′ (going (labels h i) p g) (omega arith)))
 line-more {f} (entry {n = n} {o = o} {a = a} {b = b} {c = c} h i j k m y) p g =
     let x = Entry n o a b c ∷ [] in
-    let f′ = after f (Entry n o a b c) in
+    let f′ = afterLine f (Entry n o a b c) in
     let z = entry-phase f (passed-at p 0) in
     let e = eqb-true n (f .terms .entries) (passed-at p 1) in
     past-heads f f′ x refl (heads-same f 3 (z .0) (omega arith))
@@ -147,7 +147,7 @@ line-more {f} (entry {n = n} {o = o} {a = a} {b = b} {c = c} h i j k m y) p g =
     (no-policies f g (z .1)) (no-policies f′ (going (entry h i j k m y) p g) (omega arith)))
 line-more {f} (policy {j = j} {n = n} h i) p g =
     let x = Policy j n ∷ [] in
-    let f′ = after f (Policy j n) in
+    let f′ = afterLine f (Policy j n) in
     let z = policy-phase f (passed-at p 0) in
     let e = eqb-true j (f .policies) (passed-at p 1) in
     let l = ltb-true j (f .terms .events) (passed-at p 2) in
@@ -158,7 +158,7 @@ line-more {f} (policy {j = j} {n = n} h i) p g =
     (no-marks f g (z .1) none-yet) (no-marks f′ (going (policy h i) p g) (omega arith) none-yet)))
 line-more {f} (effect {j = j} {c = c} {k = k} {d = d} h i q m n) p g =
     let x = Effect j c k d ∷ [] in
-    let f′ = after f (Effect j c k d) in
+    let f′ = afterLine f (Effect j c k d) in
     let z = complete-phase f (passed-at p 0) in
     let y = leb-true (f .phase) 5 (passed-at p 1) in
     let w = leb-true (f .event) j (passed-at p 2) in
@@ -169,7 +169,7 @@ line-more {f} (effect {j = j} {c = c} {k = k} {d = d} h i q m n) p g =
     (no-edges f g (omega arith)) (no-edges f′ (going (effect h i q m n) p g) (omega arith))))))
 line-more {f} (edge {k = k} {a = a} {b = b} h i j) p g =
     let x = Edge k a b ∷ [] in
-    let f′ = after f (Edge k a b) in
+    let f′ = afterLine f (Edge k a b) in
     let z = complete-phase f (passed-at p 0) in
     let y = leb-true (f .phase) 6 (passed-at p 1) in
     let few = g .members (omega arith) .1 in
@@ -184,13 +184,13 @@ line-more {f} (edge {k = k} {a = a} {b = b} h i j) p g =
     (no-bits f g (omega arith)) (no-bits f′ (going (edge h i j) p g) (omega arith)))))))
 line-more {f} (form {n = n} h) p g =
     let x = Form n ∷ [] in
-    let f′ = after f (Form n) in
+    let f′ = afterLine f (Form n) in
     let z = eqb-true (f .phase) 0 (passed-at p 0) in
     at-form f f′ x (form-more (f .stored) n (not-true (f .stored) (passed-at p 1)) (eqb-true n 2 (passed-at p 2)))
     (no-heads f g z) (no-heads f′ (going (form h) p g) z)
 line-more {f} (bit {t = t} {a = a} {b = b} h i j) p g =
     let x = TableBit t a b ∷ [] in
-    let f′ = after f (TableBit t a b) in
+    let f′ = afterLine f (TableBit t a b) in
     let z = complete-phase f (passed-at p 1) in
     let y = leb-true (f .phase) 7 (passed-at p 2) in
     let few = g .members (omega arith) .1 in
@@ -208,7 +208,7 @@ line-more {f} (bit {t = t} {a = a} {b = b} h i j) p g =
     (no-last f g (omega arith)) (no-last f′ (going (bit h i j) p g) (omega arith))))))))
 line-more {f} (pair {t = t} {a = a} {b = b} {c = c} h i j k) p g =
     let x = PairBit t a b c ∷ [] in
-    let f′ = after f (PairBit t a b c) in
+    let f′ = afterLine f (PairBit t a b c) in
     let z = complete-phase f (passed-at p 1) in
     let y = leb-true (f .phase) 7 (passed-at p 2) in
     let few = g .members (omega arith) .1 in
@@ -231,7 +231,7 @@ line-more {f} (pair {t = t} {a = a} {b = b} {c = c} h i j k) p g =
     (no-last f g (omega arith)) (no-last f′ (going (pair h i j k) p g) (omega arith))))))))
 line-more {f} (event {j = j} {u = u} {v = v} h i m) p g =
     let x = EventEdge j u v ∷ [] in
-    let f′ = after f (EventEdge j u v) in
+    let f′ = afterLine f (EventEdge j u v) in
     let z = complete-phase f (passed-at p 1) in
     let y = leb-true (f .phase) 7 (passed-at p 2) in
     past-heads f f′ x refl (heads-same f 8 z (omega arith)) (past-entries f f′ x refl (past-policies f f′ x refl (past-marks f f′ x refl (past-effects f f′ x refl
@@ -240,7 +240,7 @@ line-more {f} (event {j = j} {u = u} {v = v} h i m) p g =
     (event-line j u v ∙ ap (λ (ls : List Line). ls ++ x) (sym (no-last f g (omega arith))))))))))
 line-more {f} (mark {j = j} h) p g =
     let x = Mark j ∷ [] in
-    let f′ = after f (Mark j) in
+    let f′ = afterLine f (Mark j) in
     let z = complete-phase f (passed-at p 0) in
     let y = leb-true (f .phase) 4 (passed-at p 1) in
     let w = leb-true (f .marks) j (passed-at p 2) in
@@ -249,7 +249,7 @@ line-more {f} (mark {j = j} h) p g =
     (marks-more (f .terms .events) j (f .terms .kept) (ltb-true j (f .terms .events) (passed-at p 3)) (λ i l. g .marks .later i (omega arith)))
     (no-effects f g (omega arith)) (no-effects f′ (going (mark h) p g) (omega arith)))))
 
-pub lines-more : {f g : File} {ls : List Line} → Taken f ls g → Going f → soFar g ≡ soFar f ++ ls
+pub lines-more : {f g : File} {ls : List Line} → Taken f ls g → FileFits f → soFar g ≡ soFar f ++ ls
 lines-more none h = sym (append-nil _)
 lines-more {f = f} (one {l = l} {ls = ls} r p t) h =
     lines-more t (going r p h) ∙ ap (λ (ms : List Line). ms ++ ls) (line-more r p h) ∙ append-assoc (soFar f) (l ∷ []) ls
@@ -296,7 +296,7 @@ module _ (T : Terms) (S : State) where
       ap {B = List Line} (λ ls. Members (T .members) ∷ Labels (T .relations) (T .events) ∷ ls)
       (joined E P K F G X ∙ ap (λ (ls : List Line). (E ++ (P ++ (K ++ (F ++ G)))) ++ ls) (h refl) ∙ append-nil (E ++ (P ++ (K ++ (F ++ G)))))
 
-pub all-said : (f : File) → complete f ≡ true → Going f → soFar f ≡ linesSaid f
+pub all-said : (f : File) → complete f ≡ true → FileFits f → soFar f ≡ linesSaid f
 unfolding soFar
 all-said f c g =
     let T = f .terms in

@@ -15,7 +15,7 @@ use Rattle.file.specs.File.{File, nothing}
 use Rattle.file.specs.Reading.{complete, rises, risesPair}
 use Rattle.file.proofs.Fit.{EntriesFit, PoliciesFit, MarksFit, EffectsFit, Inside, InsideTables, tables-none, UpTo, EventFits, code, effects-none, inside-none, up-to-none, event-none}
 
-pub record Going (f : File) : Type 0 where
+pub record FileFits (f : File) : Type 0 where
   pub entries : EntriesFit (f .terms .members) (f .terms .relations + 2 * f .terms .events) (f .terms .entries) (f .terms .entry)
   pub policies : PoliciesFit (f .policies) (f .terms .events) (f .terms .entries) (f .terms .entry) (f .terms .policy)
   pub marks : MarksFit (f .marks) (f .terms .events) (f .terms .kept)
@@ -39,7 +39,7 @@ pub record Going (f : File) : Type 0 where
   pub old : f .stored ≡ false → f .phase < 7
 
 -- Nothing has been said.
-pub going-first : Going nothing
+pub going-first : FileFits nothing
 unfolding nothing
 going-first = record {
   entries = record {

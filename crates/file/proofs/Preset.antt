@@ -13,16 +13,16 @@ use Rattle.fields.specs.Number.{isDigit, allDigits, isNumber, valueFrom, valueO
 use Rattle.file.specs.Words.{operatorWords, kindWords, indexFrom, operatorOf, kindOf}
 use Rattle.file.specs.Line.{singleLine, labelsLine, shortEntryLine, entryLine, policyLine, tripleLine}
 use Rattle.file.specs.Line.{lineOf, parsed}
-use Rattle.file.specs.File.{nothing, after}
+use Rattle.file.specs.File.{nothing, afterLine}
 use Rattle.file.specs.Reading.{inRange, isLower, tests, tried, readOn, partlyAt, levelled, reading}
-use Rattle.file.specs.Said.{records}
+use Rattle.file.specs.Said.{saidLines}
 use Rattle.file.specs.Preset.{presetText, takenIn, presetFile, ReadsPreset}
 
 -- Computed by the checker.
 pub preset-read : ReadsPreset
-unfolding presetText presetFile takenIn records lines split alike
+unfolding presetText presetFile takenIn saidLines lines split alike
     kindWords operatorWords indexFrom kindOf operatorOf isDigit allDigits isNumber valueFrom valueOf
-    singleLine labelsLine entryLine shortEntryLine policyLine tripleLine lineOf parsed nothing after
+    singleLine labelsLine entryLine shortEntryLine policyLine tripleLine lineOf parsed nothing afterLine
     inRange isLower every tests tried readOn partlyAt levelled reading
     node number below spelled free those allBelow onlyFree closed reachFits preset own
 preset-read = record {

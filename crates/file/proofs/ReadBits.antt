@@ -9,7 +9,7 @@ use native.Mathlib.Omega.{arith}
 use lib.Dec.{eqb, ltb}
 use borrow.Author.Tests.{eq-eqb, eqb-true, ltb-false, lt-ltb}
 use Rattle.sets.proofs.Finite.{bool-iff, is-false, true-or-false, not-both, and-left, and-right, and-both, or-left, or-right, last-or-below}
-use Rattle.file.specs.File.{File, withBit, after}
+use Rattle.file.specs.File.{File, withBit, afterLine}
 use Rattle.file.specs.Reading.{tests, rises, risesPair}
 use Rattle.file.specs.Writing.{listed, bitAt}
 use Rattle.file.specs.declared.line.Line.{Line}
@@ -17,7 +17,7 @@ use Rattle.file.proofs.Printed.{Ranged}
 use Rattle.file.specs.Refused.{Passed}
 use Rattle.file.proofs.Derivation.{Reached, reached-then, reached-one, reached-none}
 use Rattle.file.proofs.Fit.{code, Inside, UpTo}
-use Rattle.file.proofs.Invariant.{Going, going}
+use Rattle.file.proofs.Invariant.{FileFits, going}
 
 -- Each bit is of one of so many relations or tables, at a word and a bit of it.
 abbrev pub Bounded : (kinds : ℕ) → ((k a b : ℕ) → Bool) → Type 0
@@ -80,14 +80,14 @@ module _ (kind : ℕ) (says : ℕ → ℕ → ℕ → Line) (bits : File → (k 
   pub record Adds (g : File) (k a b : ℕ) : Type 0 where
     pub ranged : Ranged (says k a b)
     pub passed : Passed (tests g (says k a b))
-    pub ready : Ready (after g (says k a b))
-    pub added : (l c d : ℕ) → bits (after g (says k a b)) l c d ≡ withBit (bits g) k a b l c d
-    pub last : code (after g (says k a b) .relation) (after g (says k a b) .from) (after g (says k a b) .to) ≡ code k a b
+    pub ready : Ready (afterLine g (says k a b))
+    pub added : (l c d : ℕ) → bits (afterLine g (says k a b)) l c d ≡ withBit (bits g) k a b l c d
+    pub last : code (afterLine g (says k a b) .relation) (afterLine g (says k a b) .from) (afterLine g (says k a b) .to) ≡ code k a b
 
   pub record Kind : Type 0 where
-    pub none : (g : File) → Going g → g .phase < kind → (k a b : ℕ) → bits g k a b ≡ false
-    pub up-to : (g : File) → Ready g → Going g → UpTo (bits g) (g .relation) (g .from) (g .to)
-    pub adds : (g : File) → Ready g → Going g → (k a b : ℕ) → a < 64 → b < 64 → R k a b ≡ true
+    pub none : (g : File) → FileFits g → g .phase < kind → (k a b : ℕ) → bits g k a b ≡ false
+    pub up-to : (g : File) → Ready g → FileFits g → UpTo (bits g) (g .relation) (g .from) (g .to)
+    pub adds : (g : File) → Ready g → FileFits g → (k a b : ℕ) → a < 64 → b < 64 → R k a b ≡ true
         → (g .phase < kind) ⊎ (code (g .relation) (g .from) (g .to) < code k a b) → Adds g k a b
 
   -- The bits with numbers below q have been read.
@@ -95,7 +95,7 @@ module _ (kind : ℕ) (says : ℕ → ℕ → ℕ → Line) (bits : File → (k 
     pub ready : Ready g
     pub last : (g .phase < kind) ⊎ (code (g .relation) (g .from) (g .to) < q)
     pub same : (k a b : ℕ) → a < 64 → b < 64 → code k a b < q → bits g k a b ≡ R k a b
-    pub going-so : Going g
+    pub going-so : FileFits g
 
   module _ (of-kind : Kind) where
     -- No bit from q on.
@@ -169,7 +169,7 @@ module _ (kind : ℕ) (says : ℕ → ℕ → ℕ → Line) (bits : File → (k 
         (λ e. rw e (reached-none (absent q g t e)))
         (true-or-false (R (q / 4096) (q / 64 % 64) (q % 64)))
 
-    pub bits-read : (q : ℕ) (g : File) → Ready g → Going g → g .phase < kind → Reached g (listed q (bitAt says R)) (Below q)
+    pub bits-read : (q : ℕ) (g : File) → Ready g → FileFits g → g .phase < kind → Reached g (listed q (bitAt says R)) (Below q)
     unfolding listed
     bits-read zero g r h l = reached-none (record { ready = r; last = inl l; same = λ k a b p q m. absurd (omega arith); going-so = h })
     bits-read (suc q) g r h l = reached-then (bits-read q g r h l) (λ f u. bit-read q f u)

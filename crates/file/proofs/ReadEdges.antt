@@ -7,7 +7,7 @@ use borrow.Author.Tests.{lt-ltb, le-leb}
 use Rattle.theory.specs.Terms.{Terms}
 use Rattle.theory.specs.Moment.{Relations}
 use Rattle.theory.specs.Fit.{Good}
-use Rattle.file.specs.File.{File, after}
+use Rattle.file.specs.File.{File, afterLine}
 use Rattle.file.specs.Reading.{tests, rises}
 use Rattle.file.specs.Writing.{allLines}
 use Rattle.file.specs.declared.line.Line.the-variants.{Edge}
@@ -16,7 +16,7 @@ use Rattle.file.specs.Refused.Passed.{none, pass}
 use Rattle.file.proofs.Printed.{Ranged}
 use Rattle.file.proofs.Derivation.{Reached, reached-so, reached-then}
 use Rattle.file.proofs.Fit.{Inside}
-use Rattle.file.proofs.Invariant.{Going, going}
+use Rattle.file.proofs.Invariant.{FileFits, going}
 use Rattle.file.proofs.Accepted.{Tidy}
 use Rattle.file.proofs.ReadEntries.{told}
 use Rattle.file.proofs.ReadMarks.{marked}
@@ -55,7 +55,7 @@ module _ (T : Terms) (good : Good T) (tidy : Tidy T) (R : Relations) (inside : I
           none)))))
 
       edge-adds : rises 6 g k a b ≡ true → Adds 6 Edge (λ f. f .edges) R (Settled T stored 6) g k a b
-      unfolding after
+      unfolding afterLine
       edge-adds z = record {
         ranged = ranged;
         passed = passed z;
@@ -99,7 +99,7 @@ module _ (T : Terms) (good : Good T) (tidy : Tidy T) (R : Relations) (inside : I
         }
 
   -- From a file that has said nothing but its form.
-  pub lines-read : (start : File) → start .phase ≡ 0 → Going start → Reached start (allLines T R) (Edged T R (start .stored) 6)
+  pub lines-read : (start : File) → start .phase ≡ 0 → FileFits start → Reached start (allLines T R) (Edged T R (start .stored) 6)
   unfolding allLines
   lines-read start blank begun =
       let form = start .stored in

@@ -12,7 +12,7 @@ use Rattle.sets.proofs.Finite.{true-or-false, last-or-below}
 use Rattle.theory.specs.Terms.{Terms, Effect}
 use Rattle.theory.specs.Fit.Within.{more}
 use Rattle.theory.specs.Fit.{Good, Within}
-use Rattle.file.specs.File.{File, after}
+use Rattle.file.specs.File.{File, afterLine}
 use Rattle.file.specs.Reading.{tests, complete}
 use Rattle.file.specs.Writing.{listed, effectLines}
 use Rattle.file.specs.declared.line.Line.{Line}
@@ -22,7 +22,7 @@ use Rattle.file.specs.Refused.{Passed}
 use Rattle.file.proofs.Derivation.{Reached, reached-so, reached-then, reached-one, reached-none}
 use Rattle.file.specs.Refused.Passed.{none, pass}
 use Rattle.file.proofs.Update.{update-same, update-other}
-use Rattle.file.proofs.Invariant.{Going, going, complete-is}
+use Rattle.file.proofs.Invariant.{FileFits, going, complete-is}
 use Rattle.file.proofs.Accepted.{Tidy}
 use Rattle.file.proofs.ReadEntries.{Headed}
 use Rattle.file.proofs.ReadMarks.{Marked}
@@ -71,7 +71,7 @@ record Effected (T : Terms) (stored : Bool) (j : ℕ) (so-far : List Effect) (g 
   event : g .event ≤ j
   before : (i : ℕ) → i < j → g .terms .effects i ≡ T .effects i
   here : g .terms .effects j ≡ so-far
-  going-so : Going g
+  going-so : FileFits g
 
 -- The terms have been read, and of what follows them nothing that has a later phase.
 pub record Settled (T : Terms) (stored : Bool) (phase : ℕ) (g : File) : Type 0 where
@@ -80,7 +80,7 @@ pub record Settled (T : Terms) (stored : Bool) (phase : ℕ) (g : File) : Type 0
   pub form : g .stored ≡ stored
   pub policies : g .policies ≡ T .events
   pub terms : g .terms ≡ T
-  pub going-so : Going g
+  pub going-so : FileFits g
 
 pub settled-complete : {T : Terms} {stored : Bool} {phase : ℕ} (g : File) → Settled T stored phase g → complete g ≡ true
 settled-complete g t = complete-is g (t .low) (t .policies ∙ sym (ap (λ (x : Terms). x .events) (t .terms)))
@@ -123,8 +123,8 @@ module _ (T : Terms) (good : Good T) (tidy : Tidy T) (stored : Bool) where
         (pass (lt-ltb (x .relation) (g .terms .relations) (omega arith))
         none)))))
 
-    effected : Effected T stored j (so-far ++ (x ∷ [])) (after g (effectAt j x))
-    unfolding after
+    effected : Effected T stored j (so-far ++ (x ∷ [])) (afterLine g (effectAt j x))
+    unfolding afterLine
     effected = record {
       low = omega arith;
       high = omega arith;

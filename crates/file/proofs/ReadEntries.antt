@@ -18,7 +18,7 @@ use Rattle.theory.specs.Columns.{columnsFit}
 use Rattle.theory.specs.Fit.{onlyFree, Good}
 use Rattle.theory.proofs.Good.{implies}
 use Rattle.theory.proofs.Unfolding.{number-lt}
-use Rattle.file.specs.File.{File, update, after}
+use Rattle.file.specs.File.{File, update, afterLine}
 use Rattle.file.specs.Reading.{tests, inRange}
 use Rattle.file.specs.Writing.{listed, lineOfEntry}
 use Rattle.file.specs.declared.line.Line.{Line}
@@ -31,7 +31,7 @@ use Rattle.file.proofs.Derivation.Taken.{one}
 use Rattle.theory.proofs.AlikeTerms.{number-agree, spelled-agree}
 use Rattle.file.proofs.Update.{update-cases}
 use Rattle.file.proofs.Fit.{in-range, is-lower, operand-small, reach-kept, unused-fits, third-unused}
-use Rattle.file.proofs.Invariant.{Going, going}
+use Rattle.file.proofs.Invariant.{FileFits, going}
 use Rattle.file.proofs.Accepted.{Tidy}
 
 two-or-three : (p : ℕ) → 2 ≤ p → p ≤ 3 → eqb p 2 || eqb p 3 ≡ true
@@ -55,7 +55,7 @@ record Entered (T : Terms) (stored : Bool) (n : ℕ) (g : File) : Type 0 where
   head : Headed T stored g
   entries : g .terms .entries ≡ n
   entry : (k : ℕ) → k < n → g .terms .entry k ≡ T .entry k
-  going-so : Going g
+  going-so : FileFits g
 
 -- The entries and the first n policies have been read, and no mark.
 pub record Decided (T : Terms) (stored : Bool) (n : ℕ) (g : File) : Type 0 where
@@ -67,27 +67,27 @@ pub record Decided (T : Terms) (stored : Bool) (n : ℕ) (g : File) : Type 0 whe
   pub policies : g .policies ≡ n
   pub marks : g .marks ≡ 0
   pub policy : (j : ℕ) → j < n → g .terms .policy j ≡ T .policy j
-  pub going-so : Going g
+  pub going-so : FileFits g
 
 -- From a file that has said nothing but its form.
-module _ (T : Terms) (good : Good T) (tidy : Tidy T) (start : File) (blank : start .phase ≡ 0) (begun : Going start) where
+module _ (T : Terms) (good : Good T) (tidy : Tidy T) (start : File) (blank : start .phase ≡ 0) (begun : FileFits start) where
   abbrev form : Bool
   form = start .stored
 
   -- ---- members and labels
 
   abbrev first : File
-  first = after start (Members (T .members))
+  first = afterLine start (Members (T .members))
 
   abbrev second : File
-  second = after first (Labels (T .relations) (T .events))
+  second = afterLine first (Labels (T .relations) (T .events))
 
   members-passed : Passed (tests start (Members (T .members)))
   unfolding tests
   members-passed = pass (eq-eqb (start .phase) 0 blank) (pass (lt-ltb 0 (T .members) (good .some-member)) (pass (lt-ltb (T .members) 65 (good .few-members)) none))
 
   labels-passed : Passed (tests first (Labels (T .relations) (T .events)))
-  unfolding tests after
+  unfolding tests afterLine
   labels-passed =
       pass refl (pass (lt-ltb (T .relations) 17 (good .few-relations)) (pass (lt-ltb 0 (T .events) (good .some-event))
       (pass (lt-ltb (T .events) 17 (good .few-events)) none)))
@@ -99,7 +99,7 @@ module _ (T : Terms) (good : Good T) (tidy : Tidy T) (start : File) (blank : sta
   labels-ranged = let h = good .few-relations in let i = good .few-events in Ranged.labels {r = T .relations} {e = T .events} (omega arith) (omega arith)
 
   heads-entered : Entered T form 0 second
-  unfolding after
+  unfolding afterLine
   heads-entered = record {
     low = omega arith;
     high = omega arith;
@@ -172,8 +172,8 @@ module _ (T : Terms) (good : Good T) (tidy : Tidy T) (start : File) (blank : sta
         (operand-small (thirdOperand (T .entry n .op)) labels n (T .entry n .c) (omega arith) (omega arith) (q .third))
         (λ z. unused-fits labels n (T .entry n .c) (thirdOperand (T .entry n .op)) (q .third) (third-unused (T .entry n .op) z))
 
-    entry-entered : Entered T form (suc n) (after g (lineOfEntry T n))
-    unfolding after
+    entry-entered : Entered T form (suc n) (afterLine g (lineOfEntry T n))
+    unfolding afterLine
     entry-entered = record {
       low = omega arith;
       high = omega arith;
@@ -227,8 +227,8 @@ module _ (T : Terms) (good : Good T) (tidy : Tidy T) (start : File) (blank : sta
         let e = good .few-events in let m = good .few-entries in let p = good .policy-exists n l in
         Ranged.policy {j = n} {n = T .policy n} (omega arith) (omega arith)
 
-    policy-decided : Decided T form (suc n) (after g (Policy n (T .policy n)))
-    unfolding after
+    policy-decided : Decided T form (suc n) (afterLine g (Policy n (T .policy n)))
+    unfolding afterLine
     policy-decided = record {
       low = omega arith;
       high = omega arith;

@@ -9,7 +9,7 @@ use borrow.Author.Tests.{ltb-true, ltb-false, lt-ltb, le-leb}
 use Rattle.sets.proofs.Finite.{true-or-false, last-or-below}
 use Rattle.theory.specs.Terms.{Terms}
 use Rattle.theory.specs.Fit.{Good}
-use Rattle.file.specs.File.{File, after}
+use Rattle.file.specs.File.{File, afterLine}
 use Rattle.file.specs.Reading.{tests}
 use Rattle.file.specs.Writing.{listed, markLine}
 use Rattle.file.specs.declared.line.Line.the-variants.{Mark}
@@ -18,7 +18,7 @@ use Rattle.file.specs.Refused.{Passed}
 use Rattle.file.proofs.Derivation.{Reached, reached-then, reached-one, reached-none}
 use Rattle.file.specs.Refused.Passed.{none, pass}
 use Rattle.file.proofs.Update.{update-cases}
-use Rattle.file.proofs.Invariant.{Going, going, complete-is}
+use Rattle.file.proofs.Invariant.{FileFits, going, complete-is}
 use Rattle.file.proofs.Accepted.{Tidy}
 use Rattle.file.proofs.ReadEntries.{Headed, Decided}
 
@@ -33,7 +33,7 @@ pub record Marked (T : Terms) (stored : Bool) (n : ℕ) (g : File) : Type 0 wher
   pub policy : (j : ℕ) → g .terms .policy j ≡ T .policy j
   pub marks : g .marks ≤ n
   pub kept : (j : ℕ) → j < n → g .terms .kept j ≡ T .kept j
-  pub going-so : Going g
+  pub going-so : FileFits g
 
 module _ (T : Terms) (good : Good T) (tidy : Tidy T) (stored : Bool) where
   policies-done : (g : File) → Decided T stored (T .events) g → Marked T stored 0 g
@@ -68,8 +68,8 @@ module _ (T : Terms) (good : Good T) (tidy : Tidy T) (stored : Bool) where
         (pass (lt-ltb n (g .terms .events) (omega arith))
         none)))
 
-    there : T .kept n ≡ true → Marked T stored (suc n) (after g (Mark n))
-    unfolding after
+    there : T .kept n ≡ true → Marked T stored (suc n) (afterLine g (Mark n))
+    unfolding afterLine
     there k = record {
       low = omega arith;
       high = omega arith;

@@ -12,7 +12,7 @@ use Rattle.sets.proofs.Finite.{true-or-false, not-both, and-left, and-right}
 use Rattle.fields.specs.Split.{Lines, split, lines}
 use Rattle.fields.specs.Split.Lines.{done, cut, line}
 use Rattle.file.specs.Line.{parsed}
-use Rattle.file.specs.File.{File, after, nothing}
+use Rattle.file.specs.File.{File, afterLine, nothing}
 use Rattle.file.specs.Reading.{Test, tests, complete, Reading, tried, readOn, partlyFilled, partlyAt, levelled, reading}
 use Rattle.file.specs.Reading.Reading.{accepted, refused}
 use Rattle.file.specs.declared.line.Line.{Line}
@@ -116,11 +116,11 @@ to-refused f at (cut l) n k e =
     let v : at ≡ k = cc in
     subst₂ (Refused f at (cut l)) u v cut-off
 to-refused f at (line l r) n k e =
-    let ih = to-refused (after f (parsed (split 9 l))) (at + 1) r n k in
+    let ih = to-refused (afterLine f (parsed (split 9 l))) (at + 1) r n k in
     ⊎-elim
     (λ a. go-on (a .0) (ih (a .1)))
     (λ a. subst (Refused f at (line l r) n) (a .1) (faulty (a .0)))
-    (tried-refused 1 (tests f (parsed (split 9 l))) (tests-rise f (parsed (split 9 l))) at (readOn (after f (parsed (split 9 l))) (at + 1) r) n k e)
+    (tried-refused 1 (tests f (parsed (split 9 l))) (tests-rise f (parsed (split 9 l))) at (readOn (afterLine f (parsed (split 9 l))) (at + 1) r) n k e)
 
 from-refused : {f : File} {at : ℕ} {ls : Lines} {n k : ℕ} → Refused f at ls n k → readOn f at ls ≡ refused n k
 unfolding readOn

@@ -17,7 +17,7 @@ use Rattle.theory.specs.Moment.{Relations, Event, first}
 use Rattle.theory.specs.Moment.Event.{happened, tried}
 use Rattle.theory.specs.Tables.{Tables, State}
 use Rattle.theory.specs.Fit.{Good}
-use Rattle.file.specs.File.{File, nothing, hasTwo, pairTable, withTableBit, eventNamed, eventSaid, after}
+use Rattle.file.specs.File.{File, nothing, hasTwo, pairTable, withTableBit, eventNamed, eventSaid, afterLine}
 use Rattle.file.specs.Reading.{tests, complete, reading}
 use Rattle.file.specs.Reading.Reading.{accepted}
 use Rattle.file.specs.Writing.{listed, bitAt, tableSays, allLines, eventEdgeLine, storedLines, written, stored}
@@ -29,7 +29,7 @@ use Rattle.file.proofs.Printed.{Ranged}
 use Rattle.file.proofs.Derivation.{Reached, reached-so, reached-then, reached-one, reached-none}
 use Rattle.file.proofs.LevelWords.{Level, level-empty, read-printed}
 use Rattle.file.proofs.Fit.{code, Inside, InsideTables, EventFits, place-one, place-two, two-few}
-use Rattle.file.proofs.Invariant.{Going, going-first, going, complete-is}
+use Rattle.file.proofs.Invariant.{FileFits, going-first, going, complete-is}
 use Rattle.file.proofs.Accepted.{Tidy}
 use Rattle.file.proofs.ReadEffects.{settled-complete}
 use Rattle.file.proofs.ReadBits.{Adds, Kind, Below, Bounded, code-rises, code-rises-pair, bits-read, all-read}
@@ -82,10 +82,10 @@ module _ (T : Terms) (good : Good T) (R : Relations) (X : Tables) (inside : Insi
     there = inside .within k a b e
 
     -- After such a line.
-    ready-after : (l : Line) → Ranged l → Passed (tests g l) → after g l ≡ withTableBit g k a b → Ready (after g l)
+    ready-after : (l : Line) → Ranged l → Passed (tests g l) → afterLine g l ≡ withTableBit g k a b → Ready (afterLine g l)
     ready-after l r p q =
         let s = t .settled-so in
-        let h : Going (withTableBit g k a b) = subst Going q (going r p (s .going-so)) in
+        let h : FileFits (withTableBit g k a b) = subst FileFits q (going r p (s .going-so)) in
         subst Ready (sym q) (record {
           settled-so = record {
             low = omega arith;
@@ -98,13 +98,13 @@ module _ (T : Terms) (good : Good T) (R : Relations) (X : Tables) (inside : Insi
           edges = t .edges;
         })
 
-    adds-after : (l : Line) → Ranged l → Passed (tests g l) → after g l ≡ withTableBit g k a b → tableSays T k a b ≡ l → Adds 7 (tableSays T) bits X Ready g k a b
+    adds-after : (l : Line) → Ranged l → Passed (tests g l) → afterLine g l ≡ withTableBit g k a b → tableSays T k a b ≡ l → Adds 7 (tableSays T) bits X Ready g k a b
     adds-after l r p q z = record {
       ranged = subst Ranged (sym z) r;
       passed = subst (λ (x : Line). Passed (tests g x)) (sym z) p;
-      ready = subst (λ (x : Line). Ready (after g x)) (sym z) (ready-after l r p q);
-      added = λ m c d. ap (λ (f : File). f .table m c d) (ap (after g) z ∙ q);
-      last = ap (λ (f : File). code (f .relation) (f .from) (f .to)) (ap (after g) z ∙ q);
+      ready = subst (λ (x : Line). Ready (afterLine g x)) (sym z) (ready-after l r p q);
+      added = λ m c d. ap (λ (f : File). f .table m c d) (ap (afterLine g) z ∙ q);
+      last = ap (λ (f : File). code (f .relation) (f .from) (f .to)) (ap (afterLine g) z ∙ q);
     }
 
     module _ (rise : (g .phase < 7) ⊎ (code (g .relation) (g .from) (g .to) < code k a b)) (short : (g .from < 64) × (g .to < 64)) where
@@ -112,7 +112,7 @@ module _ (T : Terms) (good : Good T) (R : Relations) (X : Tables) (inside : Insi
       same-pair = ap (λ (x : Terms). pairTable x k) (t .settled-so .terms)
 
       one-adds : pairTable T k ≡ false → Adds 7 (tableSays T) bits X Ready g k a b
-      unfolding tests after
+      unfolding tests afterLine
       one-adds z =
           let s = t .settled-so in
           let h0 = there .0 in
@@ -135,7 +135,7 @@ module _ (T : Terms) (good : Good T) (R : Relations) (X : Tables) (inside : Insi
           refl (rw z refl)
 
       two-adds : pairTable T k ≡ true → Adds 7 (tableSays T) bits X Ready g k a b
-      unfolding tests after
+      unfolding tests afterLine
       two-adds z =
           let s = t .settled-so in
           let h0 = there .0 in
@@ -226,12 +226,12 @@ module _ (T : Terms) (good : Good T) (R : Relations) (X : Tables) (inside : Insi
         (pass (lt-ltb v (g .terms .members) (omega arith))
         none)))))
 
-    event-whole : Whole (eventSaid j u v) (after g (EventEdge j u v))
-    unfolding after
+    event-whole : Whole (eventSaid j u v) (afterLine g (EventEdge j u v))
+    unfolding afterLine
     event-whole =
         let s = t .edged-so .settled-so in
         record {
-          whole = complete-is (after g (EventEdge j u v)) (omega arith) (s .policies ∙ sym (ap (λ (x : Terms). x .events) (s .terms)));
+          whole = complete-is (afterLine g (EventEdge j u v)) (omega arith) (s .policies ∙ sym (ap (λ (x : Terms). x .events) (s .terms)));
           form = s .form;
           terms = s .terms;
           edges = t .edged-so .edges;
@@ -296,10 +296,10 @@ module _ (T : Terms) (good : Good T) (tidy : Tidy T) where
     R = S .now .edge
 
     abbrev begun : File
-    begun = after nothing (Form 2)
+    begun = afterLine nothing (Form 2)
 
     begun-edged : Reached begun (allLines T R) (Edged T R true 6)
-    unfolding after nothing
+    unfolding afterLine nothing
     begun-edged = lines-read T good tidy R (fits .edges) begun refl (going (Ranged.form (omega arith)) form-passed going-first)
 
     stored-read : Reached nothing (storedLines T S) (Whole T good R (S .table) (fits .bits) (S .now .event))

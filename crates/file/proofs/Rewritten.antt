@@ -13,10 +13,10 @@ use Rattle.theory.specs.Tables.{State}
 use Rattle.fields.specs.Split.{Lines, split, join, lines, unlines}
 use Rattle.fields.specs.Split.Lines.{done, cut, line}
 use Rattle.file.specs.Line.{parsed}
-use Rattle.file.specs.File.{File, stateSaid, nothing, after}
+use Rattle.file.specs.File.{File, stateSaid, nothing, afterLine}
 use Rattle.file.specs.Reading.{tests, readOn, reading}
 use Rattle.file.specs.Reading.Reading.{accepted}
-use Rattle.file.specs.Said.{records}
+use Rattle.file.specs.Said.{saidLines}
 use Rattle.file.specs.Writing.{allLines, storedLines, printedAll, written, stored, textSaid}
 use Rattle.file.specs.Normal.{normalField, normalLine, normalLines, normalText, plainFields, plainLines, isPlain, Unpadded}
 use Rattle.file.specs.declared.line.Line.{Line}
@@ -34,14 +34,14 @@ use Rattle.file.proofs.LinesSoFar.{linesSaid, lines-more, first-none, a
 
 -- ---- an accepted text printed anew
 
-lines-anew : (f : File) (n : ℕ) (ls : Lines) (g : File) → readOn f n ls ≡ accepted g → printedAll (records ls) ≡ unlines (normalLines ls)
-unfolding readOn records printedAll unlines normalLines
+lines-anew : (f : File) (n : ℕ) (ls : Lines) (g : File) → readOn f n ls ≡ accepted g → printedAll (saidLines ls) ≡ unlines (normalLines ls)
+unfolding readOn saidLines printedAll unlines normalLines
 lines-anew f n done g e = refl
 lines-anew f n (cut l) g e = let z : _≡_ {A = ℕ} 0 1 = cc in absurd (omega arith)
 lines-anew f n (line l r) g e =
-    let t = tried-accepted (tests f (parsed (split 9 l))) n (readOn (after f (parsed (split 9 l))) (n + 1) r) g e in
+    let t = tried-accepted (tests f (parsed (split 9 l))) n (readOn (afterLine f (parsed (split 9 l))) (n + 1) r) g e in
     ap₂ (λ (s u : List ℕ). s ++ (10 ∷ u)) (ap (join 9) (passed-formed f (split 9 l) (t .0) .fields))
-    (lines-anew (after f (parsed (split 9 l))) (n + 1) r g (t .1))
+    (lines-anew (afterLine f (parsed (split 9 l))) (n + 1) r g (t .1))
 
 -- ---- a plain text is its own normal form
 
@@ -88,16 +88,16 @@ unfolding plainFields
 fields-normal [] = refl
 fields-normal (f ∷ fs) = and-both _ _ (field-normal f) (fields-normal fs)
 
-lines-normal : (f : File) (n : ℕ) (ls : Lines) (g : File) → readOn f n ls ≡ accepted g → plainLines (linesOf (records ls)) ≡ true
-unfolding readOn records linesOf plainLines
+lines-normal : (f : File) (n : ℕ) (ls : Lines) (g : File) → readOn f n ls ≡ accepted g → plainLines (linesOf (saidLines ls)) ≡ true
+unfolding readOn saidLines linesOf plainLines
 lines-normal f n done g e = refl
 lines-normal f n (cut l) g e = let z : _≡_ {A = ℕ} 0 1 = cc in absurd (omega arith)
 lines-normal f n (line l r) g e =
-    let t = tried-accepted (tests f (parsed (split 9 l))) n (readOn (after f (parsed (split 9 l))) (n + 1) r) g e in
+    let t = tried-accepted (tests f (parsed (split 9 l))) n (readOn (afterLine f (parsed (split 9 l))) (n + 1) r) g e in
     let p = passed-formed f (split 9 l) (t .0) in
     and-both _ _
     (ap plainFields (split-ranged (p .ranged) ∙ p .fields) ∙ fields-normal (split 9 l))
-    (lines-normal (after f (parsed (split 9 l))) (n + 1) r g (t .1))
+    (lines-normal (afterLine f (parsed (split 9 l))) (n + 1) r g (t .1))
 
 -- ---- the theorems
 
@@ -109,12 +109,12 @@ text-lines false T S = refl
 
 module _ (text : List ℕ) (f : File) (e : reading text ≡ accepted f) where
   -- The lines of an accepted text are the lines of what it says.
-  lines-said : linesSaid f ≡ records (lines text)
+  lines-said : linesSaid f ≡ saidLines (lines text)
   lines-said =
       let a = reading-accepting text f e in
       sym (all-said f (a .whole) (going-on (a .taken) going-first))
       ∙ lines-more (a .taken) going-first
-      ∙ ap (λ (ls : List Line). ls ++ records (lines text)) first-none
+      ∙ ap (λ (ls : List Line). ls ++ saidLines (lines text)) first-none
 
   pub rewritten : textSaid f ≡ normalText text
   unfolding normalText
@@ -129,7 +129,7 @@ module _ (text : List ℕ) (f : File) (e : reading text ≡ accepted f) where
   unfolding isPlain normalText
   rewritten-plain =
       ap isPlain (sym (lines-anew nothing 1 (lines text) f (reading-read text f e)))
-      ∙ ap plainLines (lines-printed (records (lines text)))
+      ∙ ap plainLines (lines-printed (saidLines (lines text)))
       ∙ lines-normal nothing 1 (lines text) f (reading-read text f e)
 
   -- The normal form is accepted too, its lines say the same, and so it gives the same form, terms and state.
@@ -165,7 +165,7 @@ module _ (text : List ℕ) (f : File) (e : reading text ≡ accepted f) where
       (true-or-false (f .stored))
 
 -- The lines of the normal form say what the text's lines say.
-pub normal-said : (text : List ℕ) (f : File) → reading text ≡ accepted f → records (lines (normalText text)) ≡ records (lines text)
+pub normal-said : (text : List ℕ) (f : File) → reading text ≡ accepted f → saidLines (lines (normalText text)) ≡ saidLines (lines text)
 normal-said text f e =
     let n = normal-accepted text f e in
     let u = n .1 in

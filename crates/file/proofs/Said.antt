@@ -13,10 +13,10 @@ use Rattle.theory.specs.Formula as formulas
 use Rattle.theory.specs.Terms.{Terms}
 use Rattle.theory.specs.Terms as terms
 use Rattle.fields.specs.Split.{lines}
-use Rattle.file.specs.File.{File, nothing, update, after}
+use Rattle.file.specs.File.{File, nothing, update, afterLine}
 use Rattle.file.specs.Reading.{tests, reading}
 use Rattle.file.specs.Reading.Reading.{accepted}
-use Rattle.file.specs.Said.{records, membersSaid, relationsSaid, eventsSaid, entriesSaid, policiesSaid, effectsSaid, keptSaid, termsSaid, SaidBy}
+use Rattle.file.specs.Said.{saidLines, membersSaid, relationsSaid, eventsSaid, entriesSaid, policiesSaid, effectsSaid, keptSaid, termsSaid, SaidBy}
 use Rattle.file.specs.declared.line.Line.{Line}
 use Rattle.file.proofs.Printed.{Ranged}
 use Rattle.file.proofs.Printed.Ranged.{members, labels, entry, policy, effect, edge, form, bit, pair, event, mark}
@@ -26,7 +26,7 @@ use Rattle.file.proofs.Derivation.Taken.{none, one}
 use Rattle.file.proofs.Update.{update-other}
 use Rattle.file.proofs.Fit.{noEntry}
 use Rattle.file.proofs.SaidState.{beside-said}
-use Rattle.file.proofs.Invariant.{Going, going-first, going-on, entry-phase, policy-phase, complete-phase}
+use Rattle.file.proofs.Invariant.{FileFits, going-first, going-on, entry-phase, policy-phase, complete-phase}
 
 -- ---- the first n from g, the others from a list
 
@@ -68,8 +68,8 @@ plus f ls = record {
   kept = λ j. f .terms .kept j || keptSaid ls j;
 }
 
-plus-line : (f : File) {l : Line} → Ranged l → Passed (tests f l) → (ls : List Line) → plus (after f l) ls ≡ plus f (l ∷ ls)
-unfolding plus tests after membersSaid relationsSaid eventsSaid entriesSaid policiesSaid effectsSaid keptSaid
+plus-line : (f : File) {l : Line} → Ranged l → Passed (tests f l) → (ls : List Line) → plus (afterLine f l) ls ≡ plus f (l ∷ ls)
+unfolding plus tests afterLine membersSaid relationsSaid eventsSaid entriesSaid policiesSaid effectsSaid keptSaid
 plus-line f (members {n = n} h) p ls = rw (eqb-true (f .phase) 0 (passed-at p 0)) refl
 plus-line f (labels {r = r} {e = e} h i) p ls = rw (eqb-true (f .phase) 1 (passed-at p 0)) refl
 plus-line f (entry {n = n} {o = o} {a = a} {b = b} {c = c} h i j k m y) p ls =
@@ -180,7 +180,7 @@ plus-first ls =
       kept = keptSaid ls;
     }
 
-plus-last : (f : File) → 2 ≤ f .phase → Going f → plus f [] ≡ f .terms
+plus-last : (f : File) → 2 ≤ f .phase → FileFits f → plus f [] ≡ f .terms
 unfolding plus entriesSaid policiesSaid effectsSaid keptSaid
 plus-last f z g =
     let count : f .terms .entries + 0 ≡ f .terms .entries = omega arith in
@@ -197,13 +197,13 @@ plus-last f z g =
     })
 
 -- An accepted text is read as what its lines say.
-pub said : (text : List ℕ) (f : File) → reading text ≡ accepted f → SaidBy (records (lines text)) f
+pub said : (text : List ℕ) (f : File) → reading text ≡ accepted f → SaidBy (saidLines (lines text)) f
 said text f e =
     let a = reading-accepting text f e in
     let g = going-on (a .taken) going-first in
     let h = beside-said (a .taken) g in
     record {
-      terms = sym (plus-first (records (lines text))) ∙ sym (plus-on (a .taken)) ∙ plus-last f (complete-phase f (a .whole)) g;
+      terms = sym (plus-first (saidLines (lines text))) ∙ sym (plus-on (a .taken)) ∙ plus-last f (complete-phase f (a .whole)) g;
       edges = λ k a b i. h i .edges k a b;
       bits = λ t a b i. h i .table t a b;
       last = λ i. h i .last;

@@ -12,7 +12,7 @@ use Rattle.sets.proofs.Finite.{true-or-false}
 use Rattle.theory.specs.Columns.{pairWord, pairBit}
 use Rattle.theory.specs.Moment.{Relations, Event}
 use Rattle.theory.specs.Tables.{Tables}
-use Rattle.file.specs.File.{File, nothing, withBit, after}
+use Rattle.file.specs.File.{File, nothing, withBit, afterLine}
 use Rattle.file.specs.Reading.{tests}
 use Rattle.file.specs.Said.{edgesSaid, tablesSaid, lastSaid, storedSaid}
 use Rattle.file.specs.declared.line.Line.{Line}
@@ -21,7 +21,7 @@ use Rattle.file.proofs.Printed.Ranged.{members, labels, entry, policy, 
 use Rattle.file.specs.Refused.{Passed}
 use Rattle.file.proofs.Derivation.{passed-at, Taken}
 use Rattle.file.proofs.Derivation.Taken.{none, one}
-use Rattle.file.proofs.Invariant.{Going, entry-phase, policy-phase}
+use Rattle.file.proofs.Invariant.{FileFits, entry-phase, policy-phase}
 
 -- All that a file says beside its terms.
 pub record Beside : Type 0 where
@@ -53,8 +53,8 @@ bit-line R Q l c d k a b =
     (λ t. rw t refl)
     (true-or-false (eqb k l && (eqb a c && eqb b d)))
 
-beside-line : (f : File) {l : Line} → Ranged l → Passed (tests f l) → (ls : List Line) → beside (after f l) ls ≡ beside f (l ∷ ls)
-unfolding beside tests after edgesSaid tablesSaid lastSaid storedSaid
+beside-line : (f : File) {l : Line} → Ranged l → Passed (tests f l) → (ls : List Line) → beside (afterLine f l) ls ≡ beside f (l ∷ ls)
+unfolding beside tests afterLine edgesSaid tablesSaid lastSaid storedSaid
 beside-line f (members h) p ls = rw (eqb-true (f .phase) 0 (passed-at p 0)) refl
 beside-line f (labels h i) p ls = rw (eqb-true (f .phase) 1 (passed-at p 0)) refl
 beside-line f (entry h i j k m y) p ls = let z = entry-phase f (passed-at p 0) .1 in rw (lt-ltb (f .phase) 8 (omega arith)) refl
@@ -98,7 +98,7 @@ beside-first : (ls : List Line) → beside nothing ls ≡ besideSaid ls
 unfolding beside nothing
 beside-first ls = refl
 
-beside-last : (f : File) → Going f → beside f [] ≡ besideOf f
+beside-last : (f : File) → FileFits f → beside f [] ≡ besideOf f
 unfolding beside edgesSaid tablesSaid lastSaid storedSaid
 beside-last f g =
     let last : cond (ltb (f .phase) 8) Event.none (f .last) ≡ f .last = ⊎-elim
@@ -112,5 +112,5 @@ beside-last f g =
       stored = or-false (f .stored) i;
     }
 
-pub beside-said : {f : File} {ls : List Line} → Taken nothing ls f → Going f → besideSaid ls ≡ besideOf f
+pub beside-said : {f : File} {ls : List Line} → Taken nothing ls f → FileFits f → besideSaid ls ≡ besideOf f
 beside-said {f} {ls} t g = sym (beside-first ls) ∙ sym (beside-on t) ∙ beside-last f g

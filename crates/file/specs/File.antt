@@ -153,8 +153,8 @@ withTableBit f t i k = record {
 }
 
 -- What has been said once a line is taken in.
-unfoldable pub after : File → Line → File
-after f (Members n) = record {
+unfoldable pub afterLine : File → Line → File
+afterLine f (Members n) = record {
   stored = f .stored;
   phase = 1;
   terms = record {
@@ -177,7 +177,7 @@ after f (Members n) = record {
   from = f .from;
   to = f .to;
 }
-after f (Labels r e) = record {
+afterLine f (Labels r e) = record {
   stored = f .stored;
   phase = 2;
   terms = record {
@@ -200,7 +200,7 @@ after f (Labels r e) = record {
   from = f .from;
   to = f .to;
 }
-after f (Entry n o a b c) = record {
+afterLine f (Entry n o a b c) = record {
   stored = f .stored;
   phase = 3;
   terms = withEntry (f .terms) n o a b c;
@@ -214,7 +214,7 @@ after f (Entry n o a b c) = record {
   from = f .from;
   to = f .to;
 }
-after f (Policy j n) = record {
+afterLine f (Policy j n) = record {
   stored = f .stored;
   phase = 4;
   terms = withPolicy (f .terms) j n;
@@ -228,7 +228,7 @@ after f (Policy j n) = record {
   from = f .from;
   to = f .to;
 }
-after f (Effect j c k d) = record {
+afterLine f (Effect j c k d) = record {
   stored = f .stored;
   phase = 5;
   terms = withEffect (f .terms) j c k d;
@@ -242,7 +242,7 @@ after f (Effect j c k d) = record {
   from = f .from;
   to = f .to;
 }
-after f (Edge k a b) = record {
+afterLine f (Edge k a b) = record {
   stored = f .stored;
   phase = 6;
   terms = f .terms;
@@ -256,7 +256,7 @@ after f (Edge k a b) = record {
   from = a;
   to = b;
 }
-after f (Form n) = record {
+afterLine f (Form n) = record {
   stored = true;
   phase = f .phase;
   terms = f .terms;
@@ -270,9 +270,9 @@ after f (Form n) = record {
   from = f .from;
   to = f .to;
 }
-after f (TableBit t a b) = withTableBit f t a b
-after f (PairBit t a b c) = withTableBit f t (pairWord a b) (pairBit b c)
-after f (EventEdge j u v) = record {
+afterLine f (TableBit t a b) = withTableBit f t a b
+afterLine f (PairBit t a b c) = withTableBit f t (pairWord a b) (pairBit b c)
+afterLine f (EventEdge j u v) = record {
   stored = f .stored;
   phase = 8;
   terms = f .terms;
@@ -286,7 +286,7 @@ after f (EventEdge j u v) = record {
   from = f .from;
   to = f .to;
 }
-after f (Mark j) = record {
+afterLine f (Mark j) = record {
   stored = f .stored;
   phase = 4;
   terms = withMark (f .terms) j;
@@ -300,4 +300,4 @@ after f (Mark j) = record {
   from = f .from;
   to = f .to;
 }
-after f Malformed = f
+afterLine f Malformed = f

@@ -10,6 +10,7 @@ use Rattle.fields.specs.Number.{isNumber, valueOf, digits}
 use Rattle.file.specs.Words.{operatorWords, actionWords, directionWords, kindWords, operatorOf, actionOf, directionOf, kindOf}
 use Rattle.file.specs.declared.line.Line.{Line}
 use Rattle.file.specs.declared.line.Line.the-variants.{Members, Labels, Entry, Policy, Effect, Edge, Form, TableBit, PairBit, EventEdge, Mark, Malformed}
+use Rattle.theory.specs.Formula.{reachOperator, manyOperator, operators}
 
 -- The value of field k; whether the fields numbered in the list are numbers.
 abbrev pub num : List (List ℕ) → ℕ → ℕ
@@ -31,7 +32,7 @@ labelsLine fs = cond (every (eqb (length fs) 3 ∷ isNum fs 1 ∷ isNum fs 2 ∷
 -- An F line of five fields, its third operand 0; and one of six.
 unfoldable pub shortEntryLine : List (List ℕ) → Line
 shortEntryLine fs =
-    cond (every (eqb (length fs) 5 ∷ isNum fs 1 ∷ ltb (operatorOf (getD fs 2 [])) 12 ∷ isNum fs 3 ∷ isNum fs 4 ∷ []))
+    cond (every (eqb (length fs) 5 ∷ isNum fs 1 ∷ ltb (operatorOf (getD fs 2 [])) operators ∷ isNum fs 3 ∷ isNum fs 4 ∷ []))
     (Entry (num fs 1) (operatorOf (getD fs 2 [])) (num fs 3) (num fs 4) 0) Malformed
 
 unfoldable pub longEntryLine : List (List ℕ) → Line
@@ -41,7 +42,7 @@ longEntryLine fs =
 
 -- Only reach and many have a third operand, and lines of six fields.
 abbrev pub hasThird : ℕ → Bool
-hasThird o = eqb o 10 || eqb o 11
+hasThird o = eqb o reachOperator || eqb o manyOperator
 
 unfoldable pub entryLine : List (List ℕ) → Line
 entryLine fs = cond (hasThird (operatorOf (getD fs 2 []))) (longEntryLine fs) (shortEntryLine fs)
@@ -69,17 +70,20 @@ tableLine fs = cond (eqb (length fs) 5) (pairLine fs) (tripleLine TableBit fs)
 
 -- What a line of kind k, in the order of the kinds' words, says.
 unfoldable pub lineOf : ℕ → List (List ℕ) → Line
-lineOf zero fs = singleLine Members fs
-lineOf (suc zero) fs = labelsLine fs
-lineOf (suc (suc zero)) fs = entryLine fs
-lineOf (suc (suc (suc zero))) fs = policyLine fs
-lineOf (suc (suc (suc (suc zero)))) fs = effectLine fs
-lineOf (suc (suc (suc (suc (suc zero))))) fs = tripleLine Edge fs
-lineOf (suc (suc (suc (suc (suc (suc zero)))))) fs = singleLine Form fs
-lineOf (suc (suc (suc (suc (suc (suc (suc zero))))))) fs = tableLine fs
-lineOf (suc (suc (suc (suc (suc (suc (suc (suc zero)))))))) fs = tripleLine EventEdge fs
-lineOf (suc (suc (suc (suc (suc (suc (suc (suc (suc zero))))))))) fs = singleLine Mark fs
-lineOf (suc (suc (suc (suc (suc (suc (suc (suc (suc (suc k)))))))))) fs = Malformed
+lineOf k fs =
+    getD (
+    singleLine Members fs
+    ∷ labelsLine fs
+    ∷ entryLine fs
+    ∷ policyLine fs
+    ∷ effectLine fs
+    ∷ tripleLine Edge fs
+    ∷ singleLine Form fs
+    ∷ tableLine fs
+    ∷ tripleLine EventEdge fs
+    ∷ singleLine Mark fs
+    ∷ []
+    ) k Malformed
 
 -- What the fields of a line say.
 unfoldable pub parsed : List (List ℕ) → Line

@@ -3,8 +3,8 @@ use Prim.Native.Nat.{ℕ}
 use mathlib.Core.List.{List, [], _∷_}
 use mathlib.Core.Path.{_≡_}
 use Rattle.fields.specs.Split.{lines}
-use Rattle.file.specs.File.{File, nothing, after}
-use Rattle.file.specs.Said.{records}
+use Rattle.file.specs.File.{File, nothing, afterLine}
+use Rattle.file.specs.Said.{saidLines}
 use Rattle.file.specs.declared.line.Line.{Line}
 use Rattle.file.specs.Reading.{reading}
 use Rattle.file.specs.Reading.Reading.{accepted}
@@ -33,10 +33,10 @@ presetText =
 -- What is said once lines are taken in one after the other.
 unfoldable pub takenIn : File → List Line → File
 takenIn f [] = f
-takenIn f (l ∷ ls) = takenIn (after f l) ls
+takenIn f (l ∷ ls) = takenIn (afterLine f l) ls
 
 unfoldable pub presetFile : File
-presetFile = takenIn nothing (records (lines presetText))
+presetFile = takenIn nothing (saidLines (lines presetText))
 
 -- Reading the text gives the terms and first edges of the marked cases.
 pub record ReadsPreset : Type 0 where

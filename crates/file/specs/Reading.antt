@@ -5,7 +5,7 @@ use mathlib.Core.List.{List, [], _∷_}
 use lib.Dec.{eqb, ltb, leb}
 use lib.ListN.{length}
 use Rattle.sets.specs.Sets.{allBelow}
-use Rattle.theory.specs.Formula.{Operand, firstOperand, secondOperand, thirdOperand, number, isPast, columns}
+use Rattle.theory.specs.Formula.{Operand, firstOperand, secondOperand, thirdOperand, number, isPast, columns, reachOperator}
 use Rattle.theory.specs.Formula.Operand.{unused, variable, binder, label, entry, count}
 use Rattle.theory.specs.Terms.{labels, formula, tables, pastEntry}
 use Rattle.theory.specs.Columns.{columnsFit, pairMember, pairFirst, pairLast}
@@ -14,7 +14,7 @@ use Rattle.theory.specs.Limits.{maxMembers, maxRelations, maxEvents, maxEntries
 use Rattle.fields.specs.Split.{Lines, split, lines}
 use Rattle.fields.specs.Split.Lines.{done, cut, line}
 use Rattle.file.specs.Line.{parsed}
-use Rattle.file.specs.File.{File, nothing, withEntry, eventNamed, pairTable, after}
+use Rattle.file.specs.File.{File, nothing, withEntry, eventNamed, pairTable, afterLine}
 use Rattle.file.specs.declared.line.Line.{Line}
 use Rattle.file.specs.declared.line.Line.the-variants.{Members, Labels, Entry, Policy, Effect, Edge, Form, TableBit, PairBit, EventEdge, Mark, Malformed}
 
@@ -85,7 +85,7 @@ tests f (Entry n o a b c) =
     ∷ test 3 (isLower (secondOperand o) n b)
     ∷ test 3 (isLower (thirdOperand o) n c)
     ∷ test 4 (isPast o ⇒ columnsFit (f .terms .members) (columns (formula (withEntry (f .terms) n o a b c) n)))
-    ∷ test 10 (eqb o 10 ⇒ reachFits a (formula (f .terms) b) (formula (f .terms) c))
+    ∷ test 10 (eqb o reachOperator ⇒ reachFits a (formula (f .terms) b) (formula (f .terms) c))
     ∷ []
 tests f (Policy j n) =
     test 1 (leb 2 (f .phase) && leb (f .phase) 4)
@@ -165,7 +165,7 @@ tried (t ∷ ts) n r = cond (t .passes) (tried ts n r) (refused (t .number) n)
 unfoldable pub readOn : File → (n : ℕ) → Lines → Reading
 readOn f n done = cond (complete f) (accepted f) (refused 1 n)
 readOn f n (cut l) = refused 1 n
-readOn f n (line l r) = tried (tests f (parsed (split 9 l))) n (readOn (after f (parsed (split 9 l))) (n + 1) r)
+readOn f n (line l r) = tried (tests f (parsed (split 9 l))) n (readOn (afterLine f (parsed (split 9 l))) (n + 1) r)
 
 -- Word a of table t, which has a bit, is partly filled, and the table is one without a free variable.
 unfoldable pub partly : File → (t a : ℕ) → Bool

@@ -9,7 +9,7 @@ use lib.Dec.{leb}
 use Rattle.fields.specs.Split.{Lines, split, lines}
 use Rattle.fields.specs.Split.Lines.{done, cut, line}
 use Rattle.file.specs.Line.{parsed}
-use Rattle.file.specs.File.{File, nothing, after}
+use Rattle.file.specs.File.{File, nothing, afterLine}
 use Rattle.file.specs.Reading.{Test, tests, complete, partlyFilled, readOn}
 use Rattle.file.specs.Reading.Reading.{accepted}
 use Rattle.file.specs.declared.line.Line.{Line}
@@ -36,7 +36,7 @@ Faulty f l n = Lowest n (tests f l)
 -- A text from line `at` on, after what f has said, is refused with a number at a line.
 pub data Refused : (f : File) (at : ℕ) → Lines → (number line : ℕ) → Type 0 where
   go-on : {f : File} {at : ℕ} {l : List ℕ} {r : Lines} {n k : ℕ}
-      → Passed (tests f (parsed (split 9 l))) → Refused (after f (parsed (split 9 l))) (at + 1) r n k → Refused f at (line l r) n k
+      → Passed (tests f (parsed (split 9 l))) → Refused (afterLine f (parsed (split 9 l))) (at + 1) r n k → Refused f at (line l r) n k
   faulty : {f : File} {at : ℕ} {l : List ℕ} {r : Lines} {n : ℕ} → Faulty f (parsed (split 9 l)) n → Refused f at (line l r) n at
   cut-off : {f : File} {at : ℕ} {l : List ℕ} → Refused f at (cut l) 1 at
   ended : {f : File} {at : ℕ} → complete f ≡ false → Refused f at done 1 at

@@ -21,10 +21,10 @@ use Rattle.file.specs.declared.line.Line.{Line}
 use Rattle.file.specs.declared.line.Line.the-variants.{Members, Labels, Entry, Policy, Effect, Edge, Form, TableBit, PairBit, EventEdge, Mark, Malformed}
 
 -- The lines of a text.
-unfoldable pub records : Lines → List Line
-records done = []
-records (cut l) = []
-records (line l r) = parsed (split 9 l) ∷ records r
+unfoldable pub saidLines : Lines → List Line
+saidLines done = []
+saidLines (cut l) = []
+saidLines (line l r) = parsed (split 9 l) ∷ saidLines r
 
 -- ---- what one line adds
 

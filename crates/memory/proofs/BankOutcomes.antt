@@ -10,11 +10,11 @@ use Rattle.theory.specs.Terms.{sameSize}
 use Rattle.memory.specs.Layout.{termsWords, relationWords, ownWords, termsOf}
 use Rattle.memory.specs.Checks.{goodMemory, goodRelations}
 use Rattle.memory.specs.Outcome.{Outcome, shortBanks, goodBanks, banksCheck, banksOpen, banksRevise}
-use Rattle.memory.specs.Outcome.Outcome.{passed, failed}
+use Rattle.memory.specs.Outcome.Outcome.{passed, refused}
 
 -- 6, 7 and 8 in this order, and then what comes after them.
 abbrev way : (short terms banks : Bool) → Outcome → Outcome
-way s g b o = cond s (failed 6 0) (cond (not g) (failed 7 0) (cond (not b) (failed 8 0) o))
+way s g b o = cond s (refused 6 0) (cond (not g) (refused 7 0) (cond (not b) (refused 8 0) o))
 
 abbrev pub short : (terms relations own other : List ℕ) → Bool
 short terms relations own other = ltb (length terms) termsWords || shortBanks relations own other
@@ -42,25 +42,25 @@ module _ (terms relations own other : List ℕ) where
   abbrev r : Bool
   r = goodRelations (termsOf terms) relations
 
-  pub check-short : short terms relations own other ≡ true → failed 6 0 ≡ banksCheck terms relations own other
+  pub check-short : short terms relations own other ≡ true → refused 6 0 ≡ banksCheck terms relations own other
   unfolding banksCheck
   check-short e = sym (ap (λ s. way s g b passed) e)
 
-  pub open-short : short terms relations own other ≡ true → failed 6 0 ≡ banksOpen terms relations own other
+  pub open-short : short terms relations own other ≡ true → refused 6 0 ≡ banksOpen terms relations own other
   unfolding banksOpen
   open-short e = sym (ap (λ s. way s g r passed) e)
 
   module _ (s : short terms relations own other ≡ false) where
-    pub check-bad-terms : g ≡ false → failed 7 0 ≡ banksCheck terms relations own other
+    pub check-bad-terms : g ≡ false → refused 7 0 ≡ banksCheck terms relations own other
     unfolding banksCheck
     check-bad-terms e = sym (ap₂ (λ x y. way x y b passed) s e)
 
-    pub open-bad-terms : g ≡ false → failed 7 0 ≡ banksOpen terms relations own other
+    pub open-bad-terms : g ≡ false → refused 7 0 ≡ banksOpen terms relations own other
     unfolding banksOpen
     open-bad-terms e = sym (ap₂ (λ x y. way x y r passed) s e)
 
     module _ (t : g ≡ true) where
-      pub check-bad-banks : b ≡ false → failed 8 0 ≡ banksCheck terms relations own other
+      pub check-bad-banks : b ≡ false → refused 8 0 ≡ banksCheck terms relations own other
       unfolding banksCheck
       check-bad-banks e = sym (ap₂ (λ x y. way x y b passed) s t ∙ ap (λ z. way false true z passed) e)
 
@@ -68,7 +68,7 @@ module _ (terms relations own other : List ℕ) where
       unfolding banksCheck
       check-passed e = sym (ap₂ (λ x y. way x y b passed) s t ∙ ap (λ z. way false true z passed) e)
 
-      pub open-bad-relations : r ≡ false → failed 8 0 ≡ banksOpen terms relations own other
+      pub open-bad-relations : r ≡ false → refused 8 0 ≡ banksOpen terms relations own other
       unfolding banksOpen
       open-bad-relations e = sym (ap₂ (λ x y. way x y r passed) s t ∙ ap (λ z. way false true z passed) e)
 
@@ -84,7 +84,7 @@ module _ (old relations own other new relations' own' other' : List ℕ) where
   second = short new relations' own' other'
 
   abbrev last : Outcome
-  last = cond (not (sameSize (termsOf old) (termsOf new))) (failed 13 0) passed
+  last = cond (not (sameSize (termsOf old) (termsOf new))) (refused 13 0) passed
 
   abbrev stands : Bool
   stands = goodBanks (termsOf old) relations own other
@@ -92,12 +92,12 @@ module _ (old relations own other new relations' own' other' : List ℕ) where
   abbrev gives : Outcome
   gives = banksRevise old relations own other new relations' own' other'
 
-  pub revise-short : there ≡ true → failed 6 0 ≡ gives
+  pub revise-short : there ≡ true → refused 6 0 ≡ gives
   unfolding banksRevise
   revise-short e = sym (ap (λ s. way (s || second) (goodMemory old && goodMemory new) stands last) e)
 
   module _ (l : there ≡ false) where
-    pub revise-short-second : second ≡ true → failed 6 0 ≡ gives
+    pub revise-short-second : second ≡ true → refused 6 0 ≡ gives
     unfolding banksRevise
     revise-short-second e = sym (ap₂ (λ s z. way (s || z) (goodMemory old && goodMemory new) stands last) l e)
 
@@ -106,27 +106,27 @@ module _ (old relations own other new relations' own' other' : List ℕ) where
       unfolding banksRevise
       long-is = ap₂ (λ s z. way (s || z) (goodMemory old && goodMemory new) stands last) l k
 
-      pub revise-bad-new : goodMemory new ≡ false → failed 7 0 ≡ gives
+      pub revise-bad-new : goodMemory new ≡ false → refused 7 0 ≡ gives
       revise-bad-new e = sym (long-is ∙ ap (λ x. way false (goodMemory old && x) stands last) e ∙ by (goodMemory old))
         where
-          by : (x : Bool) → way false (x && false) stands last ≡ failed 7 0
+          by : (x : Bool) → way false (x && false) stands last ≡ refused 7 0
           by true = refl
           by false = refl
 
       module _ (n : goodMemory new ≡ true) where
-        pub revise-bad-old : goodMemory old ≡ false → failed 7 0 ≡ gives
+        pub revise-bad-old : goodMemory old ≡ false → refused 7 0 ≡ gives
         revise-bad-old e = sym (long-is ∙ ap (λ x. way false (x && goodMemory new) stands last) e)
 
         module _ (o : goodMemory old ≡ true) where
           good-is : gives ≡ way false true stands last
           good-is = long-is ∙ ap₂ (λ x y. way false (x && y) stands last) o n
 
-          pub revise-bad-banks : stands ≡ false → failed 8 0 ≡ gives
+          pub revise-bad-banks : stands ≡ false → refused 8 0 ≡ gives
           revise-bad-banks e = sym (good-is ∙ ap (λ x. way false true x last) e)
 
-          pub revise-other-size : stands ≡ true → sameSize (termsOf old) (termsOf new) ≡ false → failed 13 0 ≡ gives
+          pub revise-other-size : stands ≡ true → sameSize (termsOf old) (termsOf new) ≡ false → refused 13 0 ≡ gives
           revise-other-size e z =
-              sym (good-is ∙ ap (λ x. way false true x last) e ∙ ap (λ x. cond (not x) (failed 13 0) passed) z)
+              sym (good-is ∙ ap (λ x. way false true x last) e ∙ ap (λ x. cond (not x) (refused 13 0) passed) z)
 
           pub revise-passed : stands ≡ true → sameSize (termsOf old) (termsOf new) ≡ true → passed ≡ gives
-          revise-passed e z = sym (good-is ∙ ap (λ x. way false true x last) e ∙ ap (λ x. cond (not x) (failed 13 0) passed) z)
+          revise-passed e z = sym (good-is ∙ ap (λ x. way false true x last) e ∙ ap (λ x. cond (not x) (refused 13 0) passed) z)

@@ -13,7 +13,7 @@ use theory::operators::TOP;
 use theory::operators::VAR;
 ghost use mathlib.Core.Path.{_≡_};
 ghost use Rattle.theory.specs.Formula.{firstOperand, secondOperand, thirdOperand};
-ghost use Rattle.memory.specs.private.Operands.{kindOf};
+ghost use Rattle.memory.specs.private.Operands.{operandKind};
 
 // Not used, a variable, a variable to bind, a label, an entry, a number of members.
 pub enum Kind {
@@ -33,9 +33,9 @@ pub struct Operands {
 
 // The table of operands. What is no operator uses none.
 pub fn operands_of(op: usize) -> Operands
-    ensures { λ r. ⌜ kindOf (r .first) ≡ firstOperand op ⌝ }
-    ensures { λ r. ⌜ kindOf (r .second) ≡ secondOperand op ⌝ }
-    ensures { λ r. ⌜ kindOf (r .third) ≡ thirdOperand op ⌝ }
+    ensures { λ r. ⌜ operandKind (r .first) ≡ firstOperand op ⌝ }
+    ensures { λ r. ⌜ operandKind (r .second) ≡ secondOperand op ⌝ }
+    ensures { λ r. ⌜ operandKind (r .third) ≡ thirdOperand op ⌝ }
 {
     match op {
         TOP => Operands {

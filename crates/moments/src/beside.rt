@@ -9,7 +9,7 @@ ghost use Rattle.theory.specs.Limits.{scratchWords};
 ghost use Rattle.theory.specs.Tables.{named, decideNow, opening, made, advance};
 ghost use Rattle.memory.specs.Layout.{termsWords, relationWords, ownWords, blockWords, joined, termsOf, stateOf, wordsOf};
 ghost use Rattle.memory.specs.Checks.{goodMemory, goodState, goodRelations};
-ghost use Rattle.memory.specs.Plan.{Planned};
+ghost use Rattle.memory.specs.TableIndex.{Indexed};
 ghost use Rattle.deciding.specs.private.Moving.{Movable, Becomes, entered, sinceMoved};
 ghost use Rattle.banking.specs.Banks.{quiet};
 ghost use Rattle.banking.specs.private.Beside.{hushed};
@@ -33,14 +33,14 @@ const EVENT: usize = layout::OWN_EVENT_AT;
 // Whether the policy of the event holds now in the bank, at the initiator with variable 0 standing for the target.
 pub fn is_granted(
     terms: &[u16],
-    plan: &[u16],
+    index: &[u16],
     relations: &[u64],
     own: &[u64],
     event: usize,
     from: usize,
     to: usize,
 ) -> bool
-    requires { ⌜ (termsWords ≤ length (now terms)) × (goodMemory (now terms) ≡ true) × Planned (termsOf (now terms)) (now plan) ⌝ }
+    requires { ⌜ (termsWords ≤ length (now terms)) × (goodMemory (now terms) ≡ true) × Indexed (termsOf (now terms)) (now index) ⌝ }
     requires { ⌜ (relationWords ≤ length (now relations)) × (ownWords ≤ length (now own)) × (goodState (termsOf (now terms)) (joined (now relations) (now own)) ≡ true) ⌝ }
     requires { ⌜ named (termsOf (now terms)) event from to ≡ true ⌝ }
     ensures { λ r. ⌜ r ≡ decideNow (termsOf (now (terms .entry))) (stateOf (joined (now (relations .entry)) (now (own .entry)))) event from to ⌝ }
@@ -49,7 +49,7 @@ pub fn is_granted(
     let memoless = memo_choice::is_brief(terms, policy);
     queries::settle(
         terms,
-        plan,
+        index,
         &relations[0..TABLES],
         &own[0..OWN],
         policy,
@@ -85,7 +85,7 @@ fn enter(
 // Both banks at the next moment. The tables are worked out in rows.
 fn move_both(
     terms: &[u16],
-    plan: &[u16],
+    index: &[u16],
     relations: &mut [u64],
     own: &mut [u64],
     other: &mut [u64],
@@ -96,23 +96,23 @@ fn move_both(
     from: usize,
     to: usize,
 )
-    requires { ⌜ Movable (now terms) (now plan) (now relations ++ now own) × Movable (now terms) (now plan) (now relations ++ now other) ⌝ }
+    requires { ⌜ Movable (now terms) (now index) (now relations ++ now own) × Movable (now terms) (now index) (now relations ++ now other) ⌝ }
     requires { ⌜ (length (now relations) ≡ relationWords) × (length (now own) ≡ ownWords) × (length (now other) ≡ ownWords) × (length (now rows) ≡ blockWords) ⌝ }
     requires { ⌜ named (termsOf (now terms)) event from to ≡ true ⌝ }
     ensures { λ _. ⌜ Becomes (now (terms .entry)) (λ T S. advance T S (made T (S .now) granted event from to)) (now (relations .entry) ++ now (own .entry)) (now (relations .exit) ++ now (own .exit)) ⌝ }
     ensures { λ _. ⌜ Becomes (now (terms .entry)) (λ T S. advance T S (quiet (made T (S .now) granted event from to))) (now (relations .entry) ++ now (other .entry)) (now (relations .exit) ++ now (other .exit)) ⌝ }
 {
-    apart::move_prev(terms, plan, relations, own, memo, rows);
-    apart::move_prev(terms, plan, relations, other, memo, rows);
+    apart::move_prev(terms, index, relations, own, memo, rows);
+    apart::move_prev(terms, index, relations, other, memo, rows);
     enter(terms, relations, own, other, granted, event, from, to);
-    apart::move_since(terms, plan, relations, own, memo, rows);
-    apart::move_since(terms, plan, relations, other, memo, rows);
+    apart::move_since(terms, index, relations, own, memo, rows);
+    apart::move_since(terms, index, relations, other, memo, rows);
 }
 
 // The same, with a memo that has a slot for each entry.
 fn move_shared(
     terms: &[u16],
-    plan: &[u16],
+    index: &[u16],
     relations: &mut [u64],
     own: &mut [u64],
     other: &mut [u64],
@@ -122,7 +122,7 @@ fn move_shared(
     from: usize,
     to: usize,
 )
-    requires { ⌜ Movable (now terms) (now plan) (now relations ++ now own) × Movable (now terms) (now plan) (now relations ++ now other) ⌝ }
+    requires { ⌜ Movable (now terms) (now index) (now relations ++ now own) × Movable (now terms) (now index) (now relations ++ now other) ⌝ }
     requires { ⌜ (length (now relations) ≡ relationWords) × (length (now own) ≡ ownWords) × (length (now other) ≡ ownWords) × (length (now rows) ≡ blockWords) ⌝ }
     requires { ⌜ named (termsOf (now terms)) event from to ≡ true ⌝ }
     ensures { λ _. ⌜ Becomes (now (terms .entry)) (λ T S. advance T S (made T (S .now) granted event from to)) (now (relations .entry) ++ now (own .entry)) (now (relations .exit) ++ now (own .exit)) ⌝ }
@@ -131,7 +131,7 @@ fn move_shared(
     let mut memo = [0u64; memo::WORDS];
     move_both(
         terms,
-        plan,
+        index,
         relations,
         own,
         other,
@@ -149,7 +149,7 @@ fn move_shared(
 // of `move_shared` into its frame.)
 fn move_on(
     terms: &[u16],
-    plan: &[u16],
+    index: &[u16],
     relations: &mut [u64],
     own: &mut [u64],
     other: &mut [u64],
@@ -159,7 +159,7 @@ fn move_on(
     from: usize,
     to: usize,
 )
-    requires { ⌜ Movable (now terms) (now plan) (now relations ++ now own) × Movable (now terms) (now plan) (now relations ++ now other) ⌝ }
+    requires { ⌜ Movable (now terms) (now index) (now relations ++ now own) × Movable (now terms) (now index) (now relations ++ now other) ⌝ }
     requires { ⌜ (length (now relations) ≡ relationWords) × (length (now own) ≡ ownWords) × (length (now other) ≡ ownWords) × (blockWords ≤ length (now scratch)) ⌝ }
     requires { ⌜ named (termsOf (now terms)) event from to ≡ true ⌝ }
     ensures { λ _. ⌜ Becomes (now (terms .entry)) (λ T S. advance T S (made T (S .now) granted event from to)) (now (relations .entry) ++ now (own .entry)) (now (relations .exit) ++ now (own .exit)) ⌝ }
@@ -169,7 +169,7 @@ fn move_on(
     if ROWS < scratch.len() {
         move_on(
             terms,
-            plan,
+            index,
             relations,
             own,
             other,
@@ -186,7 +186,7 @@ fn move_on(
         let mut none = [0u64; 1];
         move_both(
             terms,
-            plan,
+            index,
             relations,
             own,
             other,
@@ -200,7 +200,7 @@ fn move_on(
     } else {
         move_shared(
             terms,
-            plan,
+            index,
             relations,
             own,
             other,
@@ -217,7 +217,7 @@ fn move_on(
 // words of both scratches are left 0.
 pub fn next_moments(
     terms: &[u16],
-    plan: &[u16],
+    index: &[u16],
     relations: &mut [u64],
     own: &mut [u64],
     other: &mut [u64],
@@ -228,7 +228,7 @@ pub fn next_moments(
     from: usize,
     to: usize,
 )
-    requires { ⌜ (termsWords ≤ length (now terms)) × (goodMemory (now terms) ≡ true) × Planned (termsOf (now terms)) (now plan) × (named (termsOf (now terms)) event from to ≡ true) ⌝ }
+    requires { ⌜ (termsWords ≤ length (now terms)) × (goodMemory (now terms) ≡ true) × Indexed (termsOf (now terms)) (now index) × (named (termsOf (now terms)) event from to ≡ true) ⌝ }
     requires { ⌜ (relationWords ≤ length (now relations)) × (ownWords ≤ length (now own)) × (ownWords ≤ length (now other)) ⌝ }
     requires { ⌜ (goodState (termsOf (now terms)) (joined (now relations) (now own)) ≡ true) × (goodState (termsOf (now terms)) (joined (now relations) (now other)) ≡ true) ⌝ }
     requires { ⌜ (scratchWords ≤ length (now scratch)) × (scratchWords ≤ length (now spare)) ⌝ }
@@ -237,7 +237,7 @@ pub fn next_moments(
 {
     move_on(
         terms,
-        plan,
+        index,
         &mut relations[0..TABLES],
         &mut own[0..OWN],
         &mut other[0..OWN],
@@ -253,21 +253,21 @@ pub fn next_moments(
 
 // The since sweep with a memo that has a slot for each entry. Where more words than the rows are lent, it calls itself
 // with the rows alone. (Since it calls itself, the compiler does not take the memo into the frame of a caller.)
-fn open_shared(terms: &[u16], plan: &[u16], relations: &[u64], own: &mut [u64], rows: &mut [u64])
-    requires { ⌜ Movable (now terms) (now plan) (now relations ++ now own) × (length (now relations) ≡ relationWords) × (length (now own) ≡ ownWords) × (blockWords ≤ length (now rows)) ⌝ }
+fn open_shared(terms: &[u16], index: &[u16], relations: &[u64], own: &mut [u64], rows: &mut [u64])
+    requires { ⌜ Movable (now terms) (now index) (now relations ++ now own) × (length (now relations) ≡ relationWords) × (length (now own) ≡ ownWords) × (blockWords ≤ length (now rows)) ⌝ }
     ensures { λ _. ⌜ Becomes (now (terms .entry)) sinceMoved (now (relations .entry) ++ now (own .entry)) (now (relations .entry) ++ now (own .exit)) ⌝ }
 {
     if ROWS < rows.len() {
-        open_shared(terms, plan, relations, own, &mut rows[0..ROWS]);
+        open_shared(terms, index, relations, own, &mut rows[0..ROWS]);
         return;
     }
     let mut memo = [0u64; memo::WORDS];
-    apart::move_since(terms, plan, relations, own, &mut memo, rows);
+    apart::move_since(terms, index, relations, own, &mut memo, rows);
 }
 
 // A bank's own words at moment 0 of the relations: the since sweep over tables of zeros.
-pub fn first_moment(terms: &[u16], plan: &[u16], relations: &[u64], own: &mut [u64])
-    requires { ⌜ (termsWords ≤ length (now terms)) × (goodMemory (now terms) ≡ true) × Planned (termsOf (now terms)) (now plan) ⌝ }
+pub fn first_moment(terms: &[u16], index: &[u16], relations: &[u64], own: &mut [u64])
+    requires { ⌜ (termsWords ≤ length (now terms)) × (goodMemory (now terms) ≡ true) × Indexed (termsOf (now terms)) (now index) ⌝ }
     requires { ⌜ (relationWords ≤ length (now relations)) × (ownWords ≤ length (now own)) × (goodRelations (termsOf (now terms)) (now relations) ≡ true) ⌝ }
     ensures { λ _. ⌜ take relationWords (now (relations .entry)) ++ now (own .exit) ≡ wordsOf (termsOf (now (terms .entry))) (opening (termsOf (now (terms .entry))) (stateOf (now (relations .entry)) .now .edge)) ++ drop ownWords (now (own .entry)) ⌝ }
 {
@@ -277,7 +277,7 @@ pub fn first_moment(terms: &[u16], plan: &[u16], relations: &[u64], own: &mut [u
         let mut none = [0u64; 1];
         apart::move_since(
             terms,
-            plan,
+            index,
             &relations[0..TABLES],
             &mut own[0..OWN],
             &mut none,
@@ -286,7 +286,7 @@ pub fn first_moment(terms: &[u16], plan: &[u16], relations: &[u64], own: &mut [u
     } else {
         open_shared(
             terms,
-            plan,
+            index,
             &relations[0..TABLES],
             &mut own[0..OWN],
             &mut rows,

@@ -8,7 +8,7 @@ ghost use Rattle.theory.specs.Limits.{scratchWords};
 ghost use Rattle.memory.specs.Layout.{termsWords, stateWords, blockWords, termsOf, stateOf, wordsOf};
 ghost use Rattle.memory.specs.Checks.{goodMemory, goodState, goodRelations};
 ghost use Rattle.theory.specs.Tables.{named, opening, decideNow, made, advance};
-ghost use Rattle.memory.specs.Plan.{planTable, Planned};
+ghost use Rattle.memory.specs.TableIndex.{indexTable, Indexed};
 ghost use Rattle.calls.specs.Telling.{holdsAt};
 ghost use Rattle.deciding.specs.private.Memo.{MemoOf, Fresh};
 ghost use Rattle.deciding.specs.private.Moving.{Movable, Becomes, put, prevAt, prevMoved, sinceAt, sinceMoved};
@@ -20,7 +20,7 @@ use decide::queries;
 use decide::tables;
 use memory::clear;
 use memory::layout;
-use memory::plan;
+use memory::table_index;
 use theory::operators::PREV;
 use theory::operators::SINCE;
 
@@ -30,8 +30,8 @@ const TABLES: usize = layout::TABLES_AT;
 const ROWS: usize = layout::BLOCK;
 
 // Whether an entry holds now, at u with variable 0 standing for v.
-pub fn is_so(terms: &[u16], plan: &[u16], state: &[u64], entry: usize, u: usize, v: usize) -> bool
-    requires { ⌜ (termsWords ≤ length (now terms)) × (goodMemory (now terms) ≡ true) × Planned (termsOf (now terms)) (now plan) ⌝ }
+pub fn is_so(terms: &[u16], index: &[u16], state: &[u64], entry: usize, u: usize, v: usize) -> bool
+    requires { ⌜ (termsWords ≤ length (now terms)) × (goodMemory (now terms) ≡ true) × Indexed (termsOf (now terms)) (now index) ⌝ }
     requires { ⌜ (stateWords ≤ length (now state)) × (goodState (termsOf (now terms)) (now state) ≡ true) ⌝ }
     requires { ⌜ (entry < termsOf (now terms) .entries) × (u < termsOf (now terms) .members) × (v < termsOf (now terms) .members) ⌝ }
     ensures { λ r. ⌜ r ≡ holdsAt (termsOf (now (terms .entry))) (stateOf (now (state .entry))) entry u v ⌝ }
@@ -39,7 +39,7 @@ pub fn is_so(terms: &[u16], plan: &[u16], state: &[u64], entry: usize, u: usize,
     let memoless = memo_choice::is_brief(terms, entry);
     queries::settle(
         terms,
-        plan,
+        index,
         &state[0..TABLES],
         &state[TABLES..layout::STATE],
         entry,
@@ -52,19 +52,19 @@ pub fn is_so(terms: &[u16], plan: &[u16], state: &[u64], entry: usize, u: usize,
 // Whether the policy of the event holds now, at the initiator with variable 0 standing for the target.
 pub fn is_granted(
     terms: &[u16],
-    plan: &[u16],
+    index: &[u16],
     state: &[u64],
     event: usize,
     from: usize,
     to: usize,
 ) -> bool
-    requires { ⌜ (termsWords ≤ length (now terms)) × (goodMemory (now terms) ≡ true) × Planned (termsOf (now terms)) (now plan) ⌝ }
+    requires { ⌜ (termsWords ≤ length (now terms)) × (goodMemory (now terms) ≡ true) × Indexed (termsOf (now terms)) (now index) ⌝ }
     requires { ⌜ (stateWords ≤ length (now state)) × (goodState (termsOf (now terms)) (now state) ≡ true) × (named (termsOf (now terms)) event from to ≡ true) ⌝ }
     ensures { λ r. ⌜ r ≡ decideNow (termsOf (now (terms .entry))) (stateOf (now (state .entry))) event from to ⌝ }
 {
     is_so(
         terms,
-        plan,
+        index,
         state,
         layout::policy_of(terms, event),
         from,
@@ -85,24 +85,24 @@ pub(crate) fn store_table(part: &mut [u64], rows: &[u64])
 }
 
 // Stores rows as the table of entry n, in a bank's own words. Only that part of them is lent on.
-pub fn put_table(plan: &[u16], own: &mut [u64], rows: &[u64], n: usize)
-    requires { ⌜ (blockWords * planTable (getD (now plan) n 0) + blockWords ≤ length (now own)) × (length (now rows) ≡ blockWords) ⌝ }
-    ensures { λ _. ⌜ now (own .exit) ≡ put (blockWords * planTable (getD (now (plan .entry)) n 0)) (now (rows .entry)) (now (own .entry)) ⌝ }
+pub fn put_table(index: &[u16], own: &mut [u64], rows: &[u64], n: usize)
+    requires { ⌜ (blockWords * indexTable (getD (now index) n 0) + blockWords ≤ length (now own)) × (length (now rows) ≡ blockWords) ⌝ }
+    ensures { λ _. ⌜ now (own .exit) ≡ put (blockWords * indexTable (getD (now (index .entry)) n 0)) (now (rows .entry)) (now (own .entry)) ⌝ }
 {
-    let k = ROWS * plan::table_of(layout::word(plan, n));
+    let k = ROWS * table_index::table_of(layout::word(index, n));
     store_table(&mut own[k..k + ROWS], rows);
 }
 
 // Moves the table of entry n on, if that is a prev.
 fn prev_turn(
     terms: &[u16],
-    plan: &[u16],
+    index: &[u16],
     state: &mut [u64],
     memo: &mut [u64],
     rows: &mut [u64],
     n: usize,
 )
-    requires { ⌜ Movable (now terms) (now plan) (now state) ⌝ }
+    requires { ⌜ Movable (now terms) (now index) (now state) ⌝ }
     requires { ⌜ (n < termsOf (now terms) .entries) × (length (now rows) ≡ blockWords) ⌝ }
     requires { ⌜ MemoOf (termsOf (now terms)) (now state) n (now memo) ⌝ }
     ensures { λ _. ⌜ Becomes (now (terms .entry)) (prevAt n) (now (state .entry)) (now (state .exit)) ⌝ }
@@ -111,28 +111,28 @@ fn prev_turn(
     if layout::op_of(terms, n) == PREV {
         tables::prev_table(
             terms,
-            plan,
+            index,
             &state[0..TABLES],
             &state[TABLES..layout::STATE],
             memo,
             n,
             rows,
         );
-        put_table(plan, &mut state[TABLES..layout::STATE], rows, n);
+        put_table(index, &mut state[TABLES..layout::STATE], rows, n);
     }
 }
 
 // Moves the table of entry n on, if that is a since.
 fn since_turn(
     terms: &[u16],
-    plan: &[u16],
+    index: &[u16],
     state: &mut [u64],
     memo: &mut [u64],
     f: &mut [u64],
     rows: &mut [u64],
     n: usize,
 )
-    requires { ⌜ Movable (now terms) (now plan) (now state) ⌝ }
+    requires { ⌜ Movable (now terms) (now index) (now state) ⌝ }
     requires { ⌜ (n < termsOf (now terms) .entries) × (length (now rows) ≡ blockWords) × (length (now f) ≡ blockWords) ⌝ }
     requires { ⌜ MemoOf (termsOf (now terms)) (now state) (termsOf (now terms) .entries) (now memo) × Fresh (termsOf (now terms) .entries) n (now memo) ⌝ }
     ensures { λ _. ⌜ Becomes (now (terms .entry)) (sinceAt n) (now (state .entry)) (now (state .exit)) ⌝ }
@@ -141,7 +141,7 @@ fn since_turn(
     if layout::op_of(terms, n) == SINCE {
         tables::since_table(
             terms,
-            plan,
+            index,
             &state[0..TABLES],
             &state[TABLES..layout::STATE],
             memo,
@@ -149,37 +149,37 @@ fn since_turn(
             f,
             rows,
         );
-        put_table(plan, &mut state[TABLES..layout::STATE], rows, n);
+        put_table(index, &mut state[TABLES..layout::STATE], rows, n);
     }
 }
 
 // Moves every prev table on, from the highest entry down: a table reads only those of
 // lower entries, which are still old.
-fn move_prev(terms: &[u16], plan: &[u16], state: &mut [u64], memo: &mut [u64], rows: &mut [u64])
-    requires { ⌜ Movable (now terms) (now plan) (now state) × (length (now rows) ≡ blockWords) ⌝ }
+fn move_prev(terms: &[u16], index: &[u16], state: &mut [u64], memo: &mut [u64], rows: &mut [u64])
+    requires { ⌜ Movable (now terms) (now index) (now state) × (length (now rows) ≡ blockWords) ⌝ }
     ensures { λ _. ⌜ Becomes (now (terms .entry)) prevMoved (now (state .entry)) (now (state .exit)) ⌝ }
 {
     let entries = layout::entries(terms);
-    renew(terms, plan, memo);
+    renew(terms, index, memo);
     let mut n: usize = 0;
     while n < entries {
         n += 1;
-        prev_turn(terms, plan, state, memo, rows, entries - n);
+        prev_turn(terms, index, state, memo, rows, entries - n);
     }
 }
 
 // Moves every since table on, from the lowest entry up: a table reads only those of lower
 // entries, which are moved already.
-fn move_since(terms: &[u16], plan: &[u16], state: &mut [u64], memo: &mut [u64], rows: &mut [u64])
-    requires { ⌜ Movable (now terms) (now plan) (now state) × (length (now rows) ≡ blockWords) ⌝ }
+fn move_since(terms: &[u16], index: &[u16], state: &mut [u64], memo: &mut [u64], rows: &mut [u64])
+    requires { ⌜ Movable (now terms) (now index) (now state) × (length (now rows) ≡ blockWords) ⌝ }
     ensures { λ _. ⌜ Becomes (now (terms .entry)) sinceMoved (now (state .entry)) (now (state .exit)) ⌝ }
 {
     let entries = layout::entries(terms);
     let mut f = [0u64; ROWS];
-    renew(terms, plan, memo);
+    renew(terms, index, memo);
     let mut n: usize = 0;
     while n < entries {
-        since_turn(terms, plan, state, memo, &mut f, rows, n);
+        since_turn(terms, index, state, memo, &mut f, rows, n);
         n += 1;
     }
 }
@@ -187,7 +187,7 @@ fn move_since(terms: &[u16], plan: &[u16], state: &mut [u64], memo: &mut [u64], 
 // The state at the next moment, with the lent memo. The tables are worked out in rows.
 fn move_all(
     terms: &[u16],
-    plan: &[u16],
+    index: &[u16],
     state: &mut [u64],
     memo: &mut [u64],
     rows: &mut [u64],
@@ -196,20 +196,20 @@ fn move_all(
     from: usize,
     to: usize,
 )
-    requires { ⌜ Movable (now terms) (now plan) (now state) × (length (now rows) ≡ blockWords) ⌝ }
+    requires { ⌜ Movable (now terms) (now index) (now state) × (length (now rows) ≡ blockWords) ⌝ }
     requires { ⌜ named (termsOf (now terms)) event from to ≡ true ⌝ }
     ensures { λ _. ⌜ Becomes (now (terms .entry)) (λ T S. advance T S (made T (S .now) granted event from to)) (now (state .entry)) (now (state .exit)) ⌝ }
 {
-    move_prev(terms, plan, state, memo, rows);
+    move_prev(terms, index, state, memo, rows);
     enter(terms, state, granted, event, from, to);
-    move_since(terms, plan, state, memo, rows);
+    move_since(terms, index, state, memo, rows);
 }
 
 // The same, with a memo that has a slot for each entry. Where more words than the rows are lent, it calls itself with
 // the rows alone. (Since it calls itself, the compiler does not take the memo into the frame of a caller.)
 fn move_shared(
     terms: &[u16],
-    plan: &[u16],
+    index: &[u16],
     state: &mut [u64],
     rows: &mut [u64],
     granted: bool,
@@ -217,14 +217,14 @@ fn move_shared(
     from: usize,
     to: usize,
 )
-    requires { ⌜ Movable (now terms) (now plan) (now state) × (blockWords ≤ length (now rows)) ⌝ }
+    requires { ⌜ Movable (now terms) (now index) (now state) × (blockWords ≤ length (now rows)) ⌝ }
     requires { ⌜ named (termsOf (now terms)) event from to ≡ true ⌝ }
     ensures { λ _. ⌜ Becomes (now (terms .entry)) (λ T S. advance T S (made T (S .now) granted event from to)) (now (state .entry)) (now (state .exit)) ⌝ }
 {
     if ROWS < rows.len() {
         move_shared(
             terms,
-            plan,
+            index,
             state,
             &mut rows[0..ROWS],
             granted,
@@ -237,7 +237,7 @@ fn move_shared(
     let mut memo = [0u64; memo::WORDS];
     move_all(
         terms,
-        plan,
+        index,
         state,
         &mut memo,
         rows,
@@ -251,7 +251,7 @@ fn move_shared(
 // The same, without a memo where that is brief.
 fn move_on(
     terms: &[u16],
-    plan: &[u16],
+    index: &[u16],
     state: &mut [u64],
     rows: &mut [u64],
     granted: bool,
@@ -259,7 +259,7 @@ fn move_on(
     from: usize,
     to: usize,
 )
-    requires { ⌜ Movable (now terms) (now plan) (now state) × (length (now rows) ≡ blockWords) ⌝ }
+    requires { ⌜ Movable (now terms) (now index) (now state) × (length (now rows) ≡ blockWords) ⌝ }
     requires { ⌜ named (termsOf (now terms)) event from to ≡ true ⌝ }
     ensures { λ _. ⌜ Becomes (now (terms .entry)) (λ T S. advance T S (made T (S .now) granted event from to)) (now (state .entry)) (now (state .exit)) ⌝ }
 {
@@ -267,7 +267,7 @@ fn move_on(
         let mut none = [0u64; 1];
         move_all(
             terms,
-            plan,
+            index,
             state,
             &mut none,
             rows,
@@ -277,14 +277,14 @@ fn move_on(
             to,
         );
     } else {
-        move_shared(terms, plan, state, rows, granted, event, from, to);
+        move_shared(terms, index, state, rows, granted, event, from, to);
     }
 }
 
 // The state at the moment that a request makes, granted or denied, in place; the named words of scratch are left 0.
 pub fn next_moment(
     terms: &[u16],
-    plan: &[u16],
+    index: &[u16],
     state: &mut [u64],
     scratch: &mut [u64],
     granted: bool,
@@ -292,7 +292,7 @@ pub fn next_moment(
     from: usize,
     to: usize,
 )
-    requires { ⌜ (termsWords ≤ length (now terms)) × (goodMemory (now terms) ≡ true) × Planned (termsOf (now terms)) (now plan) ⌝ }
+    requires { ⌜ (termsWords ≤ length (now terms)) × (goodMemory (now terms) ≡ true) × Indexed (termsOf (now terms)) (now index) ⌝ }
     requires { ⌜ (stateWords ≤ length (now state)) × (goodState (termsOf (now terms)) (now state) ≡ true) × (named (termsOf (now terms)) event from to ≡ true) ⌝ }
     requires { ⌜ scratchWords ≤ length (now scratch) ⌝ }
     ensures { λ _. ⌜ now (state .exit) ≡ wordsOf (termsOf (now (terms .entry))) (advance (termsOf (now (terms .entry))) (stateOf (now (state .entry))) (made (termsOf (now (terms .entry))) (stateOf (now (state .entry)) .now) granted event from to)) ++ drop stateWords (now (state .entry)) ⌝ }
@@ -300,7 +300,7 @@ pub fn next_moment(
 {
     move_on(
         terms,
-        plan,
+        index,
         state,
         &mut scratch[0..ROWS],
         granted,
@@ -313,21 +313,21 @@ pub fn next_moment(
 
 // The since sweep with a memo that has a slot for each entry. As `move_shared`, it calls itself where more words than
 // the rows are lent.
-fn open_shared(terms: &[u16], plan: &[u16], state: &mut [u64], rows: &mut [u64])
-    requires { ⌜ Movable (now terms) (now plan) (now state) × (blockWords ≤ length (now rows)) ⌝ }
+fn open_shared(terms: &[u16], index: &[u16], state: &mut [u64], rows: &mut [u64])
+    requires { ⌜ Movable (now terms) (now index) (now state) × (blockWords ≤ length (now rows)) ⌝ }
     ensures { λ _. ⌜ Becomes (now (terms .entry)) sinceMoved (now (state .entry)) (now (state .exit)) ⌝ }
 {
     if ROWS < rows.len() {
-        open_shared(terms, plan, state, &mut rows[0..ROWS]);
+        open_shared(terms, index, state, &mut rows[0..ROWS]);
         return;
     }
     let mut memo = [0u64; memo::WORDS];
-    move_since(terms, plan, state, &mut memo, rows);
+    move_since(terms, index, state, &mut memo, rows);
 }
 
 // The state of moment 0 of the relations that stand there: the since sweep over tables of zeros.
-pub fn first_moment(terms: &[u16], plan: &[u16], state: &mut [u64])
-    requires { ⌜ (termsWords ≤ length (now terms)) × (goodMemory (now terms) ≡ true) × Planned (termsOf (now terms)) (now plan) ⌝ }
+pub fn first_moment(terms: &[u16], index: &[u16], state: &mut [u64])
+    requires { ⌜ (termsWords ≤ length (now terms)) × (goodMemory (now terms) ≡ true) × Indexed (termsOf (now terms)) (now index) ⌝ }
     requires { ⌜ (stateWords ≤ length (now state)) × (goodRelations (termsOf (now terms)) (now state) ≡ true) ⌝ }
     ensures { λ _. ⌜ now (state .exit) ≡ wordsOf (termsOf (now (terms .entry))) (opening (termsOf (now (terms .entry))) (stateOf (now (state .entry)) .now .edge)) ++ drop stateWords (now (state .entry)) ⌝ }
 {
@@ -335,8 +335,8 @@ pub fn first_moment(terms: &[u16], plan: &[u16], state: &mut [u64])
     let mut rows = [0u64; ROWS];
     if memo_choice::are_brief(terms) {
         let mut none = [0u64; 1];
-        move_since(terms, plan, state, &mut none, &mut rows);
+        move_since(terms, index, state, &mut none, &mut rows);
     } else {
-        open_shared(terms, plan, state, &mut rows);
+        open_shared(terms, index, state, &mut rows);
     }
 }

@@ -13,8 +13,8 @@ use Rattle.theory.specs.Tables.{opening}
 use Rattle.memory.specs.Layout.{termsWords, stateWords, relationWords, ownWords, joined, termsOf, stateOf, wordsOf}
 use Rattle.memory.specs.Checks.{goodMemory, goodState}
 use Rattle.memory.specs.Outcome.{Outcome, hasPassed, shortBanks, banksOpen, banksRevise}
-use Rattle.memory.specs.Outcome.Outcome.{passed, failed}
-use Rattle.memory.specs.Plan.{Planned}
+use Rattle.memory.specs.Outcome.Outcome.{passed, refused}
+use Rattle.memory.specs.TableIndex.{Indexed}
 use Rattle.memory.proofs.BankOutcomes.{banks-long}
 use Rattle.memory.proofs.Words.{length-words}
 use Rattle.deciding.specs.private.Starting.{Revising}
@@ -84,7 +84,7 @@ module _ (old relations first second new edges third fourth : List ℕ) where
       go : (a : Bool) → (ltb (length old) termsWords || shortBanks relations first second) ≡ a → (b : Bool) → (ltb (length new) termsWords || shortBanks edges third fourth) ≡ b →
           (g : Bool) → goodMemory old ≡ g → (h : Bool) → goodMemory new ≡ h → (s : Bool) → goodState (termsOf old) (joined relations first) ≡ s →
           (t : Bool) → goodState (termsOf old) (joined relations second) ≡ t → (z : Bool) → sameSize (termsOf old) (termsOf new) ≡ z →
-          true ≡ hasPassed (cond (a || b) (failed 6 0) (cond (not (g && h)) (failed 7 0) (cond (not (s && t)) (failed 8 0) (cond (not z) (failed 13 0) passed)))) → Revised
+          true ≡ hasPassed (cond (a || b) (refused 6 0) (cond (not (g && h)) (refused 7 0) (cond (not (s && t)) (refused 8 0) (cond (not z) (refused 13 0) passed)))) → Revised
       go true _ _ _ _ _ _ _ _ _ _ _ _ _ q = absurd (true≢false q)
       go false _ true _ _ _ _ _ _ _ _ _ _ _ q = absurd (true≢false q)
       go false _ false _ false _ _ _ _ _ _ _ _ _ q = absurd (true≢false q)
@@ -111,28 +111,28 @@ module _ (old relations first second new edges third fourth : List ℕ) where
             same = z;
           }
 
-  -- A bank under old terms that passes, with the plans of both terms.
-  module _ (e : passed ≡ gives) {before plan : List ℕ} (b : Planned (termsOf old) before) (p : Planned (termsOf new) plan) where
-    pub revising : (own : List ℕ) → ownWords ≤ length own → goodState (termsOf old) (joined relations own) ≡ true → Revising old before (joined relations own) new plan
+  -- A bank under old terms that passes, with the indexes of both terms.
+  module _ (e : passed ≡ gives) {before index : List ℕ} (b : Indexed (termsOf old) before) (p : Indexed (termsOf new) index) where
+    pub revising : (own : List ℕ) → ownWords ≤ length own → goodState (termsOf old) (joined relations own) ≡ true → Revising old before (joined relations own) new index
     revising own l g =
         let r = revised-says e in
         record {
           long-old = r .old-long;
           good-old = r .old-good;
-          planned-old = b;
+          indexed-old = b;
           long-state = let long = joined-long relations own (r .relations-long) l in omega (arith, long);
           good-state = g;
           long-new = r .new-long;
           good-new = r .new-good;
-          planned-new = p;
+          indexed-new = p;
           same = r .same;
         }
 
-  pub edges-kept : (n l : ℕ) → failed n l ≡ gives → edges ≡ relationsRevised old relations first second new edges third fourth
+  pub edges-kept : (n l : ℕ) → refused n l ≡ gives → edges ≡ relationsRevised old relations first second new edges third fourth
   unfolding relationsRevised
   edges-kept n l e = rw (sym e)
 
-  pub own-kept : (n l : ℕ) → failed n l ≡ gives → (own own' : List ℕ) → own' ≡ ownRevised old relations first second new edges third fourth own own'
+  pub own-kept : (n l : ℕ) → refused n l ≡ gives → (own own' : List ℕ) → own' ≡ ownRevised old relations first second new edges third fourth own own'
   unfolding ownRevised
   own-kept n l e own own' = rw (sym e)
 

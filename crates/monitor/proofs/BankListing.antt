@@ -8,7 +8,7 @@ use lib.ListN.{length, getD, set}
 use Rattle.theory.specs.Keeper.{Answer}
 use Rattle.memory.specs.Outcome.{Outcome, hasPassed}
 use Rattle.calls.specs.Monitor.{granted}
-use Rattle.calls.specs.SetList.{listingOf, numberOf, filled, listing, gainOf, blank}
+use Rattle.calls.specs.SetList.{listingOf, answerNumber, filled, listing, gainOf, blank}
 use Rattle.calls.specs.private.Listing.{turnsOf}
 use Rattle.calls.specs.declared.Record.{Record}
 use Rattle.calls.specs.declared.Listed.{Listed}
@@ -26,13 +26,13 @@ module _ (t relations own other scratch spare : List ℕ) (j u v : ℕ) where
   answer = bankAnswer t relations own other scratch spare j u v
 
   -- A number of 1 is a grant.
-  one-granted : gainOf (numberOf answer) ≡ cond (granted answer) 1 0
+  one-granted : gainOf (answerNumber answer) ≡ cond (granted answer) 1 0
   unfolding gainOf
   one-granted =
-      each-answer t relations own other scratch spare j u v (λ a. _≡_ {A = ℕ} (cond (eqb (numberOf a) 1) 1 0) (cond (granted a) 1 0)) refl refl refl refl refl refl
+      each-answer t relations own other scratch spare j u v (λ a. _≡_ {A = ℕ} (cond (eqb (answerNumber a) 1) 1 0) (cond (granted a) 1 0)) refl refl refl refl refl refl
 
-  pub number-small : numberOf answer < 2 ^ 32
-  number-small = each-answer t relations own other scratch spare j u v (λ a. numberOf a < 2 ^ 32) (lit< tt) (lit< tt) (lit< tt) (lit< tt) (lit< tt) (lit< tt)
+  pub number-small : answerNumber answer < 2 ^ 32
+  number-small = each-answer t relations own other scratch spare j u v (λ a. answerNumber a < 2 ^ 32) (lit< tt) (lit< tt) (lit< tt) (lit< tt) (lit< tt) (lit< tt)
 
 -- ---- the loop
 
@@ -57,7 +57,7 @@ module _ (t : List ℕ) where
   -- What `step` ensures of the record e.
   abbrev pub Said : Mem → Record → ℕ → Mem → Type 0
   Said m e r m′ =
-      (r ≡ numberOf (ask m e)) × (m′ .0 ≡ of (relationsAfter t) m e) × (m′ .1 .0 ≡ of (ownAfter t) m e) × (m′ .1 .1 .0 ≡ of (otherAfter t) m e)
+      (r ≡ answerNumber (ask m e)) × (m′ .0 ≡ of (relationsAfter t) m e) × (m′ .1 .0 ≡ of (ownAfter t) m e) × (m′ .1 .1 .0 ≡ of (otherAfter t) m e)
       × (m′ .1 .1 .1 .0 ≡ of (clearedAfter t) m e (m .1 .1 .1 .0)) × (m′ .1 .1 .1 .1 .0 ≡ of (clearedAfter t) m e (m .1 .1 .1 .1 .0))
 
   abbrev as-run : Ran Mem → BankRun

@@ -11,9 +11,9 @@ use lib.Dec.{eqb, lit≤}
 use lib.ListN.{length, getD, set, length-append, length-set}
 use Rattle.theory.specs.Keeper.{Answer}
 use Rattle.memory.specs.Outcome.{Outcome, hasPassed}
-use Rattle.memory.specs.Outcome.Outcome.{passed, failed}
+use Rattle.memory.specs.Outcome.Outcome.{passed, refused}
 use Rattle.calls.specs.Monitor.{granted}
-use Rattle.calls.specs.SetList.{numberOf, filled, listing, gainOf, blank}
+use Rattle.calls.specs.SetList.{answerNumber, filled, listing, gainOf, blank}
 use Rattle.calls.specs.SetList.Listing.{counted}
 use Rattle.calls.specs.private.Listing.{turnsOf}
 use Rattle.calls.specs.declared.Record.{Record}
@@ -137,8 +137,8 @@ module _ {Mem : Type 0} (ask : Mem → Record → Answer) (after : Mem → Recor
       kept = k;
     }
 
-    module _ (one-granted : (m : Mem) (r : Record) → gainOf (numberOf (ask m r)) ≡ gain m r) (i g : ℕ) (ys : List Record) (m : Mem) (r : ℕ) (m′ : Mem)
-        (said : r ≡ numberOf (ask m (getD ys i blank))) (left : m′ ≡ after m (getD ys i blank)) (kept′ : Kept m′)
+    module _ (one-granted : (m : Mem) (r : Record) → gainOf (answerNumber (ask m r)) ≡ gain m r) (i g : ℕ) (ys : List Record) (m : Mem) (r : ℕ) (m′ : Mem)
+        (said : r ≡ answerNumber (ask m (getD ys i blank))) (left : m′ ≡ after m (getD ys i blank)) (kept′ : Kept m′)
       where
         abbrev ys′ : List Record
         ys′ = set ys i (put-answer (getD ys i blank) r)
@@ -168,8 +168,8 @@ module _ {Mem : Type 0} (ask : Mem → Record → Answer) (after : Mem → Recor
             found : getD ys i blank ≡ z
             found = (λ j. getD (cut j) (sym (F .place) j) blank) ∙ elem-is (F .done) z blank rest
 
-            number : r ≡ numberOf (ask m z)
-            number = said ∙ ap (λ (e : Record). numberOf (ask m e)) found
+            number : r ≡ answerNumber (ask m z)
+            number = said ∙ ap (λ (e : Record). answerNumber (ask m e)) found
 
             gained : gainOf r ≡ gain m z
             gained = ap gainOf number ∙ one-granted m z
@@ -226,10 +226,10 @@ module _ {Mem : Type 0} (ask : Mem → Record → Answer) (after : Mem → Recor
       pub counts : (o : Outcome) (k : ℕ) → each m₀ ys₀ .grants ≡ k → Facts (turnsOf o (length ys₀)) g ys m → listing o g ≡ listing o k
       unfolding turnsOf
       counts passed k e F = ap counted (ap (λ (X : Ran Mem). X .grants) (ran F) ∙ e)
-      counts (failed n l) k e F = refl
+      counts (refused n l) k e F = refl
 
       pub leaves : {Out : Type 0} (see : Ran Mem → Out) (all : Out) → see (each m₀ ys₀) ≡ all → (o : Outcome) → Facts (turnsOf o (length ys₀)) g ys m →
           see now ≡ cond (hasPassed o) all (see lent)
       unfolding turnsOf
       leaves see all e passed F = ap see (ran F) ∙ e
-      leaves see all e (failed n l) F = ap see (stayed F)
+      leaves see all e (refused n l) F = ap see (stayed F)

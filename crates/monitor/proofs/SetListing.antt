@@ -1,4 +1,4 @@
--- `Listing` for a set list of one panel: over terms t, from the state st₀ and the scratch sc₀.
+-- `Listing` for a set list of one monitor: over terms t, from the state st₀ and the scratch sc₀.
 use mathlib.Core.Path.{_≡_, refl, sym, ap, _∙_, subst}
 use Prim.Native.Nat.{ℕ, _+_, _<_}
 use mathlib.Core.Bool.{true, cond, false≢true}
@@ -6,10 +6,10 @@ use mathlib.Core.List.{List, [], _∷_}
 use lib.ListN.{length, getD, set}
 use Rattle.theory.specs.Keeper.{Answer}
 use Rattle.memory.specs.Outcome.{Outcome, outcomeOf, hasPassed}
-use Rattle.memory.specs.Outcome.Outcome.{passed, failed}
+use Rattle.memory.specs.Outcome.Outcome.{passed, refused}
 use Rattle.calls.specs.Monitor.{answer, granted, stateAfter, scratchAfter}
 use Rattle.calls.specs.SetList.{listingOf, filled, Run, singly, listing, listed, left, gainOf, blank}
-use Rattle.calls.specs.private.Listing.{Passed, turnsOf}
+use Rattle.calls.specs.private.Listing.{MemoryPassed, turnsOf}
 use Rattle.monitor.specs.private.Inspecting.{Seen}
 use Rattle.calls.specs.declared.Record.{Record}
 use Rattle.calls.specs.declared.Listed.{Listed}
@@ -44,11 +44,11 @@ module _ (t : List ℕ) where
 module _ (terms state scratch : List ℕ) where
   is-passed : (o : Outcome) → hasPassed o ≡ true → passed ≡ o
   is-passed passed e = refl
-  is-passed (failed n l) e = absurd (false≢true e)
+  is-passed (refused n l) e = absurd (false≢true e)
 
-  passed-all : (c : Inspected) → Seen terms state scratch c → hasPassed (outcomeOf (c .outcome)) ≡ true → Passed terms (c .plan) state scratch
+  passed-all : (c : Inspected) → Seen terms state scratch c → hasPassed (outcomeOf (c .outcome)) ≡ true → MemoryPassed terms (c .index) state scratch
   passed-all c seen e =
-      list-ready terms state scratch (c .plan) (is-passed (outcomeOf (c .outcome)) e ∙ seen .outcome) (seen .planned e)
+      list-ready terms state scratch (c .index) (is-passed (outcomeOf (c .outcome)) e ∙ seen .outcome) (seen .indexed e)
 
 module _ (t : List ℕ) (ys₀ : List Record) (st₀ sc₀ : List ℕ) (c : Inspected) (seen : Seen t st₀ sc₀ c) where
   abbrev outcome : Outcome
@@ -58,7 +58,7 @@ module _ (t : List ℕ) (ys₀ : List Record) (st₀ sc₀ : List ℕ) (c : Insp
   pub record Kept (m : Mem) : Type 0 where
     pub words : length (m .0) ≡ length st₀
     pub scraps : length (m .1) ≡ length sc₀
-    pub ready : hasPassed outcome ≡ true → Passed t (c .plan) (m .0) (m .1)
+    pub ready : hasPassed outcome ≡ true → MemoryPassed t (c .index) (m .0) (m .1)
 
   abbrev pub Facts : ℕ → ℕ → List Record → List ℕ → List ℕ → Type 0
   Facts i g ys st sc = loop.Facts (ask t) (after t) ys₀ (st₀, sc₀) Kept i g ys (st, sc)
@@ -67,7 +67,7 @@ module _ (t : List ℕ) (ys₀ : List Record) (st₀ sc₀ : List ℕ) (c : Insp
   begins = loop.begins (ask t) (after t) ys₀ (st₀, sc₀) Kept (record { words = refl; scraps = refl; ready = passed-all t st₀ sc₀ c seen })
 
   -- What `step` asks.
-  pub asks : (i g : ℕ) (ys : List Record) (st sc : List ℕ) → Facts i g ys st sc → i < turnsOf outcome (length ys₀) → Passed t (c .plan) st sc
+  pub asks : (i g : ℕ) (ys : List Record) (st sc : List ℕ) → Facts i g ys st sc → i < turnsOf outcome (length ys₀) → MemoryPassed t (c .index) st sc
   asks i g ys st sc F l = F .kept .ready (turns-passed outcome i (length ys₀) l)
 
   -- What `step` ensures of the record e.
@@ -83,7 +83,7 @@ module _ (t : List ℕ) (ys₀ : List Record) (st₀ sc₀ : List ℕ) (c : Insp
       (record {
         words = len ∙ F .kept .words;
         scraps = len′ ∙ F .kept .scraps;
-        ready = λ p. subst (λ (m : Mem). Passed t (c .plan) (m .0) (m .1)) (sym left) (after-passed t st sc (e .event) (e .from) (e .to) (c .plan) (F .kept .ready p));
+        ready = λ p. subst (λ (m : Mem). MemoryPassed t (c .index) (m .0) (m .1)) (sym left) (after-passed t st sc (e .event) (e .from) (e .to) (c .index) (F .kept .ready p));
       }) F l
 
   abbrev pub Ended : Listed → List Record → List ℕ → List ℕ → Type 0

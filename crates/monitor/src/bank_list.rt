@@ -2,7 +2,7 @@
 // banks is checked before any record.
 ghost use mathlib.Core.Path.{_≡_};
 ghost use Rattle.memory.specs.Outcome.{outcomeOf};
-ghost use Rattle.calls.specs.SetList.{listingOf, numberOf};
+ghost use Rattle.calls.specs.SetList.{listingOf, answerNumber};
 ghost use Rattle.banking.specs.Banking.{bankAnswer, relationsAfter, ownAfter, otherAfter, clearedAfter};
 ghost use Rattle.banking.specs.BankList.{bankListChecks, bankListed, bankLeft};
 use crate::banks::request;
@@ -17,7 +17,7 @@ use memory::layout;
 use memory::limits::ENTRIES;
 
 // The checks of a list.
-fn inspect(
+fn inspect_bank_list(
     terms: &[u16],
     relations: &[u64],
     own: &[u64],
@@ -30,8 +30,8 @@ fn inspect(
     if (scratch.len() < layout::SCRATCH) | (spare.len() < layout::SCRATCH) {
         return Outcome::Refused(6, 0);
     }
-    let mut plan = [0u16; ENTRIES];
-    memory::banks::inspect(terms, relations, own, other, &mut plan)
+    let mut index = [0u16; ENTRIES];
+    memory::banks::inspect(terms, relations, own, other, &mut index)
 }
 
 // Answers a record's request of the bank by its number.
@@ -44,7 +44,7 @@ fn step(
     spare: &mut [u64],
     r: Record,
 ) -> u32
-    ensures { λ k. ⌜ (k ≡ numberOf (bankAnswer (now (terms .entry)) (now (relations .entry)) (now (own .entry)) (now (other .entry)) (now (scratch .entry)) (now (spare .entry)) (r .event) (r .from) (r .to)))
+    ensures { λ k. ⌜ (k ≡ answerNumber (bankAnswer (now (terms .entry)) (now (relations .entry)) (now (own .entry)) (now (other .entry)) (now (scratch .entry)) (now (spare .entry)) (r .event) (r .from) (r .to)))
         × (now (relations .exit) ≡ relationsAfter (now (terms .entry)) (now (relations .entry)) (now (own .entry)) (now (other .entry)) (now (scratch .entry)) (now (spare .entry)) (r .event) (r .from) (r .to))
         × (now (own .exit) ≡ ownAfter (now (terms .entry)) (now (relations .entry)) (now (own .entry)) (now (other .entry)) (now (scratch .entry)) (now (spare .entry)) (r .event) (r .from) (r .to))
         × (now (other .exit) ≡ otherAfter (now (terms .entry)) (now (relations .entry)) (now (own .entry)) (now (other .entry)) (now (scratch .entry)) (now (spare .entry)) (r .event) (r .from) (r .to))
@@ -87,7 +87,7 @@ pub fn set_list(
         × (now (scratch .exit) ≡ bankLeft (now (terms .entry)) (now (relations .entry)) (now (own .entry)) (now (other .entry)) (now (scratch .entry)) (now (spare .entry)) (now (records .entry)) .scratch)
         × (now (spare .exit) ≡ bankLeft (now (terms .entry)) (now (relations .entry)) (now (own .entry)) (now (other .entry)) (now (scratch .entry)) (now (spare .entry)) (now (records .entry)) .spare) ⌝ }
 {
-    let checked = inspect(terms, relations, own, other, scratch, spare);
+    let checked = inspect_bank_list(terms, relations, own, other, scratch, spare);
     let n = turns(checked, records.len());
     let mut count = 0;
     let mut i = 0;

@@ -7,7 +7,7 @@ ghost use Prim.Native.Nat.{_≤_};
 ghost use lib.ListN.{length, take, drop};
 ghost use Rattle.memory.specs.Layout.{relationWords, ownWords, joined, termsOf};
 ghost use Rattle.memory.specs.Outcome.{outcomeOf, banksOpen, banksRevise};
-ghost use Rattle.memory.specs.Plan.{Planned};
+ghost use Rattle.memory.specs.TableIndex.{Indexed};
 ghost use Rattle.calls.specs.Monitor.{answerOf, isDecided};
 ghost use Rattle.banking.specs.Banking.{bankAnswer, relationsAfter, ownAfter, otherAfter, clearedAfter, ownOpened, begunWords, relationsRevised, ownRevised};
 ghost use Rattle.deciding.specs.private.Starting.{Revising, Taken};
@@ -27,8 +27,8 @@ const TABLES: usize = layout::TABLES_AT;
 
 const OWN: usize = layout::OWN;
 
-// The answer to a call of a bank. Where it is a verdict, plan is the terms' plan.
-fn judge(
+// The answer to a call of a bank. Where it is a verdict, index is the table index.
+fn answer_call(
     terms: &[u16],
     relations: &[u64],
     own: &[u64],
@@ -38,10 +38,10 @@ fn judge(
     event: usize,
     from: usize,
     to: usize,
-    plan: &mut [u16; ENTRIES],
+    index: &mut [u16; ENTRIES],
 ) -> Answer
     ensures { λ r. ⌜ answerOf r ≡ bankAnswer (now (terms .entry)) (now (relations .entry)) (now (own .entry)) (now (other .entry)) (now (scratch .entry)) (now (spare .entry)) event from to ⌝ }
-    ensures { λ r. ⌜ (isDecided (answerOf r) ≡ true → Planned (termsOf (now (terms .entry))) (now (plan .exit))) ⌝ }
+    ensures { λ r. ⌜ (isDecided (answerOf r) ≡ true → Indexed (termsOf (now (terms .entry))) (now (index .exit))) ⌝ }
 {
     if scratch.len() < layout::SCRATCH {
         return Answer::Refused(6, 0);
@@ -49,14 +49,14 @@ fn judge(
     if spare.len() < layout::SCRATCH {
         return Answer::Refused(6, 0);
     }
-    let checked = memory::banks::inspect(terms, relations, own, other, plan);
+    let checked = memory::banks::inspect(terms, relations, own, other, index);
     match checked {
         Outcome::Refused(n, l) => Answer::Refused(n, l),
         Outcome::Done => {
             if !is_named(terms, event, from, to) {
                 return Answer::Refused(9, 0);
             }
-            if beside::is_granted(terms, plan, relations, own, event, from, to) {
+            if beside::is_granted(terms, index, relations, own, event, from, to) {
                 return Answer::Decided(Verdict::Grant);
             }
             Answer::Decided(Verdict::Deny)
@@ -78,8 +78,8 @@ pub fn look(
 ) -> Answer
     ensures { λ r. ⌜ answerOf r ≡ bankAnswer (now (terms .entry)) (now (relations .entry)) (now (own .entry)) (now (other .entry)) (now (scratch .entry)) (now (spare .entry)) event from to ⌝ }
 {
-    let mut plan = [0u16; ENTRIES];
-    judge(
+    let mut index = [0u16; ENTRIES];
+    answer_call(
         terms,
         relations,
         own,
@@ -89,7 +89,7 @@ pub fn look(
         event,
         from,
         to,
-        &mut plan,
+        &mut index,
     )
 }
 
@@ -113,8 +113,8 @@ pub fn request(
     ensures { λ r. ⌜ now (scratch .exit) ≡ clearedAfter (now (terms .entry)) (now (relations .entry)) (now (own .entry)) (now (other .entry)) (now (scratch .entry)) (now (spare .entry)) event from to (now (scratch .entry)) ⌝ }
     ensures { λ r. ⌜ now (spare .exit) ≡ clearedAfter (now (terms .entry)) (now (relations .entry)) (now (own .entry)) (now (other .entry)) (now (scratch .entry)) (now (spare .entry)) event from to (now (spare .entry)) ⌝ }
 {
-    let mut plan = [0u16; ENTRIES];
-    let a = judge(
+    let mut index = [0u16; ENTRIES];
+    let a = answer_call(
         terms,
         relations,
         own,
@@ -124,12 +124,12 @@ pub fn request(
         event,
         from,
         to,
-        &mut plan,
+        &mut index,
     );
     if is_moving(layout::is_kept(terms, event), a) {
         beside::next_moments(
             terms,
-            &plan,
+            &index,
             relations,
             own,
             other,
@@ -151,12 +151,12 @@ pub fn open(terms: &[u16], relations: &[u64], first: &mut [u64], second: &mut [u
     ensures { λ r. ⌜ now (first .exit) ≡ ownOpened (now (terms .entry)) (now (relations .entry)) (now (first .entry)) (now (second .entry)) (now (first .entry)) ⌝ }
     ensures { λ r. ⌜ now (second .exit) ≡ ownOpened (now (terms .entry)) (now (relations .entry)) (now (first .entry)) (now (second .entry)) (now (second .entry)) ⌝ }
 {
-    let mut plan = [0u16; ENTRIES];
-    let checked = memory::banks::inspect_opening(terms, relations, first, second, &mut plan);
+    let mut index = [0u16; ENTRIES];
+    let checked = memory::banks::inspect_opening(terms, relations, first, second, &mut index);
     match checked {
         Outcome::Refused(n, l) => Outcome::Refused(n, l),
         Outcome::Done => {
-            beside::first_moment(terms, &plan, relations, first);
+            beside::first_moment(terms, &index, relations, first);
             copy(&mut second[0..OWN], first);
             Outcome::Done
         }
@@ -170,11 +170,11 @@ fn begin_own(
     relations: &[u64],
     own: &[u64],
     new: &[u16],
-    plan: &[u16],
+    index: &[u16],
     taken: &[u16],
     second: &mut [u64],
 )
-    requires { ⌜ Revising (now old) (now before) (joined (now relations) (now own)) (now new) (now plan) × Taken (now old) (now new) (now taken) ⌝ }
+    requires { ⌜ Revising (now old) (now before) (joined (now relations) (now own)) (now new) (now index) × Taken (now old) (now new) (now taken) ⌝ }
     requires { ⌜ (relationWords ≤ length (now relations)) × (ownWords ≤ length (now own)) × (ownWords ≤ length (now second)) ⌝ }
     ensures { λ _. ⌜ now (second .exit) ≡ drop relationWords (begunWords (now (old .entry)) (now (relations .entry)) (now (own .entry)) (now (new .entry))) ++ drop ownWords (now (second .entry)) ⌝ }
     ensures { λ _. ⌜ take relationWords (now (relations .entry)) ≡ take relationWords (begunWords (now (old .entry)) (now (relations .entry)) (now (own .entry)) (now (new .entry))) ⌝ }
@@ -185,7 +185,7 @@ fn begin_own(
         &relations[0..TABLES],
         &own[0..OWN],
         new,
-        plan,
+        index,
         taken,
         &mut second[0..OWN],
     );

@@ -3,7 +3,7 @@ ghost use mathlib.Core.Path.{_≡_};
 ghost use Prim.Native.Nat.{_+_, _<_, _^_};
 ghost use Rattle.memory.specs.Outcome.{outcomeOf};
 ghost use Rattle.calls.specs.Monitor.{answerOf};
-ghost use Rattle.calls.specs.SetList.{listingOf, numberOf, listing, gainOf};
+ghost use Rattle.calls.specs.SetList.{listingOf, answerNumber, listing, gainOf};
 ghost use Rattle.calls.specs.private.Listing.{turnsOf};
 use calls::Answer;
 use calls::Listed;
@@ -22,8 +22,8 @@ pub(crate) fn turns(checked: Outcome, n: usize) -> usize
 
 // The number that is filled in for an answer.
 pub(crate) fn number_of(a: Answer) -> u32
-    requires { ⌜ numberOf (answerOf a) < 2 ^ 32 ⌝ }
-    ensures { λ r. ⌜ r ≡ numberOf (answerOf a) ⌝ }
+    requires { ⌜ answerNumber (answerOf a) < 2 ^ 32 ⌝ }
+    ensures { λ r. ⌜ r ≡ answerNumber (answerOf a) ⌝ }
 {
     match a {
         Answer::Decided(v) => match v {

@@ -9,10 +9,10 @@ ghost use Rattle.theory.specs.Tables.{named};
 ghost use Rattle.memory.specs.Layout.{termsWords, stateWords, termsOf};
 ghost use Rattle.memory.specs.Checks.{goodMemory, goodState};
 ghost use Rattle.memory.specs.Outcome.{outcomeOf, hasPassed};
-ghost use Rattle.memory.specs.Plan.{Planned};
+ghost use Rattle.memory.specs.TableIndex.{Indexed};
 ghost use Rattle.calls.specs.Monitor.{answerOf, answer, granted, moves, stateAfter, scratchAfter};
 ghost use Rattle.calls.specs.SetList.{listChecks};
-ghost use Rattle.calls.specs.private.Listing.{Passed};
+ghost use Rattle.calls.specs.private.Listing.{MemoryPassed};
 use calls::Answer;
 use calls::Verdict;
 use memory::Outcome;
@@ -20,20 +20,20 @@ use memory::layout;
 use memory::limits::ENTRIES;
 use moments::moment;
 
-// Checks terms, state and scratch, and leaves the terms' plan where they pass.
-pub(crate) fn inspect(
+// Checks terms, state and scratch, and leaves the table index where they pass.
+pub(crate) fn inspect_call(
     terms: &[u16],
     state: &[u64],
     scratch: &[u64],
-    plan: &mut [u16; ENTRIES],
+    index: &mut [u16; ENTRIES],
 ) -> Outcome
     ensures { λ r. ⌜ outcomeOf r ≡ listChecks (now (terms .entry)) (now (state .entry)) (now (scratch .entry)) ⌝ }
-    ensures { λ r. ⌜ (hasPassed (outcomeOf r) ≡ true → Planned (termsOf (now (terms .entry))) (now (plan .exit))) ⌝ }
+    ensures { λ r. ⌜ (hasPassed (outcomeOf r) ≡ true → Indexed (termsOf (now (terms .entry))) (now (index .exit))) ⌝ }
 {
     if scratch.len() < layout::SCRATCH {
         return Outcome::Refused(6, 0);
     }
-    memory::inspect(terms, state, plan)
+    memory::inspect(terms, state, index)
 }
 
 // Whether event, from and to name an event and two members.
@@ -72,14 +72,14 @@ pub(crate) fn is_moving(kept: bool, a: Answer) -> bool
 // What a request would answer now, with any scratch that is long enough. It makes no moment.
 pub(crate) fn look(
     terms: &[u16],
-    plan: &[u16],
+    index: &[u16],
     state: &[u64],
     event: usize,
     from: usize,
     to: usize,
 ) -> Answer
     requires { ⌜ (termsWords ≤ length (now terms)) × (goodMemory (now terms) ≡ true) ⌝ }
-    requires { ⌜ Planned (termsOf (now terms)) (now plan) ⌝ }
+    requires { ⌜ Indexed (termsOf (now terms)) (now index) ⌝ }
     requires { ⌜ (stateWords ≤ length (now state)) × (goodState (termsOf (now terms)) (now state) ≡ true) ⌝ }
     ensures { λ r. ⌜ ((scratch : List ℕ) → scratchWords ≤ length scratch
         → answerOf r ≡ answer (now (terms .entry)) (now (state .entry)) scratch event from to) ⌝ }
@@ -87,7 +87,7 @@ pub(crate) fn look(
     if !is_named(terms, event, from, to) {
         return Answer::Refused(9, 0);
     }
-    if moment::is_granted(terms, plan, state, event, from, to) {
+    if moment::is_granted(terms, index, state, event, from, to) {
         return Answer::Decided(Verdict::Grant);
     }
     Answer::Decided(Verdict::Deny)
@@ -97,14 +97,14 @@ pub(crate) fn look(
 // Otherwise all memory is left as lent.
 pub(crate) fn request(
     terms: &[u16],
-    plan: &[u16],
+    index: &[u16],
     state: &mut [u64],
     scratch: &mut [u64],
     event: usize,
     from: usize,
     to: usize,
 ) -> Answer
-    requires { ⌜ Passed (now terms) (now plan) (now state) (now scratch) ⌝ }
+    requires { ⌜ MemoryPassed (now terms) (now index) (now state) (now scratch) ⌝ }
     ensures { λ r. ⌜ answerOf r
         ≡ answer (now (terms .entry)) (now (state .entry)) (now (scratch .entry)) event from to ⌝ }
     ensures { λ r. ⌜ now (state .exit)
@@ -112,9 +112,9 @@ pub(crate) fn request(
     ensures { λ r. ⌜ now (scratch .exit)
         ≡ scratchAfter (now (terms .entry)) (now (state .entry)) (now (scratch .entry)) event from to ⌝ }
 {
-    let a = look(terms, plan, state, event, from, to);
+    let a = look(terms, index, state, event, from, to);
     if is_moving(layout::is_kept(terms, event), a) {
-        moment::next_moment(terms, plan, state, scratch, is_grant(a), event, from, to);
+        moment::next_moment(terms, index, state, scratch, is_grant(a), event, from, to);
         return a;
     }
     a

@@ -7,7 +7,7 @@ ghost use lib.ListN.{length, getD, take, drop};
 ghost use Rattle.theory.specs.Tables.{revised};
 ghost use Rattle.memory.specs.Layout.{relationWords, ownWords, blockWords, termsOf, stateOf, wordsOf};
 ghost use Rattle.memory.specs.Outcome.{outcomeOf, revises};
-ghost use Rattle.memory.specs.Plan.{planTable};
+ghost use Rattle.memory.specs.TableIndex.{indexTable};
 ghost use Rattle.calls.specs.Revising.{revisedState};
 ghost use Rattle.deciding.specs.private.Memo.{MemoOf, Fresh};
 ghost use Rattle.deciding.specs.private.Moving.{put};
@@ -18,8 +18,8 @@ use memory::Outcome;
 use memory::clear;
 use memory::layout;
 use memory::limits::ENTRIES;
-use memory::plan::is_past;
-use memory::plan::table_of;
+use memory::table_index::is_past;
+use memory::table_index::table_of;
 use moments::apart;
 use moments::moment::put_table;
 
@@ -42,13 +42,13 @@ pub(crate) fn copy(to: &mut [u64], from: &[u64])
 }
 
 // Fills in the table of new entry n with that of old entry k.
-fn take_table(before: &[u16], own: &[u64], plan: &[u16], second: &mut [u64], k: usize, n: usize)
-    requires { ⌜ blockWords * planTable (getD (now before) k 0) + blockWords ≤ length (now own) ⌝ }
-    requires { ⌜ blockWords * planTable (getD (now plan) n 0) + blockWords ≤ length (now second) ⌝ }
-    ensures { λ _. ⌜ now (second .exit) ≡ put (blockWords * planTable (getD (now (plan .entry)) n 0)) (take blockWords (drop (blockWords * planTable (getD (now (before .entry)) k 0)) (now (own .entry)))) (now (second .entry)) ⌝ }
+fn take_table(before: &[u16], own: &[u64], index: &[u16], second: &mut [u64], k: usize, n: usize)
+    requires { ⌜ blockWords * indexTable (getD (now before) k 0) + blockWords ≤ length (now own) ⌝ }
+    requires { ⌜ blockWords * indexTable (getD (now index) n 0) + blockWords ≤ length (now second) ⌝ }
+    ensures { λ _. ⌜ now (second .exit) ≡ put (blockWords * indexTable (getD (now (index .entry)) n 0)) (take blockWords (drop (blockWords * indexTable (getD (now (before .entry)) k 0)) (now (own .entry)))) (now (second .entry)) ⌝ }
 {
     let t = ROWS * table_of(layout::word(before, k));
-    put_table(plan, second, &own[t..t + ROWS], n);
+    put_table(index, second, &own[t..t + ROWS], n);
 }
 
 // Fills in the table of new entry n, if that is a prev or a since: with the table of the first old entry with
@@ -60,7 +60,7 @@ fn start_turn(
     relations: &[u64],
     own: &[u64],
     new: &[u16],
-    plan: &[u16],
+    index: &[u16],
     taken: &[u16],
     second: &mut [u64],
     memo: &mut [u64],
@@ -68,7 +68,7 @@ fn start_turn(
     rows: &mut [u64],
     n: usize,
 )
-    requires { ⌜ Revising (now old) (now before) (now relations ++ now own) (now new) (now plan) × Taken (now old) (now new) (now taken) ⌝ }
+    requires { ⌜ Revising (now old) (now before) (now relations ++ now own) (now new) (now index) × Taken (now old) (now new) (now taken) ⌝ }
     requires { ⌜ (length (now relations) ≡ relationWords) × (length (now own) ≡ ownWords) × (length (now second) ≡ ownWords) ⌝ }
     requires { ⌜ (n < termsOf (now new) .entries) × (length (now rows) ≡ blockWords) × (length (now f) ≡ blockWords) ⌝ }
     requires { ⌜ Begun (now old) (now relations ++ now own) (now new) n [] (now relations ++ now second) ⌝ }
@@ -79,10 +79,10 @@ fn start_turn(
     let k = layout::word(taken, n);
     if k < layout::entries(old) {
         if is_past(layout::op_of(new, n)) {
-            take_table(before, own, plan, second, k, n);
+            take_table(before, own, index, second, k, n);
         }
     } else {
-        apart::since_turn(new, plan, relations, second, memo, f, rows, n);
+        apart::since_turn(new, index, relations, second, memo, f, rows, n);
     }
 }
 
@@ -93,20 +93,20 @@ fn start_tables(
     relations: &[u64],
     own: &[u64],
     new: &[u16],
-    plan: &[u16],
+    index: &[u16],
     taken: &[u16],
     second: &mut [u64],
     memo: &mut [u64],
     rows: &mut [u64],
 )
-    requires { ⌜ Revising (now old) (now before) (now relations ++ now own) (now new) (now plan) × Taken (now old) (now new) (now taken) ⌝ }
+    requires { ⌜ Revising (now old) (now before) (now relations ++ now own) (now new) (now index) × Taken (now old) (now new) (now taken) ⌝ }
     requires { ⌜ (length (now relations) ≡ relationWords) × (length (now own) ≡ ownWords) × (length (now second) ≡ ownWords) × (length (now rows) ≡ blockWords) ⌝ }
     requires { ⌜ Begun (now old) (now relations ++ now own) (now new) 0 [] (now relations ++ now second) ⌝ }
     ensures { λ _. ⌜ Begun (now (old .entry)) (now (relations .entry) ++ now (own .entry)) (now (new .entry)) (termsOf (now (new .entry)) .entries) [] (now (relations .entry) ++ now (second .exit)) ⌝ }
 {
     let entries = layout::entries(new);
     let mut f = [0u64; ROWS];
-    apart::renew(new, plan, memo);
+    apart::renew(new, index, memo);
     let mut n: usize = 0;
     while n < entries {
         start_turn(
@@ -115,7 +115,7 @@ fn start_tables(
             relations,
             own,
             new,
-            plan,
+            index,
             taken,
             second,
             memo,
@@ -135,12 +135,12 @@ fn start_shared(
     relations: &[u64],
     own: &[u64],
     new: &[u16],
-    plan: &[u16],
+    index: &[u16],
     taken: &[u16],
     second: &mut [u64],
     rows: &mut [u64],
 )
-    requires { ⌜ Revising (now old) (now before) (now relations ++ now own) (now new) (now plan) × Taken (now old) (now new) (now taken) ⌝ }
+    requires { ⌜ Revising (now old) (now before) (now relations ++ now own) (now new) (now index) × Taken (now old) (now new) (now taken) ⌝ }
     requires { ⌜ (length (now relations) ≡ relationWords) × (length (now own) ≡ ownWords) × (length (now second) ≡ ownWords) × (blockWords ≤ length (now rows)) ⌝ }
     requires { ⌜ Begun (now old) (now relations ++ now own) (now new) 0 [] (now relations ++ now second) ⌝ }
     ensures { λ _. ⌜ Begun (now (old .entry)) (now (relations .entry) ++ now (own .entry)) (now (new .entry)) (termsOf (now (new .entry)) .entries) [] (now (relations .entry) ++ now (second .exit)) ⌝ }
@@ -152,7 +152,7 @@ fn start_shared(
             relations,
             own,
             new,
-            plan,
+            index,
             taken,
             second,
             &mut rows[0..ROWS],
@@ -166,7 +166,7 @@ fn start_shared(
         relations,
         own,
         new,
-        plan,
+        index,
         taken,
         second,
         &mut memo,
@@ -182,11 +182,11 @@ pub(crate) fn begin(
     relations: &[u64],
     own: &[u64],
     new: &[u16],
-    plan: &[u16],
+    index: &[u16],
     taken: &[u16],
     second: &mut [u64],
 )
-    requires { ⌜ Revising (now old) (now before) (now relations ++ now own) (now new) (now plan) × Taken (now old) (now new) (now taken) ⌝ }
+    requires { ⌜ Revising (now old) (now before) (now relations ++ now own) (now new) (now index) × Taken (now old) (now new) (now taken) ⌝ }
     requires { ⌜ (length (now relations) ≡ relationWords) × (length (now own) ≡ ownWords) × (length (now second) ≡ ownWords) ⌝ }
     ensures { λ _. ⌜ now (relations .entry) ++ now (second .exit) ≡ wordsOf (termsOf (now (new .entry))) (revised (termsOf (now (old .entry))) (stateOf (now (relations .entry) ++ now (own .entry))) (termsOf (now (new .entry)))) ⌝ }
 {
@@ -201,7 +201,7 @@ pub(crate) fn begin(
             relations,
             own,
             new,
-            plan,
+            index,
             taken,
             second,
             &mut none,
@@ -214,7 +214,7 @@ pub(crate) fn begin(
             relations,
             own,
             new,
-            plan,
+            index,
             taken,
             second,
             &mut rows,

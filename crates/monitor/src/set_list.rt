@@ -3,8 +3,8 @@
 ghost use mathlib.Core.Path.{_≡_};
 ghost use Rattle.memory.specs.Outcome.{outcomeOf};
 ghost use Rattle.calls.specs.Monitor.{answer, stateAfter, scratchAfter};
-ghost use Rattle.calls.specs.SetList.{listingOf, numberOf, listing, listed, left};
-ghost use Rattle.calls.specs.private.Listing.{Passed, turnsOf};
+ghost use Rattle.calls.specs.SetList.{listingOf, answerNumber, listing, listed, left};
+ghost use Rattle.calls.specs.private.Listing.{MemoryPassed, turnsOf};
 ghost use Rattle.monitor.specs.private.Inspecting.{Seen};
 use crate::lists;
 use crate::lists::number_of;
@@ -15,21 +15,21 @@ use calls::Record;
 use memory::Outcome;
 use memory::limits::ENTRIES;
 
-// What the checks give, and the terms' plan where they pass.
+// What the checks give, and the table index where they pass.
 struct Inspected {
     outcome: Outcome,
-    plan: [u16; ENTRIES],
+    index: [u16; ENTRIES],
 }
 
 // The checks of a list. Nothing is changed.
-fn inspect(terms: &[u16], state: &mut [u64], scratch: &mut [u64]) -> Inspected
+fn inspect_list(terms: &[u16], state: &mut [u64], scratch: &mut [u64]) -> Inspected
     ensures { λ r. ⌜ Seen (now (terms .entry)) (now (state .entry)) (now (scratch .entry)) r × (now (state .exit) ≡ now (state .entry)) × (now (scratch .exit) ≡ now (scratch .entry)) ⌝ }
 {
-    let mut plan = [0u16; ENTRIES];
-    let outcome = passed::inspect(terms, state, scratch, &mut plan);
+    let mut index = [0u16; ENTRIES];
+    let outcome = passed::inspect_call(terms, state, scratch, &mut index);
     Inspected {
         outcome: outcome,
-        plan: plan,
+        index: index,
     }
 }
 
@@ -49,16 +49,16 @@ fn step(
     inspected: Inspected,
     r: Record,
 ) -> u32
-    requires { ⌜ Passed (now terms) (inspected .plan) (now state) (now scratch) ⌝ }
-    ensures { λ k. ⌜ (k ≡ numberOf (answer (now (terms .entry)) (now (state .entry)) (now (scratch .entry)) (r .event) (r .from) (r .to)))
+    requires { ⌜ MemoryPassed (now terms) (inspected .index) (now state) (now scratch) ⌝ }
+    ensures { λ k. ⌜ (k ≡ answerNumber (answer (now (terms .entry)) (now (state .entry)) (now (scratch .entry)) (r .event) (r .from) (r .to)))
         × (now (state .exit) ≡ stateAfter (now (terms .entry)) (now (state .entry)) (now (scratch .entry)) (r .event) (r .from) (r .to))
         × (now (scratch .exit) ≡ scratchAfter (now (terms .entry)) (now (state .entry)) (now (scratch .entry)) (r .event) (r .from) (r .to)) ⌝ }
 {
-    let plan = inspected.plan;
+    let index = inspected.index;
     let event = r.event as usize;
     let from = r.from as usize;
     let to = r.to as usize;
-    let a = passed::request(terms, &plan, state, scratch, event, from, to);
+    let a = passed::request(terms, &index, state, scratch, event, from, to);
     number_of(a)
 }
 
@@ -83,7 +83,7 @@ pub fn set_list(
         × (now (state .exit) ≡ left (now (terms .entry)) (now (state .entry)) (now (scratch .entry)) (now (records .entry)) .state)
         × (now (scratch .exit) ≡ left (now (terms .entry)) (now (state .entry)) (now (scratch .entry)) (now (records .entry)) .scratch) ⌝ }
 {
-    let inspected = inspect(terms, state, scratch);
+    let inspected = inspect_list(terms, state, scratch);
     let n = turns(inspected, records.len());
     let mut count = 0;
     let mut i = 0;

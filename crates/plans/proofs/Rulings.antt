@@ -14,7 +14,7 @@ use Rattle.theory.specs.Fit.{every, onlyFree}
 use Rattle.memory.specs.Layout.{termsWords, stateWords, termsOf}
 use Rattle.memory.specs.Checks.{goodMemory, goodState}
 use Rattle.memory.specs.Outcome.{hasPassed, askable, entryChecks}
-use Rattle.memory.specs.Outcome.Outcome.{passed, failed}
+use Rattle.memory.specs.Outcome.Outcome.{passed, refused}
 use Rattle.plans.specs.Game.{Ruling, gameTests, knownTests, gameWords}
 use Rattle.plans.specs.Plans.{accepted, ruling, scratchAfterRuling}
 use Rattle.plans.specs.Game.Ruling.{accept, reject, refuse}
@@ -75,7 +75,7 @@ module _ (terms state scratch plan : List ℕ) (planner rival goal u v : ℕ) wh
 
   module _ (ls : gameWords ≤ length scratch) where
     -- What fails a check of terms, state and goal fails a plan.
-    pub unchecked-game : (n l : ℕ) → failed n l ≡ entryChecks terms state goal → refuse n l ≡ Given
+    pub unchecked-game : (n l : ℕ) → refused n l ≡ entryChecks terms state goal → refuse n l ≡ Given
     unfolding ruling entryChecks
     unchecked-game n l e =
         go (ltb (length terms) termsWords) (ltb (length state) stateWords) (ltb (length scratch) gameWords) (le-ltb (length scratch) gameWords ls)
@@ -88,7 +88,7 @@ module _ (terms state scratch plan : List ℕ) (planner rival goal u v : ℕ) wh
             (cond (accepted terms state plan planner rival goal u v) accept reject)
 
         go : (a b c : Bool) → c ≡ false → (g s q r t : Bool) → t ≡ q && r →
-            failed n l ≡ cond (a || b) (failed 6 0) (cond (not g) (failed 7 0) (cond (not s) (failed 8 0) (cond (not r) (failed 14 0) passed))) →
+            refused n l ≡ cond (a || b) (refused 6 0) (cond (not g) (refused 7 0) (cond (not s) (refused 8 0) (cond (not r) (refused 14 0) passed))) →
             refuse n l ≡ cond (a || (b || c)) (refuse 6 0) (cond (not g) (refuse 7 0) (cond (not s) (refuse 8 0) (cond (not t) (refuse 14 0) rest)))
         go true b c z g s q r t p e = cc
         go false true c z g s q r t p e = cc

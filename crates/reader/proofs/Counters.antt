@@ -19,7 +19,7 @@ use Rattle.theory.specs.Terms.{formula}
 use Rattle.theory.specs.Terms.{tables, pastEntry, Alike}
 use Rattle.theory.specs.Fit.{_⇒_, reachFits}
 use Rattle.theory.specs.Columns.{columnsFit}
-use Rattle.memory.specs.Plan.{Masked, setFits, reachSets}
+use Rattle.memory.specs.TableIndex.{Masked, setFits, reachSets}
 use Rattle.theory.proofs.Unfolding.{below-spelled, small-below, small-node}
 use Rattle.theory.proofs.Good.{fits-variable}
 use Rattle.memory.proofs.FreeSets.{fit-set, target-set, reach-set}
@@ -35,7 +35,7 @@ use Rattle.reader.specs.declared.step.Context.{Context}
 use Rattle.theory.proofs.AlikeTerms.{number-agree, below-agree, spelled-agree}
 use Rattle.file.proofs.Update.{update-same, update-other}
 use Rattle.file.proofs.Fit.{operand-fits}
-use Rattle.file.proofs.Invariant.{Going}
+use Rattle.file.proofs.Invariant.{FileFits}
 use Rattle.file.proofs.Accepted.{going-good}
 use Rattle.reader.proofs.TermsMemory.{memory-alike}
 use Rattle.reader.proofs.PairTables.{pair-same}
@@ -63,7 +63,7 @@ contextOf f = record {
 
 -- ---- free variables
 
-module _ (f : File) (g : Going f) where
+module _ (f : File) (g : FileFits f) where
   first-small : (n : ℕ) → n < f .terms .entries → firstOperand (f .terms .entry n .op) ≡ variable → f .terms .entry n .a < 16
   first-small n l =
       fits-variable (f .terms .relations + 2 * f .terms .events) n (f .terms .entry n .a) (firstOperand (f .terms .entry n .op)) (g .entries .fit n l .first)
@@ -104,7 +104,7 @@ module _ (f : File) (o a b c : ℕ) where
   formula-old : (k : ℕ) → k < n → spelled e' k ≡ spelled e k
   formula-old k l = spelled-agree e' e k (λ j m. old j (omega arith))
 
-  module _ (g : Going f) (masks : List ℕ) (masked : Masked (f .terms) masks) (m : ℕ) (is : FreeIn [] masks (Entry n o a b c) m)
+  module _ (g : FileFits f) (masks : List ℕ) (masked : Masked (f .terms) masks) (m : ℕ) (is : FreeIn [] masks (Entry n o a b c) m)
       (ra : inRange (firstOperand o) (f .terms .relations + 2 * f .terms .events) a ≡ true)
       (la : isLower (firstOperand o) n a ≡ true) (lb : isLower (secondOperand o) n b ≡ true)
       (lc : isLower (thirdOperand o) n c ≡ true)
@@ -163,7 +163,7 @@ module _ (f : File) (o a b c : ℕ) where
 
 -- ---- effects
 
-module _ (f : File) (g : Going f) (j : ℕ) (l : f .event ≤ j) where
+module _ (f : File) (g : FileFits f) (j : ℕ) (l : f .event ≤ j) where
   pub slot-is : slot (contextOf f) j ≡ length (f .terms .effects j)
   slot-is =
       ⊎-elim
@@ -175,7 +175,7 @@ module _ (f : File) (g : Going f) (j : ℕ) (l : f .event ≤ j) where
 
 -- ---- the tests come to the same
 
-module _ (f : File) (g : Going f) (terms : List ℕ) (words : terms ≡ memoryOf (f .terms)) (masks : List ℕ) (masked : Masked (f .terms) masks) (m : ℕ)
+module _ (f : File) (g : FileFits f) (terms : List ℕ) (words : terms ≡ memoryOf (f .terms)) (masks : List ℕ) (masked : Masked (f .terms) masks) (m : ℕ)
     (fits : m < 2 ^ 64) where
   -- A table that is there has two columns by the set of its entry, where all policies have been given.
   pair-test : complete f ≡ true → (t : ℕ) → m ≡ getD masks (pastEntry (termsOf terms) t) 0 → isPair (contextOf f) m t ≡ pairTable (f .terms) t

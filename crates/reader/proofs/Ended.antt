@@ -17,7 +17,7 @@ use Rattle.file.specs.Reading.{Reading, partlyAt, levelled, reading}
 use Rattle.file.specs.Reading.Reading.{accepted, refused}
 use Rattle.reader.specs.Memory.{memoryOf}
 use Rattle.reader.specs.Read.{Filling, fillingOf, filling, fillGives, readTerms, readWords}
-use Rattle.reader.specs.Read.Filling.{old, stored, unfilled}
+use Rattle.reader.specs.Read.Filling.{old, stored, refused as refusedFilling}
 use Rattle.reader.specs.private.Storing.{allRead, Holds, Reads}
 use Rattle.reader.specs.private.Partly.{Found}
 use Rattle.reader.specs.declared.Filled.{Filled}
@@ -25,10 +25,10 @@ use Rattle.reader.specs.declared.Filled.the-variants.{Old, Stored, Refus
 use Rattle.reader.proofs.Filled.{the-type}
 use Rattle.reader.proofs.TermsMemory.{length-memory}
 
-pub was-refused : (r : Reading) (k n : ℕ) → filling r ≡ unfilled k n → r ≡ refused k n
+pub was-refused : (r : Reading) (k n : ℕ) → filling r ≡ refusedFilling k n → r ≡ refused k n
 was-refused (accepted f) k n e = absurd (go (f .stored) e)
   where
-    go : (c : Bool) → cond c stored old ≡ unfilled k n → ⊥
+    go : (c : Bool) → cond c stored old ≡ refusedFilling k n → ⊥
     go true e = let z : _≡_ {A = ℕ} 0 1 = cc in omega arith
     go false e = let z : _≡_ {A = ℕ} 0 1 = cc in omega arith
 was-refused (refused i j) k n e = cc
@@ -37,13 +37,13 @@ was-refused (refused i j) k n e = cc
 abbrev pub Unrefused : Filling → Type 0
 Unrefused old = Unit {0}
 Unrefused stored = Unit {0}
-Unrefused (unfilled k n) = ⊥
+Unrefused (refusedFilling k n) = ⊥
 
 pub was-accepted : (r : Reading) (o : Filling) → o ≡ filling r → Unrefused o → (f : File) × (r ≡ accepted f)
 was-accepted (accepted f) o e t = (f, refl)
 was-accepted (refused i j) old e t = let z : _≡_ {A = ℕ} 0 1 = cc in absurd (omega arith)
 was-accepted (refused i j) stored e t = let z : _≡_ {A = ℕ} 0 1 = cc in absurd (omega arith)
-was-accepted (refused i j) (unfilled k n) e t = absurd t
+was-accepted (refused i j) (refusedFilling k n) e t = absurd t
 
 -- Nor is what the code answers then.
 pub unrefused : (x : Filled) → OneOf (0 ∷ 1 ∷ []) (tagOf the-type x) → Unrefused (fillingOf x)
@@ -57,12 +57,12 @@ Leaves text terms state o terms' state' =
     (o ≡ fillGives text terms state) × ((terms' ≡ readTerms text terms state) × (state' ≡ readWords text terms state))
 
 module _ (text terms state : List ℕ) where
-  pub short-terms : length terms < termsWords → Leaves text terms state (unfilled 6 0) terms state
+  pub short-terms : length terms < termsWords → Leaves text terms state (refusedFilling 6 0) terms state
   unfolding fillGives readTerms readWords
   short-terms h = let e = lt-ltb (length terms) termsWords h in (rw e, (rw e, rw e))
 
   module _ (tl : termsWords ≤ length terms) where
-    pub short-state : length state < stateWords → Leaves text terms state (unfilled 6 0) terms state
+    pub short-state : length state < stateWords → Leaves text terms state (refusedFilling 6 0) terms state
     unfolding fillGives readTerms readWords
     short-state h =
         let e = le-ltb (length terms) termsWords tl in
@@ -70,14 +70,14 @@ module _ (text terms state : List ℕ) where
         (rw (e, d), (rw (e, d), rw (e, d)))
 
     module _ (sl : stateWords ≤ length state) where
-      refuses : (k n : ℕ) → reading text ≡ refused k n → Leaves text terms state (unfilled k n) terms state
+      refuses : (k n : ℕ) → reading text ≡ refused k n → Leaves text terms state (refusedFilling k n) terms state
       unfolding fillGives readTerms readWords
       refuses k n r =
           let e = le-ltb (length terms) termsWords tl in
           let d = le-ltb (length state) stateWords sl in
           (rw (e, d, r), (rw (e, d, r), rw (e, d, r)))
 
-      pub text-refused : (k n : ℕ) → unfilled k n ≡ filling (allRead text) → Leaves text terms state (unfilled k n) terms state
+      pub text-refused : (k n : ℕ) → refusedFilling k n ≡ filling (allRead text) → Leaves text terms state (refusedFilling k n) terms state
       unfolding reading levelled
       text-refused k n h = refuses k n (rw (was-refused (allRead text) k n (sym h)))
 
@@ -97,7 +97,7 @@ module _ (text terms state : List ℕ) where
           line-is : line ≡ partlyAt f 1 (lines text)
           line-is = found f (said .1) holds
 
-          pub text-partly : 0 < line → Leaves text terms state (unfilled 11 line) terms state
+          pub text-partly : 0 < line → Leaves text terms state (refusedFilling 11 line) terms state
           unfolding reading levelled
           text-partly l = refuses 11 line (rw (said .1, ← line-is, ne-eqb line 0 (λ z. omega arith)))
 

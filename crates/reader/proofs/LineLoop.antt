@@ -11,11 +11,11 @@ use lib.Dec.{ltb}
 use lib.ListN.{length, getD, take, drop, replicate}
 use Rattle.theory.specs.Formula.{number}
 use Rattle.memory.specs.Layout.{termsWords, entriesAt, policiesAt, effectsAt, marksAt, entryWords, stateWords}
-use Rattle.reader.specs.Read.Filling.{old, stored, unfilled}
-use Rattle.memory.specs.Plan.{Masked}
+use Rattle.reader.specs.Read.Filling.{old, stored, refused as refusedFilling}
+use Rattle.memory.specs.TableIndex.{Masked}
 use Rattle.fields.specs.Split.{lines, split, place}
 use Rattle.file.specs.Line.{parsed}
-use Rattle.file.specs.File.{File, nothing, after}
+use Rattle.file.specs.File.{File, nothing, afterLine}
 use Rattle.file.specs.Reading.{tests, complete, Reading, tried, readOn}
 use Rattle.file.specs.Reading.Reading.{accepted, refused}
 use Rattle.reader.specs.Memory.{effectWord, termsWord, memoryOf}
@@ -29,7 +29,7 @@ use Rattle.fields.proofs.Split.{place-le, lines-here, lines-cut, part-rest, res
 use Rattle.file.proofs.Printed.{Ranged, formed}
 use Rattle.file.specs.Refused.{Passed}
 use Rattle.file.proofs.Derivation.{passed-at, tried-passed}
-use Rattle.file.proofs.Invariant.{Going, going-first, going, complete-phase}
+use Rattle.file.proofs.Invariant.{FileFits, going-first, going, complete-phase}
 use Rattle.reader.proofs.FirstFailing.{Same, positive, all-pass, tried-fails}
 use Rattle.reader.proofs.TermsMemory.{entry-blank}
 use Rattle.reader.proofs.WordLists.{tabulate-cong, tabulate-none}
@@ -67,7 +67,7 @@ none-terms = sym (tabulate-cong termsWords (termsWord (nothing .terms)) (λ i. 0
 -- file that has been said so far.
 pub record Along (text terms state masks t : List ℕ) (c : Context) (n : ℕ) : Type 0 where
   pub file : File
-  pub going : Going file
+  pub going : FileFits file
   pub context : c ≡ contextOf file
   pub masked : Masked (file .terms) masks
   pub words : terms ≡ memoryOf (file .terms)
@@ -94,7 +94,7 @@ along-first text terms state masks p q r = record {
 -- ---- the ways out of the loop
 
 -- A text that is refused.
-refuses : (text terms state masks : List ℕ) (k n : ℕ) → allRead text ≡ refused k n → Reads text (unfilled k n) terms state masks
+refuses : (text terms state masks : List ℕ) (k n : ℕ) → allRead text ≡ refused k n → Reads text (refusedFilling k n) terms state masks
 refuses text terms state masks k n e = record {
   given = rw e;
   filled = λ f h. let z : _≡_ {A = ℕ} 0 1 = cc in absurd (omega arith);
@@ -131,11 +131,11 @@ module _ (text terms state masks t : List ℕ) (c : Context) (n : ℕ) (s : Alon
         filled = λ f e. let z : s .file ≡ f = cc in subst (λ (y : File). Holds y terms state masks) z (holding b);
       }
 
-  pub along-short : length t ≤ 0 → isComplete c ≡ false → Reads text (unfilled 1 n) terms state masks
+  pub along-short : length t ≤ 0 → isComplete c ≡ false → Reads text (refusedFilling 1 n) terms state masks
   along-short h b = refuses text terms state masks 1 n (read-end h ∙ rw b)
 
   -- No line feed is left.
-  pub along-cut : (e : ℕ) → e ≡ place 10 t → 0 < length t → length t ≤ e → Reads text (unfilled 1 n) terms state masks
+  pub along-cut : (e : ℕ) → e ≡ place 10 t → 0 < length t → length t ≤ e → Reads text (refusedFilling 1 n) terms state masks
   unfolding readOn
   along-cut e p h k =
       refuses text terms state masks 1 n
@@ -159,7 +159,7 @@ tests-positive c m q (Mark j) = refl
 tests-positive c m q Malformed = refl
 
 line-read : (f : File) (t : List ℕ) (n e : ℕ) (l : Line) → e ≡ place 10 t → e < length t → l ≡ parsed (split 9 (take e t)) →
-    readOn f n (lines t) ≡ tried (tests f l) n (readOn (after f l) (n + 1) (lines (take (length t - (e + 1)) (drop (e + 1) t))))
+    readOn f n (lines t) ≡ tried (tests f l) n (readOn (afterLine f l) (n + 1) (lines (take (length t - (e + 1)) (drop (e + 1) t))))
 unfolding readOn
 line-read f t n e l p h q = rw (q, part-rest (e + 1) t, add-one e, p, lines-here t (omega arith)) refl
 
@@ -188,7 +188,7 @@ module _ {text terms state masks t : List ℕ} {c : Context} {n e : ℕ} {l : Li
     number-is = s .number ∙ ap (λ (d : Context). numberFrom 0 (contextTests d m r l)) (s .along .context)
 
     abbrev later : Reading
-    later = readOn (after f l) (n + 1) (lines rest)
+    later = readOn (afterLine f l) (n + 1) (lines rest)
 
     read-line : allRead text ≡ tried (tests f l) n later
     read-line = sym (s .along .same) ∙ line-read f t n e l (s .ends) (s .inside) (s .line)
@@ -200,7 +200,7 @@ module _ {text terms state masks t : List ℕ} {c : Context} {n e : ℕ} {l : Li
     few-tables = subst (λ (d : Context). d .tables < 33) (sym (s .along .context)) (s .along .going .entries .few-tables)
 
     -- The line is refused.
-    pub turn-refused : 0 < k → Reads text (unfilled k n) terms state masks
+    pub turn-refused : 0 < k → Reads text (refusedFilling k n) terms state masks
     turn-refused h =
         refuses text terms state masks k n
         (read-line ∙ sym (tests-are .come n later)
@@ -227,7 +227,7 @@ module _ {text terms state masks t : List ℕ} {c : Context} {n e : ℕ} {l : Li
       -- The line is taken.
       pub turn-next : Along text (storedTerms c l terms) (storedState l state) (storedSets l m masks) rest (stepped c l) (n + 1)
       turn-next = record {
-        file = after f l;
+        file = afterLine f l;
         going = going ranged passes (s .along .going);
         context = ap (λ (d : Context). stepped d l) (s .along .context) ∙ context-after ranged (s .along .going) passes;
         masked = masked-after ranged (s .along .going) passes terms masks (s .along .masked) m (s .set);

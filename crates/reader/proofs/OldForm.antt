@@ -14,8 +14,8 @@ use Rattle.memory.proofs.Words.{length-words}
 use Rattle.fields.specs.Split.{split, lines, place}
 use Rattle.fields.proofs.Split.{place-le, lines-here, lines-cut}
 use Rattle.file.specs.Line.{parsed}
-use Rattle.file.specs.File.{File, stateSaid, after}
-use Rattle.file.specs.Said.{records, formIn, storedSaid}
+use Rattle.file.specs.File.{File, stateSaid, afterLine}
+use Rattle.file.specs.Said.{saidLines, formIn, storedSaid}
 use Rattle.file.specs.Reading.{tests, reading}
 use Rattle.file.specs.Reading.Reading.{accepted, refused}
 use Rattle.file.specs.declared.line.Line.{Line}
@@ -24,7 +24,7 @@ use Rattle.file.proofs.Derivation.{passed-at, Taken, reading-accepting}
 use Rattle.file.proofs.Derivation.Taken.{none, one}
 use Rattle.file.proofs.Said.{said}
 use Rattle.reader.specs.Read.{Filling, filling, fillGives, readTerms, readWords}
-use Rattle.reader.specs.Read.Filling.{old, stored, unfilled}
+use Rattle.reader.specs.Read.Filling.{old, stored, refused as refusedFilling}
 use Rattle.reader.specs.OldForm.{beginsStored, oldReading, oldFillGives, oldTerms, oldRelations}
 use Rattle.reader.proofs.Ended.{Unrefused, was-refused, was-accepted}
 
@@ -32,7 +32,7 @@ use Rattle.reader.proofs.Ended.{Unrefused, was-refused, was-accepted}
 
 -- An S line comes before all others.
 no-form : {f g : File} {ls : List Line} → Taken f ls g → (0 < f .phase) ⊎ (storedSaid (take 1 ls) ≡ false) → storedSaid ls ≡ false
-unfolding storedSaid tests after
+unfolding storedSaid tests afterLine
 no-form none h = refl
 no-form (one (members i) p t) h = no-form t (inl (omega arith))
 no-form (one (labels i j) p t) h = no-form t (inl (omega arith))
@@ -63,15 +63,15 @@ module _ (text : List ℕ) (f : File) where
 -- The first line, by the bytes before the first line feed.
 module _ (text : List ℕ) (e : ℕ) (p : e ≡ place 10 text) where
   pub begins-cut : length text ≤ e → false ≡ beginsStored text
-  unfolding beginsStored records storedSaid lines
+  unfolding beginsStored saidLines storedSaid lines
   begins-cut h = go text (omega (arith, place-le 10 text, p))
     where
-      go : (t : List ℕ) → place 10 t ≡ length t → false ≡ storedSaid (take 1 (records (lines t)))
+      go : (t : List ℕ) → place 10 t ≡ length t → false ≡ storedSaid (take 1 (saidLines (lines t)))
       go [] q = refl
       go (x ∷ t) q = rw (lines-cut (x ∷ t) q (omega arith)) refl
 
   pub begins-line : e < length text → (l : Line) → l ≡ parsed (split 9 (take e text)) → formIn l false ≡ beginsStored text
-  unfolding beginsStored records storedSaid
+  unfolding beginsStored saidLines storedSaid
   begins-line h l q = rw (lines-here text (omega arith), q, p) refl
 
 -- ---- the ways that filling terms and relations goes
@@ -82,12 +82,12 @@ module _ (text terms relations : List ℕ) where
   Leaves o terms' relations' =
       (o ≡ oldFillGives text terms relations) × ((terms' ≡ oldTerms text terms relations) × (relations' ≡ oldRelations text terms relations))
 
-  pub short-terms : length terms < termsWords → Leaves (unfilled 6 0) terms relations
+  pub short-terms : length terms < termsWords → Leaves (refusedFilling 6 0) terms relations
   unfolding oldFillGives oldTerms oldRelations
   short-terms h = let e = lt-ltb (length terms) termsWords h in (rw e, (rw e, rw e))
 
   module _ (tl : termsWords ≤ length terms) where
-    pub short-relations : length relations < relationWords → Leaves (unfilled 6 0) terms relations
+    pub short-relations : length relations < relationWords → Leaves (refusedFilling 6 0) terms relations
     unfolding oldFillGives oldTerms oldRelations
     short-relations h =
         let e = le-ltb (length terms) termsWords tl in
@@ -95,14 +95,14 @@ module _ (text terms relations : List ℕ) where
         (rw (e, d), (rw (e, d), rw (e, d)))
 
     module _ (rl : relationWords ≤ length relations) where
-      refuses : (k n : ℕ) → oldReading text ≡ refused k n → Leaves (unfilled k n) terms relations
+      refuses : (k n : ℕ) → oldReading text ≡ refused k n → Leaves (refusedFilling k n) terms relations
       unfolding oldFillGives oldTerms oldRelations
       refuses k n r =
           let e = le-ltb (length terms) termsWords tl in
           let d = le-ltb (length relations) relationWords rl in
           (rw (e, d, r), (rw (e, d, r), rw (e, d, r)))
 
-      pub form-refused : true ≡ beginsStored text → Leaves (unfilled 1 1) terms relations
+      pub form-refused : true ≡ beginsStored text → Leaves (refusedFilling 1 1) terms relations
       unfolding oldReading
       form-refused h = refuses 1 1 (rw (← h) refl)
 
@@ -112,8 +112,8 @@ module _ (text terms relations : List ℕ) where
         unfolding fillGives
         given = rw (le-ltb (length terms) termsWords tl, le-ltb (length state) stateWords sl)
 
-        pub text-refused : (k n : ℕ) → unfilled k n ≡ fillGives text terms state → (terms' : List ℕ) → terms' ≡ readTerms text terms state →
-            Leaves (unfilled k n) terms' relations
+        pub text-refused : (k n : ℕ) → refusedFilling k n ≡ fillGives text terms state → (terms' : List ℕ) → terms' ≡ readTerms text terms state →
+            Leaves (refusedFilling k n) terms' relations
         unfolding oldReading readTerms
         text-refused k n g terms' t =
             let r : reading text ≡ refused k n = was-refused (reading text) k n (sym (g ∙ given)) in

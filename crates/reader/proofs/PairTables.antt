@@ -19,7 +19,7 @@ use Rattle.theory.proofs.FreeColumns.{columns-none, columns-single, columns-pai
 use Rattle.theory.proofs.Good.{small}
 use Rattle.theory.proofs.AlikeTerms.{met-is, same-past}
 use Rattle.theory.proofs.Past.{past-entry}
-use Rattle.memory.specs.Plan.{Masked, restOf}
+use Rattle.memory.specs.TableIndex.{Masked, restOf}
 use Rattle.memory.proofs.FreeSets.{fit-set}
 use Rattle.file.specs.File.{hasTwo, pairTable}
 

@@ -24,7 +24,7 @@ use Rattle.memory.specs.Layout.{tableAt, termsOf, wordsOf, tableColumns}
 use Rattle.memory.specs.Checks.{goodState}
 use Rattle.memory.specs.Outcome.{checks}
 use Rattle.memory.specs.Outcome.Outcome.{passed}
-use Rattle.memory.specs.Plan.{Masked}
+use Rattle.memory.specs.TableIndex.{Masked}
 use Rattle.memory.proofs.StateTests.{full-is}
 use Rattle.memory.proofs.Words.{word-table, word-of-table}
 use Rattle.memory.proofs.Outcomes.{passed-checked}

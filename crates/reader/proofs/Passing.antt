@@ -18,8 +18,8 @@ use Rattle.theory.proofs.Past.{past-entry}
 use Rattle.file.proofs.Accepted.{going-good}
 use Rattle.file.proofs.Fit.{two-few}
 use Rattle.memory.specs.Layout.{eventWord}
-use Rattle.memory.specs.Plan.{Masked}
-use Rattle.file.specs.File.{File, withEntry, eventNamed, eventSaid, after}
+use Rattle.memory.specs.TableIndex.{Masked}
+use Rattle.file.specs.File.{File, withEntry, eventNamed, eventSaid, afterLine}
 use Rattle.file.specs.Reading.{inRange, isLower, tests}
 use Rattle.reader.specs.Memory.{memoryOf}
 use Rattle.reader.specs.private.Stepping.{Ranges, stepped}
@@ -30,7 +30,7 @@ use Rattle.file.specs.declared.line.Line.the-variants.{Entry, Policy, Effect, E
 use Rattle.file.specs.Refused.{Passed}
 use Rattle.file.proofs.Derivation.{passed-at}
 use Rattle.file.proofs.Update.{update-same}
-use Rattle.file.proofs.Invariant.{Going, entry-phase, policy-phase, complete-phase}
+use Rattle.file.proofs.Invariant.{FileFits, entry-phase, policy-phase, complete-phase}
 use Rattle.file.proofs.Printed.{Ranged}
 use Rattle.file.proofs.Printed.Ranged.{members, labels, entry as entryLine, policy, effect, edge, form, bit as tableBit, pair, event, mark}
 use Rattle.reader.proofs.StoredTerms.{members-stored, labels-stored, entry-stored, policy-stored, effect-stored, mark-stored}
@@ -59,7 +59,7 @@ event-word j u v =
     (true-or-false (ltb j 16))
 
 -- What it says is in its range.
-pub in-ranges : {f : File} {l : Line} → Ranged l → Going f → Passed (tests f l) → Ranges (contextOf f) l
+pub in-ranges : {f : File} {l : Line} → Ranged l → FileFits f → Passed (tests f l) → Ranges (contextOf f) l
 unfolding tests
 in-ranges (members {n = n} h) g p = ltb-true n 65 (passed-at p 2)
 in-ranges (labels {r = r} {e = e} h i) g p = (ltb-true r 17 (passed-at p 1), ltb-true e 17 (passed-at p 3))
@@ -130,12 +130,12 @@ in-ranges {f} (mark {j = j} h) g p =
     omega (arith, ltb-true j (f .terms .events) (passed-at p 3))
 
 -- The counters after it.
-pub context-after : {f : File} {l : Line} → Ranged l → Going f → Passed (tests f l) → stepped (contextOf f) l ≡ contextOf (after f l)
-unfolding tests stepped after
+pub context-after : {f : File} {l : Line} → Ranged l → FileFits f → Passed (tests f l) → stepped (contextOf f) l ≡ contextOf (afterLine f l)
+unfolding tests stepped afterLine
 context-after (members h) g p = refl
 context-after (labels h i) g p = refl
 context-after {f} (entryLine {n = n} {o = o} {a = a} {b = b} {c = c} h i j k m y) g p =
-    subst (λ (n : ℕ). stepped (contextOf f) (Entry n o a b c) ≡ contextOf (after f (Entry n o a b c)))
+    subst (λ (n : ℕ). stepped (contextOf f) (Entry n o a b c) ≡ contextOf (afterLine f (Entry n o a b c)))
     (sym (eqb-true n (f .terms .entries) (passed-at p 1))) (rw (tables-new f o a b c) refl)
 context-after (policy h i) g p = refl
 context-after {f} (effect {j = j} {c = c} {k = k} {d = d} h i q m n) g p =
@@ -152,9 +152,9 @@ context-after (event h i k) g p = refl
 context-after (mark h) g p = refl
 
 -- The sets of free variables after it.
-pub masked-after : {f : File} {l : Line} → Ranged l → Going f → Passed (tests f l) → (terms masks : List ℕ) → Masked (f .terms) masks →
-    (m : ℕ) → FreeIn terms masks l m → Masked (after f l .terms) (storedSets l m masks)
-unfolding tests after storedSets
+pub masked-after : {f : File} {l : Line} → Ranged l → FileFits f → Passed (tests f l) → (terms masks : List ℕ) → Masked (f .terms) masks →
+    (m : ℕ) → FreeIn terms masks l m → Masked (afterLine f l .terms) (storedSets l m masks)
+unfolding tests afterLine storedSets
 masked-after (members h) g p terms masks k m is = record { long = k .long; bits = k .bits }
 masked-after (labels h i) g p terms masks k m is = record { long = k .long; bits = k .bits }
 masked-after {f} (entryLine {n = n} {o = o} {a = a} {b = b} {c = c} h i j q r y) g p terms masks k m is =
@@ -187,9 +187,9 @@ last-after f (event h i j) p terms masks m is e = absurd (omega (arith, e))
 last-after f (mark h) p terms masks m is e = absurd (omega (arith, e))
 
 -- The words after it.
-pub terms-after : {f : File} {l : Line} → Ranged l → Going f → Passed (tests f l) →
-    storedTerms (contextOf f) l (memoryOf (f .terms)) ≡ memoryOf (after f l .terms)
-unfolding tests after storedTerms
+pub terms-after : {f : File} {l : Line} → Ranged l → FileFits f → Passed (tests f l) →
+    storedTerms (contextOf f) l (memoryOf (f .terms)) ≡ memoryOf (afterLine f l .terms)
+unfolding tests afterLine storedTerms
 terms-after {f} (members {n = n} h) g p = members-stored (f .terms) n
 terms-after {f} (labels {r = r} {e = e} h i) g p = labels-stored (f .terms) r e
 terms-after {f} (entryLine {n = n} {o = o} {a = a} {b = b} {c = c} h i j k m y) g p = entry-stored (f .terms) n o a b c (ltb-true n 256 (passed-at p 2))
@@ -216,8 +216,8 @@ terms-after (pair h i j k) g p = refl
 terms-after (event h i k) g p = refl
 terms-after {f} (mark {j = j} h) g p = mark-stored (f .terms) j (in-ranges {l = Mark j} (mark h) g p)
 
-pub state-after : {f : File} {l : Line} → Ranged l → Going f → Passed (tests f l) → storedState l (bitsOf f) ≡ bitsOf (after f l)
-unfolding after storedState
+pub state-after : {f : File} {l : Line} → Ranged l → FileFits f → Passed (tests f l) → storedState l (bitsOf f) ≡ bitsOf (afterLine f l)
+unfolding afterLine storedState
 state-after (members h) g p = refl
 state-after (labels h i) g p = refl
 state-after (entryLine h i j k m y) g p = refl

@@ -8,15 +8,15 @@ use lib.ListN.{length, take, drop}
 use Rattle.memory.specs.Layout.{termsWords, relationWords, wordsOf}
 use Rattle.fields.specs.Split.{lines}
 use Rattle.file.specs.File.{stateSaid}
-use Rattle.file.specs.Said.{records, storedSaid}
+use Rattle.file.specs.Said.{saidLines, storedSaid}
 use Rattle.file.specs.Reading.{Reading, reading}
 use Rattle.file.specs.Reading.Reading.{accepted, refused}
 use Rattle.reader.specs.Read.{Filling, filledTerms}
-use Rattle.reader.specs.Read.Filling.{old, unfilled}
+use Rattle.reader.specs.Read.Filling.{old, refused as refusedFilling}
 
 -- The first line is an S line, with which the stored form begins.
 unfoldable pub beginsStored : List ℕ → Bool
-beginsStored text = storedSaid (take 1 (records (lines text)))
+beginsStored text = storedSaid (take 1 (saidLines (lines text)))
 
 -- A stored text is none of the old form: refused with 1 at line 1, where its S stands.
 unfoldable pub oldReading : List ℕ → Reading
@@ -28,10 +28,10 @@ shortRelations terms relations = ltb (length terms) termsWords || ltb (length re
 
 abbrev pub oldFilling : Reading → Filling
 oldFilling (accepted f) = old
-oldFilling (refused n l) = unfilled n l
+oldFilling (refused n l) = refusedFilling n l
 
 unfoldable pub oldFillGives : (text terms relations : List ℕ) → Filling
-oldFillGives text terms relations = cond (shortRelations terms relations) (unfilled 6 0) (oldFilling (oldReading text))
+oldFillGives text terms relations = cond (shortRelations terms relations) (refusedFilling 6 0) (oldFilling (oldReading text))
 
 -- An accepted text fills the named words of terms and of relations with what it says; a refusal leaves all memory as
 -- lent. Further words are not touched.

@@ -6,7 +6,7 @@ use lib.Dec.{ltb}
 use lib.ListN.{length, drop}
 use Rattle.memory.specs.Layout.{termsWords, stateWords, wordsOf}
 use Rattle.memory.specs.Outcome.{Outcome}
-use Rattle.memory.specs.Outcome.Outcome.{passed, failed}
+use Rattle.memory.specs.Outcome.Outcome.{passed, refused as refusedOutcome}
 use Rattle.file.specs.File.{stateSaid}
 use Rattle.file.specs.Reading.{Reading, reading}
 use Rattle.file.specs.Reading.Reading.{accepted, refused}
@@ -18,12 +18,12 @@ use Rattle.reader.specs.declared.Filled.the-variants.{Old, Stored, Refus
 pub data Filling : Type 0 where
   old : Filling
   stored : Filling
-  unfilled : (number line : ℕ) → Filling
+  refused : (number line : ℕ) → Filling
 
 abbrev pub fillingOf : Filled → Filling
 fillingOf Old = old
 fillingOf Stored = stored
-fillingOf (Refused n l) = unfilled n l
+fillingOf (Refused n l) = refused n l
 
 -- Memory lengths first (6, 0), then the first faulty line and in it the lowest number.
 abbrev pub short : (terms state : List ℕ) → Bool
@@ -31,18 +31,18 @@ short terms state = ltb (length terms) termsWords || ltb (length state) stateWor
 
 abbrev pub outcome : Reading → Outcome
 outcome (accepted f) = passed
-outcome (refused n l) = failed n l
+outcome (refused n l) = refusedOutcome n l
 
 unfoldable pub readGives : (text terms state : List ℕ) → Outcome
-readGives text terms state = cond (short terms state) (failed 6 0) (outcome (reading text))
+readGives text terms state = cond (short terms state) (refusedOutcome 6 0) (outcome (reading text))
 
 -- What filling gives says besides which form it is.
 abbrev pub filling : Reading → Filling
 filling (accepted f) = cond (f .stored) stored old
-filling (refused n l) = unfilled n l
+filling (refused n l) = refused n l
 
 unfoldable pub fillGives : (text terms state : List ℕ) → Filling
-fillGives text terms state = cond (short terms state) (unfilled 6 0) (filling (reading text))
+fillGives text terms state = cond (short terms state) (refused 6 0) (filling (reading text))
 
 -- An accepted text fills the named words of terms and of state with what it says, an old one without tables and event;
 -- a refusal leaves all memory as lent. Further words are not touched.

@@ -1,9 +1,9 @@
 // Free variables as sets of bits, one for each entry.
-use crate::partly::past_entry;
+use crate::refusal_11::past_entry;
 use file::line::Line;
-use memory::plan::free_of;
-use memory::plan::reach_fits;
-use memory::plan::set_at;
+use memory::table_index::free_of;
+use memory::table_index::reach_fits;
+use memory::table_index::set_at;
 ghost use mathlib.Core.Path.{_≡_};
 ghost use Rattle.reader.specs.private.Testing.{tableSet, LastSet, FreeIn, reachIn};
 

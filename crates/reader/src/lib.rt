@@ -1,8 +1,8 @@
 // The reader of a terms file, of the old form and of the stored one, into lent memory.
 mod free;
-mod partly;
 pub mod read;
 mod refusal;
+mod refusal_11;
 mod step;
 mod store;
 

@@ -3,8 +3,8 @@
 use crate::Filled;
 use crate::free::free_in;
 use crate::free::reach_in;
-use crate::partly::partly_at;
 use crate::refusal::number_of;
+use crate::refusal_11::partly_at;
 use crate::step::begin;
 use crate::step::is_complete;
 use crate::step::step;

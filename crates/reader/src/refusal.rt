@@ -13,15 +13,15 @@ use memory::limits::TABLES;
 use memory::limits::VARIABLES;
 use memory::operands::Kind;
 use memory::operands::operands_of;
-use memory::plan::columns_fit;
-use memory::plan::is_past;
+use memory::table_index::columns_fit;
+use memory::table_index::is_past;
 use sets::rest_of;
 ghost use mathlib.Core.Path.{_≡_};
 ghost use Prim.Native.Nat.{_+_, _*_};
 ghost use lib.Dec.{ltb};
 ghost use Rattle.theory.specs.Formula.{isPast};
 ghost use Rattle.theory.specs.Columns.{pairFirst};
-ghost use Rattle.memory.specs.private.Operands.{kindOf};
+ghost use Rattle.memory.specs.private.Operands.{operandKind};
 ghost use Rattle.theory.specs.Fit.{_⇒_};
 ghost use Rattle.file.specs.File.{eventNamed};
 ghost use Rattle.file.specs.Reading.{test, inRange, isLower};
@@ -55,7 +55,7 @@ fn is_label(r: usize, e: usize, v: usize) -> bool
 
 // Whether an operand is in its range, if it is no entry.
 fn in_range(kind: Kind, r: usize, e: usize, v: usize) -> bool
-    ensures { λ s. ⌜ s ≡ inRange (kindOf kind) (r + 2 * e) v ⌝ }
+    ensures { λ s. ⌜ s ≡ inRange (operandKind kind) (r + 2 * e) v ⌝ }
 {
     match kind {
         Kind::Unused => v == 0,
@@ -69,7 +69,7 @@ fn in_range(kind: Kind, r: usize, e: usize, v: usize) -> bool
 
 // Whether an operand, if it is an entry, is lower than entry n.
 fn is_lower(kind: Kind, n: usize, v: usize) -> bool
-    ensures { λ r. ⌜ r ≡ isLower (kindOf kind) n v ⌝ }
+    ensures { λ r. ⌜ r ≡ isLower (operandKind kind) n v ⌝ }
 {
     match kind {
         Kind::Entry => v < n,

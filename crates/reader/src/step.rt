@@ -1,7 +1,7 @@
 // The counters of the reader, in place of what the lines have said: before the first line,
 // and after each that has passed.
 use file::line::Line;
-use memory::plan::is_past;
+use memory::table_index::is_past;
 ghost use mathlib.Core.Path.{_≡_};
 ghost use Prim.Native.Nat.{_<_};
 ghost use Rattle.reader.specs.private.Stepping.{begun, isComplete, slot, Ranges, stepped};

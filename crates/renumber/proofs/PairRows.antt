@@ -18,7 +18,7 @@ use Rattle.theory.specs.Formula.{number, isPast, columns}
 use Rattle.theory.specs.Columns.{columnsFit, inside, wordUnder, bitUnder}
 use Rattle.theory.specs.Terms.{Terms, formula, tables}
 use Rattle.memory.specs.Layout.{tableColumns}
-use Rattle.memory.specs.Plan.{planTable, planFirst, planLast, planColumns, Planned}
+use Rattle.memory.specs.TableIndex.{indexTable, indexFirst, indexLast, indexColumns, Indexed}
 use Rattle.memory.proofs.Words.{columns-fitting}
 use Rattle.theory.specs.Fit.{Good}
 use Rattle.theory.proofs.Past.{past-is}
@@ -256,18 +256,18 @@ pairs-few T good b e =
     let w = any-elim (tables T) (λ t. eqb b (16 + t) && isTwo (tableColumns T t)) e in
     two-few (T .members) (tableColumns T (w .0)) (columns-fitting T good (w .0) (w .1)) (and-right (eqb b (16 + w .0)) _ (w .2))
 
--- The plan says which table it is, and whether it has two columns.
-module _ (T : Terms) (good : Good T) (plan : List ℕ) (h : Planned T plan) (n w : ℕ) (l : n < T .entries) (past : isPast (T .entry n .op) ≡ true) (is : w ≡ getD plan n 0) where
+-- The index says which table it is, and whether it has two columns.
+module _ (T : Terms) (good : Good T) (index : List ℕ) (h : Indexed T index) (n w : ℕ) (l : n < T .entries) (past : isPast (T .entry n .op) ≡ true) (is : w ≡ getD index n 0) where
   same-columns : tableColumns T (number (T .entry) n) ≡ columns (formula T n)
   same-columns = ap (λ d. columns (formula T d)) (past-is T n l past)
 
-  pub planned-table : planTable w ≡ number (T .entry) n
-  planned-table = ap planTable is ∙ h .table n l past .0
+  pub indexed-table : indexTable w ≡ number (T .entry) n
+  indexed-table = ap indexTable is ∙ h .table n l past .0
 
-  pub planned-two : isTwo (tableColumns T (number (T .entry) n)) ≡ not (eqb (planFirst w) (planLast w))
-  planned-two = ap isTwo (same-columns ∙ sym (h .table n l past .1) ∙ ap planColumns (sym is)) ∙ go (eqb (planFirst w) (planLast w))
+  pub indexed-two : isTwo (tableColumns T (number (T .entry) n)) ≡ not (eqb (indexFirst w) (indexLast w))
+  indexed-two = ap isTwo (same-columns ∙ sym (h .table n l past .1) ∙ ap indexColumns (sym is)) ∙ go (eqb (indexFirst w) (indexLast w))
     where
-      go : (c : Bool) → isTwo (cond c (planLast w ∷ []) (planFirst w ∷ planLast w ∷ [])) ≡ not c
+      go : (c : Bool) → isTwo (cond c (indexLast w ∷ []) (indexFirst w ∷ indexLast w ∷ [])) ≡ not c
       go true = refl
       go false = refl
 

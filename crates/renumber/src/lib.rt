@@ -9,7 +9,7 @@ ghost use Rattle.memory.specs.Outcome.{outcomeOf};
 ghost use Rattle.theory.specs.NewNumbers.{newNumber, renumbers};
 ghost use Rattle.calls.specs.Renumbering.{renumbering, renumberedState};
 ghost use Rattle.memory.specs.Checks.{goodMemory};
-ghost use Rattle.memory.specs.Plan.{Planned};
+ghost use Rattle.memory.specs.TableIndex.{Indexed};
 ghost use Rattle.renumber.specs.private.Spread.{spread, Doubled, ByteOf, Bytes, Apart, Placed, newEvent, Moved, Rewritten};
 ghost use Rattle.renumber.specs.private.PairRows.{Few};
 use memory::Outcome;
@@ -218,8 +218,8 @@ fn move_blocks(two: u64, state: &[u64], all: &[u8], bytes: &[u64], second: &mut 
 }
 
 // Writes the renumbered state.
-fn rewrite(terms: &[u16], plan: &[u16], state: &[u64], numbers: &[u8], second: &mut [u64])
-    requires { ⌜ (goodMemory (now terms) ≡ true) × Planned (termsOf (now terms)) (now plan) ⌝ }
+fn rewrite(terms: &[u16], index: &[u16], state: &[u64], numbers: &[u8], second: &mut [u64])
+    requires { ⌜ (goodMemory (now terms) ≡ true) × Indexed (termsOf (now terms)) (now index) ⌝ }
     requires { ⌜ (stateWords ≤ length (now state)) × (stateWords ≤ length (now second)) × (getD (now state) eventAt 0 < 131073) ⌝ }
     requires { ⌜ (length (now numbers) ≤ blockWords) × Apart (newNumber (now numbers)) × (termsOf (now terms) .members < 17 → Few (newNumber (now numbers))) ⌝ }
     ensures { λ _. ⌜ Rewritten (termsOf (now (terms .entry))) (newNumber (now (numbers .entry))) (now (state .entry)) (now (second .entry)) (now (second .exit)) ⌝ }
@@ -228,7 +228,7 @@ fn rewrite(terms: &[u16], plan: &[u16], state: &[u64], numbers: &[u8], second: &
     fill_numbers(numbers, &mut all);
     let mut bytes = [0u64; 2048];
     fill_bytes(&all, &mut bytes);
-    let two = pairs::two_columns(terms, plan);
+    let two = pairs::two_columns(terms, index);
     move_blocks(two, state, &all, &bytes, second);
     second[layout::EVENT_AT] = new_event(numbers, state[layout::EVENT_AT]);
 }
@@ -242,15 +242,15 @@ pub fn renumber(terms: &[u16], state: &[u64], numbers: &[u8], second: &mut [u64]
     if second.len() < layout::STATE {
         return Outcome::Refused(6, 0);
     }
-    let mut plan = [0u16; ENTRIES];
-    let checked = memory::inspect(terms, state, &mut plan);
+    let mut index = [0u16; ENTRIES];
+    let checked = memory::inspect(terms, state, &mut index);
     match checked {
         Outcome::Refused(n, l) => Outcome::Refused(n, l),
         Outcome::Done => {
             if !are_new_numbers(numbers, layout::members(terms)) {
                 return Outcome::Refused(15, 0);
             }
-            rewrite(terms, &plan, state, numbers, second);
+            rewrite(terms, &index, state, numbers, second);
             Outcome::Done
         }
     }

@@ -4,7 +4,7 @@ use memory::layout::entries;
 use memory::layout::op_of;
 use memory::layout::word;
 use memory::limits::RELATIONS;
-use memory::plan;
+use memory::table_index;
 use sets::quarters;
 ghost use mathlib.Core.Path.{_≡_};
 ghost use mathlib.Core.Bool.{true};
@@ -15,7 +15,7 @@ ghost use Rattle.theory.specs.Terms.{tables};
 ghost use Rattle.theory.specs.NewNumbers.{newNumber};
 ghost use Rattle.memory.specs.Layout.{blockWords, termsOf};
 ghost use Rattle.memory.specs.Checks.{goodMemory};
-ghost use Rattle.memory.specs.Plan.{Planned};
+ghost use Rattle.memory.specs.TableIndex.{Indexed};
 ghost use Rattle.renumber.specs.private.Spread.{Bytes};
 ghost use Rattle.renumber.specs.private.PairRows.{Few, Gone, isPairs};
 
@@ -74,18 +74,18 @@ pub(crate) fn move_table(from: &[u64], all: &[u8], bytes: &[u64], into: &mut [u6
     }
 }
 
-// The set of the blocks that are tables with two columns, by the plan.
-pub(crate) fn two_columns(terms: &[u16], plan: &[u16]) -> u64
-    requires { ⌜ (goodMemory (now terms) ≡ true) × Planned (termsOf (now terms)) (now plan) ⌝ }
+// The set of the blocks that are tables with two columns, by the index.
+pub(crate) fn two_columns(terms: &[u16], index: &[u16]) -> u64
+    requires { ⌜ (goodMemory (now terms) ≡ true) × Indexed (termsOf (now terms)) (now index) ⌝ }
     ensures { λ r. ⌜ ((b : ℕ) → bit r b ≡ isPairs (termsOf (now (terms .entry))) (tables (termsOf (now (terms .entry)))) b) ⌝ }
 {
     let count = entries(terms);
     let mut two: u64 = 0;
     let mut n = 0;
     while n < count {
-        let p = word(plan, n);
-        if plan::is_past(op_of(terms, n)) & plan::is_pair(p) {
-            two = sets::with(two, RELATIONS + plan::table_of(p));
+        let p = word(index, n);
+        if table_index::is_past(op_of(terms, n)) & table_index::is_pair(p) {
+            two = sets::with(two, RELATIONS + table_index::table_of(p));
         }
         n += 1;
     }

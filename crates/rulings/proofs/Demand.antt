@@ -1,5 +1,5 @@
 -- Demand 3 for plans and for entries that are told, entire: from any file with a record, after any list of requests,
--- looks, set lists and new terms.
+-- looks, set lists, new terms and new numbers.
 use Prim.Native.Nat.{ℕ, _≤_}
 use mathlib.Core.Path.{_≡_}
 use mathlib.Core.List.{List}
@@ -7,7 +7,7 @@ use lib.ListN.{length}
 use Rattle.theory.specs.Keeper.{Book}
 use Rattle.memory.specs.Layout.{termsWords, stateWords}
 use Rattle.calls.specs.Agreement.{LentStep}
-use Rattle.text.specs.Recorded.{laterBook, loaded, after, Recorded}
+use Rattle.text.specs.Recorded.{laterBook, loaded, afterSteps, Recorded}
 use Rattle.calls.specs.Telling.{tells}
 use Rattle.plans.specs.Game.{keeperRules}
 use Rattle.plans.specs.Plans.{ruling}
@@ -23,14 +23,14 @@ use Rattle.rulings.proofs.Telling.{told-playing}
 pub demand-3-plans : (text : List ℕ) (B : Book) → Recorded text B →
     (terms state : List ℕ) → termsWords ≤ length terms → stateWords ≤ length state → (ss : List LentStep) →
     (scratch plan : List ℕ) (planner rival goal u v : ℕ) →
-    ruling (after text terms state ss .terms) (after text terms state ss .state) scratch plan planner rival goal u v
+    ruling (afterSteps text terms state ss .terms) (afterSteps text terms state ss .state) scratch plan planner rival goal u v
     ≡ keeperRules (laterBook B ss) (length scratch) plan planner rival goal u v
 demand-3-plans text B from terms state tl sl ss scratch plan planner rival goal u v =
-    ruled-playing (laterBook B ss) (after text terms state ss) (run ss B (loaded text terms state) (playing from terms state tl sl) .1) scratch plan planner rival goal u v
+    ruled-playing (laterBook B ss) (afterSteps text terms state ss) (run ss B (loaded text terms state) (playing from terms state tl sl) .1) scratch plan planner rival goal u v
 
 -- The same of every entry with any pair: what is told of it is what the keeper tells.
 pub demand-3-telling : (text : List ℕ) (B : Book) → Recorded text B →
     (terms state : List ℕ) → termsWords ≤ length terms → stateWords ≤ length state → (ss : List LentStep) → (n u v : ℕ) →
-    tells (after text terms state ss .terms) (after text terms state ss .state) n u v ≡ keeperTells (laterBook B ss) n u v
+    tells (afterSteps text terms state ss .terms) (afterSteps text terms state ss .state) n u v ≡ keeperTells (laterBook B ss) n u v
 demand-3-telling text B from terms state tl sl ss n u v =
-    told-playing (laterBook B ss) (after text terms state ss) (run ss B (loaded text terms state) (playing from terms state tl sl) .1) n u v
+    told-playing (laterBook B ss) (afterSteps text terms state ss) (run ss B (loaded text terms state) (playing from terms state tl sl) .1) n u v

@@ -15,31 +15,31 @@ use Rattle.sets.proofs.Least.{Least, Rest, least-law, rest-law}
 abbrev pub Done : ℕ → ℕ → ℕ → Bool
 Done want rest k = bit want k && not (bit rest k)
 
-pub record Going (want rest : ℕ) : Type 0 where
+pub record MembersLeft (want rest : ℕ) : Type 0 where
   pub fits : rest < 2 ^ 64
   pub inside : (k : ℕ) → bit rest k ≡ true → bit want k ≡ true
 
-pub going : (want : ℕ) → want < 2 ^ 64 → Going want want
+pub going : (want : ℕ) → want < 2 ^ 64 → MembersLeft want want
 going want h = record { fits = h; inside = λ k e. e }
 
 -- One turn: a is the least of rest, and rest' is what is left.
 pub record Turn (want rest a rest' : ℕ) : Type 0 where
-  pub upon : Going want rest
+  pub upon : MembersLeft want rest
   pub next : Least rest a
   pub left : Rest rest rest'
 
-pub turn : {want rest a rest' : ℕ} → Going want rest → (rest ≡ 0 → ⊥) → a ≡ least rest → rest' ≡ bitAnd rest (rest - 1) → Turn want rest a rest'
+pub turn : {want rest a rest' : ℕ} → MembersLeft want rest → (rest ≡ 0 → ⊥) → a ≡ least rest → rest' ≡ bitAnd rest (rest - 1) → Turn want rest a rest'
 turn {want} {rest} {a} {rest'} o n l r =
     let p : 0 < rest = omega arith in
     record { upon = o; next = least-law rest a p (o .fits) l; left = rest-law rest rest' p (o .fits) r }
 
-pub least-small : {want rest a : ℕ} → Going want rest → (rest ≡ 0 → ⊥) → a ≡ least rest → a < 64
+pub least-small : {want rest a : ℕ} → MembersLeft want rest → (rest ≡ 0 → ⊥) → a ≡ least rest → a < 64
 least-small {want} {rest} {a} o n l = least-law rest a (let p : 0 < rest = omega arith in p) (o .fits) l .small
 
-pub least-wanted : {want rest a : ℕ} → Going want rest → (rest ≡ 0 → ⊥) → a ≡ least rest → bit want a ≡ true
+pub least-wanted : {want rest a : ℕ} → MembersLeft want rest → (rest ≡ 0 → ⊥) → a ≡ least rest → bit want a ≡ true
 least-wanted {want} {rest} {a} o n l = o .inside a (least-law rest a (let p : 0 < rest = omega arith in p) (o .fits) l .here)
 
-pub rest-less : {want rest rest' : ℕ} → Going want rest → (rest ≡ 0 → ⊥) → rest' ≡ bitAnd rest (rest - 1) → rest' < rest
+pub rest-less : {want rest rest' : ℕ} → MembersLeft want rest → (rest ≡ 0 → ⊥) → rest' ≡ bitAnd rest (rest - 1) → rest' < rest
 rest-less {want} {rest} {rest'} o n r = rest-law rest rest' (let p : 0 < rest = omega arith in p) (o .fits) r .less
 
 pub done-all : (want rest k : ℕ) → rest ≡ 0 → Done want rest k ≡ bit want k
@@ -56,7 +56,7 @@ done-bool false false true f g = absurd (true≢false (sym (g refl)))
 done-bool false false false f g = refl
 
 module _ {want rest a rest' : ℕ} (t : Turn want rest a rest') where
-  pub going-on : Going want rest'
+  pub going-on : MembersLeft want rest'
   going-on = record {
     fits = (let p : rest' < rest = t .left .less in let q : rest < 2 ^ 64 = t .upon .fits in omega arith);
     inside = λ k e. t .upon .inside k (and-left (bit rest k) _ (sym (t .left .bits k) ∙ e));

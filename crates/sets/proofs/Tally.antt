@@ -16,7 +16,7 @@ use lib.Pow.{pow-pos}
 use borrow.Author.Tests.{lt-ltb, ltb-true, ltb-false, le-leb, lt-leb, leb-true, eqb-true}
 use Rattle.sets.specs.Sets.{bit, countBelow, tally}
 use Rattle.sets.proofs.Finite.{count-cong, count-le, count-none, count-one-more, bool-iff, true-or-false, and-left, and-right, and-both, and-true, or-left, or-right}
-use Rattle.sets.proofs.MemberLoop.{Going, going, going-on, Turn, Done, done-all, done-more}
+use Rattle.sets.proofs.MemberLoop.{MembersLeft, going, going-on, Turn, Done, done-all, done-more}
 use Rattle.sets.proofs.Bits.{apart, bit-and, bit-or, bit-xor, bit-mask, bit-below, bit-zero}
 
 tally-cong : (ps qs : List ℕ) (n b : ℕ) → ((j : ℕ) → j < n → getD ps j 0 ≡ getD qs j 0) → tally ps n b ≡ tally qs n b
@@ -197,7 +197,7 @@ zeros (suc n) zero = refl
 zeros (suc n) (suc j) = zeros n j
 
 pub record Counting (ws : List ℕ) (set rest : ℕ) (ps : List ℕ) : Type 0 where
-  pub upon : Going set rest
+  pub upon : MembersLeft set rest
   pub long : length ps ≡ 7
   pub counts : (b : ℕ) → tally ps 7 b ≡ countBelow 64 (λ c. Done set rest c && bit (getD ws c 0) b)
 

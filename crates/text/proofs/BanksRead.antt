@@ -15,7 +15,7 @@ use Rattle.theory.specs.Tables.{opening}
 use Rattle.memory.specs.Layout.{termsWords, stateWords, relationWords, ownWords, joined, termsOf, stateOf, wordsOf}
 use Rattle.memory.specs.Checks.{goodMemory, goodRelations}
 use Rattle.memory.specs.Outcome.{Outcome, banksOpen}
-use Rattle.memory.specs.Outcome.Outcome.{passed, failed}
+use Rattle.memory.specs.Outcome.Outcome.{passed, refused as refusedOutcome}
 use Rattle.memory.proofs.Accepted.{good}
 use Rattle.memory.proofs.Words.{length-words, now-back}
 use Rattle.calls.proofs.LayoutKept.{relations-good}
@@ -29,7 +29,7 @@ use Rattle.file.specs.Reading.Reading.{accepted, refused}
 use Rattle.file.proofs.Accepted.{Accepted, accepted-good}
 use Rattle.reader.specs.Memory.{memoryOf}
 use Rattle.reader.specs.Read.{Filling, outcome}
-use Rattle.reader.specs.Read.Filling.{old, stored, unfilled}
+use Rattle.reader.specs.Read.Filling.{old, stored, refused as refusedFilling}
 use Rattle.reader.specs.OldForm.{oldReading, shortRelations, filledRelations, oldFilling, oldFillGives, oldTerms, oldRelations}
 use Rattle.reader.proofs.TermsMemory.{length-memory, memory-alike, memory-good}
 use Rattle.reader.proofs.StateMemory.{filled, event-inside}
@@ -116,15 +116,15 @@ module _ (text terms relations first second : List ℕ) where
       × ((first' ≡ banksReadOwn text terms relations first second first)
       × (second' ≡ banksReadOwn text terms relations first second second))))
 
-  too-short : shortRead terms relations first second ≡ true → Leaves (failed 6 0) terms relations first second
+  too-short : shortRead terms relations first second ≡ true → Leaves (refusedOutcome 6 0) terms relations first second
   unfolding banksReadGives banksReadTerms banksReadRelations banksReadOwn
   too-short h = (rw h, (rw h, (rw h, (rw h, rw h))))
 
-  pub short-first : length first < ownWords → Leaves (failed 6 0) terms relations first second
+  pub short-first : length first < ownWords → Leaves (refusedOutcome 6 0) terms relations first second
   short-first h = too-short (rw (lt-ltb (length first) ownWords h, or-true, or-true))
 
   module _ (fl : ownWords ≤ length first) where
-    pub short-second : length second < ownWords → Leaves (failed 6 0) terms relations first second
+    pub short-second : length second < ownWords → Leaves (refusedOutcome 6 0) terms relations first second
     short-second h = too-short (rw (le-ltb (length first) ownWords fl, lt-ltb (length second) ownWords h, or-true, or-true))
 
     module _ (sl : ownWords ≤ length second) where
@@ -139,15 +139,15 @@ module _ (text terms relations first second : List ℕ) where
       unfolding oldRelations banksReadRelations
       same-relations = rw same-short
 
-      pub fill-refused : (n l : ℕ) → unfilled n l ≡ oldFillGives text terms relations → (terms' relations' : List ℕ) →
-          terms' ≡ oldTerms text terms relations → relations' ≡ oldRelations text terms relations → Leaves (failed n l) terms' relations' first second
+      pub fill-refused : (n l : ℕ) → refusedFilling n l ≡ oldFillGives text terms relations → (terms' relations' : List ℕ) →
+          terms' ≡ oldTerms text terms relations → relations' ≡ oldRelations text terms relations → Leaves (refusedOutcome n l) terms' relations' first second
       unfolding oldFillGives banksReadGives banksReadOwn
       fill-refused n l e terms' relations' et er =
           let g = go (shortRelations terms relations) (oldReading text) e in
           (rw same-short (g .0), (et ∙ same-terms, (er ∙ same-relations, (rw same-short (g .1 first), rw same-short (g .1 second)))))
         where
-          go : (b : Bool) (r : Reading) → unfilled n l ≡ cond b (unfilled 6 0) (oldFilling r) →
-              (failed n l ≡ cond b (failed 6 0) (outcome r)) × ((own : List ℕ) → own ≡ cond b own (filledOwn own r))
+          go : (b : Bool) (r : Reading) → refusedFilling n l ≡ cond b (refusedFilling 6 0) (oldFilling r) →
+              (refusedOutcome n l ≡ cond b (refusedOutcome 6 0) (outcome r)) × ((own : List ℕ) → own ≡ cond b own (filledOwn own r))
           go true r e = (cc, λ own. refl)
           go false (accepted f) e = let z : _≡_ {A = ℕ} 0 1 = cc in absurd (omega arith)
           go false (refused i j) e = (cc, λ own. refl)
@@ -158,14 +158,14 @@ module _ (text terms relations first second : List ℕ) where
         unfolding oldFillGives
         was-filled = go (shortRelations terms relations) (oldReading text) o u h
           where
-            go : (b : Bool) (r : Reading) (o : Filling) → Unrefused o → o ≡ cond b (unfilled 6 0) (oldFilling r) → (b ≡ false) × ((f : File) × (r ≡ accepted f))
+            go : (b : Bool) (r : Reading) (o : Filling) → Unrefused o → o ≡ cond b (refusedFilling 6 0) (oldFilling r) → (b ≡ false) × ((f : File) × (r ≡ accepted f))
             go true r old u e = let z : _≡_ {A = ℕ} 0 1 = cc in absurd (omega arith)
             go true r stored u e = let z : _≡_ {A = ℕ} 0 1 = cc in absurd (omega arith)
-            go true r (unfilled n l) u e = absurd u
+            go true r (refusedFilling n l) u e = absurd u
             go false (accepted f) o u e = (refl, (f, refl))
             go false (refused i j) old u e = let z : _≡_ {A = ℕ} 0 1 = cc in absurd (omega arith)
             go false (refused i j) stored u e = let z : _≡_ {A = ℕ} 0 1 = cc in absurd (omega arith)
-            go false (refused i j) (unfilled n l) u e = absurd u
+            go false (refused i j) (refusedFilling n l) u e = absurd u
 
         pub fill-opened : (terms' relations' : List ℕ) → terms' ≡ oldTerms text terms relations → relations' ≡ oldRelations text terms relations →
             (p : Outcome) (first' second' : List ℕ) → p ≡ banksOpen terms' relations' first second →

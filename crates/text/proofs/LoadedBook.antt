@@ -14,7 +14,7 @@ use Rattle.theory.proofs.AlikeTerms.{alike-trans, kept-alike}
 use Rattle.memory.specs.Layout.{termsWords, stateWords, termsOf, stateOf}
 use Rattle.memory.specs.Checks.{goodMemory}
 use Rattle.memory.specs.Outcome.{Outcome, checks}
-use Rattle.memory.specs.Outcome.Outcome.{passed, failed}
+use Rattle.memory.specs.Outcome.Outcome.{passed, refused}
 use Rattle.memory.proofs.Accepted.{good}
 use Rattle.memory.proofs.Inside.{state-inside}
 use Rattle.memory.proofs.Front.{good-cong}
@@ -43,7 +43,7 @@ use Rattle.text.proofs.Reloaded.{Reloaded, reloaded, reread-stored-memo
 was-stored : (o : Outcome) (c : Bool) (k n : ℕ) → fitted c k o ≡ bytes n → (passed ≡ o) × (k ≡ n)
 was-stored passed true k n e = let z : _≡_ {A = ℕ} 0 1 = cc in absurd (omega arith)
 was-stored passed false k n e = (refl, cc)
-was-stored (failed i j) c k n e = let z : _≡_ {A = ℕ} 0 1 = cc in absurd (omega arith)
+was-stored (refused i j) c k n e = let z : _≡_ {A = ℕ} 0 1 = cc in absurd (omega arith)
 
 module _ (m s out : List ℕ) (n : ℕ) (e : storeGives m s out ≡ bytes n) where
   passed-so : (passed ≡ checks m s) × (length (storedText m s) ≡ n)

@@ -11,13 +11,13 @@ use borrow.Author.Tests.{le-ltb, ltb-false}
 use Rattle.theory.specs.Tables.{opening}
 use Rattle.memory.specs.Layout.{termsWords, stateWords, termsOf, wordsOf}
 use Rattle.memory.specs.Outcome.{Outcome, opens}
-use Rattle.memory.specs.Outcome.Outcome.{passed, failed}
+use Rattle.memory.specs.Outcome.Outcome.{passed, refused as refusedOutcome}
 use Rattle.calls.specs.Monitor.{openedState}
 use Rattle.file.specs.File.{File, stateSaid}
 use Rattle.file.specs.Reading.{Reading, reading}
 use Rattle.file.specs.Reading.Reading.{accepted, refused}
 use Rattle.reader.specs.Read.{Filling, short, filling, outcome, readGives, fillGives, filledWords, readTerms, readWords}
-use Rattle.reader.specs.Read.Filling.{old, stored, unfilled}
+use Rattle.reader.specs.Read.Filling.{old, stored, refused as refusedFilling}
 use Rattle.text.specs.Text.{filledState, readState}
 use Rattle.reader.proofs.StateMemory.{filled, placed, filled-alike, placed-edges, placed-further, passes}
 use Rattle.text.proofs.AlikeWords.{words-alike}
@@ -51,26 +51,26 @@ same-form true false e = let z : _≡_ {A = ℕ} 0 1 = cc in absurd (omega arith
 same-form false true e = let z : _≡_ {A = ℕ} 0 1 = cc in absurd (omega arith)
 same-form false false e = refl
 
-no-form : (b : Bool) (n l : ℕ) → formOf b ≡ unfilled n l → ⊥
+no-form : (b : Bool) (n l : ℕ) → formOf b ≡ refusedFilling n l → ⊥
 no-form true n l e = let z : _≡_ {A = ℕ} 0 1 = cc in omega arith
 no-form false n l e = let z : _≡_ {A = ℕ} 0 1 = cc in omega arith
 
-was-read : (b x y : Bool) (r : Reading) → formOf b ≡ cond (x || y) (unfilled 6 0) (filling r) → WasRead b x y r
+was-read : (b x y : Bool) (r : Reading) → formOf b ≡ cond (x || y) (refusedFilling 6 0) (filling r) → WasRead b x y r
 was-read b true y r e = absurd (no-form b 6 0 e)
 was-read b false true r e = absurd (no-form b 6 0 e)
 was-read b false false (accepted f) e = (refl, refl, (f, refl, same-form b (f .stored) e))
 was-read b false false (refused n l) e = absurd (no-form b n l e)
 
 -- A refusal leaves the state as lent.
-was-refused : (state : List ℕ) (b : Bool) (r : Reading) (n l : ℕ) → unfilled n l ≡ cond b (unfilled 6 0) (filling r) →
-    (failed n l ≡ cond b (failed 6 0) (outcome r)) × (cond b state (filledWords state r) ≡ cond b state (filledState state r))
+was-refused : (state : List ℕ) (b : Bool) (r : Reading) (n l : ℕ) → refusedFilling n l ≡ cond b (refusedFilling 6 0) (filling r) →
+    (refusedOutcome n l ≡ cond b (refusedOutcome 6 0) (outcome r)) × (cond b state (filledWords state r) ≡ cond b state (filledState state r))
 was-refused state true r n l e = (cc, refl)
 was-refused state false (accepted f) n l e = absurd (no-form (f .stored) n l (sym e))
 was-refused state false (refused i j) n l e = (cc, refl)
 
 module _ (text terms state : List ℕ) where
-  pub fill-refused : (n l : ℕ) → unfilled n l ≡ fillGives text terms state →
-      (failed n l ≡ readGives text terms state) × (readWords text terms state ≡ readState text terms state)
+  pub fill-refused : (n l : ℕ) → refusedFilling n l ≡ fillGives text terms state →
+      (refusedOutcome n l ≡ readGives text terms state) × (readWords text terms state ≡ readState text terms state)
   unfolding fillGives readGives readWords readState
   fill-refused n l e = was-refused state (short terms state) (reading text) n l e
 

@@ -22,7 +22,7 @@ use Rattle.theory.proofs.Size.{same-members, same-relations, same-events}
 use Rattle.memory.specs.Layout.{termsWords, stateWords, termsOf, stateOf, wordsOf}
 use Rattle.memory.specs.Outcome.{Outcome, hasPassed, revises}
 use Rattle.memory.specs.Checks.{goodMemory}
-use Rattle.memory.specs.Outcome.Outcome.{passed, failed}
+use Rattle.memory.specs.Outcome.Outcome.{passed, refused as refusedOutcome}
 use Rattle.memory.proofs.Accepted.{good}
 use Rattle.memory.proofs.Front.{state-cong}
 use Rattle.memory.proofs.Words.{length-words}
@@ -191,7 +191,7 @@ module _ (m m' : List ℕ) where
 
       -- What the checks give where the scratch is short, and where it is not.
       check : Bool → Outcome
-      check b = cond b (failed 6 0) passed
+      check b = cond b (refusedOutcome 6 0) passed
 
       after : (m s : List ℕ) → Bool → Run
       after m s b = cond (hasPassed (check b)) (singly m s sc rs) (record { records = rs; grants = 0; state = s; scratch = sc })
@@ -218,8 +218,8 @@ module _ (m s m' s' : List ℕ) (t : Twins m s m' s') (new second : List ℕ) wh
   -- What is left of the checks where terms and state pass.
   abbrev offer : Bool → Outcome
   offer z =
-      cond (ltb (length new) termsWords || ltb (length second) stateWords) (failed 6 0)
-      (cond (not (goodMemory new)) (failed 7 0) (cond (not z) (failed 13 0) passed))
+      cond (ltb (length new) termsWords || ltb (length second) stateWords) (refusedOutcome 6 0)
+      (cond (not (goodMemory new)) (refusedOutcome 7 0) (cond (not z) (refusedOutcome 13 0) passed))
 
   revises-is : (m s : List ℕ) → Checked m s → revises m s new second ≡ offer (sameSize (termsOf m) New)
   unfolding revises
@@ -270,14 +270,14 @@ module _ (m s m' s' : List ℕ) (t : Twins m s m' s') (new second : List ℕ) wh
             like = alike-refl New;
             words = λ i _. ap (λ (w : List ℕ). getD w i 0) same-revised;
           })
-      go (failed n l) e o' e' = rw (e' ∙ e) t
+      go (refusedOutcome n l) e o' e' = rw (e' ∙ e) t
 
 -- ---- new numbers
 
 module _ (m s m' s' : List ℕ) (t : Twins m s m' s') (numbers second : List ℕ) where
   -- What is left of the checks where terms and state pass.
   abbrev toldBy : ℕ → Outcome
-  toldBy N = cond (ltb (length second) stateWords) (failed 6 0) (cond (not (renumbers N numbers)) (failed 15 0) passed)
+  toldBy N = cond (ltb (length second) stateWords) (refusedOutcome 6 0) (cond (not (renumbers N numbers)) (refusedOutcome 15 0) passed)
 
   numbers-is : (m s : List ℕ) → Checked m s → renumbering m s numbers second ≡ toldBy (termsOf m .members)
   unfolding renumbering
@@ -330,7 +330,7 @@ module _ (m s m' s' : List ℕ) (t : Twins m s m' s') (numbers second : List ℕ
             like = t .like;
             words = λ i _. ap (λ (w : List ℕ). getD w i 0) same-renumbered;
           })
-      go (failed n l) e o' e' = rw (e' ∙ e) t
+      go (refusedOutcome n l) e o' e' = rw (e' ∙ e) t
 
 -- ---- any list of steps
 

@@ -18,7 +18,7 @@ use Rattle.fields.specs.Split.{lines}
 use Rattle.file.specs.File.{File}
 use Rattle.file.specs.Reading.{reading}
 use Rattle.file.specs.Reading.Reading.{accepted}
-use Rattle.file.specs.Said.{records, termsSaid, edgesSaid}
+use Rattle.file.specs.Said.{saidLines, termsSaid, edgesSaid}
 use Rattle.file.proofs.Accepted.{accepted-good}
 use Rattle.file.proofs.Said.{said}
 use Rattle.text.specs.Recorded.{saidBook, loaded}
@@ -26,14 +26,14 @@ use Rattle.text.specs.Recorded.Recorded.{old}
 use Rattle.text.proofs.Demand.{demand-3}
 
 -- The answers of a run that begins by reading a text of the old form, where its lines say the terms T.
-keeper-answers : (text : List ℕ) (f : File) → reading text ≡ accepted f → f .stored ≡ false → (T : Terms) → termsSaid (records (lines text)) ≡ T →
+keeper-answers : (text : List ℕ) (f : File) → reading text ≡ accepted f → f .stored ≡ false → (T : Terms) → termsSaid (saidLines (lines text)) ≡ T →
     (terms state : List ℕ) → termsWords ≤ length terms → stateWords ≤ length state → (ss : List LentStep) → KeepsTerms ss →
-    serveSteps (loaded text terms state) ss .0 ≡ keeper T (edgesSaid (records (lines text))) (fedCalls ss) .0
+    serveSteps (loaded text terms state) ss .0 ≡ keeper T (edgesSaid (saidLines (lines text))) (fedCalls ss) .0
 keeper-answers text f e form T says terms state tl sl ss keeps =
     demand-3 text (saidBook text) (old text f e form) terms state tl sl ss .0
     ∙ ap (λ (xs : List Step). keepSteps (saidBook text) xs .0) (fed-kept ss keeps)
     ∙ ap (λ (k : List Answer × Book). k .0) (keep-calls (saidBook text) (fedCalls ss))
-    ∙ ap (λ U. keeper U (edgesSaid (records (lines text))) (fedCalls ss) .0) says
+    ∙ ap (λ U. keeper U (edgesSaid (saidLines (lines text))) (fedCalls ss) .0) says
 
 -- Two runs as in demand 3 that begin at moment 0 with the same terms T, without reach, and keep them: each reads an
 -- accepted text of the old form into lent memory that is long enough, and takes a list of steps over what reading left,
@@ -42,8 +42,8 @@ keeper-answers text f e form T says terms state tl sl ss keeps =
 -- agree inside S, a set of members.
 module _ (T : Terms) (without : WithoutReach T) (S : Circle) (text text' : List ℕ)
     (f f' : File) (is-read : reading text ≡ accepted f) (is-read' : reading text' ≡ accepted f') (form : f .stored ≡ false) (form' : f' .stored ≡ false)
-    (says : termsSaid (records (lines text)) ≡ T) (says' : termsSaid (records (lines text')) ≡ T)
-    (agree : AgreeWithin T S (edgesSaid (records (lines text))) (edgesSaid (records (lines text'))))
+    (says : termsSaid (saidLines (lines text)) ≡ T) (says' : termsSaid (saidLines (lines text')) ≡ T)
+    (agree : AgreeWithin T S (edgesSaid (saidLines (lines text))) (edgesSaid (saidLines (lines text'))))
     (terms terms' state state' : List ℕ) (tl : termsWords ≤ length terms) (tl' : termsWords ≤ length terms')
     (sl : stateWords ≤ length state) (sl' : stateWords ≤ length state') (ss ss' : List LentStep) (keeps : KeepsTerms ss) (keeps' : KeepsTerms ss') (c₀ : Call) (a₀ : Answer)
   where
@@ -52,7 +52,7 @@ module _ (T : Terms) (without : WithoutReach T) (S : Circle) (text text' : List 
 
     -- From what the keeper answers in both to what the monitor does.
     handed-on : (n : ℕ) →
-        getD (keeper T (edgesSaid (records (lines text))) (fedCalls ss) .0) n a₀ ≡ getD (keeper T (edgesSaid (records (lines text'))) (fedCalls ss') .0) n a₀ →
+        getD (keeper T (edgesSaid (saidLines (lines text))) (fedCalls ss) .0) n a₀ ≡ getD (keeper T (edgesSaid (saidLines (lines text'))) (fedCalls ss') .0) n a₀ →
         getD (serveSteps (loaded text terms state) ss .0) n a₀
         ≡ getD (serveSteps (loaded text' terms' state') ss' .0) n a₀
     handed-on n e =
@@ -64,8 +64,8 @@ module _ (T : Terms) (without : WithoutReach T) (S : Circle) (text text' : List 
     -- each is lent enough scratch. Then every call inside S gets the same answer in both runs. That no edge ever joins
     -- S to the rest is no premise: it follows.
     pub strangers-have-no-say-first :
-        SeparateFirst T S (edgesSaid (records (lines text))) → SeparateFirst T S (edgesSaid (records (lines text'))) →
-        Paired T S (first (edgesSaid (records (lines text))) ∷ []) (first (edgesSaid (records (lines text'))) ∷ []) (fedCalls ss) (fedCalls ss') →
+        SeparateFirst T S (edgesSaid (saidLines (lines text))) → SeparateFirst T S (edgesSaid (saidLines (lines text'))) →
+        Paired T S (first (edgesSaid (saidLines (lines text))) ∷ []) (first (edgesSaid (saidLines (lines text'))) ∷ []) (fedCalls ss) (fedCalls ss') →
         (n : ℕ) → Inside S (getD (fedCalls ss) n c₀) →
         getD (serveSteps (loaded text terms state) ss .0) n a₀
         ≡ getD (serveSteps (loaded text' terms' state') ss' .0) n a₀
@@ -78,9 +78,9 @@ module _ (T : Terms) (without : WithoutReach T) (S : Circle) (text text' : List 
     -- number n, gets the same answer in both runs. (A set list is its requests. Past the ends of the lists getD gives
     -- c₀ and a₀, whatever they are.)
     pub strangers-have-no-say :
-        Separate T S (keeper T (edgesSaid (records (lines text))) (fedCalls ss) .1) →
-        Separate T S (keeper T (edgesSaid (records (lines text'))) (fedCalls ss') .1) →
-        Paired T S (first (edgesSaid (records (lines text))) ∷ []) (first (edgesSaid (records (lines text'))) ∷ []) (fedCalls ss) (fedCalls ss') →
+        Separate T S (keeper T (edgesSaid (saidLines (lines text))) (fedCalls ss) .1) →
+        Separate T S (keeper T (edgesSaid (saidLines (lines text'))) (fedCalls ss') .1) →
+        Paired T S (first (edgesSaid (saidLines (lines text))) ∷ []) (first (edgesSaid (saidLines (lines text'))) ∷ []) (fedCalls ss) (fedCalls ss') →
         (n : ℕ) → Inside S (getD (fedCalls ss) n c₀) →
         getD (serveSteps (loaded text terms state) ss .0) n a₀
         ≡ getD (serveSteps (loaded text' terms' state') ss' .0) n a₀

@@ -45,8 +45,8 @@ resumed-answers T R cs text has terms state tl sl ss keeps =
     ∙ ap (λ (xs : List Step). keepSteps B xs .0) (fed-kept ss keeps)
     ∙ ap (λ (k : List Answer × Book). k .0) (keep-calls B (fedCalls ss))
 
--- cs and cs' are the calls that were made before the files were written, by panels that began at moment 0; none, for a
--- run that begins with an old file.
+-- cs and cs' are the calls that were made before the files were written, by monitors that began at moment 0; none, for
+-- a run that begins with an old file.
 module _ (T : Terms) (without : WithoutReach T) (S : Circle) (R Q : Relations) (agree : AgreeWithin T S R Q) (cs cs' : List Call) (text text' : List ℕ)
     (has : Recorded text (bookAfter T R cs)) (has' : Recorded text' (bookAfter T Q cs'))
     (terms terms' state state' : List ℕ) (tl : termsWords ≤ length terms) (tl' : termsWords ≤ length terms')

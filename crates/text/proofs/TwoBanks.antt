@@ -14,7 +14,7 @@ use Rattle.theory.specs.Keeper.{Answer}
 use Rattle.theory.specs.Fit.{Good}
 use Rattle.memory.specs.Layout.{termsWords, relationWords, ownWords, joined, termsOf, wordsOf}
 use Rattle.memory.specs.Outcome.{banksOpen}
-use Rattle.memory.specs.Outcome.Outcome.{passed, failed}
+use Rattle.memory.specs.Outcome.Outcome.{passed, refused as refusedOutcome}
 use Rattle.memory.proofs.Words.{length-words}
 use Rattle.calls.proofs.MemoryInvariant.{Held}
 use Rattle.calls.proofs.Demand.{or-false-right}
@@ -43,7 +43,7 @@ done-read : (text terms relations first second : List ℕ) → banksReadGives te
 unfolding banksReadGives
 done-read text terms relations first second = go (shortRead terms relations first second) (oldReading text)
   where
-    go : (b : Bool) (r : Reading) → cond b (failed 6 0) (outcome r) ≡ passed → (b ≡ false) × ((f : File) × (r ≡ accepted f))
+    go : (b : Bool) (r : Reading) → cond b (refusedOutcome 6 0) (outcome r) ≡ passed → (b ≡ false) × ((f : File) × (r ≡ accepted f))
     go true r e = let z : _≡_ {A = ℕ} 0 1 = cc in absurd (omega arith)
     go false (accepted f) e = (refl, (f, refl))
     go false (refused i j) e = let z : _≡_ {A = ℕ} 0 1 = cc in absurd (omega arith)
@@ -146,9 +146,9 @@ module _ (text terms : List ℕ) (W : Lent) (done : banksReadGives text terms (W
   -- records, who is fed the lines of the text.
   pub demand-3-banks-old : (ss : List LentBankStep) →
       let after = serveBankSteps (loadedBanks text terms W) ss in
-      let kept = keepBankSteps (saidBooks text) (fedBankSteps ss) in
-      (after .0 ≡ kept .0) × Alike (kept .1 .terms) (termsOf (after .1 .terms))
-      × BanksAgree (termsOf (after .1 .terms)) (kept .1 .start) (after .1 .before) (after .1 .lent) (kept .1 .moments)
+      let byKeeper = keepBankSteps (saidBooks text) (fedBankSteps ss) in
+      (after .0 ≡ byKeeper .0) × Alike (byKeeper .1 .terms) (termsOf (after .1 .terms))
+      × BanksAgree (termsOf (after .1 .terms)) (byKeeper .1 .start) (after .1 .before) (after .1 .lent) (byKeeper .1 .moments)
   demand-3-banks-old ss =
       let n = run-banks ss (saidBooks text) (loadedBanks text terms W) playing in
       (n .0, n .1 .like, banks-agree _ _ (n .1))

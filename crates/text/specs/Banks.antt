@@ -8,12 +8,12 @@ use lib.ListN.{length, drop}
 use Rattle.theory.specs.Tables.{opening}
 use Rattle.memory.specs.Layout.{termsWords, relationWords, ownWords, wordsOf}
 use Rattle.memory.specs.Outcome.{Outcome, shortBanks}
-use Rattle.memory.specs.Outcome.Outcome.{failed}
+use Rattle.memory.specs.Outcome.Outcome.{refused as refusedOutcome}
 use Rattle.banking.specs.Banks.{Books, firstBooks}
 use Rattle.banking.specs.Banks.Bank.{left, right}
 use Rattle.banking.specs.BankRuns.{Lent, BanksInUse}
 use Rattle.fields.specs.Split.{lines}
-use Rattle.file.specs.Said.{records, termsSaid, edgesSaid}
+use Rattle.file.specs.Said.{saidLines, termsSaid, edgesSaid}
 use Rattle.file.specs.Reading.{Reading}
 use Rattle.file.specs.Reading.Reading.{accepted, refused}
 use Rattle.reader.specs.Read.{outcome, filledTerms}
@@ -24,7 +24,7 @@ abbrev pub shortRead : (terms relations first second : List ℕ) → Bool
 shortRead terms relations first second = ltb (length terms) termsWords || shortBanks relations first second
 
 unfoldable pub banksReadGives : (text terms relations first second : List ℕ) → Outcome
-banksReadGives text terms relations first second = cond (shortRead terms relations first second) (failed 6 0) (outcome (oldReading text))
+banksReadGives text terms relations first second = cond (shortRead terms relations first second) (refusedOutcome 6 0) (outcome (oldReading text))
 
 -- An accepted text fills the named words of terms and of relations with what it says, and those of a bank's own with
 -- the tables and the event word of moment 0; a refusal leaves all memory as lent. Further words are not touched.
@@ -47,7 +47,7 @@ banksReadOwn text terms relations first second own = cond (shortRead terms relat
 
 -- What the keeper of two banks begins with, fed the lines of an old file.
 abbrev pub saidBooks : (text : List ℕ) → Books
-saidBooks text = firstBooks (termsSaid (records (lines text))) (edgesSaid (records (lines text)))
+saidBooks text = firstBooks (termsSaid (saidLines (lines text))) (edgesSaid (saidLines (lines text)))
 
 -- The memory of two banks that have read a text.
 abbrev pub loadedBanks : (text terms : List ℕ) → Lent → BanksInUse

@@ -12,6 +12,7 @@ use Rattle.theory.specs.Terms.{Terms}
 use Rattle.theory.specs.Moment.{Relations, Moment}
 use Rattle.theory.specs.Keeper.{Call, recordOf, judge, keep}
 use Rattle.theory.specs.Meaning.{fromFirst}
+use Rattle.theory.specs.Formula.{reachOperator}
 
 -- A set of members. What it says of numbers from N on makes no difference: a call that names one is refused.
 abbrev pub Circle : Type 0
@@ -19,7 +20,7 @@ Circle = (member : ℕ) → Bool
 
 -- No entry is a reach.
 abbrev pub WithoutReach : Terms → Type 0
-WithoutReach T = (n : ℕ) → n < T .entries → T .entry n .op ≡ 10 → ⊥
+WithoutReach T = (n : ℕ) → n < T .entries → T .entry n .op ≡ reachOperator → ⊥
 
 -- ---- the records
 

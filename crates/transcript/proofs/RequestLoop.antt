@@ -16,7 +16,7 @@ use Rattle.transcript.specs.Served.{scratch, lineAnswer, lineState, serv
 use Rattle.transcript.proofs.Lines.{line-small, line-short}
 
 -- Line n begins the rest t; the state is the one that the lines before it left, and at is the next place of the output.
-pub record Going (terms before requests output state out room t : List ℕ) (n at : ℕ) : Type 0 where
+pub record RequestsSoFar (terms before requests output state out room t : List ℕ) (n at : ℕ) : Type 0 where
   pub blank : room ≡ scratch
   pub few : n + length t ≤ length requests + 1
   pub near : at ≤ 15 * n
@@ -24,7 +24,7 @@ pub record Going (terms before requests output state out room t : List ℕ) (n a
   pub put : Put output out 0 at bytes
   pub whole : served terms before 1 (lines requests) ≡ bytes ++ served terms state n (lines t)
 
-pub going-start : (terms state requests out : List ℕ) → Going terms state requests out state out scratch requests 1 0
+pub going-start : (terms state requests out : List ℕ) → RequestsSoFar terms state requests out state out scratch requests 1 0
 going-start terms state requests out = record {
   blank = refl;
   few = omega arith;
@@ -50,12 +50,12 @@ unfolding served lines
 served-done terms state [] n h = refl
 served-done terms state (x ∷ t) n h = absurd (omega arith)
 
-module _ {terms before requests output state out room t : List ℕ} {n at : ℕ} (g : Going terms before requests output state out room t n at) where
+module _ {terms before requests output state out room t : List ℕ} {n at : ℕ} (g : RequestsSoFar terms before requests output state out room t n at) where
   -- A line that ends in a line feed.
   pub going-next : {state' out' room' : List ℕ} {at' e : ℕ} {a : Answer} → e ≡ place 10 t → e < length t →
       a ≡ lineAnswer terms state (asked (split 9 (take e t))) → state' ≡ lineState terms state (asked (split 9 (take e t))) → room' ≡ scratch →
       Put out out' at at' (answerLine n a) →
-      Going terms before requests output state' out' room' (take (length t - (e + 1)) (drop (e + 1) t)) (n + 1) at'
+      RequestsSoFar terms before requests output state' out' room' (take (length t - (e + 1)) (drop (e + 1) t)) (n + 1) at'
   going-next {state'} {out'} {room'} {at'} {e} {a} p h x y z w =
       let s : length (answerLine n a) ≤ 15 = rw x (line-short n _ (line-small terms state _)) in
       record {

@@ -13,7 +13,7 @@ use Rattle.file.specs.Reading.{Reading, reading}
 use Rattle.file.specs.Reading.Reading.{accepted, refused}
 use Rattle.reader.specs.Memory.{memoryOf}
 use Rattle.writer.specs.Write.{Writing}
-use Rattle.writer.specs.Write.Writing.{bytes, unwritten}
+use Rattle.writer.specs.Write.Writing.{bytes, refused as refusedWriting}
 use Rattle.transcript.specs.Transcript.{fileLine, termsName, longest, answered}
 use Rattle.transcript.specs.Served.{servedAll}
 
@@ -31,7 +31,7 @@ output terms requests =
 -- short, and then nothing is written.
 unfoldable pub transcriptGives : (terms requests out : List ℕ) → Writing
 transcriptGives terms requests out =
-    cond (ltb (length out) (length (output terms requests))) (unwritten 6 0) (bytes (length (output terms requests)))
+    cond (ltb (length out) (length (output terms requests))) (refusedWriting 6 0) (bytes (length (output terms requests)))
 
 unfoldable pub transcriptLeaves : (terms requests out : List ℕ) → List ℕ
 transcriptLeaves terms requests out =

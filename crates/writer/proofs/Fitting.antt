@@ -17,16 +17,16 @@ use Rattle.theory.proofs.Good.{every-at}
 use Rattle.memory.specs.Layout.{eventAt, termsOf}
 use Rattle.memory.specs.Checks.{goodEvent, stateTests, goodState}
 use Rattle.memory.specs.Outcome.{Outcome, checks}
-use Rattle.memory.specs.Outcome.Outcome.{passed, failed}
+use Rattle.memory.specs.Outcome.Outcome.{passed, refused}
 use Rattle.memory.proofs.Accepted.{good}
 use Rattle.memory.proofs.Outcomes.{passed-checked}
 use Rattle.fields.specs.private.Put.{Put}
 use Rattle.writer.specs.Write.{Writing, fitted, filledOut}
-use Rattle.writer.specs.Write.Writing.{bytes, unwritten}
+use Rattle.writer.specs.Write.Writing.{bytes, refused as refusedWriting}
 
 -- What the check of terms and state gave, and the text.
 module _ (o : Outcome) (text : List ℕ) where
-  pub size-unchecked : (n l : ℕ) → failed n l ≡ o → unwritten n l ≡ fitted false (length text) o
+  pub size-unchecked : (n l : ℕ) → refused n l ≡ o → refusedWriting n l ≡ fitted false (length text) o
   size-unchecked n l e = rw (← e) refl
 
   pub size-whole : passed ≡ o → (m : ℕ) → m ≡ length text → bytes m ≡ fitted false (length text) o
@@ -39,11 +39,11 @@ module _ (o : Outcome) (text : List ℕ) where
     abbrev Ends : Writing → List ℕ → Type 0
     Ends r p = (r ≡ gives) × (p ≡ filledOut text out gives)
 
-    pub ends-unchecked : (n l : ℕ) → failed n l ≡ o → Ends (unwritten n l) out
+    pub ends-unchecked : (n l : ℕ) → refused n l ≡ o → Ends (refusedWriting n l) out
     ends-unchecked n l e = rw (← e) (refl, refl)
 
     module _ (e : passed ≡ o) (m : ℕ) (n : m ≡ length text) where
-      pub ends-short : length out < m → Ends (unwritten 6 0) out
+      pub ends-short : length out < m → Ends (refusedWriting 6 0) out
       ends-short h = rw (← e, lt-ltb (length out) (length text) (omega arith)) (refl, refl)
 
       pub ends-whole : m ≤ length out → (p : List ℕ) (q : ℕ) → Put out p 0 q text → Ends (bytes m) p

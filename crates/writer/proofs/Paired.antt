@@ -15,7 +15,7 @@ use Rattle.theory.specs.Terms.{Terms, formula, pastEntry}
 use Rattle.theory.specs.Fit.{Good}
 use Rattle.theory.proofs.Past.{past-is}
 use Rattle.theory.proofs.Unfolding.{number-lt}
-use Rattle.memory.specs.Plan.{planTable, planFirst, planLast, planColumns, Planned}
+use Rattle.memory.specs.TableIndex.{indexTable, indexFirst, indexLast, indexColumns, Indexed}
 use Rattle.memory.proofs.StateTests.{number-past, number-other}
 use Rattle.file.specs.File.{hasTwo}
 
@@ -27,10 +27,10 @@ and-false : (x : Bool) → x && false ≡ false
 and-false true = refl
 and-false false = refl
 
-two-planned : (p : ℕ) → hasTwo (planColumns p) ≡ not (eqb (planFirst p) (planLast p))
-two-planned p = go (eqb (planFirst p) (planLast p))
+two-indexed : (p : ℕ) → hasTwo (indexColumns p) ≡ not (eqb (indexFirst p) (indexLast p))
+two-indexed p = go (eqb (indexFirst p) (indexLast p))
   where
-    go : (c : Bool) → hasTwo (cond c (planLast p ∷ []) (planFirst p ∷ planLast p ∷ [])) ≡ not c
+    go : (c : Bool) → hasTwo (cond c (indexLast p ∷ []) (indexFirst p ∷ indexLast p ∷ [])) ≡ not c
     go true = refl
     go false = refl
 
@@ -49,30 +49,30 @@ module _ (T : Terms) where
   pub so-other : (n pairs : ℕ) → isPast (T .entry n .op) ≡ false → PairedSo pairs n → PairedSo pairs (n + 1)
   so-other n pairs p h t = h t ∙ ap (λ k. ltb t k && two t) (sym (number-other (T .entry) n p))
 
-  module _ (plan : List ℕ) (g : Good T) (planned : Planned T plan) (n : ℕ) (here : n < T .entries) (past : isPast (T .entry n .op) ≡ true) where
+  module _ (index : List ℕ) (g : Good T) (indexed : Indexed T index) (n : ℕ) (here : n < T .entries) (past : isPast (T .entry n .op) ≡ true) where
     abbrev v : ℕ
     v = number (T .entry) n
 
     small : v < 32
     small = omega (arith, number-lt (T .entry) n (T .entries) here past, g .few-tables)
 
-    pub so-past : (p pairs r : ℕ) → p ≡ getD plan n 0 → PairedSo pairs n
-        → ((t : ℕ) → bit r t ≡ bit pairs t || (not (eqb (planFirst p) (planLast p)) && (ltb t 64 && eqb t (planTable p)))) → PairedSo r (n + 1)
+    pub so-past : (p pairs r : ℕ) → p ≡ getD index n 0 → PairedSo pairs n
+        → ((t : ℕ) → bit r t ≡ bit pairs t || (not (eqb (indexFirst p) (indexLast p)) && (ltb t 64 && eqb t (indexTable p)))) → PairedSo r (n + 1)
     so-past p pairs r e h b t = b t ∙ go (eqb t v) refl
       where
         pair : Bool
-        pair = not (eqb (planFirst p) (planLast p))
+        pair = not (eqb (indexFirst p) (indexLast p))
 
-        named : planTable p ≡ v
-        named = ap planTable e ∙ planned .table n here past .0
+        named : indexTable p ≡ v
+        named = ap indexTable e ∙ indexed .table n here past .0
 
         pair-is : hasTwo (columns (formula T n)) ≡ pair
-        pair-is = ap hasTwo (sym (planned .table n here past .1) ∙ ap planColumns (sym e)) ∙ two-planned p
+        pair-is = ap hasTwo (sym (indexed .table n here past .1) ∙ ap indexColumns (sym e)) ∙ two-indexed p
 
         more : number (T .entry) (n + 1) ≡ v + 1
         more = number-past (T .entry) n past
 
-        go : (c : Bool) → eqb t v ≡ c → bit pairs t || (pair && (ltb t 64 && eqb t (planTable p))) ≡ ltb t (number (T .entry) (n + 1)) && two t
+        go : (c : Bool) → eqb t v ≡ c → bit pairs t || (pair && (ltb t 64 && eqb t (indexTable p))) ≡ ltb t (number (T .entry) (n + 1)) && two t
         go true q =
             let z : t ≡ v = eqb-true t v q in
             ap₂ _||_ (h t ∙ ap (λ b. b && two t) (le-ltb t v (omega arith)))
@@ -92,11 +92,11 @@ module _ (T : Terms) where
             (λ l. lt-ltb t v (omega (arith, ltb-true t _ l, more, eqb-false t v q))))
 
 -- The set with one table more, or as it was.
-pub with-two : (pairs p r k : ℕ) (t : ℕ) {c : Bool} → c ≡ not (eqb (planFirst p) (planLast p)) → c ≡ true → k ≡ planTable p
+pub with-two : (pairs p r k : ℕ) (t : ℕ) {c : Bool} → c ≡ not (eqb (indexFirst p) (indexLast p)) → c ≡ true → k ≡ indexTable p
     → bit r t ≡ bit pairs t || (ltb t 64 && eqb t k)
-    → bit r t ≡ bit pairs t || (not (eqb (planFirst p) (planLast p)) && (ltb t 64 && eqb t (planTable p)))
-with-two pairs p r k t e y z b = b ∙ ap (λ x. bit pairs t || x) (ap (λ j. ltb t 64 && eqb t j) z ∙ ap (λ x. x && (ltb t 64 && eqb t (planTable p))) (sym y ∙ e))
+    → bit r t ≡ bit pairs t || (not (eqb (indexFirst p) (indexLast p)) && (ltb t 64 && eqb t (indexTable p)))
+with-two pairs p r k t e y z b = b ∙ ap (λ x. bit pairs t || x) (ap (λ j. ltb t 64 && eqb t j) z ∙ ap (λ x. x && (ltb t 64 && eqb t (indexTable p))) (sym y ∙ e))
 
-pub with-one : (pairs p : ℕ) (t : ℕ) {c : Bool} → c ≡ not (eqb (planFirst p) (planLast p)) → c ≡ false
-    → bit pairs t ≡ bit pairs t || (not (eqb (planFirst p) (planLast p)) && (ltb t 64 && eqb t (planTable p)))
-with-one pairs p t e y = sym (ap (λ x. bit pairs t || (x && (ltb t 64 && eqb t (planTable p)))) (sym e ∙ y) ∙ or-false (bit pairs t))
+pub with-one : (pairs p : ℕ) (t : ℕ) {c : Bool} → c ≡ not (eqb (indexFirst p) (indexLast p)) → c ≡ false
+    → bit pairs t ≡ bit pairs t || (not (eqb (indexFirst p) (indexLast p)) && (ltb t 64 && eqb t (indexTable p)))
+with-one pairs p t e y = sym (ap (λ x. bit pairs t || (x && (ltb t 64 && eqb t (indexTable p)))) (sym e ∙ y) ∙ or-false (bit pairs t))

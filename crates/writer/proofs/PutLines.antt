@@ -203,23 +203,23 @@ module _ (T : Terms) (j : ℕ) (c : Bool) (e : c ≡ T .kept j) where
 
 -- ---- what is put so far and what is left make the whole
 
-pub record Going (o p : List ℕ) (at m : ℕ) (whole rest : List ℕ) : Type 0 where
+pub record LinesPut (o p : List ℕ) (at m : ℕ) (whole rest : List ℕ) : Type 0 where
   pub done : List ℕ
   pub put : Put o p at m done
   pub joins : done ++ rest ≡ whole
 
-pub going-start : (o : List ℕ) (at : ℕ) (whole : List ℕ) → Going o o at at whole whole
+pub going-start : (o : List ℕ) (at : ℕ) (whole : List ℕ) → LinesPut o o at at whole whole
 going-start o at whole = record { done = []; put = put-none o at; joins = refl }
 
 pub going-more : {o p q : List ℕ} {at j k : ℕ} {whole rest bs more : List ℕ}
-    → rest ≡ bs ++ more → Going o p at j whole rest → Put p q j k bs → Going o q at k whole more
+    → rest ≡ bs ++ more → LinesPut o p at j whole rest → Put p q j k bs → LinesPut o q at k whole more
 going-more {bs = bs} {more = more} e g x = record {
   done = g .done ++ bs;
   put = put-then (g .put) x;
   joins = append-assoc (g .done) bs more ∙ ap (λ (l : List ℕ). g .done ++ l) (sym e) ∙ g .joins;
 }
 
-pub going-end : {o p : List ℕ} {at m : ℕ} {whole rest : List ℕ} → rest ≡ [] → Going o p at m whole rest → Put o p at m whole
+pub going-end : {o p : List ℕ} {at m : ℕ} {whole rest : List ℕ} → rest ≡ [] → LinesPut o p at m whole rest → Put o p at m whole
 going-end e g = subst (Put _ _ _ _) (sym (append-nil (g .done)) ∙ ap (λ (l : List ℕ). g .done ++ l) (sym e) ∙ g .joins) (g .put)
 
 -- ---- the effects of an event: n places of three words

@@ -9,31 +9,31 @@ use lib.ListN.{length}
 use lib.Dec.{ltb}
 use borrow.Author.Tests.{lt-ltb, le-ltb}
 use Rattle.memory.specs.Outcome.{Outcome, checks}
-use Rattle.memory.specs.Outcome.Outcome.{passed, failed}
+use Rattle.memory.specs.Outcome.Outcome.{passed, refused as refusedOutcome}
 use Rattle.writer.specs.Write.{Writing, fitted, writtenText, storedText, isFresh, ifFresh, sizeGives, writeGives}
 use Rattle.writer.specs.Write.{oldSizeGives, oldWriteGives, storeSizeGives, storeGives}
-use Rattle.writer.specs.Write.Writing.{bytes, unwritten}
+use Rattle.writer.specs.Write.Writing.{bytes, refused as refusedWriting}
 use Rattle.writer.proofs.Fitting.{gives}
 
 -- What passes has the size of the text.
 whole : (o : Outcome) (m n : ℕ) → fitted false m o ≡ bytes n → (o ≡ passed) × (m ≡ n)
 whole passed m n e = (refl, cc)
-whole (failed k l) m n e = let z : _≡_ {A = ℕ} 0 1 = cc in absurd (omega arith)
+whole (refusedOutcome k l) m n e = let z : _≡_ {A = ℕ} 0 1 = cc in absurd (omega arith)
 
 -- A refusal does not depend on the output.
-same-refusal : (o : Outcome) (s : Bool) (m k l : ℕ) → fitted false m o ≡ unwritten k l → fitted s m o ≡ unwritten k l
+same-refusal : (o : Outcome) (s : Bool) (m k l : ℕ) → fitted false m o ≡ refusedWriting k l → fitted s m o ≡ refusedWriting k l
 same-refusal passed s m k l e = let z : _≡_ {A = ℕ} 0 1 = cc in absurd (omega arith)
-same-refusal (failed i j) s m k l e = e
+same-refusal (refusedOutcome i j) s m k l e = e
 
 -- What the check of terms and state gave, the text and the output.
 module _ (o : Outcome) (text out : List ℕ) where
   enough : (n : ℕ) → fitted false (length text) o ≡ bytes n → n ≤ length out → gives o text out ≡ bytes n
   enough n e h = let w = whole o (length text) n e in rw (w .0, w .1, le-ltb (length out) n h) refl
 
-  short : (n : ℕ) → fitted false (length text) o ≡ bytes n → length out < n → gives o text out ≡ unwritten 6 0
+  short : (n : ℕ) → fitted false (length text) o ≡ bytes n → length out < n → gives o text out ≡ refusedWriting 6 0
   short n e h = let w = whole o (length text) n e in rw (w .0, w .1, lt-ltb (length out) n h) refl
 
-  refused : (k l : ℕ) → fitted false (length text) o ≡ unwritten k l → gives o text out ≡ unwritten k l
+  refused : (k l : ℕ) → fitted false (length text) o ≡ refusedWriting k l → gives o text out ≡ refusedWriting k l
   refused k l e = same-refusal o (ltb (length out) (length text)) (length text) k l e
 
 module _ (terms state out : List ℕ) where
@@ -41,8 +41,8 @@ module _ (terms state out : List ℕ) where
   abbrev Told : Writing → Writing → Type 0
   Told s w =
       ((n : ℕ) → s ≡ bytes n → n ≤ length out → w ≡ bytes n)
-      × ((n : ℕ) → s ≡ bytes n → length out < n → w ≡ unwritten 6 0)
-      × ((k l : ℕ) → s ≡ unwritten k l → w ≡ unwritten k l)
+      × ((n : ℕ) → s ≡ bytes n → length out < n → w ≡ refusedWriting 6 0)
+      × ((k l : ℕ) → s ≡ refusedWriting k l → w ≡ refusedWriting k l)
 
   -- Of a fresh start.
   size-told : Told (sizeGives terms state) (writeGives terms state out)
@@ -59,21 +59,21 @@ module _ (terms state out : List ℕ) where
       by (checks terms state) (isFresh terms state) (sizeGives terms state) (writeGives terms state out) size-told
     where
       by : (o : Outcome) (b : Bool) (s w : Writing) → Told s w → Told (ifFresh b o s) (ifFresh b o w)
-      by (failed k l) b s w t = t
+      by (refusedOutcome k l) b s w t = t
       by passed true s w t = t
       by passed false s w t = ((λ n e h. absurd-bytes n e), (λ n e h. absurd-bytes n e), (λ k l e. e))
         where
-          absurd-bytes : {A : Type 0} (n : ℕ) → unwritten 12 0 ≡ bytes n → A
+          absurd-bytes : {A : Type 0} (n : ℕ) → refusedWriting 12 0 ≡ bytes n → A
           absurd-bytes n e = let z : _≡_ {A = ℕ} 0 1 = cc in absurd (omega arith)
 
   pub store-size-enough : (n : ℕ) → storeSizeGives terms state ≡ bytes n → n ≤ length out → storeGives terms state out ≡ bytes n
   unfolding storeSizeGives storeGives
   store-size-enough = enough (checks terms state) (storedText terms state) out
 
-  pub store-size-short : (n : ℕ) → storeSizeGives terms state ≡ bytes n → length out < n → storeGives terms state out ≡ unwritten 6 0
+  pub store-size-short : (n : ℕ) → storeSizeGives terms state ≡ bytes n → length out < n → storeGives terms state out ≡ refusedWriting 6 0
   unfolding storeSizeGives storeGives
   store-size-short = short (checks terms state) (storedText terms state) out
 
-  pub store-size-refused : (k l : ℕ) → storeSizeGives terms state ≡ unwritten k l → storeGives terms state out ≡ unwritten k l
+  pub store-size-refused : (k l : ℕ) → storeSizeGives terms state ≡ refusedWriting k l → storeGives terms state out ≡ refusedWriting k l
   unfolding storeSizeGives storeGives
   store-size-refused = refused (checks terms state) (storedText terms state) out

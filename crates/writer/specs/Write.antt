@@ -9,7 +9,7 @@ use Rattle.sets.specs.Sets.{allBelow}
 use Rattle.theory.specs.Tables.{opening}
 use Rattle.memory.specs.Layout.{stateWords, termsOf, stateOf, wordAt}
 use Rattle.memory.specs.Outcome.{Outcome, checks}
-use Rattle.memory.specs.Outcome.Outcome.{passed, failed}
+use Rattle.memory.specs.Outcome.Outcome.{passed, refused}
 use Rattle.file.specs.Writing.{written, stored}
 use Rattle.writer.specs.declared.Written.{Written}
 use Rattle.writer.specs.declared.Written.the-variants.{Bytes, Refused}
@@ -17,11 +17,11 @@ use Rattle.writer.specs.declared.Written.the-variants.{Bytes, Refused}
 -- A writing gives its count of bytes, or it is refused with its number and line.
 pub data Writing : Type 0 where
   bytes : ℕ → Writing
-  unwritten : (number line : ℕ) → Writing
+  refused : (number line : ℕ) → Writing
 
 abbrev pub writingOf : Written → Writing
 writingOf (Bytes n) = bytes n
-writingOf (Refused n l) = unwritten n l
+writingOf (Refused n l) = refused n l
 
 -- The text of the lent terms and present relations, and of the whole state.
 unfoldable pub writtenText : (terms state : List ℕ) → List ℕ
@@ -31,13 +31,13 @@ unfoldable pub storedText : (terms state : List ℕ) → List ℕ
 storedText terms state = stored (termsOf terms) (stateOf state)
 
 abbrev pub fitted : Bool → ℕ → Outcome → Writing
-fitted short n (failed k l) = unwritten k l
-fitted short n passed = cond short (unwritten 6 0) (bytes n)
+fitted short n (refused k l) = refused k l
+fitted short n passed = cond short (refused 6 0) (bytes n)
 
 -- The output is filled from its first byte, and nothing else is touched.
 abbrev pub filledOut : (text out : List ℕ) → Writing → List ℕ
 filledOut text out (bytes n) = text ++ drop (length text) out
-filledOut text out (unwritten k l) = out
+filledOut text out (refused k l) = out
 
 -- ---- the old form
 
@@ -48,8 +48,8 @@ isFresh terms state =
 
 -- 12, after 6, 7 and 8 and before the output's length, where the state is another.
 abbrev pub ifFresh : Bool → Outcome → Writing → Writing
-ifFresh fresh (failed n l) w = w
-ifFresh fresh passed w = cond fresh w (unwritten 12 0)
+ifFresh fresh (refused n l) w = w
+ifFresh fresh passed w = cond fresh w (refused 12 0)
 
 -- What writing a fresh start gives; its size, where the output is long enough.
 unfoldable pub sizeGives : (terms state : List ℕ) → Writing

@@ -90,9 +90,9 @@ fn store_checked(terms: &[u16], state: &[u64], out: &mut [u8], pairs: u64) -> Wr
 pub fn store_size(terms: &[u16], state: &[u64]) -> Written
     ensures { λ r. ⌜ writingOf r ≡ storeSizeGives (now (terms .entry)) (now (state .entry)) ⌝ }
 {
-    let mut plan = [0u16; ENTRIES];
-    match inspect(terms, state, &mut plan) {
-        Outcome::Done => Written::Bytes(count(terms, state, pair_tables(terms, &plan))),
+    let mut index = [0u16; ENTRIES];
+    match inspect(terms, state, &mut index) {
+        Outcome::Done => Written::Bytes(count(terms, state, pair_tables(terms, &index))),
         Outcome::Refused(n, l) => Written::Refused(n, l),
     }
 }
@@ -103,9 +103,9 @@ pub fn store(terms: &[u16], state: &[u64], out: &mut [u8]) -> Written
     ensures { λ r. ⌜ writingOf r ≡ storeGives (now (terms .entry)) (now (state .entry)) (now (out .entry)) ⌝ }
     ensures { λ r. ⌜ now (out .exit) ≡ storeLeaves (now (terms .entry)) (now (state .entry)) (now (out .entry)) ⌝ }
 {
-    let mut plan = [0u16; ENTRIES];
-    match inspect(terms, state, &mut plan) {
-        Outcome::Done => store_checked(terms, state, out, pair_tables(terms, &plan)),
+    let mut index = [0u16; ENTRIES];
+    match inspect(terms, state, &mut index) {
+        Outcome::Done => store_checked(terms, state, out, pair_tables(terms, &index)),
         Outcome::Refused(n, l) => Written::Refused(n, l),
     }
 }

@@ -11,7 +11,7 @@ use Rattle.theory.specs.Moment.Event.{none, happened, tried}
 use Rattle.memory.specs.Layout.{termsWords, termsOf, wordsOf}
 use Rattle.memory.specs.Checks.{goodMemory}
 use Rattle.theory.specs.Tables.{named, Tables, State, prevStep, sinceStep, prevTables, sinceTables, made}
-use Rattle.memory.specs.Plan.{Planned}
+use Rattle.memory.specs.TableIndex.{Indexed}
 
 -- The event edge, if any, is of an event and members that there are.
 abbrev pub known : Terms → Event → Bool
@@ -25,10 +25,10 @@ pub record HasState (T : Terms) (S : State) (rest m : List ℕ) : Type 0 where
   pub event : known T (S .now .event) ≡ true
 
 -- What the memory must be for the tables to be moved: it has the words of some state.
-pub record Movable (terms plan m : List ℕ) : Type 0 where
+pub record Movable (terms index m : List ℕ) : Type 0 where
   pub long-terms : termsWords ≤ length terms
   pub good : goodMemory terms ≡ true
-  pub planned : Planned (termsOf terms) plan
+  pub indexed : Indexed (termsOf terms) index
   pub state : State
   pub rest : List ℕ
   pub has : HasState (termsOf terms) state rest m

@@ -9,19 +9,19 @@ use Rattle.theory.specs.Tables.{State, startTables}
 use Rattle.theory.specs.private.Classes.{Classed}
 use Rattle.memory.specs.Layout.{termsWords, stateWords, termsOf, stateOf}
 use Rattle.memory.specs.Checks.{goodMemory, goodState}
-use Rattle.memory.specs.Plan.{Planned}
+use Rattle.memory.specs.TableIndex.{Indexed}
 use Rattle.deciding.specs.private.Moving.{HasState, tabled}
 
--- Old terms, the state under them and new terms that have passed the checks, with the plans of both.
-pub record Revising (old before state new plan : List ℕ) : Type 0 where
+-- Old terms, the state under them and new terms that have passed the checks, with the indexes of both.
+pub record Revising (old before state new index : List ℕ) : Type 0 where
   pub long-old : termsWords ≤ length old
   pub good-old : goodMemory old ≡ true
-  pub planned-old : Planned (termsOf old) before
+  pub indexed-old : Indexed (termsOf old) before
   pub long-state : stateWords ≤ length state
   pub good-state : goodState (termsOf old) state ≡ true
   pub long-new : termsWords ≤ length new
   pub good-new : goodMemory new ≡ true
-  pub planned-new : Planned (termsOf new) plan
+  pub indexed-new : Indexed (termsOf new) index
   pub same : sameSize (termsOf old) (termsOf new) ≡ true
 
 -- The state of the new terms in which the tables of entries below n are filled in, and the others are empty.

@@ -3,7 +3,7 @@ use borrow.Author.Needs.{needs}
 use Prim.Native.Nat.{ℕ}
 use mathlib.Core.Path.{_∙_, ap}
 use lib.Dec.{eqb}
-use Rattle.memory.specs.Plan.{restOf}
+use Rattle.memory.specs.TableIndex.{restOf}
 use Rattle.effort.specs.Effort.{isOne}
 use Rattle.effort.proofs.is_one.Statement.{statement}
 use Rattle.effort.proofs.is_one.Tie as tie

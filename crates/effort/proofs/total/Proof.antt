@@ -4,13 +4,13 @@ use native.Mathlib.Omega.{arith}
 use Prim.Native.Nat.{ℕ, _+_, _-_, _≤_}
 use mathlib.Core.Path.{_≡_, refl, ap}
 use Rattle.memory.specs.Layout.{termsOf}
-use Rattle.effort.specs.Effort.{policies, after}
+use Rattle.effort.specs.Effort.{policies, countAfter}
 use Rattle.effort.proofs.CutSums.{counted, no-turn, one-turn, all-turns}
 use Rattle.effort.proofs.total.Statement.{statement}
 use Rattle.effort.proofs.total.Tie as tie
 
 abbrev Inv-loop : tie.InvT-loop
-Inv-loop terms sets limit calls₀ asked₀ n rows₀ i₀ calls asked rows i = (counted calls asked rows ≡ after (termsOf terms) sets limit i) × (i ≤ n)
+Inv-loop terms sets limit calls₀ asked₀ n rows₀ i₀ calls asked rows i = (counted calls asked rows ≡ countAfter (termsOf terms) sets limit i) × (i ≤ n)
 
 abbrev μ-loop : tie.MeasureT-loop
 μ-loop terms sets limit calls₀ asked₀ n rows₀ i₀ calls asked rows i = n - i

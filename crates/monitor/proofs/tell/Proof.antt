@@ -36,12 +36,12 @@ returns c =
 paired : (c : tie.Else1) → spec.paired (termsOf (start (c .before .before) .args .terms .now)) (start (c .before .before) .args .u) (start (c .before .before) .args .v) ≡ true
 paired c = sym (c .before .are-members .ensures) ∙ outcomes.not-false _ (c .if1 .left)
 
--- And the plan of the tables is left.
-planned : (k : tie.After-enum-told) → hasPassed (outcomeOf (inspected k .inspect-entry .result)) ≡ true
-planned k = ap hasPassed (ap outcomeOf (k .enum-told .given .1))
+-- And the index of the tables is left.
+indexed : (k : tie.After-enum-told) → hasPassed (outcomeOf (inspected k .inspect-entry .result)) ≡ true
+indexed k = ap hasPassed (ap outcomeOf (k .enum-told .given .1))
 
 slice-aggregate-is-so : tie.Need-slice-aggregate-is-so
-slice-aggregate-is-so c = let k = c .before .before .before in sym (inspected k .inspect-entry .ensures .1 .0 (planned k) .long)
+slice-aggregate-is-so c = let k = c .before .before .before in sym (inspected k .inspect-entry .ensures .1 .0 (indexed k) .long)
 
 is-so-requires : tie.Need-is-so-requires
 is-so-requires c κs =
@@ -50,7 +50,7 @@ is-so-requires c κs =
     let x = start k .args in
     let T = termsOf (x .terms .now) in
     let p = passes k .0 in (
-      (p .long-terms, p .good-terms, inspected k .inspect-entry .ensures .1 .0 (planned k)),
+      (p .long-terms, p .good-terms, inspected k .inspect-entry .ensures .1 .0 (indexed k)),
       (
         (p .long-state, p .good-state),
         (

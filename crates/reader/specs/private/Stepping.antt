@@ -1,14 +1,15 @@
 -- The counters of the reader, in place of what the lines have said: before the first line,
 -- and after each that has passed.
-use Prim.Native.Nat.{ℕ, suc, _+_, _<_}
+use Prim.Native.Nat.{ℕ, suc, _+_, _<_, _*_}
 use mathlib.Core.Path.{_≡_}
 use mathlib.Core.Bool.{Bool, true, false, cond, _&&_}
 use lib.Dec.{eqb, leb}
-use Rattle.theory.specs.Formula.{isPast}
+use Rattle.theory.specs.Formula.{isPast, operators}
 use Rattle.theory.specs.Columns.{pairWord, pairBit}
 use Rattle.file.specs.declared.line.Line.{Line}
 use Rattle.file.specs.declared.line.Line.the-variants.{Members, Labels, Entry, Policy, Effect, Edge, Form, TableBit, PairBit, EventEdge, Mark, Malformed}
 use Rattle.reader.specs.declared.step.Context.{Context}
+use Rattle.theory.specs.Limits.{maxMembers, maxRelations, maxEvents, maxEntries, maxEffects, maxTables, pairMembers}
 
 -- No line yet.
 abbrev pub begun : Context
@@ -41,17 +42,17 @@ slot c j = cond (eqb j (c .event)) (c .effects) 0
 
 -- The ranges of what it says.
 abbrev pub Ranges : Context → Line → Type 0
-Ranges c (Members n) = n < 65
-Ranges c (Labels r e) = (r < 17) × (e < 17)
-Ranges c (Entry n o a b d) = (n < 256) × (o < 12) × (a < 256) × (b < 256) × (d < 256)
-Ranges c (Policy j n) = (j < 16) × (n < 256)
-Ranges c (Effect j a k d) = (j < 16) × (slot c j < 4) × (a < 3) × (k < 16) × (d < 2)
-Ranges c (Edge k a b) = (k < 16) × (a < 64) × (b < 64)
+Ranges c (Members n) = n < 1 + maxMembers
+Ranges c (Labels r e) = (r < 1 + maxRelations) × (e < 1 + maxEvents)
+Ranges c (Entry n o a b d) = (n < maxEntries) × (o < operators) × (a < maxEntries) × (b < maxEntries) × (d < maxEntries)
+Ranges c (Policy j n) = (j < maxEvents) × (n < maxEntries)
+Ranges c (Effect j a k d) = (j < maxEvents) × (slot c j < maxEffects) × (a < 3) × (k < maxRelations) × (d < 2)
+Ranges c (Edge k a b) = (k < maxRelations) × (a < maxMembers) × (b < maxMembers)
 Ranges c (Form n) = n ≡ 2
-Ranges c (TableBit t a b) = (t < 32) × (a < 64) × (b < 64)
-Ranges c (PairBit t a b d) = (t < 32) × (a < 16) × (b < 16) × (d < 16)
-Ranges c (EventEdge j u v) = (j < 32) × (u < 64) × (v < 64)
-Ranges c (Mark j) = j < 16
+Ranges c (TableBit t a b) = (t < maxTables) × (a < maxMembers) × (b < maxMembers)
+Ranges c (PairBit t a b d) = (t < maxTables) × (a < pairMembers) × (b < pairMembers) × (d < pairMembers)
+Ranges c (EventEdge j u v) = (j < 2 * maxEvents) × (u < maxMembers) × (v < maxMembers)
+Ranges c (Mark j) = j < maxEvents
 Ranges c Malformed = ⊥
 
 -- The counters after it.

@@ -6,7 +6,7 @@ use lib.Bits.{bitOr}
 use lib.ListN.{getD, set}
 use Rattle.theory.specs.Columns.{pairWord, pairBit}
 use Rattle.memory.specs.Layout.{entryAt, policyAt, effectAt, markAt, relationAt, tableAt, eventAt, eventUnit, fromUnit, wordsOf}
-use Rattle.memory.specs.Plan.{Masked}
+use Rattle.memory.specs.TableIndex.{Masked}
 use Rattle.fields.specs.Split.{lines}
 use Rattle.file.specs.File.{File, stateSaid, nothing}
 use Rattle.file.specs.Reading.{Reading, readOn}

@@ -6,13 +6,13 @@ use mathlib.Core.List.{List, [], _∷_}
 use lib.Dec.{eqb, ltb, leb}
 use lib.ListN.{getD}
 use Rattle.sets.specs.Sets.{bit}
-use Rattle.theory.specs.Formula.{Formula, node, free, firstOperand, secondOperand, thirdOperand, isPast}
+use Rattle.theory.specs.Formula.{Formula, node, free, firstOperand, secondOperand, thirdOperand, isPast, reachOperator}
 use Rattle.theory.specs.Formula.Operand.{variable, entry}
 use Rattle.theory.specs.Columns.{pairMember, pairFirst, pairLast}
 use Rattle.theory.specs.Fit.{_⇒_}
 use Rattle.theory.specs.Limits.{maxMembers, maxRelations, maxEvents, maxEntries, maxTables, maxEffects}
 use Rattle.memory.specs.Layout.{termsOf}
-use Rattle.memory.specs.Plan.{restOf, setFits, reachSets}
+use Rattle.memory.specs.TableIndex.{restOf, setFits, reachSets}
 use Rattle.theory.specs.Terms.{pastEntry}
 use Rattle.file.specs.File.{eventNamed}
 use Rattle.file.specs.Reading.{Test, test, inRange, isLower}
@@ -174,7 +174,7 @@ FreeIn terms masks Malformed m = Unit {0}
 abbrev pub reachIn : List ℕ → Line → Bool
 reachIn masks (Members n) = true
 reachIn masks (Labels r e) = true
-reachIn masks (Entry n o a b c) = eqb o 10 ⇒ reachSets a (getD masks b 0) (getD masks c 0)
+reachIn masks (Entry n o a b c) = eqb o reachOperator ⇒ reachSets a (getD masks b 0) (getD masks c 0)
 reachIn masks (Policy j n) = true
 reachIn masks (Effect j a k d) = true
 reachIn masks (Edge k a b) = true

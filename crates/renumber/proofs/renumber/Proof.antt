@@ -8,7 +8,7 @@ use Rattle.theory.specs.NewNumbers.{renumbers}
 use Rattle.theory.specs.Fit.{Good}
 use Rattle.memory.specs.Layout.{termsOf}
 use Rattle.memory.specs.Outcome.{outcomeOf, hasPassed}
-use Rattle.memory.specs.Plan.{Planned}
+use Rattle.memory.specs.TableIndex.{Indexed}
 use Rattle.memory.proofs.Accepted.{good}
 use Rattle.memory.proofs.Outcomes.{Checked, passed-checked}
 use Rattle.calls.proofs.MembersOutcomes as given
@@ -48,15 +48,15 @@ returns-2 c =
 right : (c : tie.Else2) → renumbers (termsOf (start (c .before .before .before) .args .terms .now) .members) (start (c .before .before .before) .args .numbers .now) ≡ true
 right c = sym (told (c .before)) ∙ not-false _ (c .if2 .left)
 
-plan-is : (c : tie.After-enum-told) → Planned (termsOf (start c .args .terms .now)) (c .before .before .inspect .last .1 .1 .0)
-plan-is c = c .before .before .inspect .ensures .1 .0 (ap hasPassed (ap outcomeOf (c .enum-told .given .1)))
+index-is : (c : tie.After-enum-told) → Indexed (termsOf (start c .args .terms .now)) (c .before .before .inspect .last .1 .1 .0)
+index-is c = c .before .before .inspect .ensures .1 .0 (ap hasPassed (ap outcomeOf (c .enum-told .given .1)))
 
 rewrite-requires : tie.Need-rewrite-requires
 rewrite-requires c κs =
     let d = c .before .before in
     let k = d .before .before .before in
     let a = start k .args in (
-      (says k .good-terms, plan-is k),
+      (says k .good-terms, index-is k),
       (
         (says k .long-state, omega arith, placing.event-of-good (termsOf (a .terms .now)) (fine k) (a .state .now) (says k .good-state)),
         (
@@ -97,7 +97,7 @@ renumber-spec =
     (λ c κs. search needs)
     (λ c κs. omega (arith, c .members .ensures .0, fine (c .before) .few-members))
     returns-2
-    (λ c. sym (plan-is (c .before .before .before .before) .long))
+    (λ c. sym (index-is (c .before .before .before .before) .long))
     rewrite-requires
     returns-3
     (λ c. search needs)

@@ -89,12 +89,12 @@ work-out-below t =
     and 6 work-out-kinds.ps (falls 6 work-out-kinds.ps _<_ μ-work-out t) work-out.Pre
 
 abbrev work-out-Inv-loop : work-out-lts.InvT-loop
-work-out-Inv-loop terms plan relations past memo₀ vars x entry want out₀ op a b r all event f₀ y rest₀ memo out f rest =
+work-out-Inv-loop terms index relations past memo₀ vars x entry want out₀ op a b r all event f₀ y rest₀ memo out f rest =
     loops.Filling want (cell (termsOf terms) relations past (assigned vars) x entry) out₀ rest out × (length f ≡ 64)
     × Grown (termsOf terms) relations past entry memo₀ memo
 
 abbrev work-out-μ-loop : work-out-lts.MeasureT-loop
-work-out-μ-loop terms plan relations past memo₀ vars x entry want out₀ op a b r all event f₀ y rest₀ memo out f rest =
+work-out-μ-loop terms index relations past memo₀ vars x entry want out₀ op a b r all event f₀ y rest₀ memo out f rest =
     rest
 
 abbrev callees-decide : ℕ → decide-lts.Claims
@@ -201,7 +201,7 @@ abbrev start : (t : ℕ) → here-work-out t work-out-lts.After-mask → here-wo
 start t c = c .before .before .before .before .before .before .before .before .before .before .before .before .before
 
 site : (t : ℕ) (c : here-work-out t work-out-lts.After-mask)
-    → sites.Site (start t c .args .terms .now) (start t c .args .plan .now) (start t c .args .relations .now) (start t c .args .past .now)
+    → sites.Site (start t c .args .terms .now) (start t c .args .index .now) (start t c .args .relations .now) (start t c .args .past .now)
     (assigned (start t c .args .vars)) (start t c .args .x) (start t c .args .entry) (start t c .args .want)
     (c .before .before .before .before .before .op-of .result) (c .before .before .before .before .first-of .result) (c .before .before .before .second-of .result) (c .before .before .relations .result) (c .mask .result)
 site t c = record {
@@ -247,7 +247,7 @@ as-word : (n : ℕ) → Fits w64 n → n < 2 ^ 64
 as-word n l = omega arith
 
 -- What a variable stands for.
-member-small : {terms plan rel past : List ℕ} {g : Assignment} {x i want o a b r all : ℕ} (s : sites.Site terms plan rel past g x i want o a b r all) (m : ℕ)
+member-small : {terms index rel past : List ℕ} {g : Assignment} {x i want o a b r all : ℕ} (s : sites.Site terms index rel past g x i want o a b r all) (m : ℕ)
     → m ≡ g a → a < 16 → m < 64
 member-small {a = a} s m e l = subst (λ (y : ℕ). y < 64) (sym e) (sites.var-below s a l)
 

@@ -10,16 +10,16 @@ use lib.Dec.{eqb}
 use lib.ListN.{getD}
 use Rattle.theory.specs.Columns.{columnsFit}
 use Rattle.theory.specs.Meaning.{Assignment}
-use Rattle.memory.specs.Plan.{planTable, planFirst, planLast, planColumns}
+use Rattle.memory.specs.TableIndex.{indexTable, indexFirst, indexLast, indexColumns}
 use Rattle.memory.proofs.StateTests.{two-few}
 use Rattle.deciding.specs.private.Rows.{Recalled}
 use Rattle.decide.proofs.decide.recollect.Statement.{statement}
 use Rattle.decide.proofs.decide.recollect.Tie as tie
 
 -- A table with two columns has few members.
-few : {plan past : List ℕ} {g : Assignment} {entry want all : ℕ} (r : Recalled plan past g entry want all) (p : ℕ) → p ≡ getD plan entry 0 →
-    not (eqb (planFirst p) (planLast p)) ≡ true → r .members < 17
-few r p e two = two-few (r .members) p [] 0 two (ap (λ (k : ℕ). columnsFit (r .members) (planColumns k)) e ∙ r .fit)
+few : {index past : List ℕ} {g : Assignment} {entry want all : ℕ} (r : Recalled index past g entry want all) (p : ℕ) → p ≡ getD index entry 0 →
+    not (eqb (indexFirst p) (indexLast p)) ≡ true → r .members < 17
+few r p e two = two-few (r .members) p [] 0 two (ap (λ (k : ℕ). columnsFit (r .members) (indexColumns k)) e ∙ r .fit)
 
 recollect-pair-requires : tie.Need-recollect-pair-requires
 recollect-pair-requires c κs =
@@ -28,7 +28,7 @@ recollect-pair-requires c κs =
     let r = i .pre .0 in
     let two = sym (c .before .before .is-pair .ensures) ∙ c .before .if1 .taken in
     let n : r .members < 17 = few r (word .result) (word .ensures .0) two in (
-      (subst (λ (k : ℕ). planTable k < 32) (sym (word .ensures .0)) (r .exists), r .long, two),
+      (subst (λ (k : ℕ). indexTable k < 32) (sym (word .ensures .0)) (r .exists), r .long, two),
       (
         i .pre .1,
         (
@@ -46,7 +46,7 @@ recollect-one-requires c κs =
     let word = c .before .before .before .word in
     let i = c .before .before .before .before .before .before .before in
     let r = i .pre .0 in
-    ((subst (λ (k : ℕ). planTable k < 32) (sym (word .ensures .0)) (r .exists), r .long, sym (c .before .before .is-pair .ensures) ∙ c .before .if1 .left), i .pre .1)
+    ((subst (λ (k : ℕ). indexTable k < 32) (sym (word .ensures .0)) (r .exists), r .long, sym (c .before .before .is-pair .ensures) ∙ c .before .if1 .left), i .pre .1)
 
 returns : tie.Need-returns
 returns c = rw (c .before .before .before .before .before .before .word .ensures .0) at (c .before .before .recollect-pair .ensures)

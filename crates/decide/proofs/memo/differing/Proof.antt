@@ -18,7 +18,7 @@ use Rattle.decide.proofs.memo.differing.Statement.{statement}
 use Rattle.decide.proofs.memo.differing.Tie as tie
 
 abbrev Inv-loop : tie.InvT-loop
-Inv-loop slot vars rest₀ rest = loops.Going rest₀ rest × ((k : ℕ) → loops.Done rest₀ rest k ≡ true → valueOf slot k ≡ assigned vars k) × ((k : ℕ) → bit rest₀ k ≡ (bit (getD slot 67 0) k && ltb k 16) && not (eqb k (getD slot 68 0)))
+Inv-loop slot vars rest₀ rest = loops.MembersLeft rest₀ rest × ((k : ℕ) → loops.Done rest₀ rest k ≡ true → valueOf slot k ≡ assigned vars k) × ((k : ℕ) → bit rest₀ k ≡ (bit (getD slot 67 0) k && ltb k 16) && not (eqb k (getD slot 68 0)))
 
 abbrev μ-loop : tie.MeasureT-loop
 μ-loop slot vars rest₀ rest = rest

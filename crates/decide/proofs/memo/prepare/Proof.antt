@@ -4,7 +4,7 @@ use Prim.Native.Nat.{ℕ, _-_, _<_}
 use mathlib.Core.Path.{_≡_, refl, sym, ap, _∙_, subst}
 use lib.ListN.{length, getD}
 use Rattle.memory.specs.Layout.{termsOf}
-use Rattle.memory.specs.Plan.{planColumns}
+use Rattle.memory.specs.TableIndex.{indexColumns}
 use Rattle.memory.proofs.Accepted.{good}
 use Rattle.theory.proofs.Good.{first-variable, first-lower, second-lower, third-lower}
 use Rattle.deciding.proofs.ReadSets as sets
@@ -12,10 +12,10 @@ use Rattle.decide.proofs.memo.prepare.Statement.{statement}
 use Rattle.decide.proofs.memo.prepare.Tie as tie
 
 abbrev Inv-loop : tie.InvT-loop
-Inv-loop terms plan memo₀ n reads₀ i₀ memo reads i = sets.Preparing (termsOf terms) i reads memo × (length memo ≡ length memo₀)
+Inv-loop terms index memo₀ n reads₀ i₀ memo reads i = sets.Preparing (termsOf terms) i reads memo × (length memo ≡ length memo₀)
 
 abbrev μ-loop : tie.MeasureT-loop
-μ-loop terms plan memo₀ n reads₀ i₀ memo reads i = n - i
+μ-loop terms index memo₀ n reads₀ i₀ memo reads i = n - i
 
 slice-aggregate-set-at-3 : tie.Need-slice-aggregate-set-at-3 Inv-loop μ-loop
 slice-aggregate-set-at-3 c = sym (c .before .before .before .before .before .before .before .before .before .before .loop .inv .0 .long)
@@ -47,7 +47,7 @@ loop-again c =
       sets.preparing-more T (l .i) (c .before .before .before .before .reads-of .result) (fine .few-entries) here (l .inv .0)
           (sets.covers-entry T (l .i) (word .result) (c .before .before .before .before .before .before .before .before .before .before .before .set-at .result) (c .before .before .before .before .before .before .before .before .set-at2 .result) (c .before .before .before .before .before .set-at3 .result) (c .before .before .before .before .reads-of .result) (l .inv .0)
           (λ q. let z = first-variable e q in omega arith)
-          (λ q. ap planColumns (word .ensures .0) ∙ i .pre .1 .table (l .i) here q .1)
+          (λ q. ap indexColumns (word .ensures .0) ∙ i .pre .1 .table (l .i) here q .1)
           (first-lower e) (second-lower e) (third-lower e)
           (c .before .before .before .before .before .before .before .before .before .before .before .set-at .ensures ∙ ap (λ (k : ℕ). getD (l .reads) k 0) (c .before .before .before .before .before .before .before .before .before .before .before .before .before .before .before .first-of .ensures .0))
           (c .before .before .before .before .before .before .before .before .set-at2 .ensures ∙ ap (λ (k : ℕ). getD (l .reads) k 0) (c .before .before .before .before .before .before .before .before .before .second-of .ensures .0))

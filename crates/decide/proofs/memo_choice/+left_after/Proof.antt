@@ -7,7 +7,7 @@ use Rattle.decide.proofs.memo_choice.left_after.Reads as left-after
 use Rattle.decide.proofs.memo_choice.left_after.Kinds as left-after-kinds
 use Rattle.decide.proofs.memo_choice.+left_after.Lts-left_after as left-after-lts
 use Rattle.decide.proofs.memo_choice.cost.Reads as cost-reads
-use Rattle.memory.proofs.plan.is_past.Reads as is-past-reads
+use Rattle.memory.proofs.table_index.is_past.Reads as is-past-reads
 use Rattle.memory.proofs.layout.first_of.Reads as first-of-reads
 use Rattle.memory.proofs.layout.op_of.Reads as op-of-reads
 use Rattle.memory.proofs.layout.second_of.Reads as second-of-reads

@@ -8,7 +8,7 @@ use Rattle.decide.proofs.queries.holds_shared.Statement.{statement}
 use Rattle.decide.proofs.queries.holds_shared.Tie as tie
 
 prepare-requires : tie.Need-prepare-requires
-prepare-requires c κs = (c .before .before .before .before .before .pre .0 .good, c .before .before .before .before .before .pre .0 .planned)
+prepare-requires c κs = (c .before .before .before .before .before .pre .0 .good, c .before .before .before .before .before .pre .0 .indexed)
 
 holds-at-requires : tie.Need-holds-at-requires
 holds-at-requires c κs =

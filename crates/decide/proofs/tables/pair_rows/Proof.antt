@@ -18,12 +18,12 @@ use Rattle.decide.proofs.tables.pair_rows.Statement.{statement}
 use Rattle.decide.proofs.tables.pair_rows.Tie as tie
 
 abbrev Inv-loop : tie.InvT-loop
-Inv-loop terms plan relations past memo₀ x y operand out₀ n all f₀ b₀ memo out f b =
+Inv-loop terms index relations past memo₀ x y operand out₀ n all f₀ b₀ memo out f b =
     (b ≤ n) × pairs.Filled (termsOf terms .members) (operandBits (termsOf terms) relations past (x ∷ y ∷ []) operand) b out × (length f ≡ 64)
     × Grown (termsOf terms) relations past (operand + 1) memo₀ memo
 
 abbrev μ-loop : tie.MeasureT-loop
-μ-loop terms plan relations past memo₀ x y operand out₀ n all f₀ b₀ memo out f b = n - b
+μ-loop terms index relations past memo₀ x y operand out₀ n all f₀ b₀ memo out f b = n - b
 
 loop-holds : tie.Need-loop-holds Inv-loop μ-loop
 loop-holds c =

@@ -5,7 +5,7 @@ use mathlib.Core.Path.{refl, ap, _∙_}
 use Prim.Native.Nat.{ℕ}
 use mathlib.Core.Bool.{not}
 use lib.Dec.{eqb}
-use Rattle.memory.specs.Plan.{planFirst, planLast}
+use Rattle.memory.specs.TableIndex.{indexFirst, indexLast}
 use Rattle.deciding.proofs.Remembering as rem
 use Rattle.deciding.proofs.AtEntry as sites
 use Rattle.deciding.proofs.Requests as requests
@@ -31,7 +31,7 @@ returns c =
     let mask = c .before .before .before .before .before .before .before .before .before .before .before .before .mask in
     let word = c .before .before .before .before .before .before .before .before .before .before .before .before .before .before .before .word in
     let last-of = c .before .before .before .before .before .before .before .before .before .before .before .before .before .before .last-of in
-    let one = ap (λ (p : ℕ). not (eqb (planFirst p) (planLast p))) (word .ensures .0) ∙ i .pre .1 .1 .0 in
+    let one = ap (λ (p : ℕ). not (eqb (indexFirst p) (indexLast p))) (word .ensures .0) ∙ i .pre .1 .1 .0 in
     let clear-from = c .before .before .clear-from in (
       requests.prev-table (i .pre .0) (i .pre .1 .0 .0) (i .pre .1 .0 .1) refl (word .result) _ (mask .result) (members .result) (word .ensures .0) one (c .before .before .before .before .before .before .before .before .before .before .before .first-of .ensures .0) (sites.mask-is (i .pre .0) (mask .result) (members .result) (mask .ensures) (members .ensures .0))
           (rw (last-of .ensures) at (c .before .before .before .before .before .before .before .before .decide .ensures .0)) (clear-from .kept .0) (members .ensures .0) (clear-from .ensures),

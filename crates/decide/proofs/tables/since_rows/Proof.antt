@@ -5,7 +5,7 @@ use mathlib.Core.Path.{refl, ap, _∙_}
 use Prim.Native.Nat.{ℕ}
 use mathlib.Core.Bool.{not}
 use lib.Dec.{eqb}
-use Rattle.memory.specs.Plan.{planFirst, planLast}
+use Rattle.memory.specs.TableIndex.{indexFirst, indexLast}
 use Rattle.deciding.proofs.Remembering as rem
 use Rattle.deciding.proofs.AtEntry as sites
 use Rattle.deciding.proofs.Requests as requests
@@ -45,7 +45,7 @@ returns c =
     let word = c .before .before .before .before .before .before .before .before .before .before .before .before .before .before .before .before .before .before .before .before .before .before .before .before .before .before .before .before .before .word in
     let last-of = c .before .before .before .before .before .before .before .before .before .before .before .before .before .before .before .before .before .before .before .before .before .before .before .before .before .before .before .before .last-of in
     let table-of = c .before .before .before .before .before .before .before .table-of in
-    let one = ap (λ (p : ℕ). not (eqb (planFirst p) (planLast p))) (word .ensures .0) ∙ i .pre .1 .1 .0 in
+    let one = ap (λ (p : ℕ). not (eqb (indexFirst p) (indexLast p))) (word .ensures .0) ∙ i .pre .1 .1 .0 in
     let join-kept = c .before .before .before .before .before .before .join-kept in
     let clear-from = c .before .before .clear-from in
     let g = rem.grown-up (let l = second-lower (good (i .args .terms .now) (i .pre .0 .good) .entry (i .args .entry) (i .pre .1 .0 .0)) (rw (i .pre .1 .0 .1)) in omega (arith, l, c .before .before .before .before .before .before .before .before .before .before .before .before .before .before .before .before .before .before .before .before .before .before .before .before .second-of .ensures .0)) (i .pre .1 .1 .1) (c .before .before .before .before .before .before .before .before .before .before .before .before .before .before .before .before .before .before .before .before .before .decide .ensures .1) in (

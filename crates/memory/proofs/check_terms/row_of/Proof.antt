@@ -11,7 +11,7 @@ use borrow.Author.Tests.{le-ltb, ne-eqb}
 use Rattle.sets.specs.Sets.{bit}
 use Rattle.sets.proofs.Bits.{bit-or, bit-zero}
 use Rattle.theory.specs.Fit.{operandFits}
-use Rattle.memory.specs.Plan.{inFree, reachSets}
+use Rattle.memory.specs.TableIndex.{inFree, reachSets}
 use Rattle.memory.proofs.FreeSets.{each-operator, none-in-free}
 use Rattle.memory.proofs.check_terms.row_of.Statement.{statement}
 use Rattle.memory.proofs.check_terms.row_of.Tie as tie

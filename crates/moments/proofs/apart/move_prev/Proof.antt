@@ -14,15 +14,15 @@ use Rattle.moments.proofs.apart.move_prev.Statement.{statement}
 use Rattle.moments.proofs.apart.move_prev.Tie as tie
 
 abbrev Inv-loop : tie.InvT-loop
-Inv-loop terms plan relations own₀ memo₀ rows₀ entries n₀ own memo rows n =
+Inv-loop terms index relations own₀ memo₀ rows₀ entries n₀ own memo rows n =
     (n ≤ entries) × (length own ≡ length own₀) × (length rows ≡ 64) × moves.Downward terms (entries - n) (relations ++ own₀) (relations ++ own)
     × MemoOf (termsOf terms) (relations ++ own) (entries - n) memo × (length memo ≡ length memo₀)
 
 abbrev μ-loop : tie.MeasureT-loop
-μ-loop terms plan relations own₀ memo₀ rows₀ entries n₀ own memo rows n = entries - n
+μ-loop terms index relations own₀ memo₀ rows₀ entries n₀ own memo rows n = entries - n
 
 renew-requires : tie.Need-renew-requires Inv-loop μ-loop
-renew-requires c κs = let i = c .before .before .before .before .before .before .before .before in (i .pre .0 .good, i .pre .0 .planned)
+renew-requires c κs = let i = c .before .before .before .before .before .before .before .before in (i .pre .0 .good, i .pre .0 .indexed)
 
 loop-holds : tie.Need-loop-holds Inv-loop μ-loop
 loop-holds c =

@@ -34,8 +34,8 @@ has : (c : tie.After-clear) → let x = c .before .before .before .before .befor
 has c = let i = c .before .before .before .before .before .before in parts.cleared-apart (termsOf (i .args .terms .now)) (i .args .relations .now) (i .pre .1 .0) (i .pre .1 .2) (lent c ∙ zeros c)
 
 -- The tables can be moved on.
-ready : (c : tie.After-clear) → let x = c .before .before .before .before .before .before .args in Movable (x .terms .now) (x .plan .now) (take relationWords (x .relations .now) ++ take ownWords (putMid 0 ownWords (x .own .now) (c .clear .last .0)))
-ready c = let i = c .before .before .before .before .before .before in record { long-terms = i .pre .0 .0; good = i .pre .0 .1; planned = i .pre .0 .2; state = _; rest = []; has = has c }
+ready : (c : tie.After-clear) → let x = c .before .before .before .before .before .before .args in Movable (x .terms .now) (x .index .now) (take relationWords (x .relations .now) ++ take ownWords (putMid 0 ownWords (x .own .now) (c .clear .last .0)))
+ready c = let i = c .before .before .before .before .before .before in record { long-terms = i .pre .0 .0; good = i .pre .0 .1; indexed = i .pre .0 .2; state = _; rest = []; has = has c }
 
 move-since-requires : tie.Need-move-since-requires
 move-since-requires c κs =

@@ -19,10 +19,10 @@ use Rattle.moments.proofs.beside.is_granted.Tie as tie
 call : (c : tie.Start) → Named (termsOf (c .args .terms .now)) (c .args .event) (c .args .from) (c .args .to)
 call c = let x = c .args in all-named (termsOf (x .terms .now)) (good (x .terms .now) (c .pre .0 .1)) (x .event) (x .from) (x .to) (c .pre .1 .1)
 
-bank : (c : tie.Start) → let x = c .args in Movable (x .terms .now) (x .plan .now) (joined (x .relations .now) (x .own .now))
+bank : (c : tie.Start) → let x = c .args in Movable (x .terms .now) (x .index .now) (joined (x .relations .now) (x .own .now))
 bank c =
     let x = c .args in
-    moves.movable (x .terms .now) (x .plan .now) (joined (x .relations .now) (x .own .now)) (c .pre .0 .0) (c .pre .0 .1) (c .pre .0 .2)
+    moves.movable (x .terms .now) (x .index .now) (joined (x .relations .now) (x .own .now)) (c .pre .0 .0) (c .pre .0 .1) (c .pre .0 .2)
     (omega (arith, parts.joined-long (x .relations .now) (x .own .now) (c .pre .1 .0 .0) (c .pre .1 .0 .1))) (c .pre .1 .0 .2)
 
 settle-requires : tie.Need-settle-requires

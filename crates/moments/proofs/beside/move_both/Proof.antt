@@ -48,10 +48,10 @@ other-2 : (c : tie.After-enter) → length (c .enter .last .1 .1 .1 .0) ≡ ownW
 other-2 c = c .enter .kept .1 .1 .1 .0 ∙ other-1 (c .before .before .before .before .before .before .before .before .before .before)
 
 -- The tables of both can be moved on after the moment.
-own-movable : (c : tie.After-enter) → let x = c .before .before .before .before .before .before .before .before .before .before .before .before .before .before .before .before .before .before .before .before .before .before .before .before .before .before .before .before .before .before .before .before .before .args in Movable (x .terms .now) (x .plan .now) (c .enter .last .1 .0 ++ c .enter .last .1 .1 .0)
+own-movable : (c : tie.After-enter) → let x = c .before .before .before .before .before .before .before .before .before .before .before .before .before .before .before .before .before .before .before .before .before .before .before .before .before .before .before .before .before .before .before .before .before .args in Movable (x .terms .now) (x .index .now) (c .enter .last .1 .0 ++ c .enter .last .1 .1 .0)
 own-movable c = moves.moved (moves.moved (c .before .before .before .before .before .before .before .before .before .before .before .before .before .before .before .before .before .before .before .before .before .before .before .before .before .before .before .before .before .before .before .before .before .pre .0 .0) (c .before .before .before .before .before .before .before .before .before .before .before .before .before .before .before .before .before .before .before .before .before .move-prev .ensures)) (c .enter .ensures .0)
 
-other-movable : (c : tie.After-enter) → let x = c .before .before .before .before .before .before .before .before .before .before .before .before .before .before .before .before .before .before .before .before .before .before .before .before .before .before .before .before .before .before .before .before .before .args in Movable (x .terms .now) (x .plan .now) (c .enter .last .1 .0 ++ c .enter .last .1 .1 .1 .0)
+other-movable : (c : tie.After-enter) → let x = c .before .before .before .before .before .before .before .before .before .before .before .before .before .before .before .before .before .before .before .before .before .before .before .before .before .before .before .before .before .before .before .before .before .args in Movable (x .terms .now) (x .index .now) (c .enter .last .1 .0 ++ c .enter .last .1 .1 .1 .0)
 other-movable c = moves.moved (moves.moved (c .before .before .before .before .before .before .before .before .before .before .before .before .before .before .before .before .before .before .before .before .before .before .before .before .before .before .before .before .before .before .before .before .before .pre .0 .1) (c .before .before .before .before .before .before .before .before .before .before .move-prev2 .ensures)) (c .enter .ensures .1)
 
 move-prev-requires : tie.Need-move-prev-requires

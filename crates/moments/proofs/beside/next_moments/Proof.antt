@@ -33,8 +33,8 @@ move-on-requires c κs =
     let own = parts.joined-long (x .relations .now) (x .own .now) (l .0) (l .1) in
     let other = parts.joined-long (x .relations .now) (x .other .now) (l .0) (l .2) in (
       (
-        movable (x .terms .now) (x .plan .now) (joined (x .relations .now) (x .own .now)) (t .0) (t .1) (t .2) (omega (arith, own)) (i .pre .1 .1 .0 .0),
-        movable (x .terms .now) (x .plan .now) (joined (x .relations .now) (x .other .now)) (t .0) (t .1) (t .2) (omega (arith, other)) (i .pre .1 .1 .0 .1),
+        movable (x .terms .now) (x .index .now) (joined (x .relations .now) (x .own .now)) (t .0) (t .1) (t .2) (omega (arith, own)) (i .pre .1 .1 .0 .0),
+        movable (x .terms .now) (x .index .now) (joined (x .relations .now) (x .other .now)) (t .0) (t .1) (t .2) (omega (arith, other)) (i .pre .1 .1 .0 .1),
       ),
       (
         (

@@ -19,7 +19,7 @@ move-since-requires c κs =
       record {
         long-terms = i .pre .0 .0;
         good = i .pre .0 .1;
-        planned = i .pre .0 .2;
+        indexed = i .pre .0 .2;
         state = _;
         rest = _;
         has = cleared (termsOf (x .terms .now)) (x .state .now) (k .clear .last .0) (i .pre .1 .0) (i .pre .1 .1)
@@ -36,7 +36,7 @@ open-shared-requires c κs =
       record {
         long-terms = i .pre .0 .0;
         good = i .pre .0 .1;
-        planned = i .pre .0 .2;
+        indexed = i .pre .0 .2;
         state = _;
         rest = _;
         has = cleared (termsOf (x .terms .now)) (x .state .now) (k .clear .last .0) (i .pre .1 .0) (i .pre .1 .1)

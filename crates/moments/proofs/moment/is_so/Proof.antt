@@ -11,7 +11,7 @@ settle-requires : tie.Need-settle-requires
 settle-requires c κs =
     let i = c .before .before .before .before .before .before in
     let x = i .args in
-    let m = moves.movable (x .terms .now) (x .plan .now) (x .state .now) (i .pre .0 .0) (i .pre .0 .1) (i .pre .0 .2) (i .pre .1 .0 .0) (i .pre .1 .0 .1) in
+    let m = moves.movable (x .terms .now) (x .index .now) (x .state .now) (i .pre .0 .0) (i .pre .0 .1) (i .pre .0 .2) (i .pre .1 .0 .0) (i .pre .1 .0 .1) in
     (moves.readied m, i .pre .1 .1)
 
 returns : tie.Need-returns

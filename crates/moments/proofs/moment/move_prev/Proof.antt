@@ -13,15 +13,15 @@ use Rattle.moments.proofs.moment.move_prev.Statement.{statement}
 use Rattle.moments.proofs.moment.move_prev.Tie as tie
 
 abbrev Inv-loop : tie.InvT-loop
-Inv-loop terms plan state₀ memo₀ rows₀ entries n₀ state memo rows n =
+Inv-loop terms index state₀ memo₀ rows₀ entries n₀ state memo rows n =
     (n ≤ entries) × (length state ≡ length state₀) × (length rows ≡ 64) × moves.Downward terms (entries - n) state₀ state
     × MemoOf (termsOf terms) state (entries - n) memo × (length memo ≡ length memo₀)
 
 abbrev μ-loop : tie.MeasureT-loop
-μ-loop terms plan state₀ memo₀ rows₀ entries n₀ state memo rows n = entries - n
+μ-loop terms index state₀ memo₀ rows₀ entries n₀ state memo rows n = entries - n
 
 renew-requires : tie.Need-renew-requires Inv-loop μ-loop
-renew-requires c κs = let i = c .before .before .before .before .before .before .before in (i .pre .0 .good, i .pre .0 .planned)
+renew-requires c κs = let i = c .before .before .before .before .before .before .before in (i .pre .0 .good, i .pre .0 .indexed)
 
 loop-holds : tie.Need-loop-holds Inv-loop μ-loop
 loop-holds c =

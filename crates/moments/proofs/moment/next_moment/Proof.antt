@@ -15,7 +15,7 @@ move-on-requires : tie.Need-move-on-requires
 move-on-requires c κs =
     let i = c .before .before .before .before .before .before in
     let x = i .args in
-    let m = movable (x .terms .now) (x .plan .now) (x .state .now) (i .pre .0 .0) (i .pre .0 .1) (i .pre .0 .2) (i .pre .1 .0 .0) (i .pre .1 .0 .1) in
+    let m = movable (x .terms .now) (x .index .now) (x .state .now) (i .pre .0 .0) (i .pre .0 .1) (i .pre .0 .2) (i .pre .1 .0 .0) (i .pre .1 .0 .1) in
     ((m, length-take-le 64 (x .scratch .now) (omega (arith, i .pre .1 .1))), i .pre .1 .0 .2)
 
 returns : tie.Need-returns

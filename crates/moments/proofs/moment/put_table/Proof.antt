@@ -1,6 +1,6 @@
 -- `moment::put_table` meets its contract. Assumes nothing.
 use Prim.Native.Nat.{ℕ, _+_, _*_}
-use Rattle.memory.specs.Plan.{planTable}
+use Rattle.memory.specs.TableIndex.{indexTable}
 use Rattle.deciding.proofs.Stored.{put-back}
 use Rattle.deciding.specs.private.Moving.{put}
 use borrow.Author.Needs.{needs}
@@ -17,7 +17,7 @@ returns c =
     let w = c .before .before .before .before .before .word in
     let k : ℕ = 64 * t .result in
     put-back k (k + 64) (i .args .own .now) (s .last .0) (i .args .rows .now) (s .ensures) (omega (arith, i .pre .1))
-    ∙ ap (λ t. put (64 * t) (i .args .rows .now) (i .args .own .now)) (t .ensures ∙ ap planTable (w .ensures .0))
+    ∙ ap (λ t. put (64 * t) (i .args .rows .now) (i .args .own .now)) (t .ensures ∙ ap indexTable (w .ensures .0))
 
 pub put-table-spec : {M : Type 1} → statement M
 put-table-spec =

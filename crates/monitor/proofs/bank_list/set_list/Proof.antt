@@ -70,10 +70,10 @@ use Rattle.monitor.proofs.Locals.{Blocks, dies, env, allocs-all, frees-
 use Rattle.monitor.proofs.Listing.{next-fits, count-below, turns-within}
 use Rattle.monitor.proofs.BankListing as listing-of
 use Rattle.monitor.proofs.BankListing.{Mem, Said}
-use Rattle.monitor.proofs.bank_list.inspect as inspect
-use Rattle.monitor.proofs.bank_list.inspect.Symbol as inspect-def
-use Rattle.monitor.proofs.bank_list.inspect.Symbol.{name as #inspect}
-use Rattle.monitor.proofs.bank_list.inspect.Met as inspect-thm
+use Rattle.monitor.proofs.bank_list.inspect_bank_list as inspect
+use Rattle.monitor.proofs.bank_list.inspect_bank_list.Symbol as inspect-def
+use Rattle.monitor.proofs.bank_list.inspect_bank_list.Symbol.{name as #inspect}
+use Rattle.monitor.proofs.bank_list.inspect_bank_list.Met as inspect-thm
 use Rattle.monitor.proofs.lists.turns as limit
 use Rattle.monitor.proofs.lists.turns.Symbol as limit-def
 use Rattle.monitor.proofs.lists.turns.Symbol.{name as #limit}

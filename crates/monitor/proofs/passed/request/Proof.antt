@@ -36,7 +36,7 @@ decided c =
 look-requires : tie.Need-look-requires
 look-requires c κs =
     let p = c .before .before .before .before .before .pre in
-    ((p .long-terms, p .good-terms), (p .planned, (p .long-state, p .good-state)))
+    ((p .long-terms, p .good-terms), (p .indexed, (p .long-state, p .good-state)))
 
 next-moment-requires : tie.Need-next-moment-requires
 next-moment-requires c κs =
@@ -44,7 +44,7 @@ next-moment-requires c κs =
     let k = looked (t .before) in
     let p = start k .pre in
     let n = answers.verdict-says _ _ _ _ _ _ (said k) (decided t) .names in
-    ((p .long-terms, p .good-terms, p .planned), ((p .long-state, p .good-state, n), p .long-scratch))
+    ((p .long-terms, p .good-terms, p .indexed), ((p .long-state, p .good-state, n), p .long-scratch))
 
 returns : tie.Need-returns
 returns c =

@@ -11,7 +11,7 @@ use borrow.Rule.Slice.PartMut.{putMid, same-len-mid}
 use Rattle.theory.specs.Limits.{maxEntries}
 use Rattle.theory.specs.Tables.{State, revised}
 use Rattle.memory.specs.Layout.{stateWords, relationWords, termsOf, wordsOf}
-use Rattle.memory.specs.Plan.{Planned}
+use Rattle.memory.specs.TableIndex.{Indexed}
 use Rattle.memory.specs.Outcome.{outcomeOf, hasPassed, revises}
 use Rattle.memory.specs.Outcome.Outcome.{passed}
 use Rattle.memory.proofs.Accepted.{good}
@@ -43,17 +43,17 @@ passes : (c : tie.After-enum-told) → hasPassed (outcomeOf (inspected c .inspec
 passes c = ap hasPassed (ap outcomeOf (c .enum-told .given .1))
 
 -- The parts of the state are a bank's.
-revising : {old before after : List ℕ} {state new second : List ℕ} → Revisable old state new second → Planned (termsOf old) before → Planned (termsOf new) after →
+revising : {old before after : List ℕ} {state new second : List ℕ} → Revisable old state new second → Indexed (termsOf old) before → Indexed (termsOf new) after →
     Revising old before (relationsOf state ++ pastOf state) new after
 revising {old} {before} {after} {state} s p q = record {
   long-old = s .checked .long-terms;
   good-old = s .checked .good-terms;
-  planned-old = p;
+  indexed-old = p;
   long-state = omega (arith, parts.parts-long state (s .checked .long-state));
   good-state = parts.parts-good state (s .checked .long-state) (termsOf old) (good old (s .checked .good-terms)) (s .checked .good-state);
   long-new = s .long-new;
   good-new = s .good-new;
-  planned-new = q;
+  indexed-new = q;
   same = s .same;
 }
 

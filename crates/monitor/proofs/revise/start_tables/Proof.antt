@@ -13,15 +13,15 @@ use Rattle.monitor.proofs.revise.start_tables.Statement.{statement}
 use Rattle.monitor.proofs.revise.start_tables.Tie as tie
 
 abbrev Inv-loop : tie.InvT-loop
-Inv-loop old before relations own new plan taken second₀ memo₀ rows₀ entries f₀ n₀ second memo rows f n =
+Inv-loop old before relations own new index taken second₀ memo₀ rows₀ entries f₀ n₀ second memo rows f n =
     (n ≤ entries) × (length second ≡ length second₀) × Begun old (relations ++ own) new n [] (relations ++ second)
     × MemoOf (termsOf new) (relations ++ second) (termsOf new .entries) memo × Fresh (termsOf new .entries) n memo × (length memo ≡ length memo₀) × (length f ≡ 64) × (length rows ≡ 64)
 
 abbrev μ-loop : tie.MeasureT-loop
-μ-loop old before relations own new plan taken second₀ memo₀ rows₀ entries f₀ n₀ second memo rows f n = entries - n
+μ-loop old before relations own new index taken second₀ memo₀ rows₀ entries f₀ n₀ second memo rows f n = entries - n
 
 renew-requires : tie.Need-renew-requires Inv-loop μ-loop
-renew-requires c κs = let r = c .before .before .before .before .before .before .before .before .before .before .before .before .pre .0 .0 in (r .good-new, r .planned-new)
+renew-requires c κs = let r = c .before .before .before .before .before .before .before .before .before .before .before .before .pre .0 .0 in (r .good-new, r .indexed-new)
 
 loop-holds : tie.Need-loop-holds Inv-loop μ-loop
 loop-holds c =

@@ -9,7 +9,7 @@ use lib.ListN.{length, getD, take, drop, length-append}
 use Rattle.theory.specs.Formula.{isPast}
 use Rattle.theory.specs.Terms.{formula, firstSame}
 use Rattle.memory.specs.Layout.{relationWords, ownWords, termsOf}
-use Rattle.memory.specs.Plan.{planTable}
+use Rattle.memory.specs.TableIndex.{indexTable}
 use Rattle.deciding.specs.private.Moving.{put}
 use Rattle.deciding.specs.private.Starting.{Revising, Begun}
 use Rattle.deciding.proofs.MomentSteps as moves
@@ -19,27 +19,27 @@ use Rattle.monitor.proofs.revise.start_turn.Statement.{statement}
 use Rattle.monitor.proofs.revise.start_turn.Tie as tie
 
 -- The laws of a turn, where k is the class that was looked up.
-module _ {old before new plan : List ℕ} (relations own : List ℕ) (r : Revising old before (relations ++ own) new plan) (long : length relations ≡ relationWords)
+module _ {old before new index : List ℕ} (relations own : List ℕ) (r : Revising old before (relations ++ own) new index) (long : length relations ≡ relationWords)
     (n k : ℕ) (nl : n < termsOf new .entries) (e : k ≡ firstSame (termsOf old) (formula (termsOf new) n)) (p : isPast (termsOf new .entry n .op) ≡ true)
     (kl : k < termsOf old .entries)
   where
     lower : firstSame (termsOf old) (formula (termsOf new) n) < termsOf old .entries
     lower = subst (λ (j : ℕ). j < termsOf old .entries) e kl
 
-    fits : 64 * planTable (getD before k 0) + 64 ≤ length own
-    fits = subst (λ (j : ℕ). 64 * planTable (getD before j 0) + 64 ≤ length own) (sym e) (omega (arith, starting.old-fits r n nl p lower, length-append relations own, long))
+    fits : 64 * indexTable (getD before k 0) + 64 ≤ length own
+    fits = subst (λ (j : ℕ). 64 * indexTable (getD before j 0) + 64 ≤ length own) (sym e) (omega (arith, starting.old-fits r n nl p lower, length-append relations own, long))
 
     begins : {rest : List ℕ} (second : List ℕ) {second' : List ℕ} → Begun old (relations ++ own) new n rest (relations ++ second) →
-        second' ≡ put (64 * planTable (getD plan n 0)) (take 64 (drop (64 * planTable (getD before k 0)) own)) second →
+        second' ≡ put (64 * indexTable (getD index n 0)) (take 64 (drop (64 * indexTable (getD before k 0)) own)) second →
         Begun old (relations ++ own) new (n + 1) rest (relations ++ second')
     begins second has q =
         starting.start-taken r n nl p lower has
-        (parts.table-behind relations own long second (64 * planTable (getD before (firstSame (termsOf old) (formula (termsOf new) n)) 0)) (64 * planTable (getD plan n 0))
-        (q ∙ ap (λ (j : ℕ). put (64 * planTable (getD plan n 0)) (take 64 (drop (64 * planTable (getD before j 0)) own)) second) e))
+        (parts.table-behind relations own long second (64 * indexTable (getD before (firstSame (termsOf old) (formula (termsOf new) n)) 0)) (64 * indexTable (getD index n 0))
+        (q ∙ ap (λ (j : ℕ). put (64 * indexTable (getD index n 0)) (take 64 (drop (64 * indexTable (getD before j 0)) own)) second) e))
 
     second-fits : {rest : List ℕ} (second : List ℕ) → Begun old (relations ++ own) new n rest (relations ++ second) → length second ≡ ownWords →
-        64 * planTable (getD plan n 0) + 64 ≤ length second
-    second-fits second has size = subst (λ (m : ℕ). 64 * planTable (getD plan n 0) + 64 ≤ m) (sym size) (moves.own-fits (starting.begun-movable r n has) n nl p)
+        64 * indexTable (getD index n 0) + 64 ≤ length second
+    second-fits second has size = subst (λ (m : ℕ). 64 * indexTable (getD index n 0) + 64 ≤ m) (sym size) (moves.own-fits (starting.begun-movable r n has) n nl p)
 
 -- The function's entry, from where the class is known.
 abbrev start : tie.After-word → tie.Start

@@ -56,7 +56,7 @@ use Rattle.calls.specs.declared.Record.{Record}
 use Rattle.calls.specs.declared.Listed.{Listed}
 use Rattle.monitor.specs.declared.set_list.Inspected.{Inspected}
 use Rattle.calls.specs.SetList.{listingOf, listing, gainOf, blank}
-use Rattle.calls.specs.private.Listing.{Passed, turnsOf}
+use Rattle.calls.specs.private.Listing.{MemoryPassed, turnsOf}
 use Rattle.monitor.specs.private.Inspecting.{Seen}
 use Rattle.calls.proofs.Record as T
 use Rattle.calls.proofs.Record.Laws as T′
@@ -68,10 +68,10 @@ use Rattle.monitor.proofs.Records.{R, val, vals, tells, scaled, at-plac
 use Rattle.monitor.proofs.LentAgain.{LentAgain, takes-slice, gives-slice}
 use Rattle.monitor.proofs.Listing.{next-fits, count-below, turns-within}
 use Rattle.monitor.proofs.SetListing.{Facts, begins, asks, Said, turn, ends as ended-facts}
-use Rattle.monitor.proofs.set_list.inspect as inspect
-use Rattle.monitor.proofs.set_list.inspect.Symbol as inspect-def
-use Rattle.monitor.proofs.set_list.inspect.Symbol.{name as #inspect}
-use Rattle.monitor.proofs.set_list.inspect.Met as inspect-thm
+use Rattle.monitor.proofs.set_list.inspect_list as inspect
+use Rattle.monitor.proofs.set_list.inspect_list.Symbol as inspect-def
+use Rattle.monitor.proofs.set_list.inspect_list.Symbol.{name as #inspect}
+use Rattle.monitor.proofs.set_list.inspect_list.Met as inspect-thm
 use Rattle.monitor.proofs.set_list.turns as limit
 use Rattle.monitor.proofs.set_list.turns.Symbol as limit-def
 use Rattle.monitor.proofs.set_list.turns.Symbol.{name as #limit}
@@ -203,7 +203,7 @@ module _ {M : Type 1} (𝓤 : URA M) (H : Heap 𝓤) (A : Atoms 𝓤) (W : Given
       split ! $ move ! (1 ∷ []) $ split ! $ nothing ! $ move ! (2 ∷ 0 ∷ []) $ join ! $ move ! (1 ∷ 0 ∷ []) $ join ! $ move ! (1 ∷ 0 ∷ []) $ join ! $
       move ! (1 ∷ []) $ split ! $ move ! (1 ∷ []) $ split ! $ nothing ! $ move ! (2 ∷ 0 ∷ []) $ fjoin ! $ move ! (1 ∷ 0 ∷ []) $ fjoin ! $ move ! (1 ∷ 0 ∷ []) $ fjoin ! $ move ! (1 ∷ 0 ∷ []) $ join ! $ frame ! $ done !
 
-  -- The struct that `inspect` leaves, by value.
+  -- The struct that `inspect_list` leaves, by value.
   abbrev makes-i : (c : Inspected) (vs : List Val) → Is I.the-row c vs → ent 𝓤 (emp 𝓤) (sem 𝓤 H A (I.the-row .own c vs))
   makes-i = LL.makes I.the-type I′.the-plain 𝓤 H A
 
@@ -213,7 +213,7 @@ module _ {M : Type 1} (𝓤 : URA M) (H : Heap 𝓤) (A : Atoms 𝓤) (W : Given
   abbrev to-step : ℕ → GName → ℕ → GName → List ℕ → List ℕ → Inspected → Val → Record → Step 𝓤 H A at-mem run .Ghost
   to-step νs δs νc δc st sc c wc e = (((κt, (νs ∷ [], (νc ∷ [], tt))), (qt, (fullShare, (fullShare, tt))), tt, asked-step δs δc st sc c e, (mt ∷ [], (ms ∷ [], (mc ∷ [], (wc ∷ [], (vals e, tt)))))), tt)
 
-  goes-step : (νs : ℕ) (δs : GName) (νc : ℕ) (δc : GName) (st sc : List ℕ) (c : Inspected) (wc : Val) (e : Record) → Is I.the-row c (wc ∷ []) → Is R e (vals e) → Passed ts (c .plan) st sc
+  goes-step : (νs : ℕ) (δs : GName) (νc : ℕ) (δc : GName) (st sc : List ℕ) (c : Inspected) (wc : Val) (e : Record) → Is I.the-row c (wc ∷ []) → Is R e (vals e) → MemoryPassed ts (c .index) st sc
       → ent 𝓤 (sep 𝓤 (sep 𝓤 (A .lft κt qt) (sep 𝓤 (A .lft (νs ∷ []) fullShare) (A .lft (νc ∷ []) fullShare))) (sep 𝓤 (sem 𝓤 H A own-t) (sep 𝓤 (sem 𝓤 H A (own-s (νs ∷ []) δs st)) (sem 𝓤 H A (own-c (νc ∷ []) δc sc)))))
       (Step 𝓤 H A at-mem run .pre (to-step νs δs νc δc st sc c wc e))
   goes-step νs δs νc δc st sc c wc e isc g ready =
@@ -337,7 +337,7 @@ module _ {M : Type 1} (𝓤 : URA M) (H : Heap 𝓤) (A : Atoms 𝓤) (W : Given
         g-small : g + 1 < 2 ^ 64
         g-small = count-below g i n (F .small) l n-fits
 
-        ready : Passed ts (c .plan) st sc
+        ready : MemoryPassed ts (c .index) st sc
         ready = asks ts ys₀ st₀ sc₀ c seen i g ys st sc F l
 
         g-fits : g < 2 ^ 64

@@ -11,7 +11,7 @@ use Rattle.theory.specs.Terms.{Terms}
 use Rattle.theory.specs.Fit.{Good}
 use Rattle.theory.proofs.Unfolding.{number-lt}
 use Rattle.memory.specs.Layout.{termsOf, tableColumns}
-use Rattle.memory.specs.Plan.{planTable}
+use Rattle.memory.specs.TableIndex.{indexTable}
 use Rattle.memory.proofs.Accepted.{good}
 use Rattle.memory.proofs.StateTests.{number-past, number-other}
 use Rattle.renumber.specs.private.PairRows.{isTwo, isPairs}
@@ -20,10 +20,10 @@ use Rattle.renumber.proofs.pairs.two_columns.Statement.{statement}
 use Rattle.renumber.proofs.pairs.two_columns.Tie as tie
 
 abbrev Inv-loop : tie.InvT-loop
-Inv-loop terms plan count two₀ n₀ two n = (n ≤ count) × ((b : ℕ) → bit two b ≡ isPairs (termsOf terms) (number (termsOf terms .entry) n) b)
+Inv-loop terms index count two₀ n₀ two n = (n ≤ count) × ((b : ℕ) → bit two b ≡ isPairs (termsOf terms) (number (termsOf terms .entry) n) b)
 
 abbrev μ-loop : tie.MeasureT-loop
-μ-loop terms plan count two₀ n₀ two n = count - n
+μ-loop terms index count two₀ n₀ two n = count - n
 
 -- An entry has been looked at.
 abbrev loop : tie.After-is-pair Inv-loop μ-loop → tie.At-loop Inv-loop μ-loop
@@ -52,12 +52,12 @@ module _ (k : tie.After-is-pair Inv-loop μ-loop) (past : isPast (T k .entry (lo
   few-tables : t < 32
   few-tables = omega (arith, number-lt (T k .entry) (loop k .loop .n) (T k .entries) (here k) past, fine k .few-tables)
 
-  table-is : planTable (k .before .before .before .word .result) ≡ t
-  table-is = rows.planned-table (T k) (fine k) (start k .args .plan .now) (start k .pre .1) (loop k .loop .n) _ (here k) past (k .before .before .before .word .ensures .0)
+  table-is : indexTable (k .before .before .before .word .result) ≡ t
+  table-is = rows.indexed-table (T k) (fine k) (start k .args .index .now) (start k .pre .1) (loop k .loop .n) _ (here k) past (k .before .before .before .word .ensures .0)
 
   two-is : isTwo (tableColumns (T k) t) ≡ k .is-pair .result
   two-is =
-      rows.planned-two (T k) (fine k) (start k .args .plan .now) (start k .pre .1) (loop k .loop .n) _ (here k) past (k .before .before .before .word .ensures .0)
+      rows.indexed-two (T k) (fine k) (start k .args .index .now) (start k .pre .1) (loop k .loop .n) _ (here k) past (k .before .before .before .word .ensures .0)
       ∙ sym (k .is-pair .ensures)
 
 past-of : (k : tie.After-is-pair Inv-loop μ-loop) → (k .before .is-past .result && k .is-pair .result) ≡ true → isPast (T k .entry (loop k .loop .n) .op) ≡ true

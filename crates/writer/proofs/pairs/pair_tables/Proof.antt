@@ -12,10 +12,10 @@ use Rattle.writer.proofs.pairs.pair_tables.Statement.{statement}
 use Rattle.writer.proofs.pairs.pair_tables.Tie as tie
 
 abbrev Inv-loop : tie.InvT-loop
-Inv-loop terms plan count pairs₀ n₀ pairs n = (n ≤ count) × PairedSo (termsOf terms) pairs n
+Inv-loop terms index count pairs₀ n₀ pairs n = (n ≤ count) × PairedSo (termsOf terms) pairs n
 
 abbrev μ-loop : tie.MeasureT-loop
-μ-loop terms plan count pairs₀ n₀ pairs n = count - n
+μ-loop terms index count pairs₀ n₀ pairs n = count - n
 
 abbrev start : tie.After-is-past Inv-loop μ-loop → tie.Start Inv-loop μ-loop
 start c = c .before .before .before .before .before .before .before
@@ -32,7 +32,7 @@ loop-again c =
     let g : Good T = good _ (x .pre .1) in
     let here : l .n < T .entries = omega (arith, k .before .before .loop-test .taken, k .before .before .before .before .entries .ensures .0) in
     ⊎-elim
-    (λ w. (omega arith, so-past T (x .args .plan .now) g (x .pre .2) (l .n) here (sym (is-past-is k) ∙ w .0 .taken) _ _ _ (w .1 .ensures .0) (l .inv .1) (rw (w .3) (w .2 .ensures))))
+    (λ w. (omega arith, so-past T (x .args .index .now) g (x .pre .2) (l .n) here (sym (is-past-is k) ∙ w .0 .taken) _ _ _ (w .1 .ensures .0) (l .inv .1) (rw (w .3) (w .2 .ensures))))
     (λ w. (omega arith, rw (w .1) (so-other T (l .n) _ (sym (is-past-is k) ∙ w .0 .left) (l .inv .1))))
     (c .if1 .came)
 

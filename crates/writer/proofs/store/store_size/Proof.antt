@@ -1,4 +1,4 @@
--- `writer::store::store_size` meets its contract: terms and state are checked first, which leaves the plan.
+-- `writer::store::store_size` meets its contract: terms and state are checked first, which leaves the index.
 use mathlib.Core.Path.{_≡_, sym, ap, _∙_}
 use borrow.Author.Needs.{needs}
 use Rattle.memory.specs.Outcome.{outcomeOf, hasPassed, checks}

@@ -5,13 +5,13 @@ use native.Mathlib.Omega.{arith}
 use borrow.Author.Needs.{needs}
 use Rattle.memory.specs.Layout.{effectAt, termsOf}
 use Rattle.fields.proofs.Output.{put-long}
-use Rattle.writer.proofs.PutLines.{Going, going-start, going-more, going-end, slots, slots-none, slots-stop, slots-more}
+use Rattle.writer.proofs.PutLines.{LinesPut, going-start, going-more, going-end, slots, slots-none, slots-stop, slots-more}
 use Rattle.writer.proofs.write.put_effects_of.Statement.{statement}
 use Rattle.writer.proofs.write.put_effects_of.Tie as tie
 
 abbrev Inv-loop : tie.InvT-loop
 Inv-loop terms out₀ at j i₀ next₀ out i next =
-    (i ≤ 4) × ((next ≤ at + 32 * i) × Going out₀ out at next (slots terms j (effectAt j 0) 4) (slots terms j (effectAt j i) (4 - i)))
+    (i ≤ 4) × ((next ≤ at + 32 * i) × LinesPut out₀ out at next (slots terms j (effectAt j 0) 4) (slots terms j (effectAt j i) (4 - i)))
 
 abbrev μ-loop : tie.MeasureT-loop
 μ-loop terms out₀ at j i₀ next₀ out i next = 4 - i
