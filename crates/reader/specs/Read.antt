@@ -9,7 +9,7 @@ use Rattle.memory.specs.Outcome.{Outcome}
 use Rattle.memory.specs.Outcome.Outcome.{passed, refused as refusedOutcome}
 use Rattle.file.specs.File.{stateSaid}
 use Rattle.file.specs.Reading.{Reading, reading}
-use Rattle.file.specs.Reading.Reading.{accepted, refused}
+use Rattle.file.specs.Reading.Reading.{accepted, refused as refusedReading}
 use Rattle.reader.specs.Memory.{memoryOf}
 use Rattle.reader.specs.declared.Filled.{Filled}
 use Rattle.reader.specs.declared.Filled.the-variants.{Old, Stored, Refused}
@@ -31,7 +31,7 @@ short terms state = ltb (length terms) termsWords || ltb (length state) stateWor
 
 abbrev pub outcome : Reading → Outcome
 outcome (accepted f) = passed
-outcome (refused n l) = refusedOutcome n l
+outcome (refusedReading n l) = refusedOutcome n l
 
 unfoldable pub readGives : (text terms state : List ℕ) → Outcome
 readGives text terms state = cond (short terms state) (refusedOutcome 6 0) (outcome (reading text))
@@ -39,7 +39,7 @@ readGives text terms state = cond (short terms state) (refusedOutcome 6 0) (outc
 -- What filling gives says besides which form it is.
 abbrev pub filling : Reading → Filling
 filling (accepted f) = cond (f .stored) stored old
-filling (refused n l) = refused n l
+filling (refusedReading n l) = refused n l
 
 unfoldable pub fillGives : (text terms state : List ℕ) → Filling
 fillGives text terms state = cond (short terms state) (refused 6 0) (filling (reading text))
@@ -48,11 +48,11 @@ fillGives text terms state = cond (short terms state) (refused 6 0) (filling (re
 -- a refusal leaves all memory as lent. Further words are not touched.
 abbrev pub filledTerms : List ℕ → Reading → List ℕ
 filledTerms terms (accepted f) = memoryOf (f .terms) ++ drop termsWords terms
-filledTerms terms (refused n l) = terms
+filledTerms terms (refusedReading n l) = terms
 
 abbrev pub filledWords : List ℕ → Reading → List ℕ
 filledWords state (accepted f) = wordsOf (f .terms) (stateSaid f) ++ drop stateWords state
-filledWords state (refused n l) = state
+filledWords state (refusedReading n l) = state
 
 unfoldable pub readTerms : (text terms state : List ℕ) → List ℕ
 readTerms text terms state = cond (short terms state) terms (filledTerms terms (reading text))

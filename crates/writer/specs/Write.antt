@@ -9,7 +9,7 @@ use Rattle.sets.specs.Sets.{allBelow}
 use Rattle.theory.specs.Tables.{opening}
 use Rattle.memory.specs.Layout.{stateWords, termsOf, stateOf, wordAt}
 use Rattle.memory.specs.Outcome.{Outcome, checks}
-use Rattle.memory.specs.Outcome.Outcome.{passed, refused}
+use Rattle.memory.specs.Outcome.Outcome.{passed, refused as refusedOutcome}
 use Rattle.file.specs.Writing.{written, stored}
 use Rattle.writer.specs.declared.Written.{Written}
 use Rattle.writer.specs.declared.Written.the-variants.{Bytes, Refused}
@@ -31,7 +31,7 @@ unfoldable pub storedText : (terms state : List ℕ) → List ℕ
 storedText terms state = stored (termsOf terms) (stateOf state)
 
 abbrev pub fitted : Bool → ℕ → Outcome → Writing
-fitted short n (refused k l) = refused k l
+fitted short n (refusedOutcome k l) = refused k l
 fitted short n passed = cond short (refused 6 0) (bytes n)
 
 -- The output is filled from its first byte, and nothing else is touched.
@@ -48,7 +48,7 @@ isFresh terms state =
 
 -- 12, after 6, 7 and 8 and before the output's length, where the state is another.
 abbrev pub ifFresh : Bool → Outcome → Writing → Writing
-ifFresh fresh (refused n l) w = w
+ifFresh fresh (refusedOutcome n l) w = w
 ifFresh fresh passed w = cond fresh w (refused 12 0)
 
 -- What writing a fresh start gives; its size, where the output is long enough.
