@@ -42,7 +42,7 @@ fn said(source: &Path) -> (String, i32) {
 #[test]
 fn each_has_place_cause_and_cure() {
     let sources = sources();
-    assert_eq!(sources.len(), 142);
+    assert_eq!(sources.len(), 143);
     for source in sources {
         let name = source.file_stem().unwrap().to_string_lossy().into_owned();
         let (text, status) = said(&source);
@@ -70,7 +70,7 @@ fn quoted(text: &str) -> Vec<String> {
 fn cures_that_are_followed_compile() {
     let cured = sources().into_iter().map(|source| (source.with_extension("cured"), source));
     let cured: Vec<(PathBuf, PathBuf)> = cured.filter(|(cured, _)| cured.exists()).collect();
-    assert_eq!(cured.len(), 12);
+    assert_eq!(cured.len(), 13);
     for (cured, source) in cured {
         let (text, status) = said(&cured);
         assert_eq!(status, 0, "{}:\n{text}", cured.display());
