@@ -75,12 +75,16 @@ fn cures_that_are_followed_compile() {
         let (text, status) = said(&cured);
         assert_eq!(status, 0, "{}:\n{text}", cured.display());
         assert!(!text.contains("never true"), "{}:\n{text}", cured.display());
-        // Every line that differs has a cure that was told.
-        let told = quoted(&fs::read_to_string(source.with_extension("txt")).unwrap());
+        // Every line that differs has a cure that was told, or leaves words out. What is only
+        // warned of may be meant in more ways than are told.
+        let message = fs::read_to_string(source.with_extension("txt")).unwrap();
+        let (told, warned) = (quoted(&message), message.starts_with("accepted"));
         let [before, after] = [&source, &cured].map(|file| fs::read_to_string(file).unwrap());
         for (before, after) in before.lines().zip(after.lines()) {
             let is_told = |part: &String| after.contains(part) && !before.contains(part);
-            let same = before == after || after.starts_with('#');
+            let mut words = before.split(' ');
+            let shorter = after.split(' ').all(|word| words.any(|other| other == word));
+            let same = warned || shorter || after.starts_with('#');
             assert!(same || told.iter().any(is_told), "{}: {after}", cured.display());
         }
     }
