@@ -4,10 +4,12 @@
 //! * `clause`, `resolve`: the same with everybody named of whom something is said
 //! * `labels`, `wording`, `verbs`, `grammar`: how relations and events are said
 //! * `render`, `words`: clauses in words, in a line or as an outline
+//! * `apart`: definitions, and clauses by number
 //! * `stored`: what a stored file remembers; `told`: sentences about single members
 //! * `tables`: what the past-time entries say
 //! * `quote`: the sentences as a document quotes them
 
+mod apart;
 pub mod clause;
 mod define;
 pub mod form;
@@ -28,11 +30,11 @@ use clause::{Clause, Who};
 use form::Forms;
 use grammar::Time;
 use keeper::record::Record;
-use keeper::terms::{Effect, Terms, VARIABLES};
+use keeper::terms::{Effect, Terms};
 use labels::{Labels, Manner};
 use render::Speaker;
 pub(crate) use words::listed;
-use words::{full, letters, name, Words};
+use words::{full, letters, Words};
 
 /// Lines of text are broken before this column.
 const WIDTH: usize = 110;
@@ -129,8 +131,10 @@ pub struct Aloud {
     pub events: Vec<Spoken>,
     /// What a stored file remembers.
     pub stored: Option<Sentence>,
-    /// What is said apart: definitions, and clauses by number, counted together.
+    /// What is said apart: definitions, each once, and clauses by number.
     pub clauses: Vec<Sentence>,
+    /// The number of each of these.
+    pub numbers: Vec<usize>,
 }
 
 impl Aloud {
@@ -164,28 +168,8 @@ impl Aloud {
             events.push(Spoken { event, policy, effects, kept });
         }
         let stored = record.and_then(|record| stored::stored(record, &forms, &mut speaker, names));
-        let mut clauses = Vec::new();
-        while let Some(&entry) = speaker.apart.get(clauses.len()) {
-            if let Some(called) = names.defined(entry) {
-                let words =
-                    speaker.say(&resolve::of_defined(&forms, entry, called), Time::Now, None);
-                clauses.push(Sentence::of(&format!("{} if", define::head(called)), words));
-                continue;
-            }
-            let number = clauses.len() + 1;
-            let words = speaker.say(&resolve::of_entry(&forms, entry), Time::Now, None);
-            let given: Vec<String> = (1..VARIABLES)
-                .filter(|x| forms.free[entry] >> x & 1 == 1)
-                .map(|x| name(Who::Given(x)))
-                .collect();
-            let given = match &given[..] {
-                [] => String::new(),
-                given => format!(", given {},", listed(given)),
-            };
-            let before = format!("Clause {number} holds of a member M{given} if");
-            clauses.push(Sentence::of(&before, words));
-        }
-        Aloud { events, stored, clauses }
+        let (numbers, clauses) = apart::told(&forms, &mut speaker).into_iter().unzip();
+        Aloud { events, stored, clauses, numbers }
     }
 
     /// The text for people: a paragraph for each event.

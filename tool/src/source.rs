@@ -5,7 +5,8 @@
 //! * `passing`: events of one moment where the past seems to be meant
 //! * `twice`: what was so twice, and is forgotten straight after
 //! * `seldom`: other sentences that say something else than they seem to
-//! * `seeker`: what these three find
+//! * `disjoint`: what no member can be, by the kinds of members
+//! * `seeker`: what these four find
 //! * `resolve`, `said`: names found, definitions and derived forms unfolded
 //! * `tree`: at which member each part is said
 //! * `entries`: variables numbered, equal parts made one entry
@@ -17,6 +18,7 @@
 pub mod ast;
 pub mod compile;
 pub mod decompile;
+mod disjoint;
 mod entries;
 pub mod goal;
 pub(crate) mod kinds;

@@ -143,3 +143,39 @@ fn a_definition_speaks_of_one_member() {
         assert!(said.contains(part), "{part}\n\n{said}");
     }
 }
+
+/// `trusts` is an entry for each way in which its people are told apart.
+#[test]
+fn a_definition_is_told_once() {
+    let folder = Folder::new();
+    folder.write(
+        "terms.say",
+        "members dora, pete, saw\nrelations owns, bandmate\nevent share, withdraw by anyone\n\
+         define a trusts b: not a withdraw b since a share b\n\
+         event load when (some o owns target: o trusts me and me trusts o) and target trusts me\n\
+         event play when some bandmate of me as b: b trusts target\n\
+         event meet when me bandmate target then add target bandmate me\n\
+         first dora bandmate pete\n",
+    );
+    let said = run(&["aloud", folder.path()]).out;
+    let told = "A member M trusts A if M has at some time shared with A and has not withdrawn from A since.\n";
+    assert!(said.ends_with(&format!("\n\n{told}")), "{said}");
+    assert_eq!(said.matches(" trusts A if ").count(), 1, "{said}");
+    assert_eq!(said.matches(" if ").count(), 4, "{said}");
+    assert!(said.contains("if some bandmate of yours trusts the target."), "{said}");
+    assert!(said.contains("From then on you are a bandmate of the target."), "{said}");
+}
+
+/// Where the same name says different things, each is told.
+#[test]
+fn what_differs_is_told_each_time() {
+    let folder = Folder::new();
+    folder.write(
+        "terms.say",
+        "members dora, pete\nevent share by anyone\n\
+         define a near b: (once a share b) or (once target share a)\n\
+         event load when some x such that once me share x: x near me and target near x\n",
+    );
+    let said = run(&["aloud", folder.path()]).out;
+    assert!(said.matches("near holds of ").count() >= 3, "{said}");
+}

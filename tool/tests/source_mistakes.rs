@@ -1,6 +1,6 @@
 //! Sources with the mistakes that people make, and what is said of each: the
 //! place, the cause and the cure. `NAME.say` is the source, `NAME.txt` what
-//! `check` says of it.
+//! `check` says of it, and `NAME.cured` the source with the cures followed.
 
 mod run_support;
 
@@ -9,7 +9,7 @@ use std::fs;
 use std::path::{Path, PathBuf};
 
 /// Sources that look odd and are right.
-const RIGHT: [&str; 8] = [
+const RIGHT: [&str; 9] = [
     "16-tabs",
     "17-carriage-returns",
     "42-umlaut",
@@ -18,6 +18,7 @@ const RIGHT: [&str; 8] = [
     "72-fact-twice",
     "82-kind-plural",
     "107-kind-by-its-name",
+    "144-names-in-english",
 ];
 
 fn sources() -> Vec<PathBuf> {
@@ -41,7 +42,7 @@ fn said(source: &Path) -> (String, i32) {
 #[test]
 fn each_has_place_cause_and_cure() {
     let sources = sources();
-    assert_eq!(sources.len(), 129);
+    assert_eq!(sources.len(), 143);
     for source in sources {
         let name = source.file_stem().unwrap().to_string_lossy().into_owned();
         let (text, status) = said(&source);
@@ -56,6 +57,36 @@ fn each_has_place_cause_and_cure() {
         let encoding = name == "56-latin-1";
         assert!(placed && cured || encoding, "{name}:\n{text}");
         assert!(text.lines().all(|line| line.chars().count() < 250), "{name}:\n{text}");
+    }
+}
+
+/// The parts of a text that stand in backquotes, up to `...`.
+fn quoted(text: &str) -> Vec<String> {
+    let parts = text.split('`').skip(1).step_by(2);
+    parts.map(|part| part.split("...").next().unwrap_or("").trim().to_string()).collect()
+}
+
+#[test]
+fn cures_that_are_followed_compile() {
+    let cured = sources().into_iter().map(|source| (source.with_extension("cured"), source));
+    let cured: Vec<(PathBuf, PathBuf)> = cured.filter(|(cured, _)| cured.exists()).collect();
+    assert_eq!(cured.len(), 13);
+    for (cured, source) in cured {
+        let (text, status) = said(&cured);
+        assert_eq!(status, 0, "{}:\n{text}", cured.display());
+        assert!(!text.contains("never true"), "{}:\n{text}", cured.display());
+        // Every line that differs has a cure that was told, or leaves words out. What is only
+        // warned of may be meant in more ways than are told.
+        let message = fs::read_to_string(source.with_extension("txt")).unwrap();
+        let (told, warned) = (quoted(&message), message.starts_with("accepted"));
+        let [before, after] = [&source, &cured].map(|file| fs::read_to_string(file).unwrap());
+        for (before, after) in before.lines().zip(after.lines()) {
+            let is_told = |part: &String| after.contains(part) && !before.contains(part);
+            let mut words = before.split(' ');
+            let shorter = after.split(' ').all(|word| words.any(|other| other == word));
+            let same = warned || shorter || after.starts_with('#');
+            assert!(same || told.iter().any(is_told), "{}: {after}", cured.display());
+        }
     }
 }
 

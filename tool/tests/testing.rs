@@ -117,6 +117,21 @@ fn mistakes_have_a_place_a_cause_and_a_cure() {
         ("pete quin may load saw", "expected `may`, or `and` and another member, found `quin`", ""),
         ("pete may load", "expected a member, found the end of the line", ""),
         ("pete may load saw because", "expected the words that `why` has to say", ""),
+        (
+            "pete may not load saw since dora withdraw",
+            "a reason begins with `because`, not with `since`",
+            "write `because dora withdraw`",
+        ),
+        (
+            "pete may not load saw due to dora",
+            "a reason begins with `because`, not with `due to`",
+            "write `because dora`",
+        ),
+        (
+            "pete may not load saw as dora",
+            "a reason begins with `because`, not with `as`",
+            "write `because dora`",
+        ),
         ("pete may load saw now", "expected `because` or the end of the line, found `now`", ""),
         ("anyone may not load saw", "this can be understood in two ways", "`nobody may ...`"),
         ("given pete is suspended", "no relation or event `suspended`", "follows from them"),

@@ -2,7 +2,7 @@
 
 use super::clause::Who;
 use super::grammar::{be, do_, with, Time};
-use super::resolve::person;
+use super::resolve::{anyone, person};
 use super::verbs::verb;
 use super::words::{listed, name, Shape, Words};
 use crate::names::Called;
@@ -83,7 +83,16 @@ pub fn clause(called: &Called, of: Who, given: &[(usize, Who)], holds: bool, tim
 
 /// What stands before the clause of a definition: `A member M is suspended`.
 pub fn head(called: &Called) -> String {
-    let person = |place: usize| (name(person(called, place)), false);
+    headed(called, |place| person(called, place))
+}
+
+/// The same of whoever its people are: `A member M trusts A`.
+pub fn general_head(called: &Called) -> String {
+    headed(called, anyone)
+}
+
+fn headed(called: &Called, person: impl Fn(usize) -> Who) -> String {
+    let person = |place: usize| (name(person(place)), false);
     let people: Vec<(String, bool)> = (0..called.people.len()).map(person).collect();
     let said = said(called, &people, Time::Now, true);
     match said.strip_prefix("the target") {

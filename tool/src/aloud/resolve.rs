@@ -1,12 +1,13 @@
 //! Clauses made of entries: of whom each part is said is worked out.
 
+mod defined;
 mod joined;
 mod linked;
 
 use super::clause::{Clause, Counted, Reached, Who};
 use super::form::{Form, Forms, Node, Quantity};
 use super::told::At;
-use crate::names::Called;
+pub use defined::{anyone, of_defined, of_definition, person};
 use joined::{all, any};
 use keeper::record::meaning::Assigned;
 use keeper::terms::{Entry, VARIABLES};
@@ -36,33 +37,6 @@ pub fn of_entry(forms: &Forms, entry: usize) -> Clause {
         named = named.with(variable, Who::Given(variable));
     }
     Resolver { forms, guests: 0 }.inside(forms.node(entry, true), Who::Here, named)
-}
-
-/// What an entry that is a definition says of its people: a member M, the target, or
-/// else guests, by their places. Whoever else it speaks of is the initiator or the target.
-pub fn of_defined(forms: &Forms, entry: usize, called: &Called) -> Clause {
-    let mut named = Named([Who::You; VARIABLES]).with(0, Who::Target);
-    for (place, variable) in called.people.iter().enumerate() {
-        if let Some(variable) = variable {
-            named = named.with(*variable, person(called, place));
-        }
-    }
-    for variable in (0..VARIABLES).filter(|x| called.here >> x & 1 == 1) {
-        named = named.with(variable, Who::Here);
-    }
-    let here = if called.people.contains(&None) { Who::Here } else { Who::You };
-    let guests = called.people.len();
-    Resolver { forms, guests }.inside(Node { entry, holds: true }, here, named)
-}
-
-/// Who is said at a place of a definition.
-pub fn person(called: &Called, place: usize) -> Who {
-    match called.people[place] {
-        Some(0) => Who::Target,
-        None => Who::Here,
-        Some(_) if called.first() == Some(place) => Who::Here,
-        Some(_) => Who::Guest(place),
-    }
 }
 
 /// What an entry, or its negation, says at a member, with every variable

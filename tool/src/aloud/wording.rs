@@ -17,8 +17,8 @@ pub enum Wording {
 
 /// Nouns that say of the end of an edge what it is to the beginning.
 const ROLES: &str =
-    "acquaintance ally classmate colleague coworker cousin friend neighbor neighbour \
-    partner peer rival roommate sibling";
+    "acquaintance ally associate buddy collaborator colleague companion coworker cousin friend \
+    neighbor neighbour pal partner peer relative rival sibling twin";
 
 impl Wording {
     /// What the name of a relation or an event is taken for.
@@ -31,8 +31,13 @@ impl Wording {
         match of {
             _ if kind == Kind::Event => Wording::Name(name.to_string()),
             Some(noun) if !noun.is_empty() => Wording::Of(noun.to_string()),
-            _ if ROLES.split(' ').any(|role| role == single) => Wording::Role(single.to_string()),
+            _ if is_role(single) => Wording::Role(single.to_string()),
             _ => Wording::Name(name.to_string()),
         }
     }
+}
+
+/// Whether a noun says what one of two is to the other: `friend`, `bandmate`.
+fn is_role(noun: &str) -> bool {
+    ROLES.split(' ').any(|role| role == noun) || noun.len() > 4 && noun.ends_with("mate")
 }

@@ -24,6 +24,8 @@ const LOOKS: usize = 20_000;
 const IN_FOR_OUT: &str =
     "is `in` written where `out` is meant, or `out` for `in`? `cuckooormolu aloud` reads it aloud, \
      and `cuckooormolu can` seeks requests that lead there";
+/// What ends the warning that an event is never granted.
+const ENDED: &str = "a line in requests.say or tests.say that is granted ends this warning";
 /// The same in a source.
 const TURNED: &str =
     "is a sentence the wrong way round, `a owns b` for `b owns a`? `cuckooormolu aloud` reads it aloud, \
@@ -72,25 +74,26 @@ pub fn one_sided(both: &Both, subject: &Subject, folder: &Folder) -> Result<Vec<
             let what = format!(
                 "nobody was ever granted {name} {looks}; {no_proof} can its policy be met?"
             );
-            ("never", what, [IN_FOR_OUT, TURNED])
+            ("never", what, [IN_FOR_OUT.to_string(), format!("{TURNED}; {ENDED}")])
         } else if asked.denied + seen.denied + tested[event].denied == 0 {
             let what = format!("nobody was ever denied {name} {looks}; {no_proof} does its policy ask for anything?");
             (
                 "always",
                 what,
-                ["`top` says that everybody may", "`by anyone` says that everybody may"],
+                ["`top` says that everybody may", "`by anyone` says that everybody may"]
+                    .map(str::to_string),
             )
         } else if asked.granted == 0 && asked.denied > 1 {
             let times = asked.denied;
             let file = folder::name(&folder.asked);
             let what = format!("{file} asks {times} times for {name} and is denied each time");
-            ("denied", what, [IN_FOR_OUT, LACKING])
+            ("denied", what, [IN_FOR_OUT, LACKING].map(str::to_string))
         } else {
             continue;
         };
         let told = |right: &str| (what.clone(), right.to_string());
         let about = About::Policy(event);
-        warnings.push(subject.warn(kind, about, || told(right[0]), || told(right[1])));
+        warnings.push(subject.warn(kind, about, || told(&right[0]), || told(&right[1])));
     }
     Ok(warnings)
 }

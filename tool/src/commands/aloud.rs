@@ -66,9 +66,8 @@ pub fn main(arguments: &[String], out: &mut dyn Write) -> Result<i32, Stop> {
     if let Some(stored) = &aloud.stored {
         writeln!(out, "{}", Json::Object(vec![("stored", stored.text().into())]))?;
     }
-    for (index, clause) in aloud.clauses.iter().enumerate() {
-        let line =
-            Json::Object(vec![("clause", (index + 1).into()), ("text", clause.text().into())]);
+    for (number, clause) in aloud.numbers.iter().zip(&aloud.clauses) {
+        let line = Json::Object(vec![("clause", (*number).into()), ("text", clause.text().into())]);
         writeln!(out, "{line}")?;
     }
     Ok(WELL)

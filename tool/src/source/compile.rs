@@ -4,6 +4,7 @@ mod declared;
 mod notes;
 
 use super::ast::{Event, Name, Source, Span};
+use super::disjoint::disjoint;
 use super::entries::{Entries, Origin};
 use super::kinds;
 use super::mistake::Mistake;
@@ -60,6 +61,7 @@ pub fn compile(text: &str) -> Result<Compiled, Vec<Mistake>> {
     warnings.extend(passing(&source, text));
     warnings.extend(twice(&source, text));
     warnings.extend(seldom(&source, text));
+    warnings.extend(disjoint(&source, text));
     warnings.extend(source.events.iter().filter_map(unlike));
     mistakes.extend(notes.without(&doubtful));
     if !mistakes.is_empty() {

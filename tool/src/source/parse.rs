@@ -1,12 +1,18 @@
 //! Reads a source text: the statements. Formulas are read in `parse/formula.rs`.
 
 mod cursor;
+mod declaring;
 mod effect;
 mod english;
 mod formula;
 mod habits;
 mod joined;
+mod phrase;
+mod plainly;
+mod policy;
+mod predicate;
 mod read;
+mod repeated;
 mod sentence;
 mod stray;
 mod unfinished;
@@ -40,6 +46,10 @@ struct Parser {
     events: HashSet<String>,
     /// The names of definitions.
     defined: HashSet<String>,
+    /// The kinds of members.
+    kinds: Vec<String>,
+    /// The names of members.
+    members: HashSet<String>,
     /// How many formulas the present one stands in.
     depth: usize,
     /// How many formulas stand in one another in the one read last.
@@ -58,7 +68,11 @@ impl Parser {
             }
             "relation" | "relations" => {
                 self.next += 1;
-                source.relations.extend(self.names("the name of a relation")?);
+                let names = self.names("the name of a relation")?;
+                if let Some(mistake) = self.relation_of_members(&names) {
+                    return Err(mistake);
+                }
+                source.relations.extend(names);
                 self.list_ends()?;
             }
             "event" | "events" => {
@@ -162,7 +176,7 @@ impl Parser {
     /// `define name: f`, `define name(a, b): f`, `define a is name: f` or
     /// `define a name b: f`.
     fn definition(&mut self) -> Result<Definition, Mistake> {
-        if let Some(mistake) = self.own_words() {
+        if let Some(mistake) = self.own_words().or_else(|| self.head_in_english()) {
             return Err(mistake);
         }
         let first = self.name("the name of the definition, or of somebody in it")?;
@@ -180,8 +194,7 @@ impl Parser {
             (first, Vec::new())
         };
         if !self.take_sign(':') {
-            let mistake = self.expected("`:` before what is defined", &[]);
-            return Err(mistake.advise("like this: `define p is trusted: someone friend p`"));
+            return Err(self.no_meaning(&name, &parameters));
         }
         let body = self.formula()?;
         self.statement_ends(&[])?;
@@ -197,6 +210,9 @@ impl Parser {
                 if self.take("of") { self.name("the name of a member")? } else { from.clone() };
             facts.push(Fact { from: other, relation, to: from });
             return Ok(());
+        }
+        if let Some(mistake) = self.fact_goes_on(&from, facts) {
+            return Err(mistake);
         }
         if self.is_sign(',') || self.is_word("and") {
             return Err(self.fact_of_several(&from));

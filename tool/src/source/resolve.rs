@@ -1,6 +1,7 @@
 //! Finds what every name stands for and unfolds definitions and derived forms.
 
 mod call;
+mod english;
 mod find;
 mod walk;
 
@@ -190,7 +191,10 @@ impl<'a> Resolver<'a> {
                     let who = self.person(one, scope)?;
                     return Ok(said(Form::Edge(Some(who), label, Some(who))));
                 }
-                return Err(self.unknown_person(&name, scope, true));
+                return Err(match self.event_done(text) {
+                    Some(event) => self.done_to(one, &name, event),
+                    None => self.unknown_person(&name, scope, true),
+                });
             }
         }
         Ok(said(Form::Is(self.person(one, scope)?, self.person(other, scope)?)))

@@ -127,6 +127,9 @@ impl<'a> Reader<'a> {
             because = Some(words.join(" "));
             self.next = self.words.len();
         }
+        if let Some(mistake) = cures::of_reason(&self.words[self.next..]) {
+            return Err(mistake);
+        }
         self.ends("`because` or the end of the line")?;
         let members = self.known.terms.members;
         let whom = whom.of(members);

@@ -140,6 +140,9 @@ fn find(names: &Names, kind: Kind, name: &Name) -> Result<usize, Mistake> {
             (known, Kind::Member) if known.len() > 12 => {
                 format!("declare it, `members {}`, or correct the name", name.text)
             }
+            (known, Kind::Relation) if hint.is_empty() => {
+                format!("relations: {}; or declare it: `relation {}`", known.join(", "), name.text)
+            }
             (known, _) => format!("{kind}s: {}", known.join(", ")),
         })
     })

@@ -39,6 +39,9 @@ impl Parser {
     }
 
     fn effect(&mut self, event: &str) -> Result<Effect, Mistake> {
+        if let Some(mistake) = self.effect_in_english(event) {
+            return Err(mistake);
+        }
         let add = self.take("add");
         if !add && !self.take("remove") {
             let mistake = self.expected("`add` or `remove`", &["add", "remove"]);
@@ -65,6 +68,75 @@ impl Parser {
             return Err(self.alone(add, &from, &relation, event));
         }
         Ok(Effect { add, from, relation, to })
+    }
+
+    /// `add friend me target`, `me friend target`, `add target to my friends`, `target may load`.
+    fn effect_in_english(&self, event: &str) -> Option<Mistake> {
+        let ends = |place: &usize| {
+            let next = (self.next + place).min(self.begins.len() - 1);
+            *place > 0 && self.begins[next] || !matches!(self.ahead(*place), Token::Word(_))
+        };
+        let length = (0..12).find(ends)?;
+        let words: Vec<&str> = (0..length).filter_map(|place| self.word_ahead(place)).collect();
+        let adds = ["add", "remove"].contains(words.first()?);
+        let span = self.span().to(self.span_ahead(length.checked_sub(1)?));
+        if let [who @ ("me" | "target"), "may" | "can", other, ..] = words[usize::from(adds)..] {
+            let message = "an effect changes relations; it does not say who may do what";
+            let once = match who {
+                "me" => format!("once me {event} someone"),
+                _ => format!("once someone {event} me"),
+            };
+            let advice = format!("say it where `{other}` is declared: `event {other} when {once}`");
+            return Some(Mistake::new(span, message).advise(advice));
+        }
+        let change = if words[0] == "remove" { "remove" } else { "add" };
+        let said = self.changed(&words[usize::from(adds)..])?;
+        let written = words.join(" ");
+        let told = format!("{change} {said}");
+        let message = format!("`{written}` is no effect");
+        let people = words.iter().any(|word| ["me", "target", "my"].contains(word));
+        let advice = match (people, said.split(' ').nth(1)) {
+            (false, Some(name)) => {
+                format!("say between whom: `{told}`, or `{change} target {name} me`")
+            }
+            _ => format!("write `{told}`"),
+        };
+        (written != told).then(|| Mistake::new(span, message).advise(advice))
+    }
+
+    /// The edge that the words of an effect speak of, as it is written here.
+    fn changed(&self, words: &[&str]) -> Option<String> {
+        let role = |word: &str| self.role(word);
+        Some(match *words {
+            [who @ ("me" | "target"), "is", noun, "of", whose] => {
+                format!("{who} is {noun} of {whose}")
+            }
+            [who @ ("me" | "target"), "as" | "is", "a" | "an" | "the", noun, "of", whose]
+            | [who @ ("me" | "target"), "as", noun, "of", whose] => {
+                format!("{who} is {} of {whose}", role(noun)?)
+            }
+            [who @ ("me" | "target"), "to" | "from", "my" | "me", noun] if who != "me" => {
+                format!("me {} {who}", role(noun)?)
+            }
+            [who @ ("me" | "target"), "to" | "from", "target" | "its", noun] if who != "target" => {
+                format!("target {} {who}", role(noun)?)
+            }
+            [who @ ("me" | "target"), label, whom @ ("me" | "target")] if who != whom => {
+                let (label, _) = self.label_of(label)?;
+                let relation = Some(label).filter(|label| !self.events.contains(label))?;
+                format!("{who} {relation} {whom}")
+            }
+            [label, who @ ("me" | "target"), whom @ ("me" | "target")] if who != whom => {
+                format!("{who} {} {whom}", role(label)?)
+            }
+            [who @ ("me" | "target"), whom @ ("me" | "target"), label] if who != whom => {
+                format!("{who} {} {whom}", role(label)?)
+            }
+            ["me", "to" | "from", noun] => format!("target {} me", role(noun)?),
+            ["target", "to" | "from", noun] => format!("me {} target", role(noun)?),
+            [label] | ["a" | "the", label] => format!("me {} target", role(label)?),
+            _ => return None,
+        })
     }
 
     /// What is said of an effect on one alone: `add target is suspended`.

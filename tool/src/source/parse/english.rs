@@ -33,6 +33,10 @@ impl Parser {
             return Some(mistake.advise(format!("leave out `{word}`: `{whom}` stands alone")));
         }
         let noun = self.word_ahead(0).filter(|_| self.name_ahead(0))?;
+        if self.in_sight(noun) {
+            let mistake = Mistake::new(self.last(), format!("`{word}` has no meaning here"));
+            return Some(mistake.advise(format!("leave out `{word}`: `{noun}` stands alone")));
+        }
         let being = match (self.word_before(4), self.word_before(3), self.word_before(2)) {
             (_, Some(who), Some("is")) => Some(format!("{who} is")),
             (Some(who), Some("is"), Some("not")) => Some(format!("{who} is not")),
@@ -83,6 +87,9 @@ impl Parser {
                 format!("write `{meant}`; `some` asks for one, `every` for all of them")
             }
             (None, Some(place)) => format!("write `at least {} {}`", place + 1, counted()),
+            (None, None) if word == "no" && self.word_ahead(1) == Some("one") => {
+                "write `nobody`".to_string()
+            }
             (None, None) if word == "no" => format!("write `not some {}`", counted()),
             _ => return None,
         };
@@ -129,6 +136,7 @@ impl Parser {
         english
             .or_else(|| self.contraction())
             .or_else(|| self.both_are())
+            .or_else(|| self.belonging(self.last_word().unwrap_or("target")))
             .or_else(|| self.past_inside())
     }
 
@@ -139,6 +147,10 @@ impl Parser {
             let message = format!("`{word}` has no meaning here");
             return Some(Mistake::new(self.span(), message).advise(advice));
         }
+        if let Some(told) = self.denial().or_else(|| self.done()) {
+            let message = format!("`{word}` has no meaning here");
+            return Some(Mistake::new(self.span(), message).advise(format!("write `{told}`")));
+        }
         let named = self.name_ahead(1) || self.word_ahead(1) == Some("not");
         (AUXILIARIES.contains(&word) && named).then(|| {
             let message = format!("`{word}` has no meaning here");
@@ -147,6 +159,25 @@ impl Parser {
                           \"at some time\", `not` for the contrary";
             Mistake::new(self.span(), message).advise(advice)
         })
+    }
+
+    /// `me was denied load`, in the order of this language.
+    fn denial(&self) -> Option<String> {
+        let subject = self.last_word().filter(|_| self.word_ahead(1) == Some("denied"))?;
+        let event = self.word_ahead(2).filter(|event| self.events.contains(*event))?;
+        let whom = self.word_ahead(3).filter(|_| !self.ends_at(3)).unwrap_or("target");
+        let known = ["me", "target", "here", "someone"].contains(&whom) || self.in_sight(whom);
+        let asked = AUXILIARIES.contains(&self.word_ahead(0)?) && known;
+        asked.then(|| format!("once {subject} denied {event} {whom}"))
+    }
+
+    /// `owner has shared with me`, in words of this language.
+    fn done(&self) -> Option<String> {
+        let subject =
+            self.last_word().filter(|who| ["me", "target"].contains(who) || self.in_sight(who))?;
+        let has = matches!(self.word_ahead(0), Some("has" | "have" | "had" | "did" | "does"));
+        let (told, end) = self.predicate(subject, 0).filter(|_| has)?;
+        self.ends_at(end).then_some(told)
     }
 
     /// `me has at least 2 friends`, where they are counted along a relation.

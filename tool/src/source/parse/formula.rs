@@ -125,6 +125,9 @@ impl Parser {
         if self.take("false") {
             return Ok(Kind::False);
         }
+        if let Some(mistake) = self.in_english() {
+            return Err(mistake);
+        }
         if let Some(quantifier) = self.quantifier()? {
             return self.walk_to(quantifier);
         }
@@ -132,7 +135,7 @@ impl Parser {
         if special {
             return self.told();
         }
-        if let Some(mistake) = self.beginning() {
+        if let Some(mistake) = self.beginning().or_else(|| self.label_first()) {
             return Err(mistake);
         }
         if !self.name_ahead(0) {

@@ -52,6 +52,9 @@ impl Parser {
                 "a relation is its name only, between any two members: `relation {name}`"
             ));
         }
+        if let Some(advice) = self.request() {
+            return mistake.advise(advice);
+        }
         match (self.statement_elsewhere(), &mistake.advice) {
             (Some(advice), _) => mistake.advise(advice),
             (None, Some(_)) => mistake,
@@ -111,7 +114,12 @@ impl Parser {
         let who = self.word_ahead(1).filter(|_| self.is_word("by"))?;
         let is_done = |name: &&String| verb(name).is_some_and(|verb| verb.participle == done);
         let label = self.declared.iter().filter(is_done).min()?;
-        Some(format!("say who does it first: `{who} {label} {whom}`"))
+        let sought = self.phrase(1, "some");
+        let (seek, who) = match &sought {
+            Some(sought) => (sought.seek.as_str(), sought.who.as_str()),
+            None => ("", who),
+        };
+        Some(format!("say who does it first: `{seek}{who} {label} {whom}`"))
     }
 
     /// What to say of a word after a formula that English has there.

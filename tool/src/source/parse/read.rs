@@ -37,7 +37,9 @@ pub fn read(text: &str) -> Read {
     let events = declared(&tokens, &STATEMENTS[4..6]);
     let (declared, defined) = (declared(&tokens, &STATEMENTS[2..6]), defined(&tokens));
     let begins = tokens.iter().map(|(_, span)| first(span)).collect();
-    let mut parser = Parser { tokens, begins, declared, events, defined, ..Parser::default() };
+    let (kinds, members) = members(&tokens);
+    let mut parser =
+        Parser { tokens, begins, declared, events, defined, kinds, members, ..Parser::default() };
     let mut read = Read::default();
     while *parser.token() != Token::End {
         let (first, start) = (parser.next, parser.span());
@@ -110,6 +112,23 @@ fn declared(tokens: &[(Token, Span)], statements: &[&str]) -> HashSet<String> {
         }
     }
     declared
+}
+
+/// The kinds of members, which are the words before a `:` after `members`, and the members.
+fn members(tokens: &[(Token, Span)]) -> (Vec<String>, HashSet<String>) {
+    let (mut kinds, mut members) = (Vec::new(), HashSet::new());
+    let mut within = false;
+    for pair in tokens.windows(2) {
+        let Token::Word(word) = &pair[0].0 else { continue };
+        if WORDS.contains(&word.as_str()) {
+            within = STATEMENTS[..2].contains(&word.as_str());
+        } else if within && pair[1].0 == Token::Sign(':') {
+            kinds.push(word.clone());
+        } else if within {
+            members.insert(word.clone());
+        }
+    }
+    (kinds, members)
 }
 
 /// The names of definitions.

@@ -37,6 +37,9 @@ impl Parser {
         if self.is_word("such") && !denied {
             return self.step(quantifier, first);
         }
+        if let Some(mistake) = self.agent_of(&first) {
+            return Err(mistake);
+        }
         if self.take("of") {
             let person = self.person("whose")?;
             let name = if self.take("as") { Some(self.name("a name")?) } else { None };
@@ -51,6 +54,20 @@ impl Parser {
         };
         let person = self.person("`of`, a relation or an event, or somebody")?;
         self.walk(quantifier, person, label, false, name)
+    }
+
+    /// `some owner of target`, where the relation is `owns`.
+    fn agent_of(&self, noun: &Name) -> Option<Mistake> {
+        let whose = self.word_ahead(1).filter(|_| self.is_word("of"))?;
+        if self.declared.contains(&noun.text) {
+            return None;
+        }
+        let (relation, quantity) = (self.agent(&noun.text)?, self.word_before(2).unwrap_or("some"));
+        let called = self.word_ahead(3).filter(|_| self.word_ahead(2) == Some("as"));
+        let called = called.unwrap_or(&noun.text);
+        let message = format!("no relation or event `{}`", noun.text);
+        let advice = format!("write `{quantity} {called} {relation} {whose}`");
+        Some(Mistake::new(noun.span, message).advise(advice))
     }
 
     /// `some x such that f: g`, from `such` on.
@@ -103,6 +120,12 @@ impl Parser {
         let nobody = self.is_word("nobody");
         let subject = self.anybody("somebody")?;
         let word = self.last_word().unwrap_or("target").to_string();
+        if matches!(self.english(), Some("is" | "are" | "am" | "in" | "among")) {
+            let english = self.state_in_english(&word).filter(|_| subject.is_some());
+            if let Some(mistake) = english.or_else(|| self.in_group(&word)) {
+                return Err(mistake);
+            }
+        }
         if let Some(subject) = subject.clone().filter(|_| self.is_word("is")) {
             self.next += 1;
             return match self.no_such(&word) {
@@ -133,6 +156,10 @@ impl Parser {
             }
             (None, subject) => {
                 let negative = self.is_word("nobody");
+                let english = self.object_in_english(&word, &label.text);
+                if let Some(mistake) = english.or_else(|| self.how_often(&word, &label.text)) {
+                    return Err(mistake);
+                }
                 if let Some(mistake) = self.no_object(&word, &label).filter(|_| subject.is_some()) {
                     return Err(mistake);
                 }

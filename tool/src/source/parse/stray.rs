@@ -3,7 +3,6 @@
 use super::english::NUMBERS;
 use super::*;
 use crate::names::nearest;
-use crate::source::kinds::singular;
 
 impl Parser {
     /// Whether a statement begins here, or the source ends.
@@ -40,32 +39,6 @@ impl Parser {
         }
     }
 
-    /// What is said of an event without a policy, at the end of its names.
-    pub(super) fn no_policy(&self) -> Mistake {
-        let what = "`when` and who may do it, or `by anyone`";
-        let mistake = self.expected(what, &["when", "by"]);
-        match self.word_ahead(0) {
-            Some("if" | "where" | "while" | "only") => mistake.advise("write `when`"),
-            Some("allow" | "allowed" | "permit" | "permitted" | "requires" | "needs") => {
-                mistake.advise("write `when` and what has to hold")
-            }
-            None if self.is_sign(':') => mistake.advise("delete the `:`"),
-            Some("unless") => mistake.advise("write `when not`"),
-            Some("after") => mistake.advise("write `when once`"),
-            Some("before") => mistake.advise("write `when never`"),
-            Some("for") => mistake.advise(self.by_whom()),
-            _ if self.at_statement() => {
-                let advice = "say who may do it: `by anyone`, or `when` and a condition";
-                Mistake { span: self.last(), ..mistake }.advise(advice)
-            }
-            _ if self.name_ahead(0) && mistake.advice.is_none() => mistake.advise(
-                "put a `,` between two names, and `when` or `by anyone` after the last; a \
-                    name of two words is joined by `-`: warm-pad",
-            ),
-            _ => mistake,
-        }
-    }
-
     /// What is said of a line that begins as no statement does.
     fn no_statement(&self) -> Option<Mistake> {
         let word = self.word_ahead(0).filter(|_| self.begins[self.next] && self.name_ahead(0))?;
@@ -75,6 +48,7 @@ impl Parser {
             (Token::Sign(':'), _) => {
                 Some(mistake.advise(format!("a kind of members is declared so: `members {word}: ...`")))
             }
+            _ if self.request().is_some() => self.request().map(|advice| mistake.advise(advice)),
             (Token::Word(verb), Token::Word(whom)) if declared(verb) => {
                 let what = "what is there from the start begins with `first`";
                 Some(mistake.advise(format!("{what}: `first {word} {verb} {whom}`")))
@@ -89,6 +63,28 @@ impl Parser {
         }
     }
 
+    /// `share dora pete` or `dora share pete` in a line of its own.
+    pub(super) fn request(&self) -> Option<String> {
+        let [one, two, three] = [0, 1, 2].map(|place| self.word_ahead(place));
+        let is_event = |word: &&str| self.events.contains(*word);
+        let first = one.filter(is_event).filter(|_| two.is_some() && three.is_some());
+        let event = first.or_else(|| two.filter(is_event).filter(|_| three.is_some()))?;
+        let people = [one, two, three].into_iter().flatten().filter(|word| *word != event);
+        let people: Vec<&str> = people.collect();
+        if people.iter().any(|word| ["me", "target"].contains(word)) {
+            return Some(format!(
+                "who may do it is said where it is declared, `event {event} when ...`; to speak of it, write \
+                 `once {}` after a `when`",
+                match people[..] {
+                    [who, whom] => format!("{who} {event} {whom}"),
+                    _ => format!("me {event} target"),
+                }
+            ));
+        }
+        let (one, two, three) = (one?, two?, three?);
+        Some(format!("a request goes into requests.say, or after `given` in tests.say: `{one} {two} {three}`"))
+    }
+
     /// What is said of a token that can't follow a formula.
     pub(super) fn stray(&self, also: &[&str]) -> Mistake {
         let before = self.article_before().or_else(|| self.adverb_before());
@@ -96,6 +92,12 @@ impl Parser {
             return mistake;
         }
         if let Some(mistake) = self.joining() {
+            return mistake;
+        }
+        // A name that stands alone is who the sentence is about.
+        let alone = self.word_before(2).is_none_or(|word| WORDS.contains(&word));
+        let verb = self.word_ahead(1).is_some_and(|word| self.declared.contains(word));
+        if let Some(mistake) = self.past_inside().filter(|_| alone && verb) {
             return mistake;
         }
         let is_sign = matches!(self.token(), Token::Sign(sign) if *sign != ',');
@@ -118,9 +120,14 @@ impl Parser {
             return Mistake::new(self.span(), message).advise(advice);
         }
         let words = ["and", "or", "since"].into_iter().chain(also.iter().copied());
-        let known: Vec<&str> = words.chain(STATEMENTS).collect();
+        let again = ["once", "never", "always", "previously", "not", "some", "every"];
+        let known: Vec<&str> = match self.word_ahead(0).is_some_and(|word| again.contains(&word)) {
+            true => Vec::new(),
+            false => words.chain(STATEMENTS).collect(),
+        };
         let mistake = self.expected("`and`, `or`, `since` or the next statement", &known);
-        if let Some(advice) = self.passive().or_else(|| self.habit().map(str::to_string)) {
+        let english = self.passive().or_else(|| self.habit().map(str::to_string));
+        if let Some(advice) = english.or_else(|| self.repeated()) {
             return mistake.advise(advice);
         }
         if let Some(sought) = self.sought().filter(|_| self.is_sign(':')) {
@@ -138,35 +145,13 @@ impl Parser {
             (_, Some("twice")) => {
                 "say that it was so, and once before: `once (me load target and previously once me load target)`"
             }
+            (Token::Sign(','), _) => "write `and` or `or` in the place of the `,`",
             (_, Some("if")) => "a condition begins with `when`, and its parts are joined with `and` \
                 and `or`",
             _ if mistake.advice.is_some() => return mistake,
             _ => "a sentence is of three words, `me owns target`; join two sentences with `and` or `or`",
         };
         mistake.advise(advice)
-    }
-
-    /// `by anyone and me owns target`, at the `and`.
-    pub(super) fn anyone_joined(&self) -> Option<Mistake> {
-        let word = self.word_ahead(0).filter(|word| ["and", "or", "since"].contains(word))?;
-        let message = format!("`{word}` after `by anyone`, which has no condition");
-        let advice =
-            "write `when` and the condition in the place of `by anyone`: `when me owns target`";
-        Some(Mistake::new(self.span(), message).advise(advice))
-    }
-
-    /// How to say who may do it, for the word that follows `by` or `for`.
-    pub(super) fn by_whom(&self) -> String {
-        let place = usize::from(self.is_word("for"));
-        if matches!(self.word_ahead(place), Some("nobody" | "none" | "noone")) {
-            return "`when false` allows it to nobody".to_string();
-        }
-        if matches!(self.word_ahead(place), Some("anybody" | "everybody" | "everyone" | "all")) {
-            return "write `by anyone`".to_string();
-        }
-        let whom = self.word_ahead(place).filter(|_| self.name_ahead(place)).map(singular);
-        let whom = whom.unwrap_or_else(|| "player".to_string());
-        format!("`by anyone`, or `when` and a condition, such as `when me is {whom}`")
     }
 
     /// The word some places before the next token.

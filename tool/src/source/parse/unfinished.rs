@@ -55,8 +55,42 @@ impl Parser {
             }
             Some(word) => format!("a sentence is missing after `{word}`: `{word} me owns target`"),
             None if self.is_sign(')') => return None,
-            None => "say what has to hold, such as `me owns target`".to_string(),
+            None => return Some(self.nothing_of_them()),
         })
+    }
+
+    /// What to say after the `:` of `some owner owns target:`, or of a definition.
+    fn nothing_of_them(&self) -> String {
+        let [one, two, three, four] = [5, 4, 3, 2].map(|places| self.word_before(places));
+        let label = |word: &str| self.declared.contains(word);
+        let holds = |who: &str| match self.events.contains("share") {
+            true => format!("{who} share me"),
+            false => format!("{who} is not me"),
+        };
+        match (one, two, three, four) {
+            (_, _, Some("as"), Some(who)) => format!("say what holds of them, such as `: {}`", holds(who)),
+            (Some("some" | "every"), Some(who), Some(verb), Some(_)) if label(verb) => format!(
+                "say what holds of them, such as `: {}`; if anybody will do, delete the `:`",
+                holds(who)
+            ),
+            (Some("some"), Some(noun), Some("of"), Some(_)) | (_, Some("some"), Some(noun), Some(_))
+                if label(noun) =>
+            {
+                format!(
+                    "say what holds of them, such as `as x: {}`; if anybody will do, delete the `:`",
+                    holds("x")
+                )
+            }
+            (Some("some"), Some(noun), Some("of"), Some(whose)) => match self.agent(noun) {
+                Some(relation) => format!(
+                    "say what holds of them, such as `some {noun} {relation} {whose}: {}`; if anybody will do, write \
+                     `someone {relation} {whose}`",
+                    holds(noun)
+                ),
+                None => "say what has to hold, such as `me owns target`".to_string(),
+            },
+            _ => "say what has to hold, such as `me owns target`".to_string(),
+        }
     }
 
     /// What is said where a sentence says who and what, and then not whom.
@@ -70,6 +104,18 @@ impl Parser {
         let label = &label.text;
         let whom = if subject == "target" { "me" } else { "target" };
         let say = format!("say whom, `{subject} {label} {whom}`");
+        if let Some((event, true)) = self.label_of(label) {
+            let whom = if subject == "me" { "target" } else { "me" };
+            let known = self.defined.contains(label) || self.is_attribute(label);
+            let attribute = match known {
+                true => format!("did you mean `{subject} is {label}`?"),
+                false => format!(
+                    "say whom, `once {subject} {event} {whom}`; if it was done to them, `once someone {event} \
+                     {subject}`"
+                ),
+            };
+            return Some(mistake.advise(attribute));
+        }
         Some(mistake.advise(match self.declared.contains(label) || label.contains(' ') {
             false => {
                 format!("did you mean `{subject} is {label}`? A sentence says who, what and whom")
@@ -120,6 +166,12 @@ impl Parser {
             places += 2;
         }
         let facts = match (self.word_ahead(places), self.word_ahead(places + 1)) {
+            (Some("are"), Some(noun)) if self.role(noun).is_some() && names.len() == 2 => {
+                let relation = self.role(noun).unwrap_or_default();
+                let advice =
+                    format!("write `first {} {relation} {} both ways`", names[0], names[1]);
+                return mistake.advise(advice);
+            }
             (Some(relation), Some(to)) if self.declared.contains(relation) => {
                 let fact = |name: &String| format!("{name} {relation} {to}");
                 names.iter().map(fact).collect::<Vec<_>>().join(", ")

@@ -36,6 +36,10 @@ impl Resolver<'_> {
             let message = format!("nobody is called `{text}` here");
             return Mistake::new(name.span, message).advise("who makes the request is `me`");
         }
+        if let Some(advice) = self.pronoun(text) {
+            let message = format!("nobody is called `{text}` here");
+            return Mistake::new(name.span, message).advise(advice);
+        }
         let mut known: Vec<&str> = scope.iter().map(|(name, _)| name.as_str()).collect();
         known.extend(["me", "target", "here"]);
         let mut all = known.clone();
@@ -124,6 +128,13 @@ impl Resolver<'_> {
                     false => format!("say who and whom: `me {text} target`"),
                 };
                 return Mistake::new(name.span, message).advise(advice);
+            }
+            if let Some(event) = self.event_done(text) {
+                let message = format!("`{text}` does not say who and whom");
+                let advice = format!(
+                    "`{event}` is an event; write `once someone {event} me`, or who did it to whom"
+                );
+                return Mistake::unknown(name, message).advise(advice);
             }
             let known = self.source.definitions.iter().map(|known| known.name.text.as_str());
             let hint = did_you_mean(text, known);

@@ -39,6 +39,22 @@ pub fn of_first(words: &[Word]) -> Option<Mistake> {
     asks.then(|| Mistake::new(first.span, message).advise(advice))
 }
 
+/// What is wrong with `pete may not load saw since dora`, from the `since` on.
+pub fn of_reason(rest: &[Word]) -> Option<Mistake> {
+    let first = rest.first().filter(|word| !word.quoted)?;
+    let two = rest.get(1).map_or("", |word| word.text);
+    let (last, reason) = match (first.text, two) {
+        ("due", "to") | ("thanks", "to") => (&rest[1], &rest[2..]),
+        ("since" | "as" | "for" | "cause" | "cos" | "why" | "reason", _) => (first, &rest[1..]),
+        _ => return None,
+    };
+    let reason: Vec<&str> = reason.iter().map(|word| word.text).collect();
+    let words = if last.text == first.text { String::new() } else { format!(" {}", last.text) };
+    let message = format!("a reason begins with `because`, not with `{}{words}`", first.text);
+    let advice = format!("write `{}`", format!("because {}", reason.join(" ")).trim_end());
+    Some(Mistake::new(first.span.to(last.span), message).advise(advice))
+}
+
 /// What is wrong with a statement that says `can` or `cannot` for `may`.
 pub fn of_question(words: &[Word]) -> Option<Mistake> {
     let (word, instead) = words.iter().find_map(|word| {
