@@ -12,7 +12,7 @@ use std::path::Path;
 use std::process::ExitCode;
 
 const USAGE: &str = "give one folder, or store and a folder, or revise and two folders, \
-    or renumber, a folder and numbers parted by commas, or cases and a file";
+    or renumber, a folder and numbers separated by commas, or cases and a file";
 
 fn main() -> ExitCode {
     let mut arguments = std::env::args_os().skip(1);
@@ -49,7 +49,7 @@ fn main() -> ExitCode {
     }
 }
 
-/// Numbers parted by commas.
+/// Numbers separated by commas.
 fn numbers(list: &OsStr) -> Option<Vec<u8>> {
     list.to_str()?.split(',').map(|number| number.parse().ok()).collect()
 }

@@ -4,7 +4,7 @@ use crate::both::{Both, Verdict};
 use crate::stop::Stop;
 use crate::words::Words;
 
-/// So many columns are parted by blanks; more stand close together.
+/// So many columns are separated by blanks; more stand close together.
 const WIDE: usize = 26;
 /// The longest header, in letters.
 const HEADER: usize = 12;

@@ -73,7 +73,7 @@ impl<'a> Words<'a> {
         let Terms { events, members, .. } = *self.terms;
         match (request, number) {
             (Request::Malformed, _) => {
-                "a request is `R`, event, from and to, parted by tabs, with a line feed at its end"
+                "a request is `R`, event, from and to, separated by tabs, with a line feed at its end"
                     .to_string()
             }
             (Request::Ask { event, .. }, 9) if event >= events => {

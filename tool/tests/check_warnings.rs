@@ -5,7 +5,7 @@ use cuckooormolu_tool::folder::Folder;
 use cuckooormolu_tool::names::Names;
 use keeper::generate::case;
 
-/// The warnings for lines whose fields are parted by spaces.
+/// The warnings for lines whose fields are separated by spaces.
 fn warnings(lines: &str, names: &str, requests: &str) -> Vec<Warning> {
     let bytes = |text: &str| text.replace(' ', "\t").into_bytes();
     let names = Names::read(&names.replace(' ', "\t")).unwrap();

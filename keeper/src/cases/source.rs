@@ -1,6 +1,6 @@
 //! Reads the file of cases that the program and the keeper share.
 //!
-//! A line is a case: its kind, its label and its arguments, parted by tabs.
+//! A line is a case: its kind, its label and its arguments, separated by tabs.
 //! In a text a space stands for a tab, a slash for a line feed, and five other
 //! bytes for some that are hard to show. A line `head` gives the text that the
 //! cases after it begin with. Empty lines and those after `#` are passed over.

@@ -44,7 +44,7 @@ pub fn number(field: &[u8]) -> Option<usize> {
     form.then(|| field.iter().fold(0, |sum, digit| sum * 10 + usize::from(digit - b'0')))
 }
 
-/// The fields of a line, parted by tabs.
+/// The fields of a line, separated by tabs.
 pub fn fields(line: &[u8]) -> Vec<&[u8]> {
     line.split(|&byte| byte == b'\t').collect()
 }

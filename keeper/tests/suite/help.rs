@@ -45,7 +45,7 @@ pub fn tabs(text: &str) -> Vec<u8> {
     text.replace(' ', "\t").into_bytes()
 }
 
-/// A text whose lines are parted by slashes, for short texts.
+/// A text whose lines are separated by slashes, for short texts.
 pub fn slashes(text: &str) -> Vec<u8> {
     tabs(&format!("{}\n", text.replace('/', "\n")))
 }

@@ -27,7 +27,7 @@ impl Field<'_> {
     }
 }
 
-/// The fields of a line, parted by tabs.
+/// The fields of a line, separated by tabs.
 pub fn fields(line: &[u8]) -> Vec<Field<'_>> {
     let mut start = 0;
     let split = line.split(|&byte| byte == b'\t');
@@ -69,7 +69,7 @@ pub fn form(line: &[u8], first: bool) -> Option<Fault> {
     }
     let spaced = |bytes: &[u8]| bytes.split(|&byte| byte == b' ').filter(|f| !f.is_empty()).count();
     if !line.contains(&b'\t') && spaced(line) > 1 {
-        let what = format!("{} fields parted by spaces", spaced(line));
+        let what = format!("{} fields separated by spaces", spaced(line));
         return Some(Fault::new(FORM, whole, what).right("use tabs: one between two fields"));
     }
     let space = line.iter().position(|&byte| byte == b' ')?;

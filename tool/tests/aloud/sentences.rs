@@ -19,7 +19,7 @@ fn names(relations: [&str; 2]) -> Names {
     names
 }
 
-/// What a formula says: its entries are parted by commas, the last is the
+/// What a formula says: its entries are separated by commas, the last is the
 /// policy of `share`. Labels: 0 own, 1 blacklist, 2 share, 3 withdraw, 4 join.
 fn said(formula: &str) -> String {
     said_with(["own", "blacklist"], formula)

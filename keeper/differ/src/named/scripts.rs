@@ -1,7 +1,7 @@
 //! Cases of steps, each with what it gives.
 //!
 //! A step is a bank, `ask` or `look` with event, from and to, and after a colon
-//! the answer; or a bank, `list` with requests parted by commas, and the answers;
+//! the answer; or a bank, `list` with requests separated by commas, and the answers;
 //! or `revise` with `new` or `larger`, and `done` or a refusal.
 
 use super::{accepted, LARGER, NEW};

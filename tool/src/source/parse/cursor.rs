@@ -153,7 +153,7 @@ impl Parser {
         Ok(Name { text: format!("denied {}", event.text), span: span.to(event.span) })
     }
 
-    /// Reads names parted by commas.
+    /// Reads names separated by commas.
     pub(super) fn names(&mut self, what: &str) -> Result<Vec<Name>, Mistake> {
         let mut names = vec![self.name(what)?];
         while self.take_sign(',') {

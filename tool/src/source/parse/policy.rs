@@ -31,7 +31,7 @@ impl Parser {
                         "the name of an event is one word: `event {name} when target is {kind} and ...`"
                     ),
                     None => format!(
-                        "the name of an event is one word, `event {name}-{more}`; two events are parted by a `,`: \
+                        "the name of an event is one word, `event {name}-{more}`; two events are separated by a `,`: \
                          `event {name}, {more}`"
                     ),
                 };
