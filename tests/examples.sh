@@ -10,7 +10,7 @@ here=$(cd "$(dirname "$0")" && pwd)
 # shellcheck source=tests/hold.sh
 . "$here/hold.sh"
 
-# rows README: the first two columns of the table, parted by a tab.
+# rows README: the first two columns of the table, separated by a tab.
 rows() {
     awk -F ' *[|] *' '
         /^## / { inside = $0 == "## Change one thing"; next }

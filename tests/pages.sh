@@ -10,7 +10,7 @@ docs=$here/../docs
 preset=$here/../examples/preset
 
 # column PAGE TITLE K: what stands between backquotes in column K of the tables under a title, a line for each row; more
-# than one are parted by `;`. A space stands for a tab.
+# than one are separated by `;`. A space stands for a tab.
 column() {
     awk -F ' *[|] *' -v title="## $2" -v k="$3" '
         /^## / { inside = $0 == title; next }
