@@ -23,8 +23,9 @@
  *           writing a terms file may take as long as a request; reading a
  *           stored text and storing do not decide anything. cuckooormolu_effort
  *           says how much work a request by given terms may take. A host that
- *           accepts terms of strangers refuses those above a bound of its own,
- *           before they are opened: cuckooormolu_monitor_read_within does so.
+ *           takes untrusted terms refuses those above a bound of its own, before
+ *           they are opened: cuckooormolu_monitor_read_terms_within does so. It
+ *           does not bound the stack, so such a host needs all of it.
  * Texts     are of two forms. The old form is a terms file, which has terms and
  *           relations and is read as a fresh start. The stored form begins with
  *           a line S 2 and has a whole state, from which it goes on.
@@ -74,14 +75,29 @@ extern "C" {
 #define CUCKOOORMOLU_USED
 #endif
 
-/* Unused sections are left out of a program, but not this one. */
+/* Unused sections are left out of a program, but not this one. A memory that is
+ * shorter than the count beside it says is a mistake, which gcc finds where it
+ * knows both: the places of pointer and count follow. */
 #if defined(__has_attribute)
 #if __has_attribute(retain)
 #define CUCKOOORMOLU_RETAINED __attribute__((retain))
 #endif
+#if __has_attribute(access)
+#define CUCKOOORMOLU_READS(memory, count) \
+    __attribute__((access(read_only, memory, count)))
+#define CUCKOOORMOLU_WRITES(memory, count) \
+    __attribute__((access(write_only, memory, count)))
+#define CUCKOOORMOLU_CHANGES(memory, count) \
+    __attribute__((access(read_write, memory, count)))
+#endif
 #endif
 #ifndef CUCKOOORMOLU_RETAINED
 #define CUCKOOORMOLU_RETAINED
+#endif
+#ifndef CUCKOOORMOLU_READS
+#define CUCKOOORMOLU_READS(memory, count)
+#define CUCKOOORMOLU_WRITES(memory, count)
+#define CUCKOOORMOLU_CHANGES(memory, count)
 #endif
 
 #define CUCKOOORMOLU_VERSION_MAJOR 0
@@ -115,12 +131,12 @@ extern "C" {
 
 /*
  * The codes of calls. No code is 0, and a refusal's is below 100; granted and
- * denied differ in five bits. Refusals leave all memory as lent, but that the
- * records of a set list have no answers then, nor a monitor that was to be read
- * within a bound any terms. Where several fit, reading gives 6, then the first
- * faulty line and in it the lowest number, and 11 only where no line is faulty;
- * the other calls give 6 (terms, state, scratch), 7, 8, 9, 12, 13 or 15, and last
- * 6 for the output; a plan and a telling give 14 after 8 and before 9.
+ * denied differ in five bits. Refusals leave all memory unchanged, with two
+ * exceptions: a refused set list clears its answers, and a failed read_within
+ * leaves the monitor without terms. Where several fit, reading gives 6, then the
+ * first faulty line and in it the lowest number, and 11 only where no line is
+ * faulty; the other calls give 6 (terms, state, scratch), 7, 8, 9, 12, 13 or 15,
+ * and last 6 for the output; a plan and a telling give 14 after 8 and before 9.
  */
 typedef enum cuckooormolu_code {
     /* The form of a line, its place, or a text that ends too soon. A length that
@@ -139,7 +155,8 @@ typedef enum cuckooormolu_code {
     /* A memory shorter than named, a null one too, or an output too short for
      * the text, or memory that overlaps other memory which the call may write. */
     CUCKOOORMOLU_REFUSED_SHORT = 6,
-    /* Terms memory that no accepted text yields. */
+    /* Terms memory that no accepted text yields: zeroed, never read into, or
+     * damaged. */
     CUCKOOORMOLU_REFUSED_TERMS = 7,
     /* A state that breaks the layout. */
     CUCKOOORMOLU_REFUSED_STATE = 8,
@@ -151,7 +168,7 @@ typedef enum cuckooormolu_code {
     /* A stored text with a partly filled word in a table without a free
      * variable. */
     CUCKOOORMOLU_REFUSED_TABLE = 11,
-    /* The old form is to be written of a state that is no fresh start. */
+    /* The old form is to be written of a state with a history. */
     CUCKOOORMOLU_REFUSED_FRESH = 12,
     /* New terms with another number of members, relations or events. */
     CUCKOOORMOLU_REFUSED_SIZE = 13,
@@ -247,6 +264,38 @@ struct cuckooormolu_move {
     uint64_t event;
     uint64_t to;
 };
+
+/* The three numbers of a request, each of a type of its own, so that no two can
+ * be confused. */
+struct cuckooormolu_event_number {
+    size_t cuckooormolu_private;
+};
+
+struct cuckooormolu_from_number {
+    size_t cuckooormolu_private;
+};
+
+struct cuckooormolu_to_number {
+    size_t cuckooormolu_private;
+};
+
+static inline struct cuckooormolu_event_number cuckooormolu_event(size_t event)
+{
+    struct cuckooormolu_event_number number = {event};
+    return number;
+}
+
+static inline struct cuckooormolu_from_number cuckooormolu_from(size_t member)
+{
+    struct cuckooormolu_from_number number = {member};
+    return number;
+}
+
+static inline struct cuckooormolu_to_number cuckooormolu_to(size_t member)
+{
+    struct cuckooormolu_to_number number = {member};
+    return number;
+}
 
 /* The number that a set list writes as the answer of a record. It is no code of
  * a call. */
@@ -421,7 +470,8 @@ static inline const char *cuckooormolu_words(struct cuckooormolu_result result)
     case CUCKOOORMOLU_REFUSED_FORM:
         return "unknown kind or word, line out of its order, wrong count of "
                "fields, ill-formed number, no last line feed, or the text "
-               "ends too soon; `cuckooormolu check FILE` says which";
+               "ends too soon; `cuckooormolu check FILE` says which; or a "
+               "stored text where a terms file only is taken, as by two banks";
     case CUCKOOORMOLU_REFUSED_RANGE:
         return "number out of its range, non-zero unused field, more than 32 "
                "past-time entries, more than 4 effects, or a label or entry "
@@ -434,12 +484,16 @@ static inline const char *cuckooormolu_words(struct cuckooormolu_result result)
     case CUCKOOORMOLU_REFUSED_POLICY:
         return "policy with a free variable other than 0";
     case CUCKOOORMOLU_REFUSED_SHORT:
-        return "memory shorter than its named words, or output too short, or "
-               "memory that overlaps other memory, or a null pointer";
+        return "memory shorter than its named words, or output too short for "
+               "the text, whose size can be asked first; or memory that "
+               "overlaps other memory, or a null pointer: each memory of a "
+               "call is one of its own";
     case CUCKOOORMOLU_REFUSED_TERMS:
-        return "terms that no accepted text yields";
+        return "no terms have been read into this monitor, or they were "
+               "damaged: read them again";
     case CUCKOOORMOLU_REFUSED_STATE:
-        return "state that breaks the memory layout";
+        return "state that is not one of these terms, or was damaged: go on "
+               "from terms and state that were kept together";
     case CUCKOOORMOLU_REFUSED_NAME:
         return "no such event or member";
     case CUCKOOORMOLU_REFUSED_REACH:
@@ -448,8 +502,8 @@ static inline const char *cuckooormolu_words(struct cuckooormolu_result result)
     case CUCKOOORMOLU_REFUSED_TABLE:
         return "partly filled word in a table without a free variable";
     case CUCKOOORMOLU_REFUSED_FRESH:
-        return "state that is no fresh start, of which the old form would "
-               "lose the past";
+        return "the monitor has a history, which a terms file cannot hold: "
+               "use store";
     case CUCKOOORMOLU_REFUSED_SIZE:
         return "new terms with another number of members, relations or events";
     case CUCKOOORMOLU_REFUSED_PLAN:
@@ -747,6 +801,7 @@ cuckooormolu_size(const uint16_t *terms, size_t terms_length,
  * of output and *count is its count of bytes; the bytes after it are not
  * touched. Refused with 6, 7, 8 or 12: *count is 0. `count` may be null.
  */
+CUCKOOORMOLU_WRITES(5, 6)
 CUCKOOORMOLU_USED static inline struct cuckooormolu_result
 cuckooormolu_write(const uint16_t *terms, size_t terms_length,
                    const uint64_t *state, size_t state_length,
@@ -783,6 +838,7 @@ cuckooormolu_store_size(const uint16_t *terms, size_t terms_length,
  * memory, it gives the same named words, so that the answers go on as if nothing
  * had stopped. Done and refused as cuckooormolu_write, and never with 12.
  */
+CUCKOOORMOLU_WRITES(5, 6)
 CUCKOOORMOLU_USED static inline struct cuckooormolu_result
 cuckooormolu_store(const uint16_t *terms, size_t terms_length,
                    const uint64_t *state, size_t state_length,
@@ -806,9 +862,10 @@ cuckooormolu_store(const uint16_t *terms, size_t terms_length,
  * How many rows a request may work out, at most, by terms that are accepted: a
  * row is one entry at one member. It is a bound by the shape of the terms alone,
  * whatever the relations are; a request of two banks takes at most twice as
- * many. A million rows take less than 0.1 s. Too few words, and words without
- * members, as zeroed ones, give the most; of other words that are no accepted
- * terms it says nothing.
+ * many. On x86-64 some 15 million rows take a second; bindings/README.md tells
+ * how to measure another device. It does not bound the stack. Too few words, and
+ * words without members, as zeroed ones, give the most; of other words that are
+ * no accepted terms it says nothing.
  *
  * Only reading makes terms, and reading the old form opens their state, which
  * may take as long as a request. To ask before that, put the line S 2, the four
@@ -860,7 +917,7 @@ cuckooormolu_open(const uint16_t *terms, size_t terms_length,
  * prev or since takes the table of the first old entry with the same formula,
  * spelled out; any other starts now. What `state` held does not count. Done:
  * from then on the new terms are lent with that state. Refused with 6, 7 (either
- * terms), 8 (the old state) or 13: all memory is as lent.
+ * terms), 8 (the old state) or 13: all memory is unchanged.
  */
 CUCKOOORMOLU_USED static inline struct cuckooormolu_result
 cuckooormolu_revise(const uint16_t *old_terms, size_t old_terms_length,
@@ -887,8 +944,8 @@ cuckooormolu_revise(const uint16_t *old_terms, size_t old_terms_length,
  * What `second` held does not count. Done: from then on the terms are lent with
  * that state, and requests that name the new numbers are answered as those that
  * named the old ones. The list that undoes it gives the first state back.
- * Refused with 6, 7, 8 or 15: all memory is as lent. It is for one monitor, and
- * not for two banks, which share relations.
+ * Refused with 6, 7, 8 or 15: all memory is unchanged. It is for one monitor,
+ * and not for two banks, which share relations.
  */
 CUCKOOORMOLU_USED static inline struct cuckooormolu_result
 cuckooormolu_renumber(const uint16_t *terms, size_t terms_length,
@@ -929,8 +986,8 @@ cuckooormolu_look(const uint16_t *terms, size_t terms_length,
 /*
  * Answers a request. Granted: the state is that of the next moment and the
  * named words of scratch are 0. Denied: the same, without effects, if the terms
- * have a K line for the event, else all memory is as lent. Refused with 6, 7, 8
- * or 9: all memory is as lent.
+ * have a K line for the event, else all memory is unchanged. Refused with 6, 7, 8
+ * or 9: all memory is unchanged.
  */
 CUCKOOORMOLU_USED static inline struct cuckooormolu_result
 cuckooormolu_request(const uint16_t *terms, size_t terms_length,
@@ -963,10 +1020,11 @@ static inline void cuckooormolu_unanswer(struct cuckooormolu_record *records,
  * checks terms, state and scratch once. Done: every answer is filled in and
  * *count is the number of grants; a record that is refused does not stop the
  * list. Refused with 6, 7 or 8, an empty list too: no record is answered,
- * whatever its answer was before, all other memory is as lent, and *count is 0.
- * Only records that overlap another memory are as lent then. `count` may be
+ * whatever its answer was before, all other memory is unchanged, and *count is
+ * 0. Only records that overlap another memory are unchanged then. `count` may be
  * null, and so may the records, which are then an empty list.
  */
+CUCKOOORMOLU_CHANGES(7, 8)
 CUCKOOORMOLU_USED static inline struct cuckooormolu_result
 cuckooormolu_set_list(const uint16_t *terms, size_t terms_length,
                       uint64_t *state, size_t state_length,
@@ -1003,7 +1061,7 @@ cuckooormolu_set_list(const uint16_t *terms, size_t terms_length,
  * Denied requests have the effect that they always have. There are at most 8
  * members and 4 events. Scratch is CUCKOOORMOLU_PLAN_WORDS words, left 0 by
  * either verdict; nothing else is written. Refused with 6, 7, 8, 14 or 9: all
- * memory is as lent.
+ * memory is unchanged.
  */
 CUCKOOORMOLU_USED static inline struct cuckooormolu_ruling
 cuckooormolu_plan(const uint16_t *terms, size_t terms_length,
@@ -1156,7 +1214,7 @@ cuckooormolu_banks_open(const uint16_t *terms, size_t terms_length,
  * Revises the terms of both banks together, each as cuckooormolu_revise does:
  * fills in second relations and second own words of each, in the same order.
  * Done: from then on the new terms are lent with those. Refused with 6, 7
- * (either terms), 8 (either bank's old state) or 13: all memory is as lent.
+ * (either terms), 8 (either bank's old state) or 13: all memory is unchanged.
  */
 CUCKOOORMOLU_USED static inline struct cuckooormolu_result
 cuckooormolu_banks_revise(
@@ -1222,7 +1280,7 @@ cuckooormolu_banks_look(const uint16_t *terms, size_t terms_length,
  * Answers a request of the bank. Granted: both banks are at the next moment, the
  * other without an event edge, and the named words of both scratches are 0.
  * Denied: the same, without effects, if the terms have a K line for the event,
- * else all memory is as lent. Refused with 6, 7, 8 or 9: all memory is as lent.
+ * else all memory is unchanged, and where it is refused with 6, 7, 8 or 9.
  */
 CUCKOOORMOLU_USED static inline struct cuckooormolu_result
 cuckooormolu_banks_request(const uint16_t *terms, size_t terms_length,
@@ -1249,6 +1307,7 @@ cuckooormolu_banks_request(const uint16_t *terms, size_t terms_length,
  * Answers a list of records in order, each as a single request of the bank would
  * be. Done and refused as cuckooormolu_set_list.
  */
+CUCKOOORMOLU_CHANGES(13, 14)
 CUCKOOORMOLU_USED static inline struct cuckooormolu_result
 cuckooormolu_banks_set_list(const uint16_t *terms, size_t terms_length,
                             uint64_t *relations, size_t relations_length,
@@ -1304,6 +1363,9 @@ cuckooormolu_banks_set_list(const uint16_t *terms, size_t terms_length,
 #define CUCKOOORMOLU_SCRATCH(m) \
     CUCKOOORMOLU_PART(m, scratch), CUCKOOORMOLU_SCRATCH_WORDS
 
+/* Reads a terms file, or a stored text, from which it goes on: cuckooormolu_read.
+ * Refused: the monitor is unchanged, with older terms or none. */
+CUCKOOORMOLU_READS(2, 3)
 CUCKOOORMOLU_USED static inline struct cuckooormolu_result
 cuckooormolu_monitor_read(struct cuckooormolu *m, const void *text,
                           size_t length, size_t *line)
@@ -1343,9 +1405,13 @@ static inline size_t cuckooormolu_as_stored(const uint8_t *text, size_t length,
  * a text takes no longer than such a request may, whatever it says. The buffer
  * takes a text of the old form and four bytes more, else the call is refused
  * with 6, and so it is where text, buffer and monitor overlap; a stored text
- * needs no buffer. Where it is not done, `m` has no terms, whatever it had, and
- * refuses every request: lend a monitor of its own, as for a revision.
+ * needs no buffer, and its state is believed. Where it is not done, `m` has no
+ * terms, whatever it had, and refuses every request: lend a monitor of its own,
+ * as for a revision. Where it is costly and the text of the old form, the buffer
+ * has a stored text of 4 bytes more: read into a monitor that answers nothing,
+ * cuckooormolu_monitor_effort says how many rows.
  */
+CUCKOOORMOLU_READS(2, 3) CUCKOOORMOLU_WRITES(4, 5)
 CUCKOOORMOLU_USED static inline struct cuckooormolu_result
 cuckooormolu_monitor_read_within(struct cuckooormolu *m, const void *text,
                                  size_t length, void *buffer, size_t room,
@@ -1382,6 +1448,27 @@ cuckooormolu_monitor_read_within(struct cuckooormolu *m, const void *text,
     return cuckooormolu_told(code, number, line);
 }
 
+/*
+ * The same for a terms file only: a stored text, which would bring a past of its
+ * own, is refused with 1 at line 1. This is how to read untrusted terms.
+ */
+CUCKOOORMOLU_READS(2, 3) CUCKOOORMOLU_WRITES(4, 5)
+CUCKOOORMOLU_USED static inline struct cuckooormolu_result
+cuckooormolu_monitor_read_terms_within(struct cuckooormolu *m,
+                                       const void *text, size_t length,
+                                       void *buffer, size_t room, size_t most,
+                                       size_t *line)
+{
+    if (m == NULL || text == NULL || length == 0 ||
+        *(const uint8_t *)text != 'S')
+        return cuckooormolu_monitor_read_within(m, text, length, buffer, room,
+                                                most, line);
+    for (size_t i = 0; i < CUCKOOORMOLU_TERMS_WORDS; i++)
+        m->terms[i] = 0;
+    return cuckooormolu_told(CUCKOOORMOLU_REFUSED_FORM, 1, line);
+}
+
+/* How many bytes cuckooormolu_monitor_write takes. */
 CUCKOOORMOLU_USED static inline struct cuckooormolu_result
 cuckooormolu_monitor_size(const struct cuckooormolu *m, size_t *count)
 {
@@ -1389,6 +1476,9 @@ cuckooormolu_monitor_size(const struct cuckooormolu *m, size_t *count)
                              count);
 }
 
+/* Writes a terms file, of a monitor without a history only, since a terms file
+ * cannot hold one. *count is its count of bytes. */
+CUCKOOORMOLU_WRITES(2, 3)
 CUCKOOORMOLU_USED static inline struct cuckooormolu_result
 cuckooormolu_monitor_write(const struct cuckooormolu *m, void *output,
                            size_t length, size_t *count)
@@ -1397,6 +1487,7 @@ cuckooormolu_monitor_write(const struct cuckooormolu *m, void *output,
                               (uint8_t *)output, length, count);
 }
 
+/* How many bytes cuckooormolu_monitor_store takes. */
 CUCKOOORMOLU_USED static inline struct cuckooormolu_result
 cuckooormolu_monitor_store_size(const struct cuckooormolu *m, size_t *count)
 {
@@ -1404,6 +1495,10 @@ cuckooormolu_monitor_store_size(const struct cuckooormolu *m, size_t *count)
                                    CUCKOOORMOLU_STATE(m), count);
 }
 
+/* Writes a text from which cuckooormolu_monitor_read goes on. *count is its count
+ * of bytes: keep it, or a checksum, beside the text, for a text that is cut is
+ * often accepted, as another state. */
+CUCKOOORMOLU_WRITES(2, 3)
 CUCKOOORMOLU_USED static inline struct cuckooormolu_result
 cuckooormolu_monitor_store(const struct cuckooormolu *m, void *output,
                            size_t length, size_t *count)
@@ -1412,12 +1507,15 @@ cuckooormolu_monitor_store(const struct cuckooormolu *m, void *output,
                               (uint8_t *)output, length, count);
 }
 
+/* Whether the monitor would be accepted by a call. */
 CUCKOOORMOLU_USED static inline struct cuckooormolu_result
 cuckooormolu_monitor_check(const struct cuckooormolu *m)
 {
     return cuckooormolu_check(CUCKOOORMOLU_TERMS(m), CUCKOOORMOLU_STATE(m));
 }
 
+/* Starts afresh from the present relations: the past is lost. A terms file that
+ * is read is open already. */
 CUCKOOORMOLU_USED static inline struct cuckooormolu_result
 cuckooormolu_monitor_open(struct cuckooormolu *m)
 {
@@ -1427,7 +1525,9 @@ cuckooormolu_monitor_open(struct cuckooormolu *m)
 /*
  * The new terms are those that were read into `next`, another monitor. Done: its
  * state is the one with which they go on, and it is used in the place of `m`,
- * which is as lent. Where both are one monitor, it is refused with 6.
+ * which is unchanged. The terms in force come first: the other way round, the
+ * new ones would be given up for the old. Where both are one monitor, it is
+ * refused with 6.
  */
 CUCKOOORMOLU_USED static inline struct cuckooormolu_result
 cuckooormolu_monitor_revise(const struct cuckooormolu *m,
@@ -1441,9 +1541,10 @@ cuckooormolu_monitor_revise(const struct cuckooormolu *m,
 /*
  * The members of `m` get new numbers in `next`, another monitor, which needs no
  * terms of its own. Done: `next` has the terms and the renumbered state, and is
- * used in the place of `m`, which is as lent. Refused: both are as lent. Where
- * both are one monitor, it is refused with 6.
+ * used in the place of `m`, which is unchanged. Refused: both are unchanged.
+ * Where both are one monitor, it is refused with 6.
  */
+CUCKOOORMOLU_READS(2, 3)
 CUCKOOORMOLU_USED static inline struct cuckooormolu_result
 cuckooormolu_monitor_renumber(const struct cuckooormolu *m,
                               const uint8_t *numbers, size_t length,
@@ -1458,6 +1559,8 @@ cuckooormolu_monitor_renumber(const struct cuckooormolu *m,
     return result;
 }
 
+/* What a request would be answered. It makes no moment, so a granted look permits
+ * nothing: make the request. */
 CUCKOOORMOLU_USED static inline struct cuckooormolu_result
 cuckooormolu_monitor_look(const struct cuckooormolu *m, size_t event,
                           size_t from, size_t to)
@@ -1466,6 +1569,8 @@ cuckooormolu_monitor_look(const struct cuckooormolu *m, size_t event,
                              CUCKOOORMOLU_SCRATCH(m), event, from, to);
 }
 
+/* Answers a request, and makes the next moment where it is granted, or denied and
+ * the event has a K line. Keep the state before you act on the answer. */
 CUCKOOORMOLU_USED static inline struct cuckooormolu_result
 cuckooormolu_monitor_request(struct cuckooormolu *m, size_t event,
                              size_t from, size_t to)
@@ -1474,14 +1579,32 @@ cuckooormolu_monitor_request(struct cuckooormolu *m, size_t event,
                                 CUCKOOORMOLU_SCRATCH(m), event, from, to);
 }
 
+/* The same, by numbers that cannot be confused:
+ * cuckooormolu_monitor_ask(&m, cuckooormolu_event(LOAD), cuckooormolu_from(1),
+ * cuckooormolu_to(2)). */
+CUCKOOORMOLU_USED static inline struct cuckooormolu_result
+cuckooormolu_monitor_ask(struct cuckooormolu *m,
+                         struct cuckooormolu_event_number event,
+                         struct cuckooormolu_from_number from,
+                         struct cuckooormolu_to_number to)
+{
+    return cuckooormolu_monitor_request(m, event.cuckooormolu_private,
+                                        from.cuckooormolu_private,
+                                        to.cuckooormolu_private);
+}
+
+/* Answers so many records, which is not how many bytes they have, each as a
+ * request in its place, and fills in their answers. *grants is how many were
+ * granted. */
+CUCKOOORMOLU_CHANGES(2, 3)
 CUCKOOORMOLU_USED static inline struct cuckooormolu_result
 cuckooormolu_monitor_set_list(struct cuckooormolu *m,
                               struct cuckooormolu_record *records,
-                              size_t length, size_t *count)
+                              size_t count, size_t *grants)
 {
     return cuckooormolu_set_list(CUCKOOORMOLU_TERMS(m), CUCKOOORMOLU_STATE(m),
-                                 CUCKOOORMOLU_SCRATCH(m), records, length,
-                                 count);
+                                 CUCKOOORMOLU_SCRATCH(m), records, count,
+                                 grants);
 }
 
 /* The entry that is the policy of an event, for a goal; where the terms have no
@@ -1495,6 +1618,7 @@ cuckooormolu_monitor_policy(const struct cuckooormolu *m, size_t event)
 }
 
 /* A plan as so many moves. A null game is refused with 6. */
+CUCKOOORMOLU_READS(3, 4)
 CUCKOOORMOLU_USED static inline struct cuckooormolu_ruling
 cuckooormolu_monitor_plan(const struct cuckooormolu *m,
                           struct cuckooormolu_game *game,
@@ -1509,6 +1633,7 @@ cuckooormolu_monitor_plan(const struct cuckooormolu *m,
                              length, planner, rival, goal, first, second);
 }
 
+/* Whether an entry holds at a pair at present. It permits nothing. */
 CUCKOOORMOLU_USED static inline struct cuckooormolu_fact
 cuckooormolu_monitor_tell(const struct cuckooormolu *m, size_t entry,
                           size_t first, size_t second)
@@ -1535,6 +1660,9 @@ cuckooormolu_monitor_tell(const struct cuckooormolu *m, size_t entry,
         CUCKOOORMOLU_SCRATCH_WORDS, CUCKOOORMOLU_PART(b, beside##_scratch), \
         CUCKOOORMOLU_SCRATCH_WORDS
 
+/* Reads a terms file into both; a stored text, which is one monitor's, is refused
+ * with 1 at line 1. */
+CUCKOOORMOLU_READS(2, 3)
 CUCKOOORMOLU_USED static inline struct cuckooormolu_result
 cuckooormolu_both_read(struct cuckooormolu_banks *b, const void *text,
                        size_t length, size_t *line)
@@ -1543,6 +1671,7 @@ cuckooormolu_both_read(struct cuckooormolu_banks *b, const void *text,
                                    CUCKOOORMOLU_BOTH(b), line);
 }
 
+/* Starts both afresh from the present relations: the past of each is lost. */
 CUCKOOORMOLU_USED static inline struct cuckooormolu_result
 cuckooormolu_both_open(struct cuckooormolu_banks *b)
 {
@@ -1552,7 +1681,8 @@ cuckooormolu_both_open(struct cuckooormolu_banks *b)
 /*
  * The new terms are those that were read into `next`, other banks. Done: they go
  * on with what is filled in there, and `next` is used in the place of `b`, which
- * is as lent. Where both are the same banks, it is refused with 6.
+ * is unchanged. The terms in force come first. Where both are the same banks, it
+ * is refused with 6.
  */
 CUCKOOORMOLU_USED static inline struct cuckooormolu_result
 cuckooormolu_both_revise(const struct cuckooormolu_banks *b,
@@ -1562,6 +1692,7 @@ cuckooormolu_both_revise(const struct cuckooormolu_banks *b,
                                      CUCKOOORMOLU_BOTH(next));
 }
 
+/* What a request of the bank would be answered; it permits nothing. */
 CUCKOOORMOLU_USED static inline struct cuckooormolu_result
 cuckooormolu_left_look(const struct cuckooormolu_banks *b, size_t event,
                        size_t from, size_t to)
@@ -1578,6 +1709,8 @@ cuckooormolu_right_look(const struct cuckooormolu_banks *b, size_t event,
                                    from, to);
 }
 
+/* Answers a request of the bank. Where it makes a moment, that is one of both:
+ * keep the whole struct before you act on the answer. */
 CUCKOOORMOLU_USED static inline struct cuckooormolu_result
 cuckooormolu_left_request(struct cuckooormolu_banks *b, size_t event,
                           size_t from, size_t to)
@@ -1594,22 +1727,25 @@ cuckooormolu_right_request(struct cuckooormolu_banks *b, size_t event,
                                       from, to);
 }
 
+/* Answers so many records, as cuckooormolu_monitor_set_list does. */
+CUCKOOORMOLU_CHANGES(2, 3)
 CUCKOOORMOLU_USED static inline struct cuckooormolu_result
 cuckooormolu_left_set_list(struct cuckooormolu_banks *b,
-                           struct cuckooormolu_record *records, size_t length,
-                           size_t *count)
+                           struct cuckooormolu_record *records, size_t count,
+                           size_t *grants)
 {
     return cuckooormolu_banks_set_list(CUCKOOORMOLU_BANK(b, left, right),
-                                       records, length, count);
+                                       records, count, grants);
 }
 
+CUCKOOORMOLU_CHANGES(2, 3)
 CUCKOOORMOLU_USED static inline struct cuckooormolu_result
 cuckooormolu_right_set_list(struct cuckooormolu_banks *b,
-                            struct cuckooormolu_record *records, size_t length,
-                            size_t *count)
+                            struct cuckooormolu_record *records, size_t count,
+                            size_t *grants)
 {
     return cuckooormolu_banks_set_list(CUCKOOORMOLU_BANK(b, right, left),
-                                       records, length, count);
+                                       records, count, grants);
 }
 
 #undef CUCKOOORMOLU_PART
@@ -1622,6 +1758,9 @@ cuckooormolu_right_set_list(struct cuckooormolu_banks *b,
 #undef CUCKOOORMOLU_BANK
 #undef CUCKOOORMOLU_ASSERT
 #undef CUCKOOORMOLU_USED
+#undef CUCKOOORMOLU_READS
+#undef CUCKOOORMOLU_WRITES
+#undef CUCKOOORMOLU_CHANGES
 #undef CUCKOOORMOLU_RETAINED
 
 #ifdef __cplusplus
