@@ -73,11 +73,11 @@ impl Terms {
 
     /// How many rows a request may work out by these terms, at most: a row is one
     /// entry at one member. It is a bound by the shape of the terms alone, whatever
-    /// the relations are; [`MOST_EFFORT`](crate::MOST_EFFORT) stands for more, too. A
-    /// million rows take less than 0.1 s. A host that accepts terms of strangers
-    /// refuses those above a bound of its own. Reading them may take as long as a
-    /// request already: [`Monitor::read_within`](crate::Monitor::read_within) asks
-    /// before that.
+    /// the relations are; [`MOST_EFFORT`](crate::MOST_EFFORT) stands for more, too. On
+    /// x86-64 some 15 million rows take a second. It does not bound the stack. A host
+    /// that takes untrusted terms refuses those above a bound of its own. Reading them
+    /// may take as long as a request already:
+    /// [`Monitor::read_terms_within`](crate::Monitor::read_terms_within) asks before that.
     ///
     /// ```
     /// use cuckooormolu::*;
