@@ -124,7 +124,7 @@ extern "C" {
 /* More stack than any call was measured to take: with the archive, or with the
  * C file as compilers compile it. */
 #ifdef CUCKOOORMOLU_AMALGAMATION
-#define CUCKOOORMOLU_STACK_BYTES (1024 * 1024)
+#define CUCKOOORMOLU_STACK_BYTES (1280 * 1024)
 #else
 #define CUCKOOORMOLU_STACK_BYTES (512 * 1024)
 #endif
@@ -883,6 +883,117 @@ cuckooormolu_effort(const uint16_t *terms, size_t terms_length)
     return cuckooormolu_raw_effort(terms, terms_length);
 }
 
+/* What is left of so many when an entry is decided without a memo, for one member
+ * or for many; 0 where it takes more. */
+static inline size_t cuckooormolu_left(const uint16_t *terms, size_t entry,
+                                       bool many, size_t left)
+{
+    /* Four times an entry, 2 more under a bind that is decided for many members,
+     * 1 more where it is itself. One waits at each level, and one more. */
+    size_t waiting[257] = {4 * entry + many};
+    size_t count = 1;
+    while (count > 0 && left > 0) {
+        const size_t next = waiting[--count];
+        const size_t flags = next & 3;
+        const uint16_t *fields = terms + 4 + next / 4 * 4;
+        const size_t cost = flags < 2 ? 1 : 64;
+        const size_t a = 4 * (size_t)fields[1];
+        const size_t b = 4 * (size_t)fields[2];
+        if (fields[0] < 2 || fields[0] == 6 || fields[0] == 7)
+            continue; /* a leaf or a past-time entry, which is read */
+        if (left < cost || (fields[0] == 8 && flags == 3))
+            return 0;
+        left -= cost;
+        if (fields[0] == 2 || fields[0] == 3)
+            waiting[count++] = a + flags;
+        if (fields[0] == 3 || fields[0] == 10)
+            waiting[count++] = b + flags;
+        if (fields[0] == 10)
+            waiting[count++] = 4 * (size_t)fields[3] + (flags | 1);
+        else if (fields[0] == 8)
+            waiting[count++] = b + (flags == 0 ? 0 : 2);
+        else if (fields[0] > 3)
+            waiting[count++] = b + (flags | 1);
+    }
+    return left;
+}
+
+/* Whether some call by these terms takes a memo. */
+static inline bool cuckooormolu_takes_memo(const uint16_t *terms)
+{
+    const size_t entries = terms[3];
+    size_t binds = 0;
+    size_t left = 1024;
+    bool takes = false;
+    for (size_t i = 0; i < entries; i++) {
+        const uint16_t *fields = terms + 4 + 4 * i;
+        binds += fields[0] == 8;
+        if (fields[0] == 6 || fields[0] == 7)
+            left = cuckooormolu_left(terms, fields[1], true, left);
+        if (fields[0] == 7)
+            left = cuckooormolu_left(terms, fields[2], true, left);
+        takes = takes || cuckooormolu_left(terms, i, false, 1024) == 0;
+    }
+    return (entries >= 10 || binds > 1) && (takes || left == 0);
+}
+
+/* How many levels deep the entries nest; more than there can be where the words
+ * are no accepted terms. */
+static inline size_t cuckooormolu_depth(const uint16_t *terms)
+{
+    size_t levels[256] = {0};
+    size_t depth = 0;
+    if (terms[0] == 0 || terms[3] > 256)
+        return SIZE_MAX;
+    for (size_t i = 0; i < terms[3]; i++) {
+        const uint16_t *fields = terms + 4 + 4 * i;
+        const bool first = fields[0] == 2 || fields[0] == 3 ||
+                           fields[0] == 6 || fields[0] == 7;
+        const bool second = fields[0] > 2 && fields[0] != 6;
+        const bool third = fields[0] == 10;
+        if (fields[0] > 11 || (first && fields[1] >= i) ||
+            (second && fields[2] >= i) || (third && fields[3] >= i))
+            return SIZE_MAX;
+        if (first && levels[i] < levels[fields[1]])
+            levels[i] = levels[fields[1]];
+        if (second && levels[i] < levels[fields[2]])
+            levels[i] = levels[fields[2]];
+        if (third && levels[i] < levels[fields[3]])
+            levels[i] = levels[fields[3]];
+        levels[i]++;
+        if (depth < levels[i])
+            depth = levels[i];
+    }
+    return depth;
+}
+
+/*
+ * How many bytes of stack any call of one monitor takes by terms that are
+ * accepted; two banks take 32 KiB more. It is a bound above what was measured, and
+ * not proved. Words that are no accepted terms, and too few, give
+ * CUCKOOORMOLU_STACK_BYTES. Asking takes 4 KiB itself.
+ */
+CUCKOOORMOLU_USED static inline size_t
+cuckooormolu_stack(const uint16_t *terms, size_t terms_length)
+{
+#ifdef CUCKOOORMOLU_AMALGAMATION
+    const size_t level = 3584; /* as compiled without optimisation */
+#else
+    const size_t level = 1024;
+#endif
+    size_t depth;
+    size_t bytes;
+    if (terms == NULL || terms_length < CUCKOOORMOLU_TERMS_WORDS)
+        return CUCKOOORMOLU_STACK_BYTES;
+    depth = cuckooormolu_depth(terms);
+    if (depth > 256)
+        return CUCKOOORMOLU_STACK_BYTES;
+    bytes = 40 * 1024 + level * depth;
+    if (cuckooormolu_takes_memo(terms))
+        bytes += 272 * 1024;
+    return bytes < CUCKOOORMOLU_STACK_BYTES ? bytes : CUCKOOORMOLU_STACK_BYTES;
+}
+
 /* Whether terms and state are ones that a call accepts: done, 6, 7 or 8. */
 CUCKOOORMOLU_USED static inline struct cuckooormolu_result
 cuckooormolu_check(const uint16_t *terms, size_t terms_length,
@@ -1381,6 +1492,13 @@ CUCKOOORMOLU_USED static inline size_t
 cuckooormolu_monitor_effort(const struct cuckooormolu *m)
 {
     return cuckooormolu_effort(CUCKOOORMOLU_TERMS(m));
+}
+
+/* How many bytes of stack any call of it takes: cuckooormolu_stack. */
+CUCKOOORMOLU_USED static inline size_t
+cuckooormolu_monitor_stack(const struct cuckooormolu *m)
+{
+    return cuckooormolu_stack(CUCKOOORMOLU_TERMS(m));
 }
 
 /* Writes a text of the old form into a buffer, with a line S 2 before it, and

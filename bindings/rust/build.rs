@@ -16,6 +16,7 @@ const ARCHIVE: &str = "libcuckooormolu.a";
 
 fn main() {
     println!("cargo::rerun-if-env-changed={VARIABLE}");
+    println!("cargo::rustc-check-cfg=cfg(from_c)");
     println!("cargo::rerun-if-env-changed={ANY_TARGET}");
     println!("cargo::rerun-if-env-changed={}", build_from_c::VARIABLE);
     let named = env::var_os(VARIABLE).map(PathBuf::from);
@@ -25,6 +26,7 @@ fn main() {
     }
     if named.is_none() {
         if let Some(folder) = build_from_c::compiled(&default().join(ARCHIVE)) {
+            println!("cargo::rustc-cfg=from_c");
             return link(&folder);
         }
     }

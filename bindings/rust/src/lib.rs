@@ -10,7 +10,8 @@
 //!   which entries nest; reading takes what opening does, and 33 KiB at least; of two
 //!   banks it takes 25 KiB more, any other call 3 KiB at most. Where the terms need a
 //!   memo (bindings/README.md, Stack), each takes 267 KiB more, at most 512 KiB.
-//!   Renumbering takes 18 KiB, storing 4 KiB. From the C file it is at most 1 MiB.
+//!   Renumbering takes 18 KiB, storing 4 KiB. From the C file it is at most 1.25 MiB.
+//!   [`Terms::stack`] tells it of given terms.
 //! * **Time**: measured, not proved. Terms can be written by which a request takes
 //!   minutes. Opening, a revision, and reading or writing a terms file may take as long
 //!   as a request. [`Terms::effort`] is a bound; [`Monitor::read_terms_within`] reads
@@ -83,6 +84,8 @@ mod monitor;
 mod places;
 #[cfg(feature = "alloc")]
 mod record;
+#[cfg(feature = "alloc")]
+mod stack;
 #[cfg(feature = "alloc")]
 mod state;
 #[cfg(feature = "alloc")]

@@ -1,6 +1,7 @@
 //! Terms: what a terms file says, without its edges.
 
 use crate::places::*;
+use crate::stack::stack;
 use crate::table::variables;
 use crate::{raw, Entry, Event, Label, Member, Refusal, Relation, State, Variable, TERMS_WORDS};
 use alloc::boxed::Box;
@@ -89,6 +90,21 @@ impl Terms {
     /// ```
     pub fn effort(&self) -> usize {
         raw::effort(self.words())
+    }
+
+    /// How many bytes of stack any call of a [`Monitor`](crate::Monitor) takes by these
+    /// terms; two banks take 32 KiB more. It is a bound above what was measured, and not
+    /// proved.
+    ///
+    /// ```
+    /// use cuckooormolu::*;
+    ///
+    /// let monitor = Monitor::read(b"M\t2\nL\t0\t1\nF\t0\ttop\t0\t0\nP\t0\t0\n")?;
+    /// assert!(monitor.terms().stack() < 64 << 10);
+    /// # Ok::<(), TextError>(())
+    /// ```
+    pub fn stack(&self) -> usize {
+        stack(self)
     }
 
     /// The members, rising.
