@@ -14,7 +14,8 @@
  *           terms need a memo (bindings/README.md, Stack), each takes 267 KiB
  *           more, at most 512 KiB with the archive. Renumbering takes 18 KiB,
  *           storing and the other calls 4 KiB. Provide
- *           CUCKOOORMOLU_STACK_BYTES, unless you know that your terms take less.
+ *           CUCKOOORMOLU_STACK_BYTES, or what cuckooormolu_stack tells of your
+ *           terms.
  * Time      measured, not proved. Entries that share others take no more than
  *           a memo's time, and entries that read one variable N times that, N
  *           the members. What can still take long is three variables or more
@@ -1643,8 +1644,8 @@ cuckooormolu_monitor_open(struct cuckooormolu *m)
 /*
  * The new terms are those that were read into `next`, another monitor. Done: its
  * state is the one with which they go on, and it is used in the place of `m`,
- * which is unchanged. The terms in force come first: the other way round, the
- * new ones would be given up for the old. Where both are one monitor, it is
+ * which is unchanged. The monitor in force comes first: the other way round, its
+ * history would be overwritten by a fresh start. Where both are one monitor, it is
  * refused with 6.
  */
 CUCKOOORMOLU_USED static inline struct cuckooormolu_result
@@ -1799,7 +1800,7 @@ cuckooormolu_both_open(struct cuckooormolu_banks *b)
 /*
  * The new terms are those that were read into `next`, other banks. Done: they go
  * on with what is filled in there, and `next` is used in the place of `b`, which
- * is unchanged. The terms in force come first. Where both are the same banks, it
+ * is unchanged. The banks in force come first. Where both are the same banks, it
  * is refused with 6.
  */
 CUCKOOORMOLU_USED static inline struct cuckooormolu_result
