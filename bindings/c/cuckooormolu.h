@@ -14,7 +14,8 @@
  *           terms need a memo (bindings/README.md, Stack), each takes 267 KiB
  *           more, at most 512 KiB with the archive. Renumbering takes 18 KiB,
  *           storing and the other calls 4 KiB. Provide
- *           CUCKOOORMOLU_STACK_BYTES, unless you know that your terms take less.
+ *           CUCKOOORMOLU_STACK_BYTES, or what cuckooormolu_stack tells of your
+ *           terms.
  * Time      measured, not proved. Entries that share others take no more than
  *           a memo's time, and entries that read one variable N times that, N
  *           the members. What can still take long is three variables or more
@@ -23,8 +24,9 @@
  *           writing a terms file may take as long as a request; reading a
  *           stored text and storing do not decide anything. cuckooormolu_effort
  *           says how much work a request by given terms may take. A host that
- *           accepts terms of strangers refuses those above a bound of its own,
- *           before they are opened: cuckooormolu_monitor_read_within does so.
+ *           takes untrusted terms refuses those above a bound of its own, before
+ *           they are opened: cuckooormolu_monitor_read_terms_within does so. It
+ *           does not bound the stack, so such a host needs all of it.
  * Texts     are of two forms. The old form is a terms file, which has terms and
  *           relations and is read as a fresh start. The stored form begins with
  *           a line S 2 and has a whole state, from which it goes on.
@@ -74,14 +76,29 @@ extern "C" {
 #define CUCKOOORMOLU_USED
 #endif
 
-/* Unused sections are left out of a program, but not this one. */
+/* Unused sections are left out of a program, but not this one. A memory that is
+ * shorter than the count beside it says is a mistake, which gcc finds where it
+ * knows both: the places of pointer and count follow. */
 #if defined(__has_attribute)
 #if __has_attribute(retain)
 #define CUCKOOORMOLU_RETAINED __attribute__((retain))
 #endif
+#if __has_attribute(access)
+#define CUCKOOORMOLU_READS(memory, count) \
+    __attribute__((access(read_only, memory, count)))
+#define CUCKOOORMOLU_WRITES(memory, count) \
+    __attribute__((access(write_only, memory, count)))
+#define CUCKOOORMOLU_CHANGES(memory, count) \
+    __attribute__((access(read_write, memory, count)))
+#endif
 #endif
 #ifndef CUCKOOORMOLU_RETAINED
 #define CUCKOOORMOLU_RETAINED
+#endif
+#ifndef CUCKOOORMOLU_READS
+#define CUCKOOORMOLU_READS(memory, count)
+#define CUCKOOORMOLU_WRITES(memory, count)
+#define CUCKOOORMOLU_CHANGES(memory, count)
 #endif
 
 #define CUCKOOORMOLU_VERSION_MAJOR 0
@@ -108,19 +125,19 @@ extern "C" {
 /* More stack than any call was measured to take: with the archive, or with the
  * C file as compilers compile it. */
 #ifdef CUCKOOORMOLU_AMALGAMATION
-#define CUCKOOORMOLU_STACK_BYTES (1024 * 1024)
+#define CUCKOOORMOLU_STACK_BYTES (1280 * 1024)
 #else
 #define CUCKOOORMOLU_STACK_BYTES (512 * 1024)
 #endif
 
 /*
  * The codes of calls. No code is 0, and a refusal's is below 100; granted and
- * denied differ in five bits. Refusals leave all memory as lent, but that the
- * records of a set list have no answers then, nor a monitor that was to be read
- * within a bound any terms. Where several fit, reading gives 6, then the first
- * faulty line and in it the lowest number, and 11 only where no line is faulty;
- * the other calls give 6 (terms, state, scratch), 7, 8, 9, 12, 13 or 15, and last
- * 6 for the output; a plan and a telling give 14 after 8 and before 9.
+ * denied differ in five bits. Refusals leave all memory unchanged, with two
+ * exceptions: a refused set list clears its answers, and a failed read_within
+ * leaves the monitor without terms. Where several fit, reading gives 6, then the
+ * first faulty line and in it the lowest number, and 11 only where no line is
+ * faulty; the other calls give 6 (terms, state, scratch), 7, 8, 9, 12, 13 or 15,
+ * and last 6 for the output; a plan and a telling give 14 after 8 and before 9.
  */
 typedef enum cuckooormolu_code {
     /* The form of a line, its place, or a text that ends too soon. A length that
@@ -139,7 +156,8 @@ typedef enum cuckooormolu_code {
     /* A memory shorter than named, a null one too, or an output too short for
      * the text, or memory that overlaps other memory which the call may write. */
     CUCKOOORMOLU_REFUSED_SHORT = 6,
-    /* Terms memory that no accepted text yields. */
+    /* Terms memory that no accepted text yields: zeroed, never read into, or
+     * damaged. */
     CUCKOOORMOLU_REFUSED_TERMS = 7,
     /* A state that breaks the layout. */
     CUCKOOORMOLU_REFUSED_STATE = 8,
@@ -151,7 +169,7 @@ typedef enum cuckooormolu_code {
     /* A stored text with a partly filled word in a table without a free
      * variable. */
     CUCKOOORMOLU_REFUSED_TABLE = 11,
-    /* The old form is to be written of a state that is no fresh start. */
+    /* The old form is to be written of a state with a history. */
     CUCKOOORMOLU_REFUSED_FRESH = 12,
     /* New terms with another number of members, relations or events. */
     CUCKOOORMOLU_REFUSED_SIZE = 13,
@@ -247,6 +265,38 @@ struct cuckooormolu_move {
     uint64_t event;
     uint64_t to;
 };
+
+/* The three numbers of a request, each of a type of its own, so that no two can
+ * be confused. */
+struct cuckooormolu_event_number {
+    size_t cuckooormolu_private;
+};
+
+struct cuckooormolu_from_number {
+    size_t cuckooormolu_private;
+};
+
+struct cuckooormolu_to_number {
+    size_t cuckooormolu_private;
+};
+
+static inline struct cuckooormolu_event_number cuckooormolu_event(size_t event)
+{
+    struct cuckooormolu_event_number number = {event};
+    return number;
+}
+
+static inline struct cuckooormolu_from_number cuckooormolu_from(size_t member)
+{
+    struct cuckooormolu_from_number number = {member};
+    return number;
+}
+
+static inline struct cuckooormolu_to_number cuckooormolu_to(size_t member)
+{
+    struct cuckooormolu_to_number number = {member};
+    return number;
+}
 
 /* The number that a set list writes as the answer of a record. It is no code of
  * a call. */
@@ -421,7 +471,8 @@ static inline const char *cuckooormolu_words(struct cuckooormolu_result result)
     case CUCKOOORMOLU_REFUSED_FORM:
         return "unknown kind or word, line out of its order, wrong count of "
                "fields, ill-formed number, no last line feed, or the text "
-               "ends too soon; `cuckooormolu check FILE` says which";
+               "ends too soon; `cuckooormolu check FILE` says which; or a "
+               "stored text where a terms file only is taken, as by two banks";
     case CUCKOOORMOLU_REFUSED_RANGE:
         return "number out of its range, non-zero unused field, more than 32 "
                "past-time entries, more than 4 effects, or a label or entry "
@@ -434,12 +485,16 @@ static inline const char *cuckooormolu_words(struct cuckooormolu_result result)
     case CUCKOOORMOLU_REFUSED_POLICY:
         return "policy with a free variable other than 0";
     case CUCKOOORMOLU_REFUSED_SHORT:
-        return "memory shorter than its named words, or output too short, or "
-               "memory that overlaps other memory, or a null pointer";
+        return "memory shorter than its named words, or output too short for "
+               "the text, whose size can be asked first; or memory that "
+               "overlaps other memory, or a null pointer: each memory of a "
+               "call is one of its own";
     case CUCKOOORMOLU_REFUSED_TERMS:
-        return "terms that no accepted text yields";
+        return "no terms have been read into this monitor, or they were "
+               "damaged: read them again";
     case CUCKOOORMOLU_REFUSED_STATE:
-        return "state that breaks the memory layout";
+        return "state that is not one of these terms, or was damaged: go on "
+               "from terms and state that were kept together";
     case CUCKOOORMOLU_REFUSED_NAME:
         return "no such event or member";
     case CUCKOOORMOLU_REFUSED_REACH:
@@ -448,8 +503,8 @@ static inline const char *cuckooormolu_words(struct cuckooormolu_result result)
     case CUCKOOORMOLU_REFUSED_TABLE:
         return "partly filled word in a table without a free variable";
     case CUCKOOORMOLU_REFUSED_FRESH:
-        return "state that is no fresh start, of which the old form would "
-               "lose the past";
+        return "the monitor has a history, which a terms file cannot hold: "
+               "use store";
     case CUCKOOORMOLU_REFUSED_SIZE:
         return "new terms with another number of members, relations or events";
     case CUCKOOORMOLU_REFUSED_PLAN:
@@ -747,6 +802,7 @@ cuckooormolu_size(const uint16_t *terms, size_t terms_length,
  * of output and *count is its count of bytes; the bytes after it are not
  * touched. Refused with 6, 7, 8 or 12: *count is 0. `count` may be null.
  */
+CUCKOOORMOLU_WRITES(5, 6)
 CUCKOOORMOLU_USED static inline struct cuckooormolu_result
 cuckooormolu_write(const uint16_t *terms, size_t terms_length,
                    const uint64_t *state, size_t state_length,
@@ -783,6 +839,7 @@ cuckooormolu_store_size(const uint16_t *terms, size_t terms_length,
  * memory, it gives the same named words, so that the answers go on as if nothing
  * had stopped. Done and refused as cuckooormolu_write, and never with 12.
  */
+CUCKOOORMOLU_WRITES(5, 6)
 CUCKOOORMOLU_USED static inline struct cuckooormolu_result
 cuckooormolu_store(const uint16_t *terms, size_t terms_length,
                    const uint64_t *state, size_t state_length,
@@ -806,9 +863,10 @@ cuckooormolu_store(const uint16_t *terms, size_t terms_length,
  * How many rows a request may work out, at most, by terms that are accepted: a
  * row is one entry at one member. It is a bound by the shape of the terms alone,
  * whatever the relations are; a request of two banks takes at most twice as
- * many. A million rows take less than 0.1 s. Too few words, and words without
- * members, as zeroed ones, give the most; of other words that are no accepted
- * terms it says nothing.
+ * many. On x86-64 some 15 million rows take a second; bindings/README.md tells
+ * how to measure another device. It does not bound the stack. Too few words, and
+ * words without members, as zeroed ones, give the most; of other words that are
+ * no accepted terms it says nothing.
  *
  * Only reading makes terms, and reading the old form opens their state, which
  * may take as long as a request. To ask before that, put the line S 2, the four
@@ -824,6 +882,117 @@ cuckooormolu_effort(const uint16_t *terms, size_t terms_length)
     if (terms_length < CUCKOOORMOLU_TERMS_WORDS || terms[0] == 0)
         return CUCKOOORMOLU_MOST_EFFORT;
     return cuckooormolu_raw_effort(terms, terms_length);
+}
+
+/* What is left of so many when an entry is decided without a memo, for one member
+ * or for many; 0 where it takes more. */
+static inline size_t cuckooormolu_left(const uint16_t *terms, size_t entry,
+                                       bool many, size_t left)
+{
+    /* Four times an entry, 2 more under a bind that is decided for many members,
+     * 1 more where it is itself. One waits at each level, and one more. */
+    size_t waiting[257] = {4 * entry + many};
+    size_t count = 1;
+    while (count > 0 && left > 0) {
+        const size_t next = waiting[--count];
+        const size_t flags = next & 3;
+        const uint16_t *fields = terms + 4 + next / 4 * 4;
+        const size_t cost = flags < 2 ? 1 : 64;
+        const size_t a = 4 * (size_t)fields[1];
+        const size_t b = 4 * (size_t)fields[2];
+        if (fields[0] < 2 || fields[0] == 6 || fields[0] == 7)
+            continue; /* a leaf or a past-time entry, which is read */
+        if (left < cost || (fields[0] == 8 && flags == 3))
+            return 0;
+        left -= cost;
+        if (fields[0] == 2 || fields[0] == 3)
+            waiting[count++] = a + flags;
+        if (fields[0] == 3 || fields[0] == 10)
+            waiting[count++] = b + flags;
+        if (fields[0] == 10)
+            waiting[count++] = 4 * (size_t)fields[3] + (flags | 1);
+        else if (fields[0] == 8)
+            waiting[count++] = b + (flags == 0 ? 0 : 2);
+        else if (fields[0] > 3)
+            waiting[count++] = b + (flags | 1);
+    }
+    return left;
+}
+
+/* Whether some call by these terms takes a memo. */
+static inline bool cuckooormolu_takes_memo(const uint16_t *terms)
+{
+    const size_t entries = terms[3];
+    size_t binds = 0;
+    size_t left = 1024;
+    bool takes = false;
+    for (size_t i = 0; i < entries; i++) {
+        const uint16_t *fields = terms + 4 + 4 * i;
+        binds += fields[0] == 8;
+        if (fields[0] == 6 || fields[0] == 7)
+            left = cuckooormolu_left(terms, fields[1], true, left);
+        if (fields[0] == 7)
+            left = cuckooormolu_left(terms, fields[2], true, left);
+        takes = takes || cuckooormolu_left(terms, i, false, 1024) == 0;
+    }
+    return (entries >= 10 || binds > 1) && (takes || left == 0);
+}
+
+/* How many levels deep the entries nest; more than there can be where the words
+ * are no accepted terms. */
+static inline size_t cuckooormolu_depth(const uint16_t *terms)
+{
+    size_t levels[256] = {0};
+    size_t depth = 0;
+    if (terms[0] == 0 || terms[3] > 256)
+        return SIZE_MAX;
+    for (size_t i = 0; i < terms[3]; i++) {
+        const uint16_t *fields = terms + 4 + 4 * i;
+        const bool first = fields[0] == 2 || fields[0] == 3 ||
+                           fields[0] == 6 || fields[0] == 7;
+        const bool second = fields[0] > 2 && fields[0] != 6;
+        const bool third = fields[0] == 10;
+        if (fields[0] > 11 || (first && fields[1] >= i) ||
+            (second && fields[2] >= i) || (third && fields[3] >= i))
+            return SIZE_MAX;
+        if (first && levels[i] < levels[fields[1]])
+            levels[i] = levels[fields[1]];
+        if (second && levels[i] < levels[fields[2]])
+            levels[i] = levels[fields[2]];
+        if (third && levels[i] < levels[fields[3]])
+            levels[i] = levels[fields[3]];
+        levels[i]++;
+        if (depth < levels[i])
+            depth = levels[i];
+    }
+    return depth;
+}
+
+/*
+ * How many bytes of stack any call of one monitor takes by terms that are
+ * accepted; two banks take 32 KiB more. It is a bound above what was measured, and
+ * not proved. Words that are no accepted terms, and too few, give
+ * CUCKOOORMOLU_STACK_BYTES. Asking takes 4 KiB itself.
+ */
+CUCKOOORMOLU_USED static inline size_t
+cuckooormolu_stack(const uint16_t *terms, size_t terms_length)
+{
+#ifdef CUCKOOORMOLU_AMALGAMATION
+    const size_t level = 3584; /* as compiled without optimisation */
+#else
+    const size_t level = 1024;
+#endif
+    size_t depth;
+    size_t bytes;
+    if (terms == NULL || terms_length < CUCKOOORMOLU_TERMS_WORDS)
+        return CUCKOOORMOLU_STACK_BYTES;
+    depth = cuckooormolu_depth(terms);
+    if (depth > 256)
+        return CUCKOOORMOLU_STACK_BYTES;
+    bytes = 40 * 1024 + level * depth;
+    if (cuckooormolu_takes_memo(terms))
+        bytes += 272 * 1024;
+    return bytes < CUCKOOORMOLU_STACK_BYTES ? bytes : CUCKOOORMOLU_STACK_BYTES;
 }
 
 /* Whether terms and state are ones that a call accepts: done, 6, 7 or 8. */
@@ -860,7 +1029,7 @@ cuckooormolu_open(const uint16_t *terms, size_t terms_length,
  * prev or since takes the table of the first old entry with the same formula,
  * spelled out; any other starts now. What `state` held does not count. Done:
  * from then on the new terms are lent with that state. Refused with 6, 7 (either
- * terms), 8 (the old state) or 13: all memory is as lent.
+ * terms), 8 (the old state) or 13: all memory is unchanged.
  */
 CUCKOOORMOLU_USED static inline struct cuckooormolu_result
 cuckooormolu_revise(const uint16_t *old_terms, size_t old_terms_length,
@@ -887,8 +1056,8 @@ cuckooormolu_revise(const uint16_t *old_terms, size_t old_terms_length,
  * What `second` held does not count. Done: from then on the terms are lent with
  * that state, and requests that name the new numbers are answered as those that
  * named the old ones. The list that undoes it gives the first state back.
- * Refused with 6, 7, 8 or 15: all memory is as lent. It is for one monitor, and
- * not for two banks, which share relations.
+ * Refused with 6, 7, 8 or 15: all memory is unchanged. It is for one monitor,
+ * and not for two banks, which share relations.
  */
 CUCKOOORMOLU_USED static inline struct cuckooormolu_result
 cuckooormolu_renumber(const uint16_t *terms, size_t terms_length,
@@ -929,8 +1098,8 @@ cuckooormolu_look(const uint16_t *terms, size_t terms_length,
 /*
  * Answers a request. Granted: the state is that of the next moment and the
  * named words of scratch are 0. Denied: the same, without effects, if the terms
- * have a K line for the event, else all memory is as lent. Refused with 6, 7, 8
- * or 9: all memory is as lent.
+ * have a K line for the event, else all memory is unchanged. Refused with 6, 7, 8
+ * or 9: all memory is unchanged.
  */
 CUCKOOORMOLU_USED static inline struct cuckooormolu_result
 cuckooormolu_request(const uint16_t *terms, size_t terms_length,
@@ -963,10 +1132,11 @@ static inline void cuckooormolu_unanswer(struct cuckooormolu_record *records,
  * checks terms, state and scratch once. Done: every answer is filled in and
  * *count is the number of grants; a record that is refused does not stop the
  * list. Refused with 6, 7 or 8, an empty list too: no record is answered,
- * whatever its answer was before, all other memory is as lent, and *count is 0.
- * Only records that overlap another memory are as lent then. `count` may be
+ * whatever its answer was before, all other memory is unchanged, and *count is
+ * 0. Only records that overlap another memory are unchanged then. `count` may be
  * null, and so may the records, which are then an empty list.
  */
+CUCKOOORMOLU_CHANGES(7, 8)
 CUCKOOORMOLU_USED static inline struct cuckooormolu_result
 cuckooormolu_set_list(const uint16_t *terms, size_t terms_length,
                       uint64_t *state, size_t state_length,
@@ -1003,7 +1173,7 @@ cuckooormolu_set_list(const uint16_t *terms, size_t terms_length,
  * Denied requests have the effect that they always have. There are at most 8
  * members and 4 events. Scratch is CUCKOOORMOLU_PLAN_WORDS words, left 0 by
  * either verdict; nothing else is written. Refused with 6, 7, 8, 14 or 9: all
- * memory is as lent.
+ * memory is unchanged.
  */
 CUCKOOORMOLU_USED static inline struct cuckooormolu_ruling
 cuckooormolu_plan(const uint16_t *terms, size_t terms_length,
@@ -1156,7 +1326,7 @@ cuckooormolu_banks_open(const uint16_t *terms, size_t terms_length,
  * Revises the terms of both banks together, each as cuckooormolu_revise does:
  * fills in second relations and second own words of each, in the same order.
  * Done: from then on the new terms are lent with those. Refused with 6, 7
- * (either terms), 8 (either bank's old state) or 13: all memory is as lent.
+ * (either terms), 8 (either bank's old state) or 13: all memory is unchanged.
  */
 CUCKOOORMOLU_USED static inline struct cuckooormolu_result
 cuckooormolu_banks_revise(
@@ -1222,7 +1392,7 @@ cuckooormolu_banks_look(const uint16_t *terms, size_t terms_length,
  * Answers a request of the bank. Granted: both banks are at the next moment, the
  * other without an event edge, and the named words of both scratches are 0.
  * Denied: the same, without effects, if the terms have a K line for the event,
- * else all memory is as lent. Refused with 6, 7, 8 or 9: all memory is as lent.
+ * else all memory is unchanged, and where it is refused with 6, 7, 8 or 9.
  */
 CUCKOOORMOLU_USED static inline struct cuckooormolu_result
 cuckooormolu_banks_request(const uint16_t *terms, size_t terms_length,
@@ -1249,6 +1419,7 @@ cuckooormolu_banks_request(const uint16_t *terms, size_t terms_length,
  * Answers a list of records in order, each as a single request of the bank would
  * be. Done and refused as cuckooormolu_set_list.
  */
+CUCKOOORMOLU_CHANGES(13, 14)
 CUCKOOORMOLU_USED static inline struct cuckooormolu_result
 cuckooormolu_banks_set_list(const uint16_t *terms, size_t terms_length,
                             uint64_t *relations, size_t relations_length,
@@ -1304,6 +1475,9 @@ cuckooormolu_banks_set_list(const uint16_t *terms, size_t terms_length,
 #define CUCKOOORMOLU_SCRATCH(m) \
     CUCKOOORMOLU_PART(m, scratch), CUCKOOORMOLU_SCRATCH_WORDS
 
+/* Reads a terms file, or a stored text, from which it goes on: cuckooormolu_read.
+ * Refused: the monitor is unchanged, with older terms or none. */
+CUCKOOORMOLU_READS(2, 3)
 CUCKOOORMOLU_USED static inline struct cuckooormolu_result
 cuckooormolu_monitor_read(struct cuckooormolu *m, const void *text,
                           size_t length, size_t *line)
@@ -1319,6 +1493,13 @@ CUCKOOORMOLU_USED static inline size_t
 cuckooormolu_monitor_effort(const struct cuckooormolu *m)
 {
     return cuckooormolu_effort(CUCKOOORMOLU_TERMS(m));
+}
+
+/* How many bytes of stack any call of it takes: cuckooormolu_stack. */
+CUCKOOORMOLU_USED static inline size_t
+cuckooormolu_monitor_stack(const struct cuckooormolu *m)
+{
+    return cuckooormolu_stack(CUCKOOORMOLU_TERMS(m));
 }
 
 /* Writes a text of the old form into a buffer, with a line S 2 before it, and
@@ -1343,9 +1524,13 @@ static inline size_t cuckooormolu_as_stored(const uint8_t *text, size_t length,
  * a text takes no longer than such a request may, whatever it says. The buffer
  * takes a text of the old form and four bytes more, else the call is refused
  * with 6, and so it is where text, buffer and monitor overlap; a stored text
- * needs no buffer. Where it is not done, `m` has no terms, whatever it had, and
- * refuses every request: lend a monitor of its own, as for a revision.
+ * needs no buffer, and its state is believed. Where it is not done, `m` has no
+ * terms, whatever it had, and refuses every request: lend a monitor of its own,
+ * as for a revision. Where it is costly and the text of the old form, the buffer
+ * has a stored text of 4 bytes more: read into a monitor that answers nothing,
+ * cuckooormolu_monitor_effort says how many rows.
  */
+CUCKOOORMOLU_READS(2, 3) CUCKOOORMOLU_WRITES(4, 5)
 CUCKOOORMOLU_USED static inline struct cuckooormolu_result
 cuckooormolu_monitor_read_within(struct cuckooormolu *m, const void *text,
                                  size_t length, void *buffer, size_t room,
@@ -1382,6 +1567,27 @@ cuckooormolu_monitor_read_within(struct cuckooormolu *m, const void *text,
     return cuckooormolu_told(code, number, line);
 }
 
+/*
+ * The same for a terms file only: a stored text, which would bring a past of its
+ * own, is refused with 1 at line 1. This is how to read untrusted terms.
+ */
+CUCKOOORMOLU_READS(2, 3) CUCKOOORMOLU_WRITES(4, 5)
+CUCKOOORMOLU_USED static inline struct cuckooormolu_result
+cuckooormolu_monitor_read_terms_within(struct cuckooormolu *m,
+                                       const void *text, size_t length,
+                                       void *buffer, size_t room, size_t most,
+                                       size_t *line)
+{
+    if (m == NULL || text == NULL || length == 0 ||
+        *(const uint8_t *)text != 'S')
+        return cuckooormolu_monitor_read_within(m, text, length, buffer, room,
+                                                most, line);
+    for (size_t i = 0; i < CUCKOOORMOLU_TERMS_WORDS; i++)
+        m->terms[i] = 0;
+    return cuckooormolu_told(CUCKOOORMOLU_REFUSED_FORM, 1, line);
+}
+
+/* How many bytes cuckooormolu_monitor_write takes. */
 CUCKOOORMOLU_USED static inline struct cuckooormolu_result
 cuckooormolu_monitor_size(const struct cuckooormolu *m, size_t *count)
 {
@@ -1389,6 +1595,9 @@ cuckooormolu_monitor_size(const struct cuckooormolu *m, size_t *count)
                              count);
 }
 
+/* Writes a terms file, of a monitor without a history only, since a terms file
+ * cannot hold one. *count is its count of bytes. */
+CUCKOOORMOLU_WRITES(2, 3)
 CUCKOOORMOLU_USED static inline struct cuckooormolu_result
 cuckooormolu_monitor_write(const struct cuckooormolu *m, void *output,
                            size_t length, size_t *count)
@@ -1397,6 +1606,7 @@ cuckooormolu_monitor_write(const struct cuckooormolu *m, void *output,
                               (uint8_t *)output, length, count);
 }
 
+/* How many bytes cuckooormolu_monitor_store takes. */
 CUCKOOORMOLU_USED static inline struct cuckooormolu_result
 cuckooormolu_monitor_store_size(const struct cuckooormolu *m, size_t *count)
 {
@@ -1404,6 +1614,10 @@ cuckooormolu_monitor_store_size(const struct cuckooormolu *m, size_t *count)
                                    CUCKOOORMOLU_STATE(m), count);
 }
 
+/* Writes a text from which cuckooormolu_monitor_read goes on. *count is its count
+ * of bytes: keep it, or a checksum, beside the text, for a text that is cut is
+ * often accepted, as another state. */
+CUCKOOORMOLU_WRITES(2, 3)
 CUCKOOORMOLU_USED static inline struct cuckooormolu_result
 cuckooormolu_monitor_store(const struct cuckooormolu *m, void *output,
                            size_t length, size_t *count)
@@ -1412,12 +1626,15 @@ cuckooormolu_monitor_store(const struct cuckooormolu *m, void *output,
                               (uint8_t *)output, length, count);
 }
 
+/* Whether the monitor would be accepted by a call. */
 CUCKOOORMOLU_USED static inline struct cuckooormolu_result
 cuckooormolu_monitor_check(const struct cuckooormolu *m)
 {
     return cuckooormolu_check(CUCKOOORMOLU_TERMS(m), CUCKOOORMOLU_STATE(m));
 }
 
+/* Starts afresh from the present relations: the past is lost. A terms file that
+ * is read is open already. */
 CUCKOOORMOLU_USED static inline struct cuckooormolu_result
 cuckooormolu_monitor_open(struct cuckooormolu *m)
 {
@@ -1427,7 +1644,9 @@ cuckooormolu_monitor_open(struct cuckooormolu *m)
 /*
  * The new terms are those that were read into `next`, another monitor. Done: its
  * state is the one with which they go on, and it is used in the place of `m`,
- * which is as lent. Where both are one monitor, it is refused with 6.
+ * which is unchanged. The monitor in force comes first: the other way round, its
+ * history would be overwritten by a fresh start. Where both are one monitor, it is
+ * refused with 6.
  */
 CUCKOOORMOLU_USED static inline struct cuckooormolu_result
 cuckooormolu_monitor_revise(const struct cuckooormolu *m,
@@ -1441,9 +1660,10 @@ cuckooormolu_monitor_revise(const struct cuckooormolu *m,
 /*
  * The members of `m` get new numbers in `next`, another monitor, which needs no
  * terms of its own. Done: `next` has the terms and the renumbered state, and is
- * used in the place of `m`, which is as lent. Refused: both are as lent. Where
- * both are one monitor, it is refused with 6.
+ * used in the place of `m`, which is unchanged. Refused: both are unchanged.
+ * Where both are one monitor, it is refused with 6.
  */
+CUCKOOORMOLU_READS(2, 3)
 CUCKOOORMOLU_USED static inline struct cuckooormolu_result
 cuckooormolu_monitor_renumber(const struct cuckooormolu *m,
                               const uint8_t *numbers, size_t length,
@@ -1458,6 +1678,8 @@ cuckooormolu_monitor_renumber(const struct cuckooormolu *m,
     return result;
 }
 
+/* What a request would be answered. It makes no moment, so a granted look permits
+ * nothing: make the request. */
 CUCKOOORMOLU_USED static inline struct cuckooormolu_result
 cuckooormolu_monitor_look(const struct cuckooormolu *m, size_t event,
                           size_t from, size_t to)
@@ -1466,6 +1688,8 @@ cuckooormolu_monitor_look(const struct cuckooormolu *m, size_t event,
                              CUCKOOORMOLU_SCRATCH(m), event, from, to);
 }
 
+/* Answers a request, and makes the next moment where it is granted, or denied and
+ * the event has a K line. Keep the state before you act on the answer. */
 CUCKOOORMOLU_USED static inline struct cuckooormolu_result
 cuckooormolu_monitor_request(struct cuckooormolu *m, size_t event,
                              size_t from, size_t to)
@@ -1474,14 +1698,32 @@ cuckooormolu_monitor_request(struct cuckooormolu *m, size_t event,
                                 CUCKOOORMOLU_SCRATCH(m), event, from, to);
 }
 
+/* The same, by numbers that cannot be confused:
+ * cuckooormolu_monitor_ask(&m, cuckooormolu_event(LOAD), cuckooormolu_from(1),
+ * cuckooormolu_to(2)). */
+CUCKOOORMOLU_USED static inline struct cuckooormolu_result
+cuckooormolu_monitor_ask(struct cuckooormolu *m,
+                         struct cuckooormolu_event_number event,
+                         struct cuckooormolu_from_number from,
+                         struct cuckooormolu_to_number to)
+{
+    return cuckooormolu_monitor_request(m, event.cuckooormolu_private,
+                                        from.cuckooormolu_private,
+                                        to.cuckooormolu_private);
+}
+
+/* Answers so many records, which is not how many bytes they have, each as a
+ * request in its place, and fills in their answers. *grants is how many were
+ * granted. */
+CUCKOOORMOLU_CHANGES(2, 3)
 CUCKOOORMOLU_USED static inline struct cuckooormolu_result
 cuckooormolu_monitor_set_list(struct cuckooormolu *m,
                               struct cuckooormolu_record *records,
-                              size_t length, size_t *count)
+                              size_t count, size_t *grants)
 {
     return cuckooormolu_set_list(CUCKOOORMOLU_TERMS(m), CUCKOOORMOLU_STATE(m),
-                                 CUCKOOORMOLU_SCRATCH(m), records, length,
-                                 count);
+                                 CUCKOOORMOLU_SCRATCH(m), records, count,
+                                 grants);
 }
 
 /* The entry that is the policy of an event, for a goal; where the terms have no
@@ -1495,6 +1737,7 @@ cuckooormolu_monitor_policy(const struct cuckooormolu *m, size_t event)
 }
 
 /* A plan as so many moves. A null game is refused with 6. */
+CUCKOOORMOLU_READS(3, 4)
 CUCKOOORMOLU_USED static inline struct cuckooormolu_ruling
 cuckooormolu_monitor_plan(const struct cuckooormolu *m,
                           struct cuckooormolu_game *game,
@@ -1509,6 +1752,7 @@ cuckooormolu_monitor_plan(const struct cuckooormolu *m,
                              length, planner, rival, goal, first, second);
 }
 
+/* Whether an entry holds at a pair at present. It permits nothing. */
 CUCKOOORMOLU_USED static inline struct cuckooormolu_fact
 cuckooormolu_monitor_tell(const struct cuckooormolu *m, size_t entry,
                           size_t first, size_t second)
@@ -1535,6 +1779,9 @@ cuckooormolu_monitor_tell(const struct cuckooormolu *m, size_t entry,
         CUCKOOORMOLU_SCRATCH_WORDS, CUCKOOORMOLU_PART(b, beside##_scratch), \
         CUCKOOORMOLU_SCRATCH_WORDS
 
+/* Reads a terms file into both; a stored text, which is one monitor's, is refused
+ * with 1 at line 1. */
+CUCKOOORMOLU_READS(2, 3)
 CUCKOOORMOLU_USED static inline struct cuckooormolu_result
 cuckooormolu_both_read(struct cuckooormolu_banks *b, const void *text,
                        size_t length, size_t *line)
@@ -1543,6 +1790,7 @@ cuckooormolu_both_read(struct cuckooormolu_banks *b, const void *text,
                                    CUCKOOORMOLU_BOTH(b), line);
 }
 
+/* Starts both afresh from the present relations: the past of each is lost. */
 CUCKOOORMOLU_USED static inline struct cuckooormolu_result
 cuckooormolu_both_open(struct cuckooormolu_banks *b)
 {
@@ -1552,7 +1800,8 @@ cuckooormolu_both_open(struct cuckooormolu_banks *b)
 /*
  * The new terms are those that were read into `next`, other banks. Done: they go
  * on with what is filled in there, and `next` is used in the place of `b`, which
- * is as lent. Where both are the same banks, it is refused with 6.
+ * is unchanged. The banks in force come first. Where both are the same banks, it
+ * is refused with 6.
  */
 CUCKOOORMOLU_USED static inline struct cuckooormolu_result
 cuckooormolu_both_revise(const struct cuckooormolu_banks *b,
@@ -1562,6 +1811,7 @@ cuckooormolu_both_revise(const struct cuckooormolu_banks *b,
                                      CUCKOOORMOLU_BOTH(next));
 }
 
+/* What a request of the bank would be answered; it permits nothing. */
 CUCKOOORMOLU_USED static inline struct cuckooormolu_result
 cuckooormolu_left_look(const struct cuckooormolu_banks *b, size_t event,
                        size_t from, size_t to)
@@ -1578,6 +1828,8 @@ cuckooormolu_right_look(const struct cuckooormolu_banks *b, size_t event,
                                    from, to);
 }
 
+/* Answers a request of the bank. Where it makes a moment, that is one of both:
+ * keep the whole struct before you act on the answer. */
 CUCKOOORMOLU_USED static inline struct cuckooormolu_result
 cuckooormolu_left_request(struct cuckooormolu_banks *b, size_t event,
                           size_t from, size_t to)
@@ -1594,22 +1846,25 @@ cuckooormolu_right_request(struct cuckooormolu_banks *b, size_t event,
                                       from, to);
 }
 
+/* Answers so many records, as cuckooormolu_monitor_set_list does. */
+CUCKOOORMOLU_CHANGES(2, 3)
 CUCKOOORMOLU_USED static inline struct cuckooormolu_result
 cuckooormolu_left_set_list(struct cuckooormolu_banks *b,
-                           struct cuckooormolu_record *records, size_t length,
-                           size_t *count)
+                           struct cuckooormolu_record *records, size_t count,
+                           size_t *grants)
 {
     return cuckooormolu_banks_set_list(CUCKOOORMOLU_BANK(b, left, right),
-                                       records, length, count);
+                                       records, count, grants);
 }
 
+CUCKOOORMOLU_CHANGES(2, 3)
 CUCKOOORMOLU_USED static inline struct cuckooormolu_result
 cuckooormolu_right_set_list(struct cuckooormolu_banks *b,
-                            struct cuckooormolu_record *records, size_t length,
-                            size_t *count)
+                            struct cuckooormolu_record *records, size_t count,
+                            size_t *grants)
 {
     return cuckooormolu_banks_set_list(CUCKOOORMOLU_BANK(b, right, left),
-                                       records, length, count);
+                                       records, count, grants);
 }
 
 #undef CUCKOOORMOLU_PART
@@ -1622,6 +1877,9 @@ cuckooormolu_right_set_list(struct cuckooormolu_banks *b,
 #undef CUCKOOORMOLU_BANK
 #undef CUCKOOORMOLU_ASSERT
 #undef CUCKOOORMOLU_USED
+#undef CUCKOOORMOLU_READS
+#undef CUCKOOORMOLU_WRITES
+#undef CUCKOOORMOLU_CHANGES
 #undef CUCKOOORMOLU_RETAINED
 
 #ifdef __cplusplus

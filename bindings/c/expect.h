@@ -9,6 +9,13 @@
 
 static int failed;
 
+/* A length that the compiler does not know: it warns of memory that is shorter. */
+static inline size_t unseen(size_t length)
+{
+    volatile size_t hidden = length;
+    return hidden;
+}
+
 #define EXPECT(fact)                                                \
     do {                                                            \
         if (!(fact)) {                                              \

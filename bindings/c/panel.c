@@ -33,14 +33,15 @@
 #include <sys/file.h>
 #include <unistd.h>
 
-/* They take less than 0.1 s, which is how long a player may wait for an answer. */
+/* They take less than 0.1 s on x86-64, which is how long a player may wait for an
+ * answer. */
 #define MOST_ROWS 1000000
 
 #define HEAD_BYTES 64
 #define STATE "state"
 #define STATE_NEW "state.new"
 #define UNKEPT "the state could not be kept"
-#define UNTOLD "an answer could not be told"
+#define UNTOLD "an answer could not be written"
 
 static struct cuckooormolu monitor;
 
@@ -57,6 +58,13 @@ static int fail(int code, const char *what)
 {
     fprintf(stderr, "panel: %s\n", what);
     return code;
+}
+
+/* The same of a file or folder that the system does not give. */
+static int fail_at(const char *name)
+{
+    fprintf(stderr, "panel: %s: %s\n", name, strerror(errno));
+    return 2;
 }
 
 /* CRC-32, that of Ethernet and zip. */
@@ -108,7 +116,9 @@ static ssize_t contents(int from, const char *name)
             break;
         length += count < 0 ? 0 : (size_t)count;
     }
+    int error = errno;
     close(file);
+    errno = error;
     return count < 0 ? -1 : (ssize_t)length;
 }
 
@@ -142,12 +152,14 @@ static bool keep(void)
 static int begin(const char *terms)
 {
     if (faccessat(folder, STATE, F_OK, 0) == 0 || errno != ENOENT)
-        return fail(2, "the folder has a state already");
+        return fail(2, "the folder has a state already: go on without TERMS");
     ssize_t length = contents(AT_FDCWD, terms);
     if (length < 0)
-        return fail(2, "the terms can't be read");
+        return fail_at(terms);
+    size_t line;
     struct cuckooormolu_result result = cuckooormolu_monitor_read_within(
-        &monitor, bytes, (size_t)length, buffer, sizeof buffer, MOST_ROWS, NULL);
+        &monitor, bytes, (size_t)length, buffer, sizeof buffer, MOST_ROWS,
+        &line);
     if (cuckooormolu_costly(result)) {
         fprintf(stderr,
                 "panel: a request by these terms may work out more than the "
@@ -156,31 +168,44 @@ static int begin(const char *terms)
                 MOST_ROWS);
         return 2;
     }
-    if (!cuckooormolu_done(result))
-        return fail(2, "the terms are refused");
+    if (!cuckooormolu_done(result)) {
+        fprintf(stderr, "panel: %s, line %zu: %s\n", terms, line,
+                cuckooormolu_words(result));
+        return 2;
+    }
     return keep() ? 0 : fail(1, UNKEPT);
 }
 
-/* Goes on from what was kept. A file that was cut or changed is found by its
- * first line. The folder is synced, since a host that was stopped between the
- * last two steps may have left a name that is not on the disk. */
-static bool resume(void)
+/* Reads what was kept, of so many bytes. A file that was cut or changed is found
+ * by its first line. */
+static bool read_kept(size_t length)
 {
     char head[HEAD_BYTES];
-    ssize_t length = contents(folder, STATE);
-    if (length <= 0)
-        return false;
-    const uint8_t *end = memchr(bytes, '\n', (size_t)length);
+    const uint8_t *end = memchr(bytes, '\n', length);
     if (end == NULL)
         return false;
     const uint8_t *text = end + 1;
     size_t first = (size_t)(text - bytes);
-    size_t rest = (size_t)length - first;
+    size_t rest = length - first;
     return head_of(text, rest, head) == first &&
            memcmp(head, bytes, first) == 0 &&
            cuckooormolu_done(
-               cuckooormolu_monitor_read(&monitor, text, rest, NULL)) &&
-           fsync(folder) == 0;
+               cuckooormolu_monitor_read(&monitor, text, rest, NULL));
+}
+
+/* Goes on from what was kept. The folder is synced, since a host that was stopped
+ * between the last two steps may have left a name that is not on the disk. */
+static int resume(void)
+{
+    ssize_t length = contents(folder, STATE);
+    if (length < 0 && errno == ENOENT)
+        return fail(2, "the folder has no state: begin with TERMS");
+    if (length < 0)
+        return fail_at(STATE);
+    if (!read_kept((size_t)length))
+        return fail(2, "the state was cut or changed: put a copy of the file "
+                       "back, or begin in another folder");
+    return fsync(folder) == 0 ? 0 : fail_at(STATE);
 }
 
 static bool tell(const char *form, ...)
@@ -240,11 +265,12 @@ int main(int argc, char **argv)
     if (argc < 2 || argc > 3)
         return fail(2, "usage: panel FOLDER [TERMS]");
     folder = open(argv[1], O_RDONLY | O_DIRECTORY | O_CLOEXEC);
-    if (folder < 0 || flock(folder, LOCK_EX | LOCK_NB) != 0)
-        return fail(2, "there is no such folder, or another host has it");
+    if (folder < 0)
+        return fail_at(argv[1]);
+    if (flock(folder, LOCK_EX | LOCK_NB) != 0)
+        return fail(2, "another host has the folder: stop it first");
     if (argc == 3)
         return begin(argv[2]);
-    if (!resume())
-        return fail(2, "the folder has no whole state");
-    return serve();
+    int code = resume();
+    return code == 0 ? serve() : code;
 }

@@ -59,8 +59,41 @@ refuses() {
     echo "ok   ${1##*/}: costly terms are refused"
 }
 
+# says HOST WORDS ARGUMENT...: it ends with 2 and says the words.
+says() {
+    program=$1 words=$2 code=0
+    shift 2
+    timeout 10 "$program" "$@" </dev/null 2>"$work/said" || code=$?
+    if [ "$code" -ne 2 ] || ! grep -q "$words" "$work/said"; then
+        echo "FAIL ${program##*/}: does not say \`$words\` (status $code)"
+        cat "$work/said"
+        exit 1
+    fi
+}
+
+# explains HOST: what stops it is said with its place or a cure, one cause in one message.
+explains() {
+    mkdir "$work/run"
+    printf 'M\t3\nX\n' >"$work/faulty.tsv"
+    printf 'M\t1\nL\t0\t1\nF\t0\ttop\t0\t0\nP\t0\t0\n' >"$work/terms.tsv"
+    says "$1" "$work/faulty.tsv, line 2: unknown kind" "$work/run" "$work/faulty.tsv"
+    says "$1" "$work/none.tsv: No such file" "$work/run" "$work/none.tsv"
+    says "$1" "$work/none: No such file" "$work/none"
+    says "$1" 'no state: begin with TERMS' "$work/run"
+    if command -v flock >/dev/null; then
+        says flock 'another host has the folder' "$work/run" "$1" "$work/run"
+    fi
+    "$1" "$work/run" "$work/terms.tsv"
+    says "$1" 'a state already: go on without TERMS' "$work/run" "$work/terms.tsv"
+    echo >>"$work/run/state"
+    says "$1" 'cut or changed: put a copy' "$work/run"
+    rm -r "$work/run"
+    echo "ok   ${1##*/}: what stops it is explained"
+}
+
 for host in "$work/panel" "$@"; do
     refuses "$host"
+    explains "$host"
     mkdir "$work/run"
     timeout 120 "$work/power" "$host" "$work/stub.so" "$work/run"
     rm -r "$work/run"

@@ -280,14 +280,16 @@ static void nulls(void)
 
     EXPECT_REFUSED(FORM, cuckooormolu_monitor_read(&m, NULL, 0, &line));
     EXPECT(line == 1);
-    EXPECT_REFUSED(FORM, cuckooormolu_monitor_read(&m, NULL, 9, NULL));
+    EXPECT_REFUSED(FORM, cuckooormolu_monitor_read(&m, NULL, unseen(9), NULL));
     EXPECT(
         cuckooormolu_done(cuckooormolu_monitor_read(&m, text, length, NULL)));
     EXPECT(cuckooormolu_done(cuckooormolu_monitor_size(&m, NULL)));
     EXPECT_REFUSED(SHORT, cuckooormolu_monitor_write(&m, NULL, 0, NULL));
-    EXPECT_REFUSED(SHORT, cuckooormolu_monitor_write(&m, NULL, 99, &count));
+    EXPECT_REFUSED(
+        SHORT, cuckooormolu_monitor_write(&m, NULL, unseen(99), &count));
     EXPECT(cuckooormolu_done(cuckooormolu_monitor_store_size(&m, NULL)));
-    EXPECT_REFUSED(SHORT, cuckooormolu_monitor_store(&m, NULL, 999, &count));
+    EXPECT_REFUSED(
+        SHORT, cuckooormolu_monitor_store(&m, NULL, unseen(999), &count));
     EXPECT(cuckooormolu_done(
         cuckooormolu_monitor_write(&m, output, sizeof output, NULL)));
 

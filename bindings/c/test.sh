@@ -99,7 +99,8 @@ run_tests() {
     silent test_overlap.c "overlapping memory" "$@"
     silent test_revise.c "new terms while playing" "$@"
     silent test_renumber.c "members renumbered" "$@"
-    silent test_within.c "terms of strangers" "$@"
+    silent test_within.c "untrusted terms" "$@"
+    silent test_stack.c "the stack by the terms" "$@" -pthread
     silent test_pairs.c "a past of three members" "$@"
     silent test_plans.c "plans against a rival" "$@"
     silent test_banks.c "two banks" "$@"

@@ -88,7 +88,7 @@ static void reading(void)
     EXPECT(line == 2);
     EXPECT_REFUSED(FORM, cuckooormolu_both_read(&b, "S\t2\nM\t3\n", 8, &line));
     EXPECT(line == 1);
-    EXPECT_REFUSED(FORM, cuckooormolu_both_read(&b, NULL, 9, &line));
+    EXPECT_REFUSED(FORM, cuckooormolu_both_read(&b, NULL, unseen(9), &line));
     EXPECT(line == 1 && unchanged(&before));
     EXPECT_REFUSED(SHORT, cuckooormolu_both_read(NULL, text, 1, &line));
     EXPECT(line == 0);
@@ -213,7 +213,8 @@ static void set_lists(void)
     EXPECT(cuckooormolu_done(cuckooormolu_left_set_list(&b, records, 1, NULL)));
     EXPECT(cuckooormolu_answer_denied(records[0].answer));
     EXPECT(unchanged(&single));
-    EXPECT(cuckooormolu_done(cuckooormolu_left_set_list(&b, NULL, 9, &count)));
+    EXPECT(cuckooormolu_done(
+        cuckooormolu_left_set_list(&b, NULL, unseen(9), &count)));
     EXPECT(count == 0);
 }
 

@@ -96,8 +96,8 @@ static void empty_list(void)
     EXPECT(
         cuckooormolu_done(cuckooormolu_monitor_set_list(&m, NULL, 0, &count)));
     EXPECT(count == 0);
-    EXPECT(
-        cuckooormolu_done(cuckooormolu_monitor_set_list(&m, NULL, 9, NULL)));
+    EXPECT(cuckooormolu_done(
+        cuckooormolu_monitor_set_list(&m, NULL, unseen(9), NULL)));
     m.terms[0] = 0;
     EXPECT_REFUSED(TERMS, cuckooormolu_monitor_set_list(&m, NULL, 0, &count));
     EXPECT_REFUSED(SHORT, cuckooormolu_monitor_set_list(NULL, NULL, 0, NULL));

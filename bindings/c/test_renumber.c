@@ -235,7 +235,7 @@ static void nulls(void)
     EXPECT_REFUSED(SHORT,
                    cuckooormolu_monitor_renumber(NULL, forth, MEMBERS, &next));
     EXPECT_REFUSED(NUMBERS,
-                   cuckooormolu_monitor_renumber(&m, NULL, MEMBERS, &next));
+                   cuckooormolu_monitor_renumber(&m, NULL, unseen(MEMBERS), &next));
     EXPECT_REFUSED(SHORT,
                    cuckooormolu_renumber(NULL, TERMS, m.state, STATE, forth,
                                          MEMBERS, next.state, STATE));

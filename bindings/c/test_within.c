@@ -1,6 +1,6 @@
 /*
- * Terms of strangers: what a request by them may take is asked before their state
- * is opened. It is compiled as C and as C++, and prints nothing where all of it
+ * Untrusted terms: what a request by them may take is asked before their state is
+ * opened, and no past of theirs is believed. It is compiled as C and as C++, and prints nothing where all of it
  * holds.
  */
 #include "cuckooormolu.h"
@@ -134,6 +134,52 @@ static void stored_ones(void)
     EXPECT(is_blank(&m));
 }
 
+/* How many rows costly terms may take can be asked of what is in the buffer. */
+static void how_costly(void)
+{
+    size_t effort = cuckooormolu_monitor_effort(&plain);
+    EXPECT(cuckooormolu_costly(cuckooormolu_monitor_read_within(
+        &m, text, length, buffer, sizeof buffer, effort - 1, NULL)));
+    EXPECT(cuckooormolu_done(
+        cuckooormolu_monitor_read(&m, buffer, 4 + length, NULL)));
+    EXPECT(cuckooormolu_monitor_effort(&m) == effort);
+}
+
+/* A terms file is read as by the other; a stored text is refused, with the terms
+ * that were there. */
+static void terms_only(void)
+{
+    static char stored[1024];
+    size_t size = 0;
+    size_t line = 77;
+    EXPECT(cuckooormolu_done(
+        cuckooormolu_monitor_store(&plain, stored, sizeof stored, &size)));
+    EXPECT(cuckooormolu_done(
+        cuckooormolu_monitor_read(&plain, text, length, NULL)));
+    EXPECT(cuckooormolu_done(cuckooormolu_monitor_read_terms_within(
+        &m, text, length, buffer, sizeof buffer, 1000, &line)));
+    EXPECT(line == 0 && same_words(&m, &plain));
+    EXPECT_REFUSED(FORM, cuckooormolu_monitor_read_terms_within(
+                             &m, stored, size, buffer, sizeof buffer, 1000,
+                             &line));
+    EXPECT(line == 1 && is_blank(&m));
+    EXPECT(cuckooormolu_costly(cuckooormolu_monitor_read_terms_within(
+        &m, text, length, buffer, sizeof buffer, 0, &line)));
+    EXPECT(line == 0 && is_blank(&m));
+    EXPECT_REFUSED(FORM, cuckooormolu_monitor_read_terms_within(
+                             &m, NULL, unseen(9), buffer, sizeof buffer, 9,
+                             &line));
+    EXPECT(line == 1);
+    EXPECT_REFUSED(FORM,
+                   cuckooormolu_monitor_read_terms_within(
+                       &m, "", 0, buffer, sizeof buffer, 9, &line));
+    EXPECT(line == 1);
+    EXPECT_REFUSED(SHORT,
+                   cuckooormolu_monitor_read_terms_within(
+                       NULL, stored, size, buffer, sizeof buffer, 9, &line));
+    EXPECT(line == 0);
+}
+
 /* Whatever is refused is refused as by a reading, at the same line. */
 static void refused_ones(void)
 {
@@ -168,15 +214,15 @@ static void short_ones(void)
     EXPECT_REFUSED(SHORT, cuckooormolu_monitor_read_within(
                               &m, text, length, buffer, 3, 9, NULL));
     EXPECT_REFUSED(SHORT, cuckooormolu_monitor_read_within(
-                              &m, text, SIZE_MAX, buffer, 3, 9, NULL));
+                              &m, text, unseen(SIZE_MAX), buffer, 3, 9, NULL));
     EXPECT_REFUSED(SHORT, cuckooormolu_monitor_read_within(
-                              &m, text, length, NULL, 9999, 9, NULL));
+                              &m, text, length, NULL, unseen(9999), 9, NULL));
     EXPECT_REFUSED(SHORT,
                    cuckooormolu_monitor_read_within(
                        NULL, text, length, buffer, sizeof buffer, 9, NULL));
     EXPECT_REFUSED(FORM,
                    cuckooormolu_monitor_read_within(
-                       &m, NULL, 9, buffer, sizeof buffer, 9, &line));
+                       &m, NULL, unseen(9), buffer, sizeof buffer, 9, &line));
     EXPECT(line == 1);
     memcpy(buffer + 2, text, length);
     EXPECT_REFUSED(SHORT,
@@ -197,8 +243,10 @@ int main(void)
 {
     by_hand();
     at_the_bound();
+    how_costly();
     long_ones();
     stored_ones();
+    terms_only();
     refused_ones();
     short_ones();
     return failed;

@@ -61,6 +61,15 @@ compiling not "nor an answer's words of a call" "if (*cuckooormolu_answer_words(
 compiling not "nor an answer's predicate of a call" "if (cuckooormolu_answer_granted($call)) $then" "$@"
 compiling not "nor one that is not looked at" "cuckooormolu_answer_granted(r->answer);" "$@"
 
+ask() { echo "if (cuckooormolu_granted(cuckooormolu_monitor_ask(m, $1))) $then"; }
+event='cuckooormolu_event(0)' from='cuckooormolu_from(0)' to='cuckooormolu_to(0)'
+compiling ok "a request by numbers of three kinds compiles" "$(ask "$event, $from, $to")" "$@"
+compiling not "initiator and target confused do not" "$(ask "$event, $to, $from")" "$@"
+compiling not "nor a member as the event" "$(ask "$from, $event, $to")" "$@"
+compiling not "nor plain numbers" "$(ask '0, 0, 0')" "$@"
+compiling not "nor a request without its target" "$(ask "$event, $from")" "$@"
+compiling not "nor one that is not looked at" "cuckooormolu_monitor_ask(m, $event, $from, $to);" "$@"
+
 plan='cuckooormolu_monitor_plan(m, NULL, NULL, 0, 0, 1, 0, 0, 0)'
 tell='cuckooormolu_monitor_tell(m, 0, 0, 0)'
 compiling ok "a plan that is asked for compiles" "if (cuckooormolu_accepted($plan)) $then" "$@"
@@ -91,6 +100,8 @@ compiling ok "and whether its terms are costly" "if (cuckooormolu_costly($within
 compiling not "a bounded reading as a truth value does not" "if ($within) $then" "$@"
 compiling not "nor one that is not looked at" "$within;" "$@"
 compiling not "nor a question about it that is not looked at" "cuckooormolu_costly($within);" "$@"
+compiling not "nor a reading of terms only" \
+    'cuckooormolu_monitor_read_terms_within(m, "", 0, NULL, 0, 1, NULL);' "$@"
 compiling ok "an effort that is compared compiles" "if (cuckooormolu_monitor_effort(m) < 9) $then" "$@"
 compiling not "an effort that is not looked at does not" "cuckooormolu_monitor_effort(m);" "$@"
 
@@ -120,6 +131,30 @@ compiling not "nor a request of banks that may only be read" "const struct cucko
     if (cuckooormolu_granted(cuckooormolu_left_request(c, 0, 0, 0))) $then" "$@"
 compiling ok "a look at them compiles" "const struct cuckooormolu_banks *c = b;
     if (cuckooormolu_granted(cuckooormolu_left_look(c, 0, 0, 0))) $then" "$@"
+
+# What only gcc finds: memory that is shorter than the count beside it says.
+if echo '#if !defined __clang__ && __GNUC__ >= 10
+yes
+#endif' | "$1" -E -P -xc - | grep -q yes; then
+    list='struct cuckooormolu_record s[2] = {*r, *r}; if (cuckooormolu_done('
+    for call in cuckooormolu_monitor_set_list:m cuckooormolu_left_set_list:b cuckooormolu_right_set_list:b; do
+        over="${call%:*}(${call#*:}, s,"
+        compiling ok "${call%:*} with a count of records compiles" "$list$over 2, NULL))) $then" "$@"
+        compiling not "with a count of bytes it does not" "$list$over sizeof s, NULL))) $then" "$@"
+    done
+    room='char s[9] = {0}; if (cuckooormolu_done('
+    for over in 'cuckooormolu_monitor_store(m, s,%, NULL)' 'cuckooormolu_monitor_write(m, s,%, NULL)' \
+        'cuckooormolu_monitor_read(m, s,%, NULL)' 'cuckooormolu_both_read(b, s,%, NULL)' \
+        'cuckooormolu_monitor_read_within(m, s,%, NULL, 0, 9, NULL)' \
+        'cuckooormolu_monitor_read_terms_within(m, NULL, 0, s,%, 9, NULL)'; do
+        compiling ok "${over%%(*} within its memory compiles" "$room${over%%%*} sizeof s${over#*%})) $then" "$@"
+        compiling not "beyond it it does not" "$room${over%%%*} 10${over#*%})) $then" "$@"
+    done
+    compiling not "nor a list of new numbers that is longer than it is" \
+        "$lists if (cuckooormolu_done(cuckooormolu_monitor_renumber(m, numbers, 3, &next))) *m = next;" "$@"
+else
+    echo "skip traps of $1: lengths beyond a memory, which gcc 10 finds"
+fi
 
 # body NAME: the standard input as the body of a host.
 body() {

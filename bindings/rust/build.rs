@@ -1,7 +1,7 @@
 //! Links the archive `libcuckooormolu.a`. Its folder is that of the environment
 //! variable CUCKOOORMOLU_LIB, or `target/staticlib` of the repository. Where no
 //! folder is named, the library may be compiled from its C file instead, for any
-//! machine. The archive that is proved is machine code for x86-64 Linux; where
+//! machine: CUCKOOORMOLU_C names the folder of that. The archive that is proved is machine code for x86-64 Linux; where
 //! another one is named for another target, CUCKOOORMOLU_ANY_TARGET says so.
 
 mod build_from_c;
@@ -16,10 +16,17 @@ const ARCHIVE: &str = "libcuckooormolu.a";
 
 fn main() {
     println!("cargo::rerun-if-env-changed={VARIABLE}");
+    println!("cargo::rustc-check-cfg=cfg(from_c)");
     println!("cargo::rerun-if-env-changed={ANY_TARGET}");
+    println!("cargo::rerun-if-env-changed={}", build_from_c::VARIABLE);
     let named = env::var_os(VARIABLE).map(PathBuf::from);
+    if named.is_some() && env::var_os(build_from_c::VARIABLE).is_some() {
+        let ignored = build_from_c::VARIABLE;
+        println!("cargo::warning={ignored} is ignored, since {VARIABLE} names an archive");
+    }
     if named.is_none() {
         if let Some(folder) = build_from_c::compiled(&default().join(ARCHIVE)) {
+            println!("cargo::rustc-cfg=from_c");
             return link(&folder);
         }
     }

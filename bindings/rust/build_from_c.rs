@@ -4,7 +4,8 @@ use std::env;
 use std::path::{Path, PathBuf};
 use std::process::Command;
 
-const VARIABLE: &str = "CUCKOOORMOLU_C";
+/// Names the folder of the C file.
+pub const VARIABLE: &str = "CUCKOOORMOLU_C";
 const SOURCE: &str = "cuckooormolu.c";
 const HEADER: &str = "cuckooormolu.h";
 
@@ -12,7 +13,7 @@ const HEADER: &str = "cuckooormolu.h";
 /// file is that of the folder CUCKOOORMOLU_C; where no folder is named and there is no archive,
 /// one beside the build script or in `target/amalgamation`. None where there is no such file.
 pub fn compiled(archive: &Path) -> Option<PathBuf> {
-    for name in [VARIABLE, "CC", "AR"] {
+    for name in ["CC", "AR"] {
         println!("cargo::rerun-if-env-changed={name}");
     }
     let folder = match env::var_os(VARIABLE) {
@@ -21,10 +22,14 @@ pub fn compiled(archive: &Path) -> Option<PathBuf> {
         None => ["", "../../target/amalgamation"]
             .map(|folder| Path::new(&variable("CARGO_MANIFEST_DIR")).join(folder))
             .into_iter()
-            .find(|folder| folder.join(SOURCE).is_file())?,
+            .find(|folder| [SOURCE, HEADER].iter().all(|file| folder.join(file).is_file()))?,
     };
     for file in [SOURCE, HEADER] {
         println!("cargo::rerun-if-changed={}", folder.join(file).display());
+        if !folder.join(file).is_file() {
+            println!("cargo::error=no {file} in {VARIABLE}={}", folder.display());
+            return Some(folder);
+        }
     }
     let out = PathBuf::from(variable("OUT_DIR"));
     let object = out.join("cuckooormolu.o");

@@ -61,6 +61,19 @@ if refused env CUCKOOORMOLU_ANY_TARGET=1; then
 fi
 echo "ok   no crate for another machine"
 
+# A folder without the C file is named, and one beside an archive is said to be ignored.
+wanted="no cuckooormolu.c in CUCKOOORMOLU_C=$PWD"
+if ! env -u CUCKOOORMOLU_LIB CUCKOOORMOLU_C="$PWD" cargo check --quiet -p cuckooormolu 2>&1 | grep -q "$wanted"; then
+    echo "FAIL a folder without the C file is not named"
+    exit 1
+fi
+wanted="CUCKOOORMOLU_C is ignored"
+if ! CUCKOOORMOLU_LIB="$library" CUCKOOORMOLU_C="$PWD" cargo check -p cuckooormolu 2>&1 | grep -q "$wanted"; then
+    echo "FAIL nothing is said of a C file that is ignored"
+    exit 1
+fi
+echo "ok   which library is linked"
+
 if ! command -v objcopy >/dev/null; then
     echo "skip an archive of another version: no objcopy"
     exit 0

@@ -17,6 +17,12 @@ build cc cc -O3
 others=$(nm -u "$work/cc/cuckooormolu.o" | awk '$2 !~ /^(memcpy|memmove|memset)$/ { print $2 }')
 [ -z "$others" ] || { echo "FAIL cc: it needs $others" && exit 1; }
 hold cc "$inputs" "$wanted"
+# What portable/README.md shows, in a folder with nothing else.
+mkdir "$work/shown"
+cp "$folder/cuckooormolu.c" "$folder/cuckooormolu.h" "$folder/example.c" "$folder/request_line.h" "$work/shown"
+(cd "$work/shown" && cc -std=c11 -O2 -c cuckooormolu.c && cc -std=c11 -O2 -o host example.c cuckooormolu.o)
+(cd "$top/examples/preset" && "$work/shown/host" terms.tsv requests.tsv) | cmp - "$top/examples/preset/expected.tsv"
+echo 'ok   cc: the host beside the C file'
 quietly sh "$top/bindings/c/test.sh" "$work/cc/libcuckooormolu.a"
 echo 'ok   cc: bindings/c/test.sh'
 differ cc "$calls" "$files"

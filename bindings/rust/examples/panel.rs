@@ -33,7 +33,7 @@ extern "C" {
 const LOCK_EX: i32 = 2;
 const LOCK_NB: i32 = 4;
 
-/// They take less than 0.1 s, which is how long a player may wait for an answer.
+/// They take less than 0.1 s on x86-64, which is how long a player may wait for an answer.
 const MOST_ROWS: usize = 1_000_000;
 
 /// A folder that keeps one monitor, locked as long as it is open.
@@ -45,10 +45,10 @@ struct Folder {
 
 impl Folder {
     fn open(path: &Path) -> io::Result<Folder> {
-        let open = File::open(path)?;
+        let open = File::open(path).map_err(|error| at(path, error))?;
         // Safety: the descriptor is open.
         if unsafe { flock(open.as_raw_fd(), LOCK_EX | LOCK_NB) } != 0 {
-            return Err(io::Error::last_os_error());
+            return Err(io::Error::other("another host has the folder: stop it first"));
         }
         Ok(Folder { open, state: path.join("state"), next: path.join("state.new") })
     }
@@ -69,11 +69,17 @@ impl Folder {
     /// first line. The folder is synced, since a host that was stopped between
     /// the last two steps may have left a name that is not on the disk.
     fn resume(&self) -> io::Result<Monitor> {
-        let bytes = fs::read(&self.state)?;
+        let bytes = fs::read(&self.state).map_err(|error| match error.kind() {
+            io::ErrorKind::NotFound => {
+                io::Error::other("the folder has no state: begin with TERMS")
+            }
+            _ => at(&self.state, error),
+        })?;
         let end = bytes.iter().position(|&byte| byte == b'\n').map_or(0, |feed| feed + 1);
         let (head, text) = bytes.split_at(end);
         if head != head_of(text).as_bytes() {
-            return Err(io::Error::other("the state was cut or changed"));
+            let cure = "put a copy of the file back, or begin in another folder";
+            return Err(io::Error::other(format!("the state was cut or changed: {cure}")));
         }
         let monitor = Monitor::read(text).map_err(io::Error::other)?;
         self.open.sync_all()?;
@@ -83,16 +89,22 @@ impl Folder {
     /// The monitor of a terms text, where the folder has no state yet.
     fn begin(&self, terms: &Path) -> io::Result<Monitor> {
         if self.state.try_exists()? {
-            return Err(io::Error::other("the folder has a state already"));
+            return Err(io::Error::other("the folder has a state already: go on without TERMS"));
         }
-        Monitor::read_within(&fs::read(terms)?, MOST_ROWS).map_err(|error| match error {
+        let text = fs::read(terms).map_err(|error| at(terms, error))?;
+        Monitor::read_within(&text, MOST_ROWS).map_err(|error| match error {
             WithinError::Costly(rows) => io::Error::other(format!(
                 "a request by these terms may work out {rows} rows, and the limit is \
                  {MOST_ROWS}: change the part that `cuckooormolu check` names"
             )),
-            refused => io::Error::other(refused),
+            refused => io::Error::other(format!("{}, {refused}", terms.display())),
         })
     }
+}
+
+/// An error with the file or folder that the system does not give.
+fn at(path: &Path, error: io::Error) -> io::Error {
+    io::Error::other(format!("{}: {error}", path.display()))
 }
 
 /// The first line of the file that keeps a text.

@@ -54,8 +54,9 @@ pub struct BankStates {
 
 impl Banks {
     /// Reads a text of the old form, a terms file: both banks stand at its moment 0.
-    /// Terms of strangers are read by [`Monitor::read_within`](crate::Monitor::read_within)
-    /// first; a request of banks works out at most twice as many rows.
+    /// Untrusted terms are read by
+    /// [`Monitor::read_terms_within`](crate::Monitor::read_terms_within) first; a request
+    /// of banks works out at most twice as many rows.
     ///
     /// # Errors
     ///
@@ -208,7 +209,8 @@ pub struct Bank<'a> {
 
 impl Bank<'_> {
     /// Answers a request; a grant makes the next moment of both banks, and so
-    /// does a denial of an event whose denials are kept.
+    /// does a denial of an event whose denials are kept. `Ok` is not a grant: a denial
+    /// is an answer too.
     ///
     /// # Errors
     ///
@@ -225,7 +227,14 @@ impl Bank<'_> {
         )
     }
 
-    /// What [`Bank::request`] would answer; it makes no moment.
+    /// Makes a request, as [`Bank::request`] does, and says whether it is granted: a
+    /// denial and a refusal are a no.
+    #[must_use = "a request may be denied"]
+    pub fn grants(&mut self, request: Request) -> bool {
+        self.request(request) == Ok(Answer::Grant)
+    }
+
+    /// What [`Bank::request`] would answer; it makes no moment, so it permits nothing.
     ///
     /// # Errors
     ///

@@ -10,11 +10,12 @@
 //!   which entries nest; reading takes what opening does, and 33 KiB at least; of two
 //!   banks it takes 25 KiB more, any other call 3 KiB at most. Where the terms need a
 //!   memo (bindings/README.md, Stack), each takes 267 KiB more, at most 512 KiB.
-//!   Renumbering takes 18 KiB, storing 4 KiB. From the C file it is at most 1 MiB.
+//!   Renumbering takes 18 KiB, storing 4 KiB. From the C file it is at most 1.25 MiB.
+//!   [`Terms::stack`] tells it of given terms.
 //! * **Time**: measured, not proved. Terms can be written by which a request takes
 //!   minutes. Opening, a revision, and reading or writing a terms file may take as long
-//!   as a request. [`Terms::effort`] is a bound; [`Monitor::read_within`] reads terms of
-//!   strangers, and asks before it opens them.
+//!   as a request. [`Terms::effort`] is a bound; [`Monitor::read_terms_within`] reads
+//!   untrusted terms, and asks before it opens them. It does not bound the stack.
 //! * **Terms and states are plain words** that may be copied and kept. In a
 //!   file they have the machine's byte order, little-endian. A stored text
 //!   ([`Monitor::store`]) keeps the same for any machine, and for people.
@@ -24,7 +25,8 @@
 //! present relations and what the policies need of the past, and answers
 //! requests. A grant makes the next moment. A denied request changes nothing,
 //! unless its event is kept ([`Terms::keeps`]): then it makes a moment without
-//! effects. A refused request changes nothing.
+//! effects. A refused request changes nothing. `Ok` is not a grant, for a denial is
+//! an answer too: [`Monitor::grants`] is true only where a request is granted.
 //!
 //! ```
 //! use cuckooormolu::{Answer, Edge, Event, Member, Monitor, Relation, Request};
@@ -37,6 +39,7 @@
 //! assert_eq!(monitor.request(ask)?, Answer::Deny);
 //! assert_eq!(monitor.request(make)?, Answer::Grant);
 //! assert_eq!(monitor.look(ask)?, Answer::Grant);
+//! assert!(monitor.grants(ask));
 //! let edge = Edge { relation: Relation(0), from: Member(0), to: Member(2) };
 //! assert!(monitor.state().has_edge(edge));
 //! # Ok::<(), Box<dyn std::error::Error>>(())
@@ -74,11 +77,15 @@ mod banks;
 #[cfg(feature = "alloc")]
 mod entry;
 #[cfg(feature = "alloc")]
+mod fact;
+#[cfg(feature = "alloc")]
 mod monitor;
 #[cfg(feature = "alloc")]
 mod places;
 #[cfg(feature = "alloc")]
 mod record;
+#[cfg(feature = "alloc")]
+mod stack;
 #[cfg(feature = "alloc")]
 mod state;
 #[cfg(feature = "alloc")]
@@ -102,6 +109,7 @@ pub use refusal::Refusal;
 pub use {
     banks::{Bank, BankStates, Banks},
     entry::{Entry, Label},
+    fact::Fact,
     monitor::Monitor,
     record::Record,
     state::State,

@@ -1,7 +1,7 @@
 //! The monitor: terms, the present state, and scratch for its calls.
 
-use crate::{raw, Answer, Member, Plan, Record, Refusal, Request, Ruling, State, Terms, TextError};
-use crate::{WithinError, PLAN_WORDS, SCRATCH_WORDS};
+use crate::{raw, Answer, Fact, Member, Plan, Record, Refusal, Request, Ruling, State, Terms};
+use crate::{TextError, WithinError, PLAN_WORDS, SCRATCH_WORDS};
 use alloc::boxed::Box;
 use alloc::vec;
 use alloc::vec::Vec;
@@ -22,8 +22,8 @@ impl Monitor {
     /// Reads a text. The old form is a terms file, and stands at its moment 0; the
     /// stored form begins with a line `S 2`, and goes on from where it was stored.
     ///
-    /// The old form is opened, which may take as long as a request: terms of
-    /// strangers are read by [`Monitor::read_within`].
+    /// The old form is opened, which may take as long as a request: untrusted terms
+    /// are read by [`Monitor::read_terms_within`].
     ///
     /// # Errors
     ///
@@ -49,7 +49,9 @@ impl Monitor {
     /// ```
     ///
     /// It reads a text of the old form with a line `S 2` before it first. That is a
-    /// stored text with the same terms, and reading it opens nothing.
+    /// stored text with the same terms, and reading it opens nothing. The state of a
+    /// text that is stored itself is believed: for untrusted terms there is
+    /// [`Monitor::read_terms_within`].
     ///
     /// # Errors
     ///
@@ -65,6 +67,31 @@ impl Monitor {
             }
         }
         Ok(Monitor::read(text)?)
+    }
+
+    /// Reads a terms file as [`Monitor::read_within`] does, and no stored text, which
+    /// would bring a past of its own. This is how to read untrusted terms.
+    ///
+    /// ```
+    /// use cuckooormolu::{Monitor, WithinError};
+    ///
+    /// let monitor = Monitor::read(b"M\t2\nL\t0\t1\nF\t0\ttop\t0\t0\nP\t0\t0\n")?;
+    /// assert!(Monitor::read_terms_within(&monitor.write()?, 1_000_000).is_ok());
+    /// let error = Monitor::read_terms_within(&monitor.store(), 1_000_000).unwrap_err();
+    /// let WithinError::Refused(refused) = error else { panic!("{error}") };
+    /// assert_eq!((refused.refusal().number(), refused.line()), (1, 1));
+    /// # Ok::<(), Box<dyn std::error::Error>>(())
+    /// ```
+    ///
+    /// # Errors
+    ///
+    /// Those of [`Monitor::read_within`], and [`Refusal::Form`] at line 1 where the text
+    /// is a stored one.
+    pub fn read_terms_within(text: &[u8], most: usize) -> Result<Monitor, WithinError> {
+        if text.starts_with(b"S") {
+            return Err(TextError::new(Refusal::Form, 1, text).into());
+        }
+        Monitor::read_within(text, most)
     }
 
     /// Goes on from terms and a state kept earlier, once they are checked.
@@ -107,6 +134,21 @@ impl Monitor {
     /// Answers a request; a grant makes the next moment, and so does a denial
     /// of an event whose denials are kept.
     ///
+    /// `Ok` is not a grant: a denial is an answer too.
+    ///
+    /// ```
+    /// use cuckooormolu::{Event, Member, Monitor, Request};
+    ///
+    /// // Event 0 is for nobody.
+    /// let text = b"M\t2\nL\t0\t1\nF\t0\ttop\t0\t0\nF\t1\tnot\t0\t0\nP\t0\t1\n";
+    /// let mut monitor = Monitor::read(text)?;
+    /// let request = Request { event: Event(0), from: Member(0), to: Member(1) };
+    /// assert!(monitor.request(request).is_ok());
+    /// assert!(!monitor.request(request)?.is_grant());
+    /// assert!(!monitor.grants(request));
+    /// # Ok::<(), Box<dyn std::error::Error>>(())
+    /// ```
+    ///
     /// # Errors
     ///
     /// [`Refusal::NoSuchName`] where an event or member doesn't exist.
@@ -115,7 +157,25 @@ impl Monitor {
         raw::request(self.terms.words(), state, scratch, request.into())
     }
 
-    /// What [`Monitor::request`] would answer; it makes no moment.
+    /// Makes a request, as [`Monitor::request`] does, and says whether it is granted:
+    /// a denial and a refusal are a no.
+    ///
+    /// ```compile_fail
+    /// #![deny(unused_must_use)]
+    /// # use cuckooormolu::{Monitor, Request};
+    /// # fn load() {}
+    /// fn host(monitor: &mut Monitor, request: Request) {
+    ///     monitor.grants(request);
+    ///     load();
+    /// }
+    /// ```
+    #[must_use = "a request may be denied"]
+    pub fn grants(&mut self, request: Request) -> bool {
+        self.request(request) == Ok(Answer::Grant)
+    }
+
+    /// What [`Monitor::request`] would answer; it makes no moment, so it permits
+    /// nothing.
     ///
     /// # Errors
     ///
@@ -235,12 +295,12 @@ impl Monitor {
     /// the second. It makes no moment, and permits nothing.
     ///
     /// ```
-    /// use cuckooormolu::{Member, Monitor, Refusal};
+    /// use cuckooormolu::{Fact, Member, Monitor, Refusal};
     ///
     /// let text = b"M\t2\nL\t0\t1\nF\t0\tvar\t0\t0\nF\t1\tvar\t1\t0\nP\t0\t0\n";
     /// let monitor = Monitor::read(text)?;
-    /// assert_eq!(monitor.tell(0, Member(1), Member(1)), Ok(true));
-    /// assert_eq!(monitor.tell(0, Member(1), Member(0)), Ok(false));
+    /// assert_eq!(monitor.tell(0, Member(1), Member(1)), Ok(Fact::Holds));
+    /// assert_eq!(monitor.tell(0, Member(1), Member(0)), Ok(Fact::Fails));
     /// assert_eq!(monitor.tell(1, Member(1), Member(1)), Err(Refusal::NoGame));
     /// # Ok::<(), cuckooormolu::TextError>(())
     /// ```
@@ -249,9 +309,10 @@ impl Monitor {
     ///
     /// [`Refusal::NoGame`] where there is no such entry or it has a free variable
     /// other than 0, and then [`Refusal::NoSuchName`] where a member doesn't exist.
-    pub fn tell(&self, entry: usize, first: Member, second: Member) -> Result<bool, Refusal> {
+    pub fn tell(&self, entry: usize, first: Member, second: Member) -> Result<Fact, Refusal> {
         let (terms, state) = (self.terms.words(), self.state.words());
-        raw::tell(terms, state, entry, first.into(), second.into())
+        let holds = raw::tell(terms, state, entry, first.into(), second.into())?;
+        Ok(if holds { Fact::Holds } else { Fact::Fails })
     }
 
     /// Gives the members new numbers, byte m of the list being that of member m.
@@ -340,6 +401,7 @@ impl Monitor {
     /// # Panics
     ///
     /// Never: a monitor's terms and state have passed the checks.
+    #[must_use = "what is stored is to be kept"]
     pub fn store(&self) -> Vec<u8> {
         let (terms, state) = (self.terms.words(), self.state.words());
         let mut output = vec![0; raw::store_size(terms, state).expect(CHECKED)];

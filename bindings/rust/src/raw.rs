@@ -3,8 +3,9 @@
 //!
 //! Each accepts every input: memory of any length with anything in it, and
 //! any numbers. So all of them are safe to call. A refusal leaves every
-//! memory as lent, but that the records of a set list have no answers then, and
-//! words beyond the named ones are never touched.
+//! memory unchanged, except that the records of a set list have no answers then, and
+//! words beyond the named ones are never touched. `Ok` is not a grant: a denial is an
+//! answer too.
 //!
 //! Nothing here allocates: without the feature `alloc` this module is what the
 //! crate has.
@@ -278,7 +279,7 @@ pub fn look(
 
 /// Answers a request. A grant, or a denial of an event whose denials are kept,
 /// makes the next moment and leaves the named words of scratch 0; anything else
-/// leaves state and scratch as lent.
+/// leaves state and scratch unchanged.
 ///
 /// # Errors
 ///

@@ -22,8 +22,15 @@ impl Record {
         Request { event: Event(event as u8), from: Member(from as u8), to: Member(to as u8) }
     }
 
+    /// Whether a set list has granted it: a denial, a refusal and no answer are a no.
+    #[must_use = "a request that is decided may be denied"]
+    pub fn is_granted(&self) -> bool {
+        self.answer() == Some(Ok(Answer::Grant))
+    }
+
     /// What a single request would have been answered at the record's place in
-    /// the list; none as long as no set list has answered.
+    /// the list; none as long as no set list has answered. An answer is not a grant:
+    /// [`Record::is_granted`] is.
     #[must_use = "a request that is decided may be denied"]
     pub fn answer(&self) -> Option<Result<Answer, Refusal>> {
         self.0.answered()

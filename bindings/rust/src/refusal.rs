@@ -42,7 +42,7 @@ pub enum Refusal {
     PolicyVariables,
     /// 6: a memory shorter than its named words, or too short an output.
     TooShort,
-    /// 7: terms that no accepted text yields.
+    /// 7: terms that no accepted text yields: zeroed, never read into, or damaged.
     BadTerms,
     /// 8: a state that breaks the layout.
     BadState,
@@ -54,7 +54,7 @@ pub enum Refusal {
     /// 11: a stored text with a partly filled word in a table without a free
     /// variable.
     PartlyFilled,
-    /// 12: the old form of a state that is no fresh start of its relations.
+    /// 12: the old form of a state with a history.
     NotFresh,
     /// 13: new terms with another number of members, relations or events.
     OtherSize,
@@ -102,11 +102,13 @@ impl Refusal {
         match self {
             Refusal::Form => {
                 "unknown kind or word, line out of its order, wrong count of fields, ill-formed \
-                 number, no last line feed, or the text ends too soon"
+                 number, no last line feed, or the text ends too soon; `cuckooormolu check FILE` \
+                 says which; or a stored text where a terms file only is taken, as by two banks"
             }
             Refusal::Range => {
                 "number out of its range, non-zero unused field, more than 32 past-time entries, \
-                 more than 4 effects, or a label or entry that doesn't exist"
+                 more than 4 effects, or a label or entry that doesn't exist; `cuckooormolu check \
+                 FILE` says which"
             }
             Refusal::Operand => "operand not lower than its entry",
             Refusal::PastVariables => {
@@ -114,9 +116,17 @@ impl Refusal {
                  members"
             }
             Refusal::PolicyVariables => "policy with a free variable other than 0",
-            Refusal::TooShort => "memory shorter than its named words, or output too short",
-            Refusal::BadTerms => "terms that no accepted text yields",
-            Refusal::BadState => "state that breaks the memory layout",
+            Refusal::TooShort => {
+                "memory shorter than its named words, or output too short for the text, whose \
+                 size can be asked first"
+            }
+            Refusal::BadTerms => {
+                "no terms have been read into this monitor, or they were damaged: read them again"
+            }
+            Refusal::BadState => {
+                "state that is not one of these terms, or was damaged: go on from terms and state \
+                 that were kept together"
+            }
             Refusal::NoSuchName => "no such event or member",
             Refusal::ReachVariables => {
                 "reach whose variable is 0, whose first formula has another free variable, or \
@@ -124,7 +134,7 @@ impl Refusal {
             }
             Refusal::PartlyFilled => "partly filled word in a table without a free variable",
             Refusal::NotFresh => {
-                "state that is no fresh start, of which the old form would lose the past"
+                "the monitor has a history, which a terms file cannot hold: use store"
             }
             Refusal::OtherSize => "new terms with another number of members, relations or events",
             Refusal::NoGame => {

@@ -1,6 +1,7 @@
 //! Terms: what a terms file says, without its edges.
 
 use crate::places::*;
+use crate::stack::stack;
 use crate::table::variables;
 use crate::{raw, Entry, Event, Label, Member, Refusal, Relation, State, Variable, TERMS_WORDS};
 use alloc::boxed::Box;
@@ -73,11 +74,11 @@ impl Terms {
 
     /// How many rows a request may work out by these terms, at most: a row is one
     /// entry at one member. It is a bound by the shape of the terms alone, whatever
-    /// the relations are; [`MOST_EFFORT`](crate::MOST_EFFORT) stands for more, too. A
-    /// million rows take less than 0.1 s. A host that accepts terms of strangers
-    /// refuses those above a bound of its own. Reading them may take as long as a
-    /// request already: [`Monitor::read_within`](crate::Monitor::read_within) asks
-    /// before that.
+    /// the relations are; [`MOST_EFFORT`](crate::MOST_EFFORT) stands for more, too. On
+    /// x86-64 some 15 million rows take a second. It does not bound the stack. A host
+    /// that takes untrusted terms refuses those above a bound of its own. Reading them
+    /// may take as long as a request already:
+    /// [`Monitor::read_terms_within`](crate::Monitor::read_terms_within) asks before that.
     ///
     /// ```
     /// use cuckooormolu::*;
@@ -89,6 +90,21 @@ impl Terms {
     /// ```
     pub fn effort(&self) -> usize {
         raw::effort(self.words())
+    }
+
+    /// How many bytes of stack any call of a [`Monitor`](crate::Monitor) takes by these
+    /// terms; two banks take 32 KiB more. It is a bound above what was measured, and not
+    /// proved.
+    ///
+    /// ```
+    /// use cuckooormolu::*;
+    ///
+    /// let monitor = Monitor::read(b"M\t2\nL\t0\t1\nF\t0\ttop\t0\t0\nP\t0\t0\n")?;
+    /// assert!(monitor.terms().stack() < 64 << 10);
+    /// # Ok::<(), TextError>(())
+    /// ```
+    pub fn stack(&self) -> usize {
+        stack(self)
     }
 
     /// The members, rising.

@@ -77,6 +77,16 @@ fn relations_are_of_both_and_events_of_one() {
 }
 
 #[test]
+fn only_a_grant_of_a_bank_is_a_yes() {
+    let (mut banks, mut single) = (banks(), banks());
+    for request in [asked(3, 2, 1), asked(0, 0, 1), asked(9, 0, 1)] {
+        let granted = single.left().request(request) == Ok(Answer::Grant);
+        assert_eq!(banks.left().grants(request), granted);
+        assert_eq!(banks.states(), single.states());
+    }
+}
+
+#[test]
 fn a_moment_in_one_is_a_moment_in_the_other() {
     let mut banks = banks();
     assert_eq!(banks.left().request(asked(3, 2, 1)), Ok(Answer::Deny));

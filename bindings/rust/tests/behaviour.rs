@@ -496,6 +496,20 @@ fn defined(name: &str) -> usize {
     value.trim_end_matches(',').parse().expect(name)
 }
 
+/// A denial and a refusal are a no, and the moment is that of a request.
+#[test]
+fn only_a_grant_is_a_yes() {
+    let (mut asked, mut single) = (preset(), preset());
+    let share = Request { event: Event(0), from: Member(0), to: Member(1) };
+    let load = Request { event: Event(2), from: Member(1), to: Member(2) };
+    let nobody = Request { event: Event(3), ..load };
+    for (request, granted) in [(load, false), (share, true), (nobody, false), (load, true)] {
+        assert_eq!(asked.grants(request), granted);
+        assert_eq!(single.request(request) == Ok(Answer::Grant), granted);
+        assert_eq!(asked.state(), single.state());
+    }
+}
+
 #[test]
 fn the_c_header_has_the_same_numbers() {
     let version = ["MAJOR", "MINOR", "PATCH"]

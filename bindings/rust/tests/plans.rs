@@ -1,7 +1,7 @@
 //! Plans against a rival, and entries that are asked about.
 
-use cuckooormolu::{raw, Answer, Event, Member, Monitor, Move, Plan, Refusal, Request, Ruling};
-use cuckooormolu::{PLAN_WORDS, STATE_WORDS};
+use cuckooormolu::{raw, Answer, Event, Fact, Member, Monitor, Move, Plan, Refusal, Request};
+use cuckooormolu::{Ruling, PLAN_WORDS, STATE_WORDS};
 
 /// Event 0 takes a target that nobody has, event 1 does nothing, event 2 is never granted and its
 /// denials are kept. Entry 5 says that one has the target, entry 8 that one was denied event 2;
@@ -115,13 +115,13 @@ fn what_is_told_of_a_policy_is_what_a_look_is_answered() {
             for (from, to) in monitor.terms().members().zip([2, 0, 1].map(Member)) {
                 let answer = monitor.look(Request { event, from, to });
                 let told = monitor.tell(policy, from, to);
-                assert_eq!(answer.map(Answer::is_grant), told);
+                assert_eq!(answer.map(Answer::is_grant), told.map(Fact::holds));
             }
         }
         let _ = monitor.request(take);
     }
-    assert_eq!(monitor.tell(HAS, Member(1), Member(2)), Ok(true));
-    assert_eq!(monitor.tell(HAS, Member(2), Member(1)), Ok(false));
+    assert_eq!(monitor.tell(HAS, Member(1), Member(2)), Ok(Fact::Holds));
+    assert_eq!(monitor.tell(HAS, Member(2), Member(1)), Ok(Fact::Fails));
     assert_eq!(monitor.tell(OF_VARIABLE_1, Member(3), Member(0)), Err(Refusal::NoGame));
     assert_eq!(monitor.tell(HAS, Member(0), Member(3)), Err(Refusal::NoSuchName));
     assert_eq!(raw::tell(&[], &[], 0, 0, 0), Err(Refusal::TooShort));
@@ -143,7 +143,7 @@ fn is_won(monitor: &Monitor, plan: &Plan, made: usize) -> bool {
     let Some(&Move { event, to }) = plan.moves.get(made) else { return false };
     let mut after = monitor.clone();
     let _ = after.request(Request { event, from: plan.planner, to });
-    if after.tell(plan.goal, plan.pair.0, plan.pair.1).unwrap() {
+    if after.tell(plan.goal, plan.pair.0, plan.pair.1).unwrap().holds() {
         return true;
     }
     let terms = monitor.terms();

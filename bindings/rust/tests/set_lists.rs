@@ -41,11 +41,12 @@ fn a_set_list_answers_as_single_requests() {
     ];
     let (mut listed, mut single) = (preset(), preset());
     let mut records = requests.map(Record::new);
-    assert!(records.iter().all(|record| record.answer().is_none()));
+    assert!(records.iter().all(|record| record.answer().is_none() && !record.is_granted()));
     assert_eq!(listed.set_list(&mut records), 3);
     for (record, request) in records.iter().zip(requests) {
         assert_eq!(record.request(), request);
         assert_eq!(record.answer(), Some(single.request(request)));
+        assert_eq!(record.is_granted(), record.answer() == Some(Ok(Answer::Grant)));
     }
     assert_eq!(listed.state(), single.state());
 }

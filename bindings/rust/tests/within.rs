@@ -1,8 +1,8 @@
-//! Terms of strangers: what a request by them may take is asked before their state is
-//! opened.
+//! Untrusted terms: what a request by them may take is asked before their state is
+//! opened, and no past of theirs is believed.
 #![cfg(feature = "alloc")]
 
-use cuckooormolu::{raw, Event, Member, Monitor, Request, WithinError};
+use cuckooormolu::{raw, Event, Member, Monitor, Refusal, Request, WithinError};
 use cuckooormolu::{MOST_EFFORT, STATE_WORDS, TERMS_WORDS};
 use std::error::Error;
 use std::fmt::Write;
@@ -87,6 +87,22 @@ fn a_stored_text_goes_on() {
     assert!(plain.request(request).unwrap().is_grant());
     let within = Monitor::read_within(&plain.store(), 1_000_000).unwrap();
     assert_eq!((within.terms(), within.state()), (plain.terms(), plain.state()));
+}
+
+#[test]
+fn a_stored_text_is_no_terms_file() {
+    let plain = Monitor::read(&tabs(TERMS)).unwrap();
+    let within = Monitor::read_terms_within(&tabs(TERMS), 1_000).unwrap();
+    assert_eq!((within.terms(), within.state()), (plain.terms(), plain.state()));
+    assert!(matches!(
+        Monitor::read_terms_within(&tabs(TERMS), 0),
+        Err(WithinError::Costly(rows)) if rows == plain.terms().effort()
+    ));
+    for text in [plain.store(), b"S".to_vec(), Vec::new()] {
+        let error = Monitor::read_terms_within(&text, 1_000).unwrap_err();
+        let WithinError::Refused(refused) = error else { panic!("{error}") };
+        assert_eq!((refused.refusal(), refused.line()), (Refusal::Form, 1));
+    }
 }
 
 #[test]

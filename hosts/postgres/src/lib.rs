@@ -26,7 +26,7 @@ use std::ffi::CStr;
 pub const SCHEMA: &str = include_str!("../schema.sql");
 
 /// The most rows that a request by a circle's terms may work out, unless another limit is set. They take less than
-/// 0.1 s (bindings/README.md, Terms of strangers), while others of the circle wait at its lock; the costliest of
+/// 0.1 s (bindings/README.md, Untrusted terms), while others of the circle wait at its lock; the costliest of
 /// examples/ needs a quarter of them.
 pub const LIMIT: usize = 1_000_000;
 

@@ -9,7 +9,7 @@ impl Both {
     /// variable 0 standing for another.
     pub fn tell(&self, entry: usize, first: usize, second: usize) -> Result<bool, Stop> {
         let (one, other) = (first.try_into(), second.try_into());
-        let proved = one.and_then(|one| self.monitor.tell(entry, one, other?));
+        let proved = one.and_then(|one| Ok(self.monitor.tell(entry, one, other?)?.holds()));
         let now = self.record.graphs().len() - 1;
         let kept = self.record.holds(entry, now, first, Assigned::default().with(0, second));
         match proved {

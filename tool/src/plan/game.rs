@@ -62,7 +62,7 @@ fn turn(before: &proved::Monitor, plan: &Plan, made: usize) -> Result<Turn, Stop
     let mut monitor = before.clone();
     request(&mut monitor, plan.moves[made], plan.planner)?;
     let (first, second) = (member(plan.pair.0)?, member(plan.pair.1)?);
-    if monitor.tell(plan.goal, first, second).map_err(refused)? {
+    if monitor.tell(plan.goal, first, second).map_err(refused)?.holds() {
         return Ok(Turn::Reached(made + 1));
     }
     if made + 1 == plan.moves.len() {

@@ -143,7 +143,7 @@ pub fn banks_look(
 /// Answers a request of the bank. A grant, or a denial of an event whose denials
 /// are kept, makes the next moment of both banks, without an event edge in the
 /// other, and leaves the named words of both scratches 0; anything else leaves
-/// all memory as lent.
+/// all memory unchanged.
 ///
 /// # Errors
 ///
