@@ -28,14 +28,10 @@ pub enum Error {
 }
 
 impl Error {
-    /// Whether the row of a circle can't be read.
-    pub fn is_damage(&self) -> bool {
-        matches!(self, Error::Damaged(_) | Error::Earlier)
-    }
-
     /// What is wrong, in one line, where a circle was asked.
     pub fn of(&self, circle: i64) -> String {
         match self {
+            Error::Lost(lost) => format!("circle {circle}: {lost}"),
             Error::NoCircle => format!("circle {circle} does not exist"),
             Error::Circle => format!("circle {circle} exists already"),
             Error::Damaged(refusal) => format!("circle {circle} is damaged: {refusal}"),

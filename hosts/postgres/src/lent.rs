@@ -14,13 +14,13 @@ pub struct Lent {
 }
 
 impl Lent {
-    pub fn new() -> Box<Lent> {
-        Box::new(Lent {
+    pub fn new() -> Lent {
+        Lent {
             version: 0,
             terms: [0; TERMS_WORDS],
             state: [0; STATE_WORDS],
             scratch: [0; SCRATCH_WORDS],
-        })
+        }
     }
 
     /// Takes the words of a row.
@@ -30,13 +30,9 @@ impl Lent {
         }
         self.version = rows.number(row, 0);
         let [terms, state] = [1, 2].map(|column| rows.bytes(row, column));
-        let wrong = |refusal| match (terms.len(), state.len()) {
-            // Earlier versions did not pack words.
-            (terms, state) if terms == 2 * TERMS_WORDS && state == 8 * STATE_WORDS => {
-                Error::Earlier
-            }
-            _ => Error::Damaged(refusal),
-        };
+        // Earlier versions did not pack words.
+        let earlier = terms.len() == 2 * TERMS_WORDS && state.len() == 8 * STATE_WORDS;
+        let wrong = |refusal| if earlier { Error::Earlier } else { Error::Damaged(refusal) };
         words::unpack(terms, &mut self.terms).ok_or_else(|| wrong(Refusal::BadTerms))?;
         words::unpack(state, &mut self.state).ok_or_else(|| wrong(Refusal::BadState))
     }

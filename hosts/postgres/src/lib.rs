@@ -18,6 +18,7 @@ pub mod words;
 
 pub use error::Error;
 pub use patient::Patient;
+pub use stored::Stored;
 
 use cuckooormolu::STATE_WORDS;
 use cuckooormolu::{raw, Answer, Monitor, Refusal, Request, Terms};
@@ -92,7 +93,7 @@ impl Circles {
     /// Connects, by a connection string of libpq. The terms of circles are held to [`LIMIT`].
     pub fn connect(to: &str) -> Result<Circles, Error> {
         let connection = Connection::open(to, STATEMENTS).map_err(Error::Away)?;
-        Ok(Circles { connection, limit: LIMIT, lent: Lent::new(), ahead: None })
+        Ok(Circles { connection, limit: LIMIT, lent: Box::new(Lent::new()), ahead: None })
     }
 
     /// The same, where a request by the terms of a circle may work out so many rows at most.

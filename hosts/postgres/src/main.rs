@@ -98,9 +98,7 @@ fn number(circle: &str) -> Result<i64, String> {
 /// The monitor of a file, where the limit allows its terms.
 fn read(limit: usize, file: &str) -> Result<Monitor, Box<dyn Error>> {
     if file.ends_with(".say") {
-        return Err(format!(
-            "{file} is a source: `cuckooormolu compile` makes a terms.tsv from it"
-        ))?;
+        Err(format!("{file} is a source: `cuckooormolu compile` makes a terms.tsv from it"))?;
     }
     let text = std::fs::read(file).map_err(|error| format!("{file}: {error}"))?;
     match Monitor::read_within(&text, limit) {

@@ -14,7 +14,7 @@ pub fn serve(to: &str) -> Done {
     let mut client = Patient::new(to);
     let mut input = BufReader::new(io::stdin());
     let mut out = io::stdout().lock();
-    let mut damaged = BTreeSet::new();
+    let mut reported = BTreeSet::new();
     let mut line = Vec::new();
     while input.read_until(b'\n', &mut line)? > 0 {
         let asked = line.strip_suffix(b"\n").unwrap_or(&line);
@@ -33,10 +33,9 @@ pub fn serve(to: &str) -> Done {
                         out.flush()?;
                         match error {
                             Error::Away(_) => Err(why)?,
-                            // Each circle once, however often it is asked.
-                            _ if error.is_damage() && damaged.insert(circle) => {
-                                eprintln!("circles: {why}")
-                            }
+                            Error::NoCircle | Error::OtherRequest => {}
+                            // Once, however often the circle is asked.
+                            _ if reported.insert(why.clone()) => eprintln!("circles: {why}"),
                             _ => {}
                         }
                     }

@@ -5,6 +5,9 @@ use crate::libpq::Rows;
 use crate::{Circles, Error, FROM, STORED};
 use cuckooormolu::{Monitor, State, Terms};
 
+/// The number of a circle, and its monitor or why there is none.
+pub type Stored = (i64, Result<Monitor, Error>);
+
 impl Circles {
     /// The monitor of a circle, as it stands.
     pub fn stored(&mut self, circle: i64) -> Result<Monitor, Error> {
@@ -12,9 +15,8 @@ impl Circles {
         self.lent.monitor(&rows, 0)
     }
 
-    /// The circles from a number on, rising, each with its monitor or why there is none: a thousand at most, and none
-    /// where there are no more.
-    pub fn stored_from(&mut self, first: i64) -> Result<Vec<(i64, Result<Monitor, Error>)>, Error> {
+    /// The circles from a number on, rising: a thousand at most, and none where there are no more.
+    pub fn stored_from(&mut self, first: i64) -> Result<Vec<Stored>, Error> {
         let rows = self.read((FROM, &[&first.to_be_bytes()]))?;
         Ok((0..rows.count())
             .map(|row| (rows.number(row, 3), self.lent.monitor(&rows, row)))

@@ -3,7 +3,8 @@
 mod support;
 
 use circles::libpq::Connection;
-use cuckooormolu::{Event, Member, Request};
+use circles::Circles;
+use cuckooormolu::{Answer, Event, Member, Request};
 use std::time::{Duration, Instant};
 use support::{create, file, line, program, replay, said, server, text, LARGER, PRESET};
 
@@ -73,6 +74,22 @@ fn a_damaged_circle_is_reported() {
     assert_eq!(said(&output), (Some(0), answers, format!("circles: {why}\n")));
     let output = program(&["show", &server(), "71"], b"");
     assert_eq!(said(&output), (Some(1), String::new(), format!("circles: {why}\n")));
+}
+
+/// A statement that fails is the error of its request alone.
+#[test]
+fn a_failed_statement_ends_nothing() {
+    create(76, 3);
+    let mut other = Circles::connect(&server()).unwrap();
+    assert_eq!(other.request_before(78, [9; 16], LOAD, Some(76)), Ok(Ok(Answer::Deny)));
+    let input = line(76, 1, LOAD) + &line(77, 2, LOAD) + &line(76, 3, LOAD);
+    let to = server() + " options='-c lock_timeout=100'";
+    let why = "circle 76: ERROR: canceling statement due to lock timeout";
+    let answers = format!("{:032x}\terror\t{why}\n{:032x}\tdeny\n{:032x}\terror\t{why}\n", 1, 2, 3);
+    let output = program(&["serve", &to], input.as_bytes());
+    assert_eq!(said(&output), (Some(0), answers, format!("circles: {why}\n")));
+    drop(other);
+    assert_eq!(replay(76, 3).len(), 2);
 }
 
 /// Faults that do not pass are answered at once, in one line, and the worker ends.
