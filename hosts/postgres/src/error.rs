@@ -70,6 +70,12 @@ impl fmt::Display for Error {
 
 impl std::error::Error for Error {}
 
+/// Writes a line to standard error, by one call, since workers may share it.
+pub fn report(what: impl fmt::Display) {
+    let line = format!("circles: {what}\n");
+    eprint!("{line}");
+}
+
 impl From<Lost> for Error {
     fn from(lost: Lost) -> Error {
         Error::Lost(lost)

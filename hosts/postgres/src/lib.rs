@@ -16,7 +16,7 @@ mod patient;
 mod stored;
 pub mod words;
 
-pub use error::Error;
+pub use error::{report, Error};
 pub use patient::Patient;
 pub use stored::Stored;
 

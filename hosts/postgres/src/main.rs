@@ -3,7 +3,7 @@
 mod serve;
 
 use circles::libpq::Connection;
-use circles::{Circles, Patient, LIMIT, SCHEMA, UPGRADE};
+use circles::{report, Circles, Patient, LIMIT, SCHEMA, UPGRADE};
 use cuckooormolu::{Monitor, WithinError};
 use std::error::Error;
 use std::io::{self, Write};
@@ -50,7 +50,7 @@ fn main() -> ExitCode {
     match run(&arguments.iter().map(String::as_str).collect::<Vec<_>>()) {
         Ok(()) => ExitCode::SUCCESS,
         Err(error) => {
-            eprintln!("circles: {error}");
+            report(error);
             ExitCode::FAILURE
         }
     }

@@ -1,6 +1,6 @@
 //! A client that asks again, with the same key, until it is answered.
 
-use crate::{Circles, Error, Key, Revised, Told, LIMIT};
+use crate::{report, Circles, Error, Key, Revised, Told, LIMIT};
 use cuckooormolu::{Request, Terms};
 use std::thread;
 use std::time::{Duration, Instant};
@@ -87,11 +87,11 @@ impl Patient {
         let made = Circles::connect(&self.to).map(|circles| circles.within(self.limit));
         match &made {
             Err(Error::Away(lost)) if lost.passes() && !self.away => {
-                eprintln!("circles: the server is away: {lost}");
+                report(format!("the server is away: {lost}"));
                 self.away = true;
             }
             Ok(_) if self.away => {
-                eprintln!("circles: the server is back");
+                report("the server is back");
                 self.away = false;
             }
             _ => {}

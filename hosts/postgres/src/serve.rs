@@ -1,7 +1,7 @@
 //! `circles serve`: the lines of standard input, and their answers.
 
 use crate::Done;
-use circles::{Error, Key, Patient};
+use circles::{report, Error, Key, Patient};
 use cuckooormolu::{Event, Member, Request};
 use std::collections::BTreeSet;
 use std::io::{self, BufRead, BufReader, Write};
@@ -35,7 +35,7 @@ pub fn serve(to: &str) -> Done {
                             Error::Away(_) => Err(why)?,
                             Error::NoCircle | Error::OtherRequest => {}
                             // Once, however often the circle is asked.
-                            _ if reported.insert(why.clone()) => eprintln!("circles: {why}"),
+                            _ if reported.insert(why.clone()) => report(why),
                             _ => {}
                         }
                     }

@@ -5,8 +5,7 @@ mod support;
 use circles::libpq::Connection;
 use circles::Circles;
 use cuckooormolu::{Event, Member, Monitor, Request};
-use std::ffi::CString;
-use support::{create, database, file, line, program, said, server, text, PRESET};
+use support::{create, database, file, line, program, said, server, text, texts, PRESET};
 
 const LOAD: Request = Request { event: Event(2), from: Member(1), to: Member(2) };
 const SHARE: Request = Request { event: Event(0), from: Member(0), to: Member(1) };
@@ -57,14 +56,6 @@ fn every_circle_is_checked() {
     );
     assert!(out.ends_with("2501 circles: 2 damaged, 2499 above the limit of 1 rows\n"));
     assert_eq!(status, Some(1));
-}
-
-/// What a query of one column gives for circle 7, a text in each row.
-fn texts(to: &str, query: &str) -> Vec<String> {
-    let query = CString::new(query).unwrap();
-    let mut connection = Connection::open(to, &[(c"query", &query)]).unwrap();
-    let rows = connection.run(&[(c"query", &[])]).unwrap().remove(0);
-    (0..rows.count()).map(|row| String::from_utf8(rows.bytes(row, 0).to_vec()).unwrap()).collect()
 }
 
 /// As the README has it: a backup is asked what was answered since, and its row is copied back.

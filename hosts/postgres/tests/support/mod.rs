@@ -132,6 +132,14 @@ pub fn rows(query: &str, first: i64, count: i64) -> Rows {
     connection.run(&[(c"query", &[&first, &end])]).unwrap().remove(0)
 }
 
+/// The texts that a query of one column gives.
+pub fn texts(to: &str, query: &str) -> Vec<String> {
+    let query = std::ffi::CString::new(query).unwrap();
+    let mut connection = Connection::open(to, &[(c"query", &query)]).unwrap();
+    let rows = connection.run(&[(c"query", &[])]).unwrap().remove(0);
+    (0..rows.count()).map(|row| String::from_utf8(rows.bytes(row, 0).to_vec()).unwrap()).collect()
+}
+
 fn unpacked<W: words::Word, const COUNT: usize>(bytes: &[u8]) -> [W; COUNT] {
     let mut words = [W::ZERO; COUNT];
     words::unpack(bytes, &mut words).expect("packed words");
