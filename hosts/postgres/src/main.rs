@@ -157,7 +157,7 @@ fn check(limit: usize, to: &str) -> Done {
             }
         }
     }
-    writeln!(out, "{all} circles: {damaged} damaged, {costly} above the limit of {limit} rows")?;
+    writeln!(out, "circles: {all}; damaged: {damaged}; above the limit of {limit} rows: {costly}")?;
     match damaged {
         0 => Ok(()),
         _ => Err("damaged circles")?,

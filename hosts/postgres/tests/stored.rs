@@ -38,7 +38,7 @@ fn every_circle_is_checked() {
     let more = "insert into circle (id, terms, state)
                 select n, terms, state from circle, generate_series(1, 2500) as n";
     Connection::script(to, more).unwrap();
-    let well = "2501 circles: 0 damaged, 0 above the limit of 1000000 rows\n".to_string();
+    let well = "circles: 2501; damaged: 0; above the limit of 1000000 rows: 0\n".to_string();
     assert_eq!(said(&program(&["check", to], b"")), (Some(0), well, String::new()));
 
     let damage = "update circle set terms = set_byte(terms, 4, 65) where id in (-1, 2400)";
@@ -46,7 +46,7 @@ fn every_circle_is_checked() {
     let said_now = said(&program(&["check", to], b""));
     let why = "is damaged: terms that no accepted text yields (refusal 7)";
     let out = format!(
-        "circle -1 {why}\ncircle 2400 {why}\n2501 circles: 2 damaged, 0 above the limit of 1000000 rows\n"
+        "circle -1 {why}\ncircle 2400 {why}\ncircles: 2501; damaged: 2; above the limit of 1000000 rows: 0\n"
     );
     assert_eq!(said_now, (Some(1), out, "circles: damaged circles\n".to_string()));
     let (status, out, _) = said(&program(&["check", "--effort", "1", to], b""));
@@ -54,7 +54,7 @@ fn every_circle_is_checked() {
         out.contains("\ncircle 2500: under these terms a single request may compute "),
         "{out}"
     );
-    assert!(out.ends_with("2501 circles: 2 damaged, 2499 above the limit of 1 rows\n"));
+    assert!(out.ends_with("circles: 2501; damaged: 2; above the limit of 1 rows: 2499\n"));
     assert_eq!(status, Some(1));
 }
 
