@@ -27,7 +27,7 @@ start)
     if [ ! -d "$folder/data" ]; then
         mkdir -p "$folder"
         if [ "$(id -u)" -eq 0 ]; then chown nobody:nogroup "$folder"; fi
-        as "$bin/initdb" -D "$folder/data" -U circles -A trust -E UTF8 --locale=C >"$folder/initdb.log"
+        as "$bin/initdb" -D "$folder/data" -U circles -A trust -k -E UTF8 --locale=C >"$folder/initdb.log"
     fi
     cd "$folder"
     # Shared memory that a killed server leaves is in its folder, too.

@@ -10,20 +10,27 @@
 //! told again and nothing is written: a client that heard nothing asks again with the same key.
 
 mod error;
+mod lent;
 pub mod libpq;
 mod patient;
+mod stored;
 pub mod words;
 
-pub use error::Error;
+pub use error::{report, Error};
 pub use patient::Patient;
+pub use stored::Stored;
 
+use cuckooormolu::STATE_WORDS;
 use cuckooormolu::{raw, Answer, Monitor, Refusal, Request, Terms};
-use cuckooormolu::{SCRATCH_WORDS, STATE_WORDS, TERMS_WORDS};
+use lent::Lent;
 use libpq::{Connection, Rows, Statement};
 use std::ffi::CStr;
 
 /// The tables; to be run once on an empty database.
 pub const SCHEMA: &str = include_str!("../schema.sql");
+
+/// Brings tables of earlier versions to that form. It may be run again, and changes nothing then.
+pub const UPGRADE: &str = include_str!("../upgrade.sql");
 
 /// The most rows that a request by a circle's terms may work out, unless another limit is set. They take less than
 /// 0.1 s (bindings/README.md, Untrusted terms), while others of the circle wait at its lock; the costliest of
@@ -37,6 +44,8 @@ const MOMENT: &CStr = c"moment";
 const LOG_REVISION: &CStr = c"log_revision";
 const REVISION: &CStr = c"revision";
 const CREATE: &CStr = c"create";
+const STORED: &CStr = c"stored";
+const FROM: &CStr = c"from";
 
 /// The circle's row is locked before anything is decided, so that a key of it is never written by two at a time. The
 /// line of the log comes first: where its key is there already, the transaction fails and nothing is written.
@@ -58,6 +67,8 @@ const STATEMENTS: &[(&CStr, &CStr)] = &[
         c"select event, initiator, target, answer, terms from log where circle = $1 and key = $2",
     ),
     (CREATE, c"insert into circle (id, terms, state) values ($1, $2, $3)"),
+    (STORED, c"select version, terms, state from circle where id = $1"),
+    (FROM, c"select version, terms, state, id from circle where id >= $1 order by id limit 1000"),
 ];
 
 /// A client's key of a request or revision: 16 bytes, as of a UUID.
@@ -78,25 +89,11 @@ pub struct Circles {
     ahead: Option<i64>,
 }
 
-/// The words of the circle whose row is locked.
-struct Lent {
-    version: i64,
-    terms: [u16; TERMS_WORDS],
-    state: [u64; STATE_WORDS],
-    scratch: [u64; SCRATCH_WORDS],
-}
-
 impl Circles {
     /// Connects, by a connection string of libpq. The terms of circles are held to [`LIMIT`].
     pub fn connect(to: &str) -> Result<Circles, Error> {
-        let connection = Connection::open(to, STATEMENTS)?;
-        let lent = Lent {
-            version: 0,
-            terms: [0; TERMS_WORDS],
-            state: [0; STATE_WORDS],
-            scratch: [0; SCRATCH_WORDS],
-        };
-        Ok(Circles { connection, limit: LIMIT, lent: Box::new(lent), ahead: None })
+        let connection = Connection::open(to, STATEMENTS).map_err(Error::Away)?;
+        Ok(Circles { connection, limit: LIMIT, lent: Box::new(Lent::new()), ahead: None })
     }
 
     /// The same, where a request by the terms of a circle may work out so many rows at most.
@@ -197,7 +194,7 @@ impl Circles {
             self.give_back()?;
             self.connection.run(&[(LOCK, &[&circle.to_be_bytes()])])?
         };
-        let taken = self.lent.take(&rows[0]);
+        let taken = self.lent.take(&rows[0], 0);
         self.or_give_back(taken)
     }
 
@@ -231,31 +228,13 @@ impl Circles {
 
     /// The line of the log of a key that was answered before.
     fn told(&mut self, circle: i64, key: Key) -> Result<Rows, Error> {
+        self.read((TOLD, &[&circle.to_be_bytes(), &key]))
+    }
+
+    /// The rows of a statement that writes nothing.
+    fn read(&mut self, statement: Statement) -> Result<Rows, Error> {
         self.give_back()?;
-        let rows = self.connection.commit(&[(TOLD, &[&circle.to_be_bytes(), &key])], &[])?;
+        let rows = self.connection.commit(&[statement], &[])?;
         Ok(rows.expect("nothing that fails for a key is in it").remove(0))
-    }
-}
-
-impl Lent {
-    /// Takes the words of a row.
-    fn take(&mut self, row: &Rows) -> Result<(), Error> {
-        if row.is_empty() {
-            return Err(Error::NoCircle);
-        }
-        self.version = row.number(0, 0);
-        words::unpack(row.bytes(0, 1), &mut self.terms).ok_or(Error::Damaged(Refusal::BadTerms))?;
-        words::unpack(row.bytes(0, 2), &mut self.state).ok_or(Error::Damaged(Refusal::BadState))
-    }
-
-    /// Lets the library answer; and whether that made a moment.
-    fn decide(&mut self, request: Request) -> Result<(Told, bool), Error> {
-        // A moment leaves scratch 0, and anything else as it is lent.
-        self.scratch[0] = 1;
-        let told = raw::request(&self.terms, &mut self.state, &mut self.scratch, request.into());
-        match told {
-            Err(refusal) if refusal != Refusal::NoSuchName => Err(Error::Damaged(refusal)),
-            told => Ok((told, self.scratch[0] == 0)),
-        }
     }
 }

@@ -1,130 +1,18 @@
 //! As much of libpq as the host needs: prepared statements, many in one round trip, all values in binary form.
 
+mod lost;
+mod raw;
+mod rows;
+
+pub use lost::Lost;
+pub use rows::Rows;
+
+use raw::*;
 use std::ffi::{c_char, c_int, CStr, CString};
-use std::fmt;
 use std::ptr;
 
-#[repr(C)]
-struct RawConnection([u8; 0]);
-#[repr(C)]
-struct RawResult([u8; 0]);
-
-#[link(name = "pq")]
-extern "C" {
-    fn PQconnectdb(to: *const c_char) -> *mut RawConnection;
-    fn PQstatus(connection: *const RawConnection) -> c_int;
-    fn PQerrorMessage(connection: *const RawConnection) -> *const c_char;
-    fn PQfinish(connection: *mut RawConnection);
-    fn PQexec(connection: *mut RawConnection, command: *const c_char) -> *mut RawResult;
-    fn PQprepare(
-        connection: *mut RawConnection,
-        name: *const c_char,
-        query: *const c_char,
-        count: c_int,
-        types: *const u32,
-    ) -> *mut RawResult;
-    fn PQenterPipelineMode(connection: *mut RawConnection) -> c_int;
-    fn PQpipelineSync(connection: *mut RawConnection) -> c_int;
-    fn PQsendFlushRequest(connection: *mut RawConnection) -> c_int;
-    fn PQflush(connection: *mut RawConnection) -> c_int;
-    fn PQsendQueryPrepared(
-        connection: *mut RawConnection,
-        name: *const c_char,
-        count: c_int,
-        values: *const *const c_char,
-        lengths: *const c_int,
-        formats: *const c_int,
-        result_format: c_int,
-    ) -> c_int;
-    fn PQgetResult(connection: *mut RawConnection) -> *mut RawResult;
-    fn PQresultStatus(result: *const RawResult) -> c_int;
-    fn PQresultErrorMessage(result: *const RawResult) -> *const c_char;
-    fn PQresultErrorField(result: *const RawResult, field: c_int) -> *const c_char;
-    fn PQntuples(result: *const RawResult) -> c_int;
-    fn PQgetvalue(result: *const RawResult, row: c_int, column: c_int) -> *const u8;
-    fn PQgetlength(result: *const RawResult, row: c_int, column: c_int) -> c_int;
-    fn PQgetisnull(result: *const RawResult, row: c_int, column: c_int) -> c_int;
-    fn PQclear(result: *mut RawResult);
-}
-
-const CONNECTION_OK: c_int = 0;
-const COMMAND_OK: c_int = 1;
-const TUPLES_OK: c_int = 2;
-const PIPELINE_SYNC: c_int = 10;
-const PIPELINE_ABORTED: c_int = 11;
-const BINARY: c_int = 1;
-const SQLSTATE: c_int = b'C' as c_int;
-const UNIQUE_VIOLATION: &CStr = c"23505";
-
-/// What the server or the way to it says. Whether a transaction that was to be committed is in can't be told.
-#[derive(Clone, Debug, PartialEq, Eq)]
-pub struct Lost(pub String);
-
-impl fmt::Display for Lost {
-    fn fmt(&self, out: &mut fmt::Formatter<'_>) -> fmt::Result {
-        out.write_str(self.0.trim_end())
-    }
-}
-
-/// The rows of one statement.
-pub struct Rows(*mut RawResult);
-
-impl Rows {
-    pub fn is_empty(&self) -> bool {
-        // Safety: the result is open until it is dropped.
-        unsafe { PQntuples(self.0) == 0 }
-    }
-
-    pub fn count(&self) -> usize {
-        // Safety: as above.
-        unsafe { PQntuples(self.0) as usize }
-    }
-
-    /// A value, in binary form. There must be such a row and column.
-    pub fn bytes(&self, row: usize, column: usize) -> &[u8] {
-        let (row, column) = (row as c_int, column as c_int);
-        // Safety: libpq answers a place that is not there with a null pointer and length 0.
-        unsafe {
-            let value = PQgetvalue(self.0, row, column);
-            assert!(!value.is_null(), "a column that was not selected");
-            std::slice::from_raw_parts(value, PQgetlength(self.0, row, column) as usize)
-        }
-    }
-
-    /// Whether there is no value. There must be such a row and column.
-    pub fn is_null(&self, row: usize, column: usize) -> bool {
-        // Safety: as above.
-        unsafe { PQgetisnull(self.0, row as c_int, column as c_int) == 1 }
-    }
-
-    /// A whole number of 2, 4 or 8 bytes.
-    pub fn number(&self, row: usize, column: usize) -> i64 {
-        match *self.bytes(row, column) {
-            [a, b] => i16::from_be_bytes([a, b]).into(),
-            [a, b, c, d] => i32::from_be_bytes([a, b, c, d]).into(),
-            [a, b, c, d, e, f, g, h] => i64::from_be_bytes([a, b, c, d, e, f, g, h]),
-            _ => panic!("a column that is no whole number"),
-        }
-    }
-}
-
-impl Rows {
-    /// Whether this is the failure of a row whose key another has.
-    fn is_there_already(&self) -> bool {
-        // Safety: libpq takes a null pointer too; the text ends with a zero.
-        unsafe {
-            let code = PQresultErrorField(self.0, SQLSTATE);
-            !code.is_null() && CStr::from_ptr(code) == UNIQUE_VIOLATION
-        }
-    }
-}
-
-impl Drop for Rows {
-    fn drop(&mut self) {
-        // Safety: the result is open, and nobody has it afterwards.
-        unsafe { PQclear(self.0) }
-    }
-}
+/// The SQLSTATE of a row whose key another has.
+const UNIQUE_VIOLATION: &str = "23505";
 
 /// A statement that was prepared, and its values.
 pub type Statement<'a> = (&'a CStr, &'a [&'a [u8]]);
@@ -166,15 +54,27 @@ impl Connection {
         self.checked(Rows(result)).map(drop)
     }
 
+    /// Connects. Where that fails though the server answers, it is tried once more, since the server may be back; if it
+    /// fails again, as for a wrong name or password, waiting doesn't help.
     fn plain(to: &str) -> Result<Connection, Lost> {
         let to = c_string(to)?;
-        // Safety: the string ends with a zero; a connection comes back even where it failed.
-        let connection = Connection(unsafe { PQconnectdb(to.as_ptr()) });
-        // Safety: it is not finished yet.
-        match unsafe { PQstatus(connection.0) } {
-            CONNECTION_OK => Ok(connection),
-            _ => Err(connection.lost()),
-        }
+        let attempt = || {
+            // Safety: the string ends with a zero; a connection comes back even where it failed.
+            let connection = Connection(unsafe { PQconnectdb(to.as_ptr()) });
+            // Safety: it is not finished yet.
+            match unsafe { PQstatus(connection.0) } {
+                CONNECTION_OK => Ok(connection),
+                _ => Err(connection.says()),
+            }
+        };
+        attempt().or_else(|says| {
+            // Safety: as above.
+            match unsafe { PQping(to.as_ptr()) } {
+                PING_OK => attempt().map_err(|says| Lost::new(&says, "", false)),
+                PING_NO_ATTEMPT => Err(Lost::new(&says, "", false)),
+                _ => Err(Lost::new(&says, "", true)),
+            }
+        })
     }
 
     /// Sends statements in one go and gives the rows of each. They are in one transaction, with those that follow, up
@@ -203,7 +103,7 @@ impl Connection {
         let mut rows = Some(Vec::new());
         for _ in statements {
             let result = Rows(self.next());
-            if result.is_there_already() || rows.is_none() {
+            if result.code() == UNIQUE_VIOLATION || rows.is_none() {
                 // What follows is left out by the server.
                 rows = None;
             } else {
@@ -287,15 +187,29 @@ impl Connection {
             match PQresultStatus(rows.0) {
                 COMMAND_OK | TUPLES_OK => Ok(rows),
                 _ if rows.0.is_null() => Err(self.lost()),
-                PIPELINE_ABORTED => Err(Lost("an earlier statement failed".to_string())),
-                _ => Err(Lost(text(PQresultErrorMessage(rows.0)))),
+                PIPELINE_ABORTED => Err(Lost::new("an earlier statement failed", "", false)),
+                _ => {
+                    // Further lines show the statement, or say what a lost connection may mean.
+                    let says = text(PQresultErrorMessage(rows.0));
+                    let first = says.lines().next().unwrap_or_default();
+                    Err(Lost::new(first, &rows.code(), self.is_away()))
+                }
             }
         }
     }
 
     fn lost(&self) -> Lost {
+        Lost::new(&self.says(), "", self.is_away())
+    }
+
+    fn is_away(&self) -> bool {
+        // Safety: the connection is open until it is dropped.
+        unsafe { PQstatus(self.0) == CONNECTION_BAD }
+    }
+
+    fn says(&self) -> String {
         // Safety: libpq has a text for every connection.
-        Lost(unsafe { text(PQerrorMessage(self.0)) })
+        unsafe { text(PQerrorMessage(self.0)) }
     }
 }
 
@@ -314,5 +228,5 @@ unsafe fn text(from: *const c_char) -> String {
 }
 
 fn c_string(text: &str) -> Result<CString, Lost> {
-    CString::new(text).map_err(|_| Lost("a zero in a text".to_string()))
+    CString::new(text).map_err(|_| Lost::new("a zero in a text", "", false))
 }

@@ -40,6 +40,8 @@ fn spawn() -> (Child, ChildStdin, BufReader<ChildStdout>) {
         .args(["serve", &server()])
         .stdin(Stdio::piped())
         .stdout(Stdio::piped())
+        // It says that the server is away.
+        .stderr(Stdio::null())
         .spawn()
         .unwrap();
     let (input, output) = (child.stdin.take().unwrap(), child.stdout.take().unwrap());

@@ -5,11 +5,8 @@ mod support;
 use circles::{Circles, Error, Patient, LIMIT};
 use cuckooormolu::{Monitor, MOST_EFFORT};
 use std::fmt::Write;
-use std::fs;
-use std::path::Path;
-use std::process::{Command, Output};
-use std::thread;
-use support::{replay, rows, server, terms, text, Line, ONCE, PRESET};
+use std::process::Output;
+use support::{file, program, replay, rows, server, terms, text, Line, ONCE, PRESET};
 
 const KEY: &str = "00000000-0000-0000-0000-000000000001";
 
@@ -41,11 +38,8 @@ fn costly() -> String {
 
 /// Runs the program, with the name of a file that has such terms as its last word.
 fn circles(words: &[&str], terms: &str) -> Output {
-    // A test has a thread of its own.
-    let name = format!("limit-{:?}.tsv", thread::current().id());
-    let file = Path::new(env!("CARGO_TARGET_TMPDIR")).join(name);
-    fs::write(&file, text(terms)).unwrap();
-    Command::new(env!("CARGO_BIN_EXE_circles")).args(words).arg(&file).output().unwrap()
+    let file = file(&text(terms));
+    program(&[words, &[&file]].concat(), b"")
 }
 
 /// Holds the program to have refused something, with a sentence that has this in it.
@@ -63,7 +57,7 @@ fn effort(of: &str) -> usize {
 #[test]
 fn the_program_lets_nothing_costly_in() {
     let to = &server();
-    let said = format!("may work out {MOST_EFFORT} rows or more, and the limit is {LIMIT}: ");
+    let said = format!("may compute {MOST_EFFORT} rows or more, and the limit is {LIMIT}: ");
     refused(&circles(&["create", to, "60"], &costly()), &said);
     refused(&circles(&["create", to, "60"], &format!("S 2\n{}", costly())), &said);
     assert!(rows("select 1 from circle where id >= $1 and id < $2", 60, 1).is_empty());
@@ -85,12 +79,12 @@ fn the_program_takes_another_limit() {
     let (preset, once) = (effort(PRESET), effort(ONCE));
     assert!(preset > 1 && once > 1 && preset.max(once) < LIMIT);
     let (exact, less) = (preset.to_string(), (preset - 1).to_string());
-    let said = format!("may work out {preset} rows, and the limit is {less}: ");
+    let said = format!("may compute {preset} rows, and the limit is {less}: ");
     refused(&circles(&["create", "--effort", &less, to, "62"], PRESET), &said);
     assert!(circles(&["create", "--effort", &exact, to, "62"], PRESET).status.success());
 
     let (exact, less) = (once.to_string(), (once - 1).to_string());
-    let said = format!("may work out {once} rows, and the limit is {less}: ");
+    let said = format!("may compute {once} rows, and the limit is {less}: ");
     refused(&circles(&["revise", "--effort", &less, to, "62", KEY], ONCE), &said);
     assert!(circles(&["revise", "--effort", &exact, to, "62", KEY], ONCE).status.success());
     assert_eq!(replay(62, 1).into_values().collect::<Vec<_>>(), [Line::Revised(Ok(()))]);

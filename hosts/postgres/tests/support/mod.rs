@@ -9,6 +9,10 @@ use keeper::record::{self, Record};
 use keeper::terms::memory::{terms_of_words, terms_words, SCRATCH_WORDS};
 use std::collections::HashMap;
 use std::env;
+use std::io::Write;
+use std::path::Path;
+use std::process::{Command, Output, Stdio};
+use std::thread;
 
 /// The preset: share, withdraw, load. Load is kept and makes an owner; event 3 asks for the same and is not kept.
 pub const PRESET: &str = "M 3\nL 1 4\nF 0 var 1 0\nF 1 out 1 0\nF 2 out 2 0\nF 3 not 2 0\nF 4 since 3 1\nF 5 in 0 4\n\
@@ -40,6 +44,46 @@ pub fn folder() -> String {
 /// The way to the server.
 pub fn server() -> String {
     format!("host={} dbname=postgres user=circles", folder())
+}
+
+/// The way to a database of a test's own, without tables.
+pub fn database(name: &str) -> String {
+    Connection::script(&server(), &format!("create database {name} template template0")).unwrap();
+    server().replace("dbname=postgres", &format!("dbname={name}"))
+}
+
+/// What the program does, with these words and this standard input.
+pub fn program(words: &[&str], input: &[u8]) -> Output {
+    let mut child = Command::new(env!("CARGO_BIN_EXE_circles"))
+        .args(words)
+        .stdin(Stdio::piped())
+        .stdout(Stdio::piped())
+        .stderr(Stdio::piped())
+        .spawn()
+        .unwrap();
+    // A worker that ends before it has read everything closes its end.
+    let _ = child.stdin.take().unwrap().write_all(input);
+    child.wait_with_output().unwrap()
+}
+
+/// Status, standard output and standard error of the program.
+pub fn said(output: &Output) -> (Option<i32>, String, String) {
+    let [out, err] =
+        [&output.stdout, &output.stderr].map(|text| String::from_utf8_lossy(text).into_owned());
+    (output.status.code(), out, err)
+}
+
+/// The name of a file with these bytes. Each test has one of its own.
+pub fn file(bytes: &[u8]) -> String {
+    let name = format!("{:?}.tsv", thread::current().id());
+    let file = Path::new(env!("CARGO_TARGET_TMPDIR")).join(name);
+    std::fs::write(&file, bytes).unwrap();
+    file.to_str().unwrap().to_string()
+}
+
+/// A line that asks a circle, its key a number.
+pub fn line(circle: i64, key: u128, Request { event, from, to }: Request) -> String {
+    format!("R\t{circle}\t{key:032x}\t{event}\t{from}\t{to}\n")
 }
 
 /// Numbers that look random, the same in each run.
@@ -86,6 +130,14 @@ pub fn rows(query: &str, first: i64, count: i64) -> Rows {
     let mut connection = Connection::open(&server(), &[(c"query", &query)]).unwrap();
     let (first, end) = (first.to_be_bytes(), (first + count).to_be_bytes());
     connection.run(&[(c"query", &[&first, &end])]).unwrap().remove(0)
+}
+
+/// The texts that a query of one column gives.
+pub fn texts(to: &str, query: &str) -> Vec<String> {
+    let query = std::ffi::CString::new(query).unwrap();
+    let mut connection = Connection::open(to, &[(c"query", &query)]).unwrap();
+    let rows = connection.run(&[(c"query", &[])]).unwrap().remove(0);
+    (0..rows.count()).map(|row| String::from_utf8(rows.bytes(row, 0).to_vec()).unwrap()).collect()
 }
 
 fn unpacked<W: words::Word, const COUNT: usize>(bytes: &[u8]) -> [W; COUNT] {
