@@ -9,7 +9,6 @@ mod asked;
 pub mod order;
 mod source;
 
-use crate::both::Both;
 use crate::folder::{self, Folder, DEFINITIONS, NAMES, REQUESTS, SOURCE, SPOKEN, TERMS};
 use crate::json::Json;
 use crate::names::Names;
@@ -38,7 +37,7 @@ pub struct Renumbered {
 /// source if there is one, names, requests and tests.
 pub fn renumber(old: &Folder, numbering: Numbering) -> Result<Renumbered, Stop> {
     old.of_one_bank()?;
-    let mut both = Both::accepted(&old.terms)?;
+    let mut both = old.accepted()?;
     refused(both.renumber(numbering.numbers())?)?;
     let terms = match both.is_stored() {
         true => both.store()?,
