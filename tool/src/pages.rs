@@ -178,7 +178,8 @@ mod tests {
     #[test]
     fn the_page_has_its_parts_once() {
         let page = manual();
-        for part in ["EXIT STATUS\n0 done", "FILES\n.nf\nterms.say", "SEE ALSO\n", "\\-\\-version"] {
+        for part in ["EXIT STATUS\n0 done", "FILES\n.nf\nterms.say", "SEE ALSO\n", "\\-\\-version"]
+        {
             assert_eq!(page.matches(part).count(), 1, "{part}");
         }
     }

@@ -57,7 +57,8 @@ pub fn renumber(old: &Folder, numbering: Numbering) -> Result<Renumbered, Stop> 
     let requests = asked::renumbered(&old.requests, &numbering);
     let new = Folder { terms, names, requests, ..old.clone() };
     let requests = same_answers(old, &new, &numbering)?;
-    let commented = source.as_ref().map(|text| source::commented(text, &old.names)).unwrap_or_default();
+    let commented =
+        source.as_ref().map(|text| source::commented(text, &old.names)).unwrap_or_default();
     let files = files(old, &new, source, &numbering)?;
     Ok(Renumbered { numbering, names: old.names.clone(), requests, commented, files })
 }

@@ -60,7 +60,8 @@ fn mistakes_go_to_one_stream() {
     }
     // Other commands name the file, and what to do.
     let said = run(&["run", cut.path()]).err;
-    let why = format!("terms.tsv is refused with 1 at line 2; `cuckooormolu check {}` says", cut.path());
+    let why =
+        format!("terms.tsv is refused with 1 at line 2; `cuckooormolu check {}` says", cut.path());
     assert!(said.contains(&why), "{said}");
 }
 
@@ -76,7 +77,11 @@ fn strict_and_effort() {
     assert_eq!(run(&["check", sound.path(), warned.path(), "--strict"]).status, 1);
     let said = run(&["check", warned.path(), "--effort", "3"]);
     assert_eq!(said.status, 1);
-    assert!(said.out.contains("\neffort: that is more than --effort allows, 3 rows\n"), "{}", said.out);
+    assert!(
+        said.out.contains("\neffort: that is more than --effort allows, 3 rows\n"),
+        "{}",
+        said.out
+    );
     // The most that is counted stands for more.
     let said = run(&["check", costly.path(), "--effort", "99999999999", "--json"]);
     assert_eq!(said.status, 1);
@@ -116,7 +121,8 @@ fn a_warning_has_its_place() {
 #[test]
 fn bytes_that_are_no_terms_are_cut() {
     let folder = Folder::new();
-    let noise: Vec<u8> = (0..4_000u32).map(|n| (n * n * 31 % 251) as u8).filter(|b| *b != b'\n').collect();
+    let noise: Vec<u8> =
+        (0..4_000u32).map(|n| (n * n * 31 % 251) as u8).filter(|b| *b != b'\n').collect();
     std::fs::write(folder.file("terms.tsv"), [&noise[..], b"\n"].concat()).unwrap();
     let said = run(&["check", folder.path()]);
     assert_eq!(said.status, 3);

@@ -56,8 +56,8 @@ fn for_programs() {
     assert_eq!(
         mistake("10-label-range"),
         "{\"accepted\":false,\"file\":\"FOLDER/terms.tsv\",\"number\":2,\"line\":4,\"from\":8,\"to\":9,\
-         \"what\":\"no label 7\",\"right\":\"labels are 0 to 6: 0 for the relation, 1 to 3 for the events, 4 to 6 for the \
-         events denied\"}\n"
+         \"what\":\"no label 7\",\"right\":\"labels are 0 to 6: 0 for the relation, 1 to 3 for the events, \
+         4 to 6 for the events denied\"}\n"
     );
     let lines = mistake("20-since-swapped");
     let file = "\"file\":\"FOLDER/terms.tsv\"";

@@ -27,7 +27,8 @@ fn compiling_keeps_off() {
     other.write("terms.say", SOURCE);
     let said = run(&["compile", other.path(), "-o", live.path()]);
     assert_eq!((said.status, said.out.as_str()), (3, ""));
-    let why = format!("{}/terms.tsv is stored, with a past; compile to another folder", live.path());
+    let why =
+        format!("{}/terms.tsv is stored, with a past; compile to another folder", live.path());
     assert!(said.err.contains(&why), "{}", said.err);
     live.write("terms.say", SOURCE);
     assert_eq!(run(&["compile", live.path()]).status, 3);
@@ -56,7 +57,11 @@ fn a_source_keeps_off() {
     fresh.write("requests.tsv", "");
     let said = run(&["run", fresh.path(), "--write", &terms]);
     assert_eq!(said.status, 3);
-    assert!(said.err.contains("terms.tsv is stored, with a past; write to another"), "{}", said.err);
+    assert!(
+        said.err.contains("terms.tsv is stored, with a past; write to another"),
+        "{}",
+        said.err
+    );
     assert_eq!(live.read("terms.tsv"), before);
     let beside = live.file("other.say").display().to_string();
     assert_eq!(run(&["source", live.path(), "-o", &beside]).status, 0);

@@ -66,8 +66,7 @@ impl Limits {
 }
 
 pub fn main(arguments: &[String], out: &mut dyn Write) -> Result<i32, Stop> {
-    let arguments =
-        Arguments::read(arguments, &["--json", "--strict", "--watch"], &["--effort"])?;
+    let arguments = Arguments::read(arguments, &["--json", "--strict", "--watch"], &["--effort"])?;
     if arguments.rest.is_empty() {
         return Err(Stop::Usage("give a folder or a terms file, one or more".into()));
     }

@@ -53,6 +53,11 @@ fn in_no_ones_way(file: &Path) -> Result<(), Stop> {
     stored::not_over(file, "write the source to another file")?;
     let beside = folder_of(file).join(TERMS);
     let runs = file.file_name().is_some_and(|name| name == SOURCE);
-    let instead = format!("a {SOURCE} beside it would run in its place: write it to another folder");
-    if runs { stored::not_over(&beside, &instead) } else { Ok(()) }
+    let instead =
+        format!("a {SOURCE} beside it would run in its place: write it to another folder");
+    if runs {
+        stored::not_over(&beside, &instead)
+    } else {
+        Ok(())
+    }
 }

@@ -77,7 +77,9 @@ fn tested(arguments: &Arguments, out: &mut dyn Write) -> Result<i32, Stop> {
     for given in &arguments.rest {
         let tested = match Tested::of(Path::new(given)) {
             Ok(tested) => tested,
-            Err(stop @ (Stop::Failed(_) | Stop::Mistaken(_) | Stop::Told(..))) if arguments.rest.len() > 1 => {
+            Err(stop @ (Stop::Failed(_) | Stop::Mistaken(_) | Stop::Told(..)))
+                if arguments.rest.len() > 1 =>
+            {
                 count.unusable += 1;
                 match json {
                     true => stop.json().iter().try_for_each(|line| writeln!(out, "{line}"))?,

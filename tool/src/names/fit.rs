@@ -31,13 +31,13 @@ impl Names {
 }
 
 fn counts(terms: &Terms) -> [(Kind, usize); 3] {
-    [
-        (Kind::Member, terms.members),
-        (Kind::Relation, terms.relations),
-        (Kind::Event, terms.events),
-    ]
+    [(Kind::Member, terms.members), (Kind::Relation, terms.relations), (Kind::Event, terms.events)]
 }
 
 fn counted(kind: Kind, count: usize) -> String {
-    if count == 1 { format!("1 {kind}") } else { format!("{count} {kind}s") }
+    if count == 1 {
+        format!("1 {kind}")
+    } else {
+        format!("{count} {kind}s")
+    }
 }

@@ -45,12 +45,10 @@ pub fn same_tests(
 ) -> Result<(), Stop> {
     let text = String::from_utf8_lossy(text).into_owned();
     let tests = |folder: &Folder| -> Result<Vec<Test>, Stop> {
-        read(&text, &folder.accepted()?, &folder.names).map_err(
-            |mistakes: Vec<Mistake>| {
-                let file = file.display().to_string();
-                Stop::Mistaken(Mistaken { file, text: text.clone(), mistakes })
-            },
-        )
+        read(&text, &folder.accepted()?, &folder.names).map_err(|mistakes: Vec<Mistake>| {
+            let file = file.display().to_string();
+            Stop::Mistaken(Mistaken { file, text: text.clone(), mistakes })
+        })
     };
     let unchanged = Numbering::of(numbering.numbers().len(), &identity(numbering));
     let unchanged = unchanged.unwrap_or_else(|_| numbering.clone());

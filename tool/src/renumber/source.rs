@@ -47,11 +47,13 @@ pub fn reordered(
 /// The lines with a comment that names a member: it stays, whoever is declared beside it.
 pub fn commented(text: &str, names: &Names) -> Vec<usize> {
     let names_one = |comment: &str| {
-        let mut words = comment.split(|letter: char| !letter.is_alphanumeric() && letter != '-' && letter != '_');
+        let mut words = comment
+            .split(|letter: char| !letter.is_alphanumeric() && letter != '-' && letter != '_');
         words.any(|word| names.find(Kind::Member, word).is_some())
     };
     // A quote has no `#` in it, and no line end.
-    let comments = text.lines().enumerate().filter_map(|(line, text)| Some((line, text.split_once('#')?.1)));
+    let comments =
+        text.lines().enumerate().filter_map(|(line, text)| Some((line, text.split_once('#')?.1)));
     comments.filter(|(_, comment)| names_one(comment)).map(|(line, _)| line + 1).collect()
 }
 

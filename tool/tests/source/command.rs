@@ -83,7 +83,9 @@ fn source_goes_back() {
     let (status, _, error) = said(&["source", &broken.display().to_string()]);
     assert_eq!(status, 3);
     let file = broken.display();
-    let why = format!("{file} is refused with 2 at line 1; `cuckooormolu check {file}` says what is wrong");
+    let why = format!(
+        "{file} is refused with 2 at line 1; `cuckooormolu check {file}` says what is wrong"
+    );
     assert!(error.contains(&why), "{error}");
 }
 
