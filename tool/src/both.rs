@@ -152,8 +152,7 @@ fn same_graph(state: &proved::State, graph: &Graph) -> bool {
 
 fn refused(refusal: Refusal) -> Stop {
     let (number, line) = (refusal.number, refusal.line);
-    let advice = "`cuckooormolu check` says what is wrong";
-    Stop::Failed(format!("the terms are refused with {number} at line {line}; {advice}"))
+    Stop::Failed(format!("the terms are refused with {number} at line {line}"))
 }
 
 fn differ(how: &str) -> Stop {

@@ -3,12 +3,16 @@
 //!
 //! * `asking`: the requests of a folder, or others in their place
 //! * `definitions`: definitions.tsv, beside stored terms
+//! * `opening`: terms that are to be used
 //! * `request`: a line of requests.tsv
+//! * `stored`: a terms.tsv with a past
 //! * `writing`: files written so that none is lost
 
 mod asking;
 pub mod definitions;
+mod opening;
 mod request;
+pub mod stored;
 mod writing;
 
 pub use definitions::DEFINITIONS;
@@ -16,7 +20,6 @@ pub use request::Request;
 pub use writing::{make, write};
 
 use crate::bank::Bank;
-use crate::check::effort;
 use crate::names::Names;
 use crate::source::mistake::{Mistake, Mistaken};
 use crate::source::{compile, Compiled};
@@ -52,7 +55,7 @@ pub struct Folder {
     /// The bank of each request; empty if they name none.
     pub banks: Vec<Bank>,
     /// Why the folder's own requests can't be read: what uses them stops.
-    pub unread: Option<String>,
+    pub unread: Option<Stop>,
     pub names: Names,
 }
 
@@ -90,20 +93,6 @@ impl Folder {
             definitions::read(&beside, &read.terms, &mut names);
         }
         Ok(Folder { path: folder, file, terms, names, ..Folder::default() }.with_requests())
-    }
-
-    /// The same for terms by which requests are answered: where that may take long, it is
-    /// told on standard error.
-    pub fn opening(path: &Path) -> Result<Folder, Stop> {
-        let folder = Folder::load(path)?;
-        if let Some(rows) = effort::lengthy(&folder.terms) {
-            eprintln!(
-                "this may take long: a request works out {}; `cuckooormolu check {}` says which part causes it",
-                effort::told(rows),
-                path.display()
-            );
-        }
-        Ok(folder)
     }
 
     /// The same folder with another text of its source, which stands in no file.
@@ -191,8 +180,12 @@ fn missing(folder: &Path) -> Stop {
 /// compiles to: nobody is to be answered from old terms.
 fn up_to_date(terms: &[u8], file: &Path, source: &Path) -> Result<(), Stop> {
     let folder = folder_of(file);
-    if Folder::from_source(source)?.terms == terms {
+    let compiled = Folder::from_source(source)?;
+    if compiled.terms == terms {
         return Ok(());
+    }
+    if let Some((what, right)) = compiled.idle() {
+        return Err(Stop::Failed(format!("{what}; {right}")));
     }
     Err(Stop::Failed(format!(
         "{} is not what {} compiles to; name the folder, or run `cuckooormolu compile {}` first",

@@ -83,7 +83,7 @@ fn report(name: &str, stop: &Stop, json: bool, out: &mut dyn Write) -> i32 {
         _ if json => {}
         Stop::Closed => {}
         Stop::Usage(_) => eprintln!("{who}: {stop}\n`{who} --help` says more."),
-        Stop::Mistaken(_) => eprintln!("{stop}"),
+        Stop::Mistaken(_) | Stop::Told(..) => eprintln!("{stop}"),
         Stop::Failed(_) | Stop::Differ(_) => eprintln!("{who}: {stop}"),
     }
     stop.status()

@@ -1,6 +1,7 @@
 //! The names of members, relations and events.
 
 mod asked;
+mod fit;
 mod kind;
 mod kinds;
 mod near;

@@ -6,9 +6,25 @@ use crate::stop::Stop;
 
 /// One rule for all sub-commands.
 const STATUSES: &str = "\
-Exit status: 0 done; 1 something was denied or failed, where that was asked for
-(`run --strict`, `test`, `aloud --verify`, `can`, `plan`); 2 a wrong command line; 3 a file
-that cannot be read, written or compiled.
+0 done; 1 something was denied or failed, where that was asked for
+(`run --strict`, `check --strict`, `test`, `aloud --verify`, `can`, `plan`); 2 a wrong
+command line; 3 a file that cannot be read, written or compiled.
+";
+
+/// The files of a folder.
+const FILES: &str = "\
+terms.say         the terms as a source, which is what runs
+terms.tsv         the terms that a host opens, compiled or stored with a past
+names.tsv         the names that go with terms.tsv
+definitions.tsv   the definitions that go with stored terms
+requests.say      requests by name; requests.tsv has them by number
+tests.say         tests
+";
+
+/// Where more is to be read. It is not installed with the page.
+const MORE: &str = "\
+In a checkout: docs/LANGUAGE.md tells how to write terms, docs/FORMAT.md what terms.tsv
+is made of, and examples/ has folders to begin with.
 ";
 
 /// What the script of a checkout does besides.
@@ -23,9 +39,11 @@ pub fn overview() -> String {
     for command in &COMMANDS {
         text.push_str(&format!("  {:9} {}\n", command.name, command.summary));
     }
-    text.push_str("\n`cuckooormolu COMMAND --help` says more.\n");
+    text.push_str(
+        "\n`cuckooormolu COMMAND --help` says more, `cuckooormolu --version` which version this is.\n",
+    );
     text.push_str(INSTALL);
-    text.push_str(STATUSES);
+    text.push_str(&format!("Exit status: {STATUSES}"));
     text
 }
 
@@ -34,7 +52,7 @@ pub fn manual() -> String {
     let mut page = format!(
         ".TH CUCKOOORMOLU 1 \"\" \"cuckooormolu {}\"\n.SH NAME\ncuckooormolu \\- sharing terms \
          written with names, read aloud, checked, run and explained\n.SH SYNOPSIS\n\
-         .B cuckooormolu\nCOMMAND ...\n.SH COMMANDS\n",
+         .B cuckooormolu\nCOMMAND ...\n.br\n.B cuckooormolu\n\\-\\-version\n.SH COMMANDS\n",
         env!("CARGO_PKG_VERSION")
     );
     for command in &COMMANDS {
@@ -42,7 +60,9 @@ pub fn manual() -> String {
         page.push_str(&format!(".SS {name}\n.nf\n{}\n.fi\n", roff(command.help.trim_end())));
     }
     page.push_str(&format!(".SH INSTALLATION\n{}\n", roff(INSTALL)));
-    page.push_str(&format!(".SH EXIT STATUS\n{}", roff(STATUSES)));
+    page.push_str(&format!(".SH EXIT STATUS\n{}\n", roff(STATUSES)));
+    page.push_str(&format!(".SH FILES\n.nf\n{}\n.fi\n", roff(FILES)));
+    page.push_str(&format!(".SH SEE ALSO\n{}\n", roff(MORE)));
     page
 }
 
@@ -153,6 +173,24 @@ mod tests {
             assert!(pages.iter().all(|page| page.contains(command.name)), "{}", command.name);
         }
         assert!(completion("tcsh").is_err());
+    }
+
+    #[test]
+    fn the_page_has_its_parts_once() {
+        let page = manual();
+        for part in ["EXIT STATUS\n0 done", "FILES\n.nf\nterms.say", "SEE ALSO\n", "\\-\\-version"]
+        {
+            assert_eq!(page.matches(part).count(), 1, "{part}");
+        }
+    }
+
+    #[test]
+    fn help_fits_a_terminal() {
+        for command in &COMMANDS {
+            let long = command.help.lines().find(|line| line.chars().count() > 90);
+            assert_eq!(long, None, "{}", command.name);
+        }
+        assert!(overview().lines().all(|line| line.chars().count() <= 95), "{}", overview());
     }
 
     #[test]

@@ -9,7 +9,6 @@ mod asked;
 pub mod order;
 mod source;
 
-use crate::both::Both;
 use crate::folder::{self, Folder, DEFINITIONS, NAMES, REQUESTS, SOURCE, SPOKEN, TERMS};
 use crate::json::Json;
 use crate::names::Names;
@@ -30,6 +29,8 @@ pub struct Renumbered {
     names: Names,
     /// How many requests get the same answers.
     requests: usize,
+    /// The lines of the source with a comment that names a member.
+    commented: Vec<usize>,
     /// The files of the folder, by name.
     files: Vec<(&'static str, Vec<u8>)>,
 }
@@ -38,7 +39,7 @@ pub struct Renumbered {
 /// source if there is one, names, requests and tests.
 pub fn renumber(old: &Folder, numbering: Numbering) -> Result<Renumbered, Stop> {
     old.of_one_bank()?;
-    let mut both = Both::accepted(&old.terms)?;
+    let mut both = old.accepted()?;
     refused(both.renumber(numbering.numbers())?)?;
     let terms = match both.is_stored() {
         true => both.store()?,
@@ -56,8 +57,10 @@ pub fn renumber(old: &Folder, numbering: Numbering) -> Result<Renumbered, Stop> 
     let requests = asked::renumbered(&old.requests, &numbering);
     let new = Folder { terms, names, requests, ..old.clone() };
     let requests = same_answers(old, &new, &numbering)?;
+    let commented =
+        source.as_ref().map(|text| source::commented(text, &old.names)).unwrap_or_default();
     let files = files(old, &new, source, &numbering)?;
-    Ok(Renumbered { numbering, names: old.names.clone(), requests, files })
+    Ok(Renumbered { numbering, names: old.names.clone(), requests, commented, files })
 }
 
 /// How many requests there are, once they get the same answers with the old numbers
@@ -118,7 +121,9 @@ impl Renumbered {
     /// Writes the files to a folder, which is made if need be. Nothing that is there
     /// is written over.
     pub fn write(&self, place: &Path) -> Result<(), Stop> {
-        let there = self.files.iter().map(|(name, _)| place.join(name)).find(|file| file.exists());
+        // A source that stands there would run in the place of what is written.
+        let names = self.files.iter().map(|(name, _)| *name).chain([SOURCE]);
+        let there = names.map(|name| place.join(name)).find(|file| file.exists());
         if let Some(file) = there {
             return Err(Stop::Failed(format!(
                 "{} is there already, and nothing is written over; name another folder",
@@ -160,6 +165,13 @@ impl Renumbered {
             1 => text.push_str("The one request gets the same answer.\n"),
             many => text.push_str(&format!("All {many} requests get the same answers.\n")),
         }
+        let lines: Vec<String> = self.commented.iter().map(|line| line.to_string()).collect();
+        if !lines.is_empty() {
+            text.push_str(&format!(
+                "Comments in {SOURCE} name members and stay as they are; see that they are still true: line {}\n",
+                lines.join(", ")
+            ));
+        }
         text
     }
 
@@ -173,7 +185,10 @@ impl Renumbered {
             ])
         };
         let numbers: Vec<usize> = self.numbering.numbers().iter().map(|&n| n.into()).collect();
-        let all = vec![("numbers", numbers.into()), ("requests", self.requests.into())];
+        let mut all = vec![("numbers", numbers.into()), ("requests", self.requests.into())];
+        if !self.commented.is_empty() {
+            all.push(("comments", self.commented.clone().into()));
+        }
         self.members().map(member).chain([Json::Object(all)]).collect()
     }
 }

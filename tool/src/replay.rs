@@ -39,7 +39,7 @@ impl Replay {
 
     /// Reads the terms and makes no request.
     pub fn before(folder: &Folder) -> Result<Replay, Stop> {
-        Ok(Replay { both: Both::accepted(&folder.terms)?, steps: Vec::new() })
+        Ok(Replay { both: folder.accepted()?, steps: Vec::new() })
     }
 
     /// Makes one request more.

@@ -9,6 +9,7 @@ mod writing;
 pub use writing::{line, numbered, write, write_banked};
 
 use crate::bank::Bank;
+use crate::json::Json;
 use crate::names::{did_you_mean, Kind, Names};
 use crate::stop::Stop;
 use crate::trial::typed::split;
@@ -53,7 +54,12 @@ pub fn read(file: &str, text: &str, terms: &Terms, names: &Names) -> Result<Requ
         return Ok(requests);
     }
     let lines = wrong.iter().map(|(line, why)| format!("{file}:{line}: {why}"));
-    Err(Stop::Failed(lines.collect::<Vec<_>>().join("\n")))
+    let object = |(line, why): &(usize, String)| {
+        let fields = vec![("error", why.as_str().into()), ("file", file.into())];
+        Json::Object([fields, vec![("line", (*line).into())]].concat())
+    };
+    let objects = wrong.iter().map(object).collect();
+    Err(Stop::Told(lines.collect::<Vec<_>>().join("\n"), objects))
 }
 
 /// What is wrong where a bank, or none, is named after a first request with none, or one.

@@ -75,7 +75,7 @@ pub fn revise(
     new: &Folder,
     renamed: bool,
 ) -> Result<Revised, Stop> {
-    let next = Both::accepted(&new.terms)?;
+    let next = new.accepted()?;
     let (before, could) = (revised.terms().clone(), revised.views()?);
     let differing = agreement::renamed(&before, &old.names, &new.names);
     if before.is_same_size(next.terms()) && !renamed && !differing.is_empty() {

@@ -17,7 +17,7 @@ pub const USAGE: i32 = 2;
 pub const UNUSABLE: i32 = 3;
 
 /// Why a sub-command stops early.
-#[derive(Debug)]
+#[derive(Clone, Debug)]
 pub enum Stop {
     /// The command line is wrong.
     Usage(String),
@@ -25,6 +25,9 @@ pub enum Stop {
     Failed(String),
     /// A source has mistakes.
     Mistaken(Mistaken),
+    /// What is wrong with a terms file or with requests, at its place: for people, and as
+    /// one object for each cause.
+    Told(String, Vec<Json>),
     /// The proved library and the keeper differ.
     Differ(String),
     /// The reader of the output went away.
@@ -36,7 +39,7 @@ impl Stop {
         match self {
             Stop::Usage(_) => USAGE,
             Stop::Closed => WELL,
-            Stop::Failed(_) | Stop::Mistaken(_) | Stop::Differ(_) => UNUSABLE,
+            Stop::Failed(_) | Stop::Mistaken(_) | Stop::Told(..) | Stop::Differ(_) => UNUSABLE,
         }
     }
 
@@ -45,6 +48,7 @@ impl Stop {
         match self {
             Stop::Closed => Vec::new(),
             Stop::Mistaken(mistaken) => mistaken.json(),
+            Stop::Told(_, json) => json.clone(),
             _ => vec![Json::Object(vec![("error", self.to_string().into())])],
         }
     }
@@ -53,7 +57,7 @@ impl Stop {
 impl fmt::Display for Stop {
     fn fmt(&self, out: &mut fmt::Formatter<'_>) -> fmt::Result {
         match self {
-            Stop::Usage(said) | Stop::Failed(said) => out.write_str(said),
+            Stop::Usage(said) | Stop::Failed(said) | Stop::Told(said, _) => out.write_str(said),
             Stop::Mistaken(mistaken) => mistaken.fmt(out),
             Stop::Differ(said) => {
                 write!(out, "the proved library and the keeper differ, please report it: {said}")
@@ -67,7 +71,7 @@ impl From<io::Error> for Stop {
     fn from(error: io::Error) -> Stop {
         match error.kind() {
             io::ErrorKind::BrokenPipe => Stop::Closed,
-            _ => Stop::Failed(format!("cannot write: {error}")),
+            _ => Stop::Failed(format!("cannot write to standard output: {error}")),
         }
     }
 }

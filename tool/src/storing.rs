@@ -20,6 +20,17 @@ pub fn fits(file: &Path, bytes: usize) -> Result<(), Stop> {
     )))
 }
 
+/// What was printed once a file was stored: if that could not be, the file is told all the
+/// same, since whoever makes the requests again makes them twice.
+pub fn told(file: Option<&str>, printed: Result<(), Stop>) -> Result<(), Stop> {
+    match (file, printed) {
+        (Some(file), Err(Stop::Failed(why))) => Err(Stop::Failed(format!(
+            "{why}; but {file} is stored, with everything that was made: do not make it again"
+        ))),
+        (_, printed) => printed,
+    }
+}
+
 /// Stores a text of terms with the names and definitions of the folder that it comes from
 /// beside it, in a folder that is made if need be.
 pub fn store(file: &Path, text: &[u8], from: &Folder) -> Result<(), Stop> {

@@ -24,10 +24,14 @@ fn said(folder: &str, json: bool) -> (String, i32) {
         arguments.push("--json".to_string());
     }
     let mut out = Vec::new();
-    match check::main(&arguments, &mut out) {
+    let (text, status) = match check::main(&arguments, &mut out) {
         Ok(status) => (String::from_utf8(out).unwrap(), status),
-        Err(stop) => (format!("{stop}\n").replace(folder, "FOLDER"), stop.status()),
-    }
+        Err(stop) if json => {
+            (stop.json().iter().map(|line| format!("{line}\n")).collect(), stop.status())
+        }
+        Err(stop) => (format!("{stop}\n"), stop.status()),
+    };
+    (text.replace(folder, "FOLDER"), status)
 }
 
 #[test]
@@ -51,13 +55,15 @@ fn for_programs() {
         |name: &str| said(&format!("{}/tests/mistakes/{name}", env!("CARGO_MANIFEST_DIR")), true).0;
     assert_eq!(
         mistake("10-label-range"),
-        "{\"accepted\":false,\"number\":2,\"line\":4,\"from\":8,\"to\":9,\"what\":\"no label 7\",\
-         \"right\":\"labels are 0 to 6: 0 for the relation, 1 to 3 for the events, 4 to 6 for the \
-         events denied\"}\n"
+        "{\"accepted\":false,\"file\":\"FOLDER/terms.tsv\",\"number\":2,\"line\":4,\"from\":8,\"to\":9,\
+         \"what\":\"no label 7\",\"right\":\"labels are 0 to 6: 0 for the relation, 1 to 3 for the events, \
+         4 to 6 for the events denied\"}\n"
     );
     let lines = mistake("20-since-swapped");
-    assert!(lines.starts_with("{\"accepted\":true,\"members\":3,"), "{lines}");
-    assert!(lines.lines().nth(1).unwrap().starts_with("{\"warning\":\"swapped\",\"line\":7,"));
+    let file = "\"file\":\"FOLDER/terms.tsv\"";
+    assert!(lines.starts_with(&format!("{{\"accepted\":true,{file},\"members\":3,")), "{lines}");
+    let warning = format!("{{\"warning\":\"swapped\",{file},\"line\":7,\"column\":null,");
+    assert!(lines.lines().nth(1).unwrap().starts_with(&warning), "{lines}");
 }
 
 #[test]

@@ -63,7 +63,8 @@ fn for_programs() {
     folder.write("terms.say", &format!("{START}event edit when me likes target\n"));
     let said = run(&["check", folder.path(), "--json"]).out;
     let second = said.lines().nth(1).unwrap();
-    assert!(second.starts_with("{\"warning\":\"edgeless\",\"line\":5,"), "{said}");
+    assert!(second.starts_with("{\"warning\":\"edgeless\",\"file\":"), "{said}");
+    assert!(second.contains("terms.say\",\"line\":5,\"column\":"), "{said}");
 }
 
 /// The terms file that a host would open is older than the source.

@@ -162,6 +162,45 @@ fn an_order_in_a_file() {
     assert!(said.err.starts_with(&wanted), "{}", said.err);
 }
 
+/// Whatever stands in the new folder stays what it is.
+#[test]
+fn a_source_that_would_run_instead_is_told() {
+    let folder = Folder::new();
+    folder.write("terms.say", "members a\nevent e by anyone\n");
+    let said = renumber(&example("merged/later"), MERGED, &["-o", folder.path()]);
+    assert_eq!(said.status, 3);
+    assert!(said.err.contains("terms.say is there already"), "{}", said.err);
+    assert!(!folder.file("terms.tsv").exists());
+}
+
+#[test]
+fn comments_that_name_members_are_told() {
+    let folder = Folder::new();
+    let source =
+        "# dora comes first\nmembers dora, pete # and others\nevent e by anyone # as pete-like\n";
+    folder.write("terms.say", source);
+    let path = Path::new(folder.path());
+    let said = renumber(path, "pete,dora", &[]).out;
+    assert!(
+        said.contains("name members and stay as they are; see that they are still true: line 1\n"),
+        "{said}"
+    );
+    assert!(renumber(path, "pete,dora", &["--json"]).out.contains("\"comments\":[1]"));
+    folder.write("terms.say", &source.replace("# dora", "# who"));
+    assert!(!renumber(path, "pete,dora", &[]).out.contains("Comments"));
+}
+
+#[test]
+fn a_file_that_is_not_there_is_told() {
+    let said = renumber(&example("merged"), "nosuch.txt", &[]);
+    assert_eq!(said.status, 3);
+    assert!(
+        said.err.contains("`nosuch.txt`") && said.err.contains("and there is no file nosuch.txt"),
+        "{}",
+        said.err
+    );
+}
+
 #[test]
 fn orders_that_number_nobody() {
     let old = folder(SOURCE, "");

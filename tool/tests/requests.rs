@@ -46,6 +46,14 @@ fn mistakes_are_told_by_line() {
     ] {
         assert!(said.err.contains(part), "{}", said.err);
     }
+    // For programs, one object for each line.
+    let said = run(&["run", folder.path(), "--json"]);
+    assert_eq!((said.status, said.err.as_str()), (3, ""));
+    assert!(said.out.lines().count() > 1, "{}", said.out);
+    for line in said.out.lines() {
+        let whole = line.starts_with("{\"error\":") && line.contains("requests.say\",\"line\":");
+        assert!(whole && !line.contains("\\n"), "{line}");
+    }
     // Only what uses the file stops there.
     let said = run_with(&["run", folder.path(), "-"], "share dora pete\n");
     assert_eq!((said.status, said.out.as_str()), (0, "1  share dora → pete  granted\n"));

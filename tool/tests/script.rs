@@ -135,6 +135,40 @@ fn an_older_program_says_so() {
     assert!(error.contains("this is the tool as it was"), "{error}");
 }
 
+/// An archive that is older than the crates is not linked.
+#[test]
+fn an_older_library_is_not_linked() {
+    let folder = checkout();
+    let program = |name: &str, text: &str| {
+        let file = folder.file("bin").join(name);
+        fs::write(&file, format!("#!/bin/sh\n{text}\n")).unwrap();
+        fs::set_permissions(&file, fs::Permissions::from_mode(0o755)).unwrap();
+    };
+    program("cargo", "exit 1");
+    for name in ["crates/sets", "target/staticlib"] {
+        fs::create_dir_all(folder.file(name)).unwrap();
+    }
+    folder.write("target/staticlib/libcuckooormolu.a", "");
+    folder.write("crates/sets/a.rt", "");
+    let soon = std::time::SystemTime::now() + std::time::Duration::from_secs(60);
+    fs::File::open(folder.file("crates/sets/a.rt")).unwrap().set_modified(soon).unwrap();
+    let (status, _, error) = said(&folder, &["run", "mine"]);
+    assert_eq!(status, 3);
+    assert!(error.contains("the proved library is older than the crates"), "{error}");
+    program("rt", "echo \"proved: $*\"");
+    let (_, _, error) = said(&folder, &["run", "mine"]);
+    assert!(error.contains("proving and building the library"), "{error}");
+    assert!(error.contains("proved: staticlib cuckooormolu\n"), "{error}");
+    // Without rt, what is built runs on.
+    fs::remove_file(folder.file("bin/rt")).unwrap();
+    let place = folder.file("target/cargo/release");
+    fs::create_dir_all(&place).unwrap();
+    fs::copy(env!("CARGO_BIN_EXE_cuckooormolu"), place.join("cuckooormolu")).unwrap();
+    let (status, _, error) = said(&folder, &["--version"]);
+    assert_eq!(status, 0);
+    assert!(error.contains("since the library was proved, but rt is not on the path"), "{error}");
+}
+
 #[test]
 fn installed_where_one_likes() {
     let folder = built();

@@ -151,7 +151,7 @@ fn other_requests_are_made_beside_a_long_file() {
     assert!(said.out.contains(warning), "{}", said.out);
     assert!(said.out.contains("requests.tsv has 65600 bytes, and the program"), "{}", said.out);
     let said = run(&["check", path, "--json"]).out;
-    assert!(said.contains("{\"warning\":\"requests\",\"line\":0,"), "{said}");
+    assert!(said.contains("{\"warning\":\"requests\",\"file\":"), "{said}");
     for arguments in [
         &["run", path][..],
         &["who", path, "load"],

@@ -11,7 +11,8 @@ fn shared() -> Folder {
     folder.write("requests.tsv", "R\t0\t0\t1\n");
     let stored = folder.file("stored.tsv");
     let said = run(&["run", folder.path(), "--store", stored.to_str().unwrap()]);
-    assert_eq!((said.status, said.out.as_str()), (0, "1  share dora → pete  granted\n"));
+    let told = format!("1  share dora → pete  granted\n\n{} written\n", stored.display());
+    assert_eq!((said.status, said.out), (0, told));
     let text = folder.read("stored.tsv");
     assert!(text.starts_with("S\t2\nM\t3\n") && text.ends_with("T\t0\t0\t1\nV\t0\t0\t1\n"));
     folder.write("terms.tsv", &text);

@@ -23,9 +23,4 @@ impl Both {
             Err(_) => Err(differ("terms that are accepted are refused as stored ones")),
         }
     }
-
-    /// The same for terms that are to be used: a refusal stops the program.
-    pub fn accepted_terms(text: &[u8]) -> Result<Both, Stop> {
-        Both::read_terms(text)?.map_err(super::refused)
-    }
 }

@@ -1,5 +1,6 @@
 //! A cause with its place in the file, and how both are shown.
 
+use crate::source::mistake::cut;
 use std::ops::Range;
 
 /// Why a terms text is refused.
@@ -31,8 +32,8 @@ impl Fault {
         Fault { right: right.into(), ..self }
     }
 
-    /// The faulty line with the place marked under it; nothing where the text
-    /// ends too soon.
+    /// The faulty line, or what stands around the place in a long one, with the place
+    /// marked under it; nothing where the text ends too soon.
     pub fn shown(&self, text: &[u8]) -> Option<[String; 2]> {
         let line = self.line.checked_sub(1)?;
         let line = text.split_inclusive(|&byte| byte == b'\n').nth(line)?;
@@ -41,7 +42,8 @@ impl Fault {
         let end = self.place.end.clamp(start, line.len());
         let before = visible(&line[..start]).chars().count();
         let marked = visible(&line[start..end]).chars().count().max(1);
-        Some([visible(line), format!("{}{}", " ".repeat(before), "^".repeat(marked))])
+        let (shown, before, marked) = cut(&visible(line), before, marked);
+        Some([shown, format!("{}{}", " ".repeat(before), "^".repeat(marked))])
     }
 }
 

@@ -7,6 +7,9 @@ use std::ops::Range;
 /// The refusal of whatever isn't the form.
 pub const FORM: u16 = 1;
 
+/// So much of a field is shown.
+const WIDEST: usize = 60;
+
 const BYTE_ORDER_MARK: &[u8] = b"\xef\xbb\xbf";
 
 /// One field of a line.
@@ -21,9 +24,13 @@ impl Field<'_> {
         self.start..self.start + self.bytes.len()
     }
 
-    /// The field as it is shown in a message.
+    /// The field as it is shown in a message: the beginning of a long one.
     pub fn shown(&self) -> String {
-        visible(self.bytes)
+        let shown = visible(self.bytes);
+        match shown.char_indices().nth(WIDEST) {
+            Some((end, _)) => format!("{}…", &shown[..end]),
+            None => shown,
+        }
     }
 }
 

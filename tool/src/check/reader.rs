@@ -29,7 +29,7 @@ fn unended(line: &[u8]) -> Fault {
     let end = line.len();
     match line.iter().position(|&byte| byte == b'\r') {
         Some(place) if place + 1 < end => {
-            Fault::new(FORM, place..place + 1, "carriage returns end the lines")
+            Fault::new(FORM, place..place + 1, "the lines end with carriage returns alone")
                 .right("let lines end with a line feed")
         }
         _ => Fault::new(FORM, end..end, "the last line has no line feed")

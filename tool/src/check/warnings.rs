@@ -10,7 +10,7 @@ use crate::source::ast::Span;
 use crate::source::mistake::Mistake;
 use crate::stop::Stop;
 use keeper::terms::Terms;
-use seldom::{edgeless, strangers, swapped, uncountable, unkept, unsaid, unused};
+use seldom::{edgeless, nameless, strangers, swapped, uncountable, unkept, unsaid, unused};
 
 /// Something that may be a mistake.
 #[derive(Clone, Debug, PartialEq, Eq)]
@@ -73,6 +73,7 @@ pub fn warnings(both: &Both, folder: &Folder) -> Result<Vec<Warning>, Stop> {
     warnings.extend(uncountable(&subject));
     warnings.extend(unkept(&subject));
     warnings.extend(strangers(terms, names));
+    warnings.extend(nameless(terms, names));
     warnings.extend(unsaid(&subject));
     warnings.extend(unread(folder));
     let long = effort::long(&subject, both.effort());
@@ -96,7 +97,7 @@ pub fn warnings(both: &Both, folder: &Folder) -> Result<Vec<Warning>, Stop> {
 
 /// Requests of the folder that can't be read: they are not tried.
 fn unread(folder: &Folder) -> Option<Warning> {
-    let why = folder.unread.as_ref()?;
+    let why = folder.unread.as_ref()?.to_string();
     Some(Warning {
         kind: "requests",
         about: About::Nothing,

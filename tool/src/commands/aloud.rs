@@ -3,7 +3,6 @@
 use crate::aloud::quote::{block, difference};
 use crate::aloud::{Aloud, Sentence};
 use crate::arguments::Arguments;
-use crate::both::Both;
 use crate::folder::{self, Folder};
 use crate::json::Json;
 use crate::names::Kind;
@@ -38,7 +37,7 @@ or compiled.
 pub fn main(arguments: &[String], out: &mut dyn Write) -> Result<i32, Stop> {
     let arguments = Arguments::read(arguments, &["--json"], &["--verify", "--quote"])?;
     let folder = Folder::load(Path::new(arguments.one("a folder or a terms file")?))?;
-    let both = Both::accepted_terms(&folder.terms)?;
+    let both = folder.accepted_terms()?;
     let aloud = match both.is_stored() {
         true => Aloud::of_record(both.record(), &folder.names),
         false => Aloud::of(both.terms(), &folder.names),

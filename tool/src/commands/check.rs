@@ -1,233 +1,171 @@
-//! `cuckooormolu check`: says whether a terms file is accepted, and what is
+//! `cuckooormolu check`: says whether terms files are accepted, and what is
 //! wrong if not.
 
+mod json;
+mod text;
+
 use crate::arguments::Arguments;
-use crate::both::Both;
-use crate::check::{check, effort, About, Checked, Fault, Warning};
+use crate::check::{check, About, Checked, Warning};
 use crate::folder::{Folder, SOURCE, SPOKEN, TERMS};
-use crate::json::Json;
-use crate::names::Names;
-use crate::source::mistake::Mistake;
-use crate::stop::{Stop, UNUSABLE, WELL};
+use crate::stop::{Stop, FAILING, WELL};
 use crate::watch::watch;
-use std::collections::BTreeSet;
 use std::io::Write;
 use std::path::Path;
 
 pub const HELP: &str = "\
-usage: cuckooormolu check DIR|FILE [--json] [--watch]
+usage: cuckooormolu check DIR|FILE... [--strict] [--effort ROWS] [--json] [--watch]
 
 Says whether terms are accepted: those of the source, terms.say, or else those of
 a terms file. If they are not, shows each line with the mistake marked, what is
 wrong, and what would be right; for a terms file, the refusal's number too, with
 tabs shown as → and carriage returns as ↵. If they are, warns of what may be a
-mistake all the same. That nobody is ever granted an event is said after the
-folder's requests and tests, many others, and a short search for some. The effort is
-a bound by the terms alone, with the time that it takes on a computer of today; a row
-is one entry at one member. Where that is seconds or more, nothing is worked out and no
-request is tried. The requests of requests.say are checked, too.
+mistake all the same. That nobody is ever granted an event is said after trying the
+folder's requests and tests, many others, and a short search. The effort is a bound by
+the terms alone, with the time that it takes on a computer of today; a row is one entry
+at one member. Where that is seconds or more, nothing is worked out and no request is
+tried. The requests of requests.say are checked, too. Mistakes go to standard error,
+the rest to standard output. Of several folders each is checked, whatever the others
+have.
 
-  --watch  check again whenever a file of the folder changes, until stopped
-  --json   one line for each mistake of a source: error, file, line, column, advice;
-           for a terms file one: accepted, number, line, from, to, what, right. If the
-           terms are accepted, one with the counts and the effort, and one for each
-           warning: warning, line, what, right
+  --strict       exit with 1 if there is a warning
+  --effort ROWS  exit with 1 if a request may work out more rows than this
+  --watch        check again whenever a file of the folders changes, until stopped
+  --json         on standard output, one line for each mistake of a source: error, file,
+                 line, column, advice; for a terms file one: accepted, file, number,
+                 line, from, to, what, right. If the terms are accepted, one with the
+                 file, the counts and the effort (with or_more, it is that or more), and
+                 one for each warning: warning, file, line, column, what, right
 
-Exit status: 0 if the terms are accepted, with or without warnings; 3 if not, or if
-requests.say has a mistake.
+Exit status: 0 if the terms are accepted, with or without warnings; 1 if --strict finds a
+warning, or --effort more rows; 3 if terms are not accepted, or requests.say has a
+mistake.
 ";
 
-pub fn main(arguments: &[String], out: &mut dyn Write) -> Result<i32, Stop> {
-    let arguments = Arguments::read(arguments, &["--json", "--watch"], &[])?;
-    let path = Path::new(arguments.one("a folder or a terms file")?);
-    let json = arguments.has("--json");
-    if !arguments.has("--watch") {
-        return checked(path, json, out);
+/// What is asked to hold of accepted terms.
+struct Limits {
+    strict: bool,
+    effort: Option<usize>,
+}
+
+impl Limits {
+    fn of(arguments: &Arguments) -> Result<Limits, Stop> {
+        let rows = |given: &str| {
+            given.parse().map_err(|_| {
+                let such = "--effort takes a number of rows, such as 1000000";
+                Stop::Usage(format!("{such}; `{given}` is none"))
+            })
+        };
+        let effort = arguments.option("--effort").map(rows).transpose()?;
+        Ok(Limits { strict: arguments.has("--strict"), effort })
     }
-    watch(&[path], || {
-        match checked(path, json, out) {
-            Err(Stop::Closed) => return Err(Stop::Closed),
-            Err(stop) if json => stop.json().iter().try_for_each(|line| writeln!(out, "{line}"))?,
-            Err(stop) => writeln!(out, "{stop}")?,
-            Ok(_) => {}
-        }
+
+    /// Whether so many rows are too many. The most that is counted stands for more, too.
+    fn exceeded_by(&self, rows: usize) -> bool {
+        self.effort.is_some_and(|most| rows > most || rows >= proved::MOST_EFFORT)
+    }
+}
+
+pub fn main(arguments: &[String], out: &mut dyn Write) -> Result<i32, Stop> {
+    let arguments = Arguments::read(arguments, &["--json", "--strict", "--watch"], &["--effort"])?;
+    if arguments.rest.is_empty() {
+        return Err(Stop::Usage("give a folder or a terms file, one or more".into()));
+    }
+    let (json, limits) = (arguments.has("--json"), Limits::of(&arguments)?);
+    let paths: Vec<&Path> = arguments.rest.iter().map(Path::new).collect();
+    if let ([path], false) = (&paths[..], arguments.has("--watch")) {
+        return checked(path, &limits, json, out);
+    }
+    if !arguments.has("--watch") {
+        return each(&paths, &limits, json, false, out);
+    }
+    watch(&paths, || {
+        each(&paths, &limits, json, true, out)?;
         if !json {
-            writeln!(out, "-- {} is watched; Ctrl-C ends", path.display())?;
+            writeln!(out, "-- {} is watched; Ctrl-C ends", arguments.rest.join(", "))?;
         }
         Ok(out.flush()?)
     })
 }
 
+/// Checks all, and gives the highest status. While they are watched, mistakes go where the
+/// rest does.
+fn each(
+    paths: &[&Path],
+    limits: &Limits,
+    json: bool,
+    watched: bool,
+    out: &mut dyn Write,
+) -> Result<i32, Stop> {
+    let mut worst = WELL;
+    for path in paths {
+        if paths.len() > 1 && !json {
+            writeln!(out, "{}:", path.display())?;
+        }
+        let status = match checked(path, limits, json, out) {
+            Ok(status) => status,
+            Err(stop @ (Stop::Closed | Stop::Usage(_))) => return Err(stop),
+            Err(stop) => {
+                match (json, watched) {
+                    (true, _) => stop.json().iter().try_for_each(|line| writeln!(out, "{line}"))?,
+                    (false, true) => writeln!(out, "{stop}")?,
+                    (false, false) => {
+                        out.flush()?;
+                        eprintln!("{stop}");
+                    }
+                }
+                stop.status()
+            }
+        };
+        worst = worst.max(status);
+    }
+    Ok(worst)
+}
+
 /// Checks once.
-fn checked(path: &Path, json: bool, out: &mut dyn Write) -> Result<i32, Stop> {
+fn checked(path: &Path, limits: &Limits, json: bool, out: &mut dyn Write) -> Result<i32, Stop> {
     let folder = Folder::load(path)?;
     // What people write by name is checked as a source is; a file that is too long is warned of.
     if folder.asked.ends_with(SPOKEN) {
         folder.readable()?;
     }
-    match check(&folder)? {
-        Checked::Refused(fault) if json => writeln!(out, "{}", fault_json(&fault))?,
-        Checked::Refused(fault) => refused(out, &fault, &folder.terms)?,
-        Checked::Accepted(both, mut warnings) => {
-            warnings.extend(outdated(&folder));
-            if json {
-                writeln!(out, "{}", accepted_json(&both, &folder.names))?;
-                for warning in folder.source.iter().flat_map(|source| &source.compiled.warnings) {
-                    let source = folder.source.as_ref().map_or("", |source| &source.text);
-                    writeln!(out, "{}", source_json(warning, source))?;
-                }
-                for warning in &warnings {
-                    writeln!(out, "{}", warning_json(warning))?;
-                }
-            } else {
-                accepted(out, &both, &folder.names)?;
-                write!(out, "{}", folder.warnings())?;
-                for warning in &warnings {
-                    warned(out, warning, &folder)?;
-                }
-            }
-            return Ok(WELL);
+    let (both, mut warnings) = match check(&folder)? {
+        Checked::Refused(fault) => {
+            let shown = text::refused(&fault, &folder);
+            return Err(Stop::Told(shown, vec![json::refused(&fault, &folder)]));
+        }
+        Checked::Accepted(both, warnings) => (both, warnings),
+    };
+    warnings.extend(outdated(&folder));
+    let compiling = folder.source.iter().flat_map(|source| &source.compiled.warnings);
+    let warned = !warnings.is_empty() || compiling.clone().count() > 0;
+    if json {
+        writeln!(out, "{}", json::accepted(&both, &folder, limits))?;
+        for warning in compiling {
+            writeln!(out, "{}", json::compiling(warning, &folder))?;
+        }
+        for warning in &warnings {
+            writeln!(out, "{}", json::warned(warning, &folder))?;
+        }
+    } else {
+        text::accepted(out, &both, &folder, limits)?;
+        write!(out, "{}", folder.warnings())?;
+        for warning in &warnings {
+            text::warned(out, warning, &folder)?;
         }
     }
-    Ok(UNUSABLE)
+    let fails = limits.strict && warned || limits.exceeded_by(both.effort());
+    Ok(if fails { FAILING } else { WELL })
 }
 
-/// A terms.tsv beside a source that has changed since: hosts open the former.
+/// A terms.tsv beside a source that says something else: hosts open the former.
 fn outdated(folder: &Folder) -> Option<Warning> {
     let compiled = &folder.source.as_ref()?.compiled;
+    let warn = |kind, what, right| Warning { kind, about: About::Nothing, line: 0, what, right };
+    if let Some((what, right)) = folder.idle() {
+        return Some(warn("idle", what, right));
+    }
     let terms = std::fs::read(folder.path.join(TERMS)).ok()?;
     let what = format!("{TERMS} is not what {SOURCE} compiles to; a host opens {TERMS}");
-    (terms != compiled.text()).then(|| Warning {
-        kind: "outdated",
-        about: About::Nothing,
-        line: 0,
-        what,
-        right: format!("`cuckooormolu compile {}` writes it anew", folder.path.display()),
-    })
-}
-
-fn refused(out: &mut dyn Write, fault: &Fault, text: &[u8]) -> Result<(), Stop> {
-    let number = fault.number;
-    match fault.line {
-        0 => writeln!(out, "refused with {number}: {}", fault.what)?,
-        line => writeln!(out, "refused with {number} at line {line}: {}", fault.what)?,
-    }
-    if let Some([shown, marks]) = fault.shown(text) {
-        let line = fault.line.to_string();
-        writeln!(out, "  {line} | {shown}")?;
-        writeln!(out, "  {} | {marks}", " ".repeat(line.len()))?;
-    }
-    if !fault.right.is_empty() {
-        writeln!(out, "{}", fault.right)?;
-    }
-    Ok(())
-}
-
-fn accepted(out: &mut dyn Write, both: &Both, names: &Names) -> Result<(), Stop> {
-    let terms = both.terms();
-    // What a source has for its kinds of members nobody wrote as relations.
-    let kinds = names.kind_relations(terms);
-    let edges = terms.edges.iter().filter(|(relation, ..)| !kinds.contains(relation)).count();
-    let counted = |count: usize, one: &str, more: &str| match count {
-        1 => format!("1 {one}"),
-        count => format!("{count} {more}"),
-    };
-    let effects = terms.effects.iter().map(Vec::len).sum();
-    let mut parts = vec![
-        counted(terms.members, "member", "members"),
-        counted(terms.relations - kinds.len(), "relation", "relations"),
-        counted(terms.events, "event", "events"),
-        counted(terms.entries.len(), "entry", "entries"),
-        counted(terms.past().len(), "of them past-time", "of them past-time"),
-        counted(effects, "effect", "effects"),
-        counted(edges, "first edge", "first edges"),
-    ];
-    if !kinds.is_empty() {
-        parts.insert(1, counted(kinds.len(), "kind", "kinds"));
-    }
-    if !terms.kept.is_empty() {
-        parts.push(counted(terms.kept.len(), "event kept when denied", "events kept when denied"));
-    }
-    writeln!(out, "accepted: {}", parts.join(", "))?;
-    if let Some(tables) = both.record().before().filter(|_| both.is_stored()) {
-        let bits = tables.iter().map(BTreeSet::len).sum();
-        let event = match both.present().event {
-            Some(_) => "the last event",
-            None if terms.past().is_empty() => "no event",
-            None => "no event, as before any request",
-        };
-        let bits = counted(bits, "line of the past", "lines of the past");
-        writeln!(out, "stored: with {bits} and {event}; `cuckooormolu aloud` reads them")?;
-    }
-    let untried = match effort::is_lengthy(both.effort()) {
-        true => "; so nothing was worked out here, and no request was tried",
-        false => "",
-    };
-    writeln!(out, "effort: a request works out {}{untried}", effort::told(both.effort()))?;
-    Ok(())
-}
-
-/// A warning: at its place in the source, or with the line of the terms file.
-fn warned(out: &mut dyn Write, warning: &Warning, folder: &Folder) -> Result<(), Stop> {
-    if let (Some((_, span)), Some(source)) = (folder.place(warning.about), &folder.source) {
-        let shown =
-            Mistake::new(span, format!("warning: {}", warning.what)).advise(&*warning.right);
-        write!(out, "{}", shown.render(&folder.file.display().to_string(), &source.text))?;
-        return Ok(());
-    }
-    match warning.line {
-        0 => writeln!(out, "warning: {}", warning.what)?,
-        line => writeln!(out, "warning, line {line}: {}", warning.what)?,
-    }
-    if !warning.right.is_empty() {
-        writeln!(out, "  {}", warning.right)?;
-    }
-    Ok(())
-}
-
-fn fault_json(fault: &Fault) -> Json {
-    Json::Object(vec![
-        ("accepted", false.into()),
-        ("number", usize::from(fault.number).into()),
-        ("line", fault.line.into()),
-        ("from", fault.place.start.into()),
-        ("to", fault.place.end.into()),
-        ("what", fault.what.as_str().into()),
-        ("right", fault.right.as_str().into()),
-    ])
-}
-
-fn accepted_json(both: &Both, names: &Names) -> Json {
-    let terms = both.terms();
-    Json::Object(vec![
-        ("accepted", true.into()),
-        ("members", terms.members.into()),
-        ("relations", terms.relations.into()),
-        ("kinds", names.kind_relations(terms).len().into()),
-        ("events", terms.events.into()),
-        ("entries", terms.entries.len().into()),
-        ("past", terms.past().len().into()),
-        ("kept", terms.kept.len().into()),
-        ("edges", terms.edges.len().into()),
-        ("stored", both.is_stored().into()),
-        ("effort", both.effort().into()),
-    ])
-}
-
-fn source_json(warning: &Mistake, text: &str) -> Json {
-    Json::Object(vec![
-        ("warning", "source".into()),
-        ("line", warning.place(text).0.into()),
-        ("what", warning.message.as_str().into()),
-        ("right", warning.advice.clone().into()),
-    ])
-}
-
-fn warning_json(warning: &Warning) -> Json {
-    Json::Object(vec![
-        ("warning", warning.kind.into()),
-        ("line", warning.line.into()),
-        ("what", warning.what.as_str().into()),
-        ("right", warning.right.as_str().into()),
-    ])
+    let right = format!("`cuckooormolu compile {}` writes it anew", folder.path.display());
+    (terms != compiled.text()).then(|| warn("outdated", what, right))
 }

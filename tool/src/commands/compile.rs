@@ -2,7 +2,7 @@
 
 use crate::arguments::Arguments;
 use crate::both::Both;
-use crate::folder::{self, Folder, NAMES, SOURCE, TERMS};
+use crate::folder::{self, stored, Folder, NAMES, SOURCE, TERMS};
 use crate::json::Json;
 use crate::source::Compiled;
 use crate::stop::{Stop, WELL};
@@ -15,14 +15,15 @@ usage: cuckooormolu compile FILE|DIR [-o DIR] [--print] [--json]
 
 Compiles a source (docs/LANGUAGE.md), in a folder its terms.say, to terms.tsv and
 to names.tsv, which lists the names of members, with their kinds, relations and
-events. Both files are written next to the source.
+events. Both files are written next to the source. A terms.tsv that is stored, with a
+past, is never written over.
 
   -o DIR    write them to DIR instead
   --print   print terms.tsv and write nothing
   --json    print one line of JSON: what was written, or what is wrong and where
 
 Exit status: 0; 3 if the source cannot be read or has a mistake, or a file cannot be
-written.
+written or is stored.
 ";
 
 pub fn main(arguments: &[String], out: &mut dyn Write) -> Result<i32, Stop> {
@@ -43,6 +44,10 @@ pub fn main(arguments: &[String], out: &mut dyn Write) -> Result<i32, Stop> {
         return Ok(WELL);
     }
     let folder = arguments.option("-o").map_or_else(|| read.path.clone(), PathBuf::from);
+    stored::not_over(
+        &folder.join(TERMS),
+        "compile to another folder with -o NEW, and `cuckooormolu revise` continues under the terms of NEW",
+    )?;
     folder::make(&folder)?;
     folder::write(&folder.join(TERMS), &terms)?;
     folder::write(&folder.join(NAMES), compiled.names.write().as_bytes())?;

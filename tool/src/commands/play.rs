@@ -1,6 +1,7 @@
 //! `cuckooormolu play`: a page on this machine to edit terms in and try them.
 
 use crate::arguments::Arguments;
+use crate::folder::Folder;
 use crate::http;
 use crate::play::files::Files;
 use crate::play::{listen, Play};
@@ -29,7 +30,11 @@ Exit status: 3 if the folder cannot be read or the port is taken.
 
 pub fn main(arguments: &[String], out: &mut dyn Write) -> Result<i32, Stop> {
     let arguments = Arguments::read(arguments, &[], &["--port"])?;
-    let files = Files::new(Path::new(arguments.one("DIR")?))?;
+    let path = Path::new(arguments.one("DIR")?);
+    let files = Files::new(path)?;
+    if let Some((what, right)) = Folder::load(path).ok().and_then(|folder| folder.idle()) {
+        eprintln!("warning: {what}; {right}");
+    }
     let port = arguments.option("--port").unwrap_or("0");
     let port = port
         .parse()

@@ -1,7 +1,6 @@
 //! `cuckooormolu renumber`: members get new numbers.
 
 use crate::arguments::Arguments;
-use crate::both::Both;
 use crate::folder::Folder;
 use crate::json::Json;
 use crate::renumber::{order, renumber};
@@ -41,7 +40,7 @@ pub fn main(arguments: &[String], out: &mut dyn Write) -> Result<i32, Stop> {
         Stop::Usage("give --order NAMES, all members in their new order".to_string())
     })?;
     let folder = Folder::opening(folder)?;
-    let terms = Both::accepted_terms(&folder.terms)?;
+    let terms = folder.accepted_terms()?;
     let numbering = order::read(given, terms.terms(), &folder.names)?;
     let renumbered = renumber(&folder, numbering)?;
     let place = arguments.option("-o");

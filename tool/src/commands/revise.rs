@@ -1,12 +1,13 @@
 //! `cuckooormolu revise`: a monitor goes on with new terms.
 
 use crate::arguments::Arguments;
+use crate::both::Both;
 use crate::folder::Folder;
 use crate::json::Json;
 use crate::replay::Replay;
-use crate::revise::revise;
+use crate::revise::{revise, Revised};
 use crate::stop::{Stop, WELL};
-use crate::storing::store;
+use crate::storing::{store, told};
 use std::io::Write;
 use std::path::Path;
 
@@ -50,15 +51,26 @@ pub fn main(arguments: &[String], out: &mut dyn Write) -> Result<i32, Stop> {
         let from = Folder { names: revised.names.clone(), ..new };
         store(Path::new(file), &both.store()?, &from)?;
     }
+    told(file, print(&revised, &both, file, json, out))?;
+    Ok(WELL)
+}
+
+/// Prints what is revised, and then which file is stored.
+fn print(
+    revised: &Revised,
+    both: &Both,
+    file: Option<&str>,
+    json: bool,
+    out: &mut dyn Write,
+) -> Result<(), Stop> {
     match json {
         true => revised.json().iter().try_for_each(|line| writeln!(out, "{line}"))?,
         false => write!(out, "{}", revised.text(both.terms()))?,
     }
-    if let Some(file) = file {
-        match json {
-            true => writeln!(out, "{}", Json::Object(vec![("stored", file.into())]))?,
-            false => writeln!(out, "\n{file} written")?,
-        }
+    match (file, json) {
+        (Some(file), true) => writeln!(out, "{}", Json::Object(vec![("stored", file.into())]))?,
+        (Some(file), false) => writeln!(out, "\n{file} written")?,
+        (None, _) => {}
     }
-    Ok(WELL)
+    Ok(out.flush()?)
 }

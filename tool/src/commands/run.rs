@@ -2,12 +2,12 @@
 
 use crate::arguments::Arguments;
 use crate::both::Verdict;
-use crate::folder::{Folder, Request};
+use crate::folder::{stored, Folder, Request};
 use crate::json::Json;
 use crate::replay::Step;
 use crate::session::Session;
 use crate::stop::{Stop, FAILING, WELL};
-use crate::storing::store;
+use crate::storing::{store, told};
 use crate::words::{answered, Words};
 use keeper::terms::Refusal;
 use std::io::{self, Write};
@@ -19,10 +19,10 @@ usage: cuckooormolu run DIR [- | --requests FILE] [--strict] [--json] [--store F
 
 Makes the requests of a folder under its terms, and prints each with its answer.
 Requests are in DIR/requests.say, one per line by name, such as `load pete saw` or
-`pete load saw`, or else in DIR/requests.tsv. With `-` they are read from standard input, in either
-form; `run -` means `run . -`. The terms are those of DIR/terms.say, or else of
-DIR/terms.tsv, with the names of DIR/names.tsv if there is one. Stored terms
-continue where they were stored.
+`pete load saw`, or else in DIR/requests.tsv. With `-` they are read from standard
+input, in either form; `run -` means `run . -`. The terms are those of DIR/terms.say,
+or else of DIR/terms.tsv, with the names of DIR/names.tsv if there is one. Stored
+terms continue where they were stored.
 
 Two banks share terms and relations, each with its own past: then every request by
 name begins with its bank, such as `left load pete saw` or `right load pete saw`.
@@ -32,7 +32,8 @@ name begins with its bank, such as `left load pete saw` or `right load pete saw`
                  `-` is standard input
   --strict       exit with 1 if a request is denied or refused, with 3 if there is none,
                  from standard input too
-  --json         one JSON object per line; `made` is the moment a request made
+  --json         one JSON object per line; `made` is the moment a request made; with
+                 --store the last one says which file is `stored`
   --store FILE   store terms, state and what they remember in FILE, before any answer
                  is printed, creating its folder if need be; if FILE is called
                  terms.tsv, the names are stored beside it and its folder can be run.
@@ -42,7 +43,7 @@ name begins with its bank, such as `left load pete saw` or `right load pete saw`
                  its length or a checksum with it. One run at a time: nothing locks the
                  folder. Of two banks nothing is stored or written
   --write FILE   afterwards, write terms and relations as new terms to begin with;
-                 refused with 12 if anything has happened
+                 refused with 12 if anything has happened. Not over a stored file
 
 Exit status: 0; 1 if --strict finds a request denied or refused; 3 if --strict finds
 no request, or a file cannot be read, written or compiled.
@@ -72,14 +73,8 @@ pub fn main(arguments: &[String], out: &mut dyn Write) -> Result<i32, Stop> {
         store(Path::new(file), &both.store()?, &folder)?;
     }
     let words = Words::new(session.terms(), &folder.names);
-    let widths = Widths::of(steps, &words);
-    for step in steps {
-        if arguments.has("--json") {
-            writeln!(out, "{}", Json::Object(fields(step, &words)))?;
-        } else {
-            writeln!(out, "{}", widths.line(step, &words))?;
-        }
-    }
+    let file = arguments.option("--store");
+    told(file, print(steps, &words, file, arguments.has("--json"), out))?;
     let input = input || arguments.option("--requests") == Some("-");
     if arguments.has("--strict") && steps.is_empty() {
         return Err(Stop::Failed(match (input, arguments.option("--requests")) {
@@ -95,10 +90,34 @@ pub fn main(arguments: &[String], out: &mut dyn Write) -> Result<i32, Stop> {
     }
     if let (Some(file), Some(both)) = (arguments.option("--write"), session.one()) {
         let text = both.write()?.map_err(|refusal| Stop::Failed(no_fresh_start(refusal)))?;
+        stored::not_over(Path::new(file), "write to another file")?;
         store(Path::new(file), &text, &folder)?;
     }
     let all_granted = steps.iter().all(|step| step.verdict == Verdict::Grant);
     Ok(if arguments.has("--strict") && !all_granted { FAILING } else { WELL })
+}
+
+/// Prints the answers, and then which file is stored.
+fn print(
+    steps: &[Step],
+    words: &Words,
+    file: Option<&str>,
+    json: bool,
+    out: &mut dyn Write,
+) -> Result<(), Stop> {
+    let widths = Widths::of(steps, words);
+    for step in steps {
+        match json {
+            true => writeln!(out, "{}", Json::Object(fields(step, words)))?,
+            false => writeln!(out, "{}", widths.line(step, words))?,
+        }
+    }
+    match (file, json) {
+        (Some(file), true) => writeln!(out, "{}", Json::Object(vec![("stored", file.into())]))?,
+        (Some(file), false) => writeln!(out, "\n{file} written")?,
+        (None, _) => {}
+    }
+    Ok(out.flush()?)
 }
 
 /// A folder with its own requests, or those of standard input or of a file.

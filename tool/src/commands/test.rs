@@ -1,7 +1,6 @@
 //! `cuckooormolu test`: the tests that people write, and where they fail.
 
 use crate::arguments::Arguments;
-use crate::both::Both;
 use crate::folder::{folder_of, Folder};
 use crate::json::Json;
 use crate::source::ast::Span;
@@ -27,14 +26,16 @@ Runs the tests in each folder's tests.say under its terms:
     then dora withdraw pete            another request
     pete may not load pad because dora withdraw
 
-Each test begins at moment 0, without the requests of the folder. After `because`
-come words that one reason of `why --all` must have, in this order; others may stand
-between them, and the name of an event, a relation or a definition stands for all its
-forms. `nobody`, `anyone` and `only pete and quin` may stand for a member. `dora denied share pete` is a request that must be denied.
-A test is about one bank.
+Each test begins at moment 0, without the requests of the folder. Of stored terms that
+is where they were stored: their past counts in every test, and no edges can be given.
+After `because` come words that one reason of `why --all` must have, in this order;
+others may stand between them, and the name of an event, a relation or a definition
+stands for all its forms. `nobody`, `anyone` and `only pete and quin` may stand for a
+member. `dora denied share pete` is a request that must be denied. A test is about one
+bank.
 
 Prints a diff for each unexpected answer, and a summary. Of several folders, one
-without tests is told, and the others are tested all the same.
+without tests is reported, and the others are tested all the same.
 
   --all    list passing tests too
   --json   one JSON object per line: each test, then the summary
@@ -76,7 +77,9 @@ fn tested(arguments: &Arguments, out: &mut dyn Write) -> Result<i32, Stop> {
     for given in &arguments.rest {
         let tested = match Tested::of(Path::new(given)) {
             Ok(tested) => tested,
-            Err(stop @ (Stop::Failed(_) | Stop::Mistaken(_))) if arguments.rest.len() > 1 => {
+            Err(stop @ (Stop::Failed(_) | Stop::Mistaken(_) | Stop::Told(..)))
+                if arguments.rest.len() > 1 =>
+            {
                 count.unusable += 1;
                 match json {
                     true => stop.json().iter().try_for_each(|line| writeln!(out, "{line}"))?,
@@ -131,7 +134,7 @@ impl Tested {
                 _ => format!("cannot read {name}: {error}"),
             })
         })?;
-        let both = Both::accepted(&folder.terms)?;
+        let both = folder.accepted()?;
         let tests = match read(&text, &both, &folder.names) {
             Ok(tests) => tests,
             Err(mistakes) => {

@@ -1,7 +1,6 @@
 //! `cuckooormolu who`: who may do what to whom.
 
 use crate::arguments::Arguments;
-use crate::both::Both;
 use crate::folder::Folder;
 use crate::json::Json;
 use crate::matrix::Matrix;
@@ -34,7 +33,7 @@ pub fn main(arguments: &[String], out: &mut dyn Write) -> Result<i32, Stop> {
         [directory, event] => (directory, event),
         [directory] => {
             let folder = Folder::load(Path::new(directory))?;
-            let both = Both::accepted_terms(&folder.terms)?;
+            let both = folder.accepted_terms()?;
             let events = folder.names.events(both.terms()).join(", ");
             return Err(Stop::Usage(format!("give DIR and EVENT; events: {events}")));
         }

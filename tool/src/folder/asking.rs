@@ -23,7 +23,7 @@ impl Folder {
         };
         match read {
             Ok(Requests { lines, banks }) => Folder { asked, requests: lines, banks, ..self },
-            Err(stop) => Folder { asked, unread: Some(stop.to_string()), ..self },
+            Err(stop) => Folder { asked, unread: Some(stop), ..self },
         }
     }
 
@@ -31,7 +31,7 @@ impl Folder {
     pub fn readable(&self) -> Result<(), Stop> {
         match &self.unread {
             None => Ok(()),
-            Some(why) => Err(Stop::Failed(why.clone())),
+            Some(why) => Err(why.clone()),
         }
     }
 

@@ -2,7 +2,6 @@
 
 use super::asked::{Kept, Named};
 use super::saving::by_name;
-use crate::both::Both;
 use crate::folder::{self, Folder, Request, REQUESTS, SOURCE, SPOKEN};
 use crate::names::{Kind, Names};
 use crate::requests;
@@ -51,7 +50,7 @@ impl Files {
         match loaded {
             Ok(folder) => {
                 folder.of_one_bank()?;
-                let both = Both::accepted_terms(&folder.terms)?;
+                let both = folder.accepted_terms()?;
                 let (requests, more) = named(&folder, both.terms(), &self.requests());
                 let source = match &folder.source {
                     Some(source) => source.text.clone(),
@@ -90,7 +89,7 @@ impl Files {
     /// The folder, if its terms were stored with a past.
     pub fn stored(&self) -> Option<Folder> {
         let folder = Folder::load(&self.path).ok().filter(|folder| folder.source.is_none())?;
-        Both::accepted_terms(&folder.terms).is_ok_and(|both| both.is_stored()).then_some(folder)
+        folder.accepted_terms().is_ok_and(|both| both.is_stored()).then_some(folder)
     }
 
     /// Where the requests are read from.

@@ -1,7 +1,6 @@
 //! Requests and tests of renumbered members. What goes by name stays as it is
 //! written; what goes by number gets the new ones.
 
-use crate::both::Both;
 use crate::folder::{Folder, Request};
 use crate::requests;
 use crate::source::mistake::{Mistake, Mistaken};
@@ -27,7 +26,7 @@ pub fn renumbered(lines: &[u8], numbering: &Numbering) -> Vec<u8> {
 /// Stops where requests by name are not those of the renumbered members: then they
 /// name somebody by number.
 pub fn same_requests(file: &Path, text: &[u8], new: &Folder) -> Result<(), Stop> {
-    let both = Both::accepted(&new.terms)?;
+    let both = new.accepted()?;
     let text = String::from_utf8_lossy(text);
     let shown = file.display().to_string();
     let asked = requests::read(&shown, &text, both.terms(), &new.names)?;
@@ -46,12 +45,10 @@ pub fn same_tests(
 ) -> Result<(), Stop> {
     let text = String::from_utf8_lossy(text).into_owned();
     let tests = |folder: &Folder| -> Result<Vec<Test>, Stop> {
-        read(&text, &Both::accepted(&folder.terms)?, &folder.names).map_err(
-            |mistakes: Vec<Mistake>| {
-                let file = file.display().to_string();
-                Stop::Mistaken(Mistaken { file, text: text.clone(), mistakes })
-            },
-        )
+        read(&text, &folder.accepted()?, &folder.names).map_err(|mistakes: Vec<Mistake>| {
+            let file = file.display().to_string();
+            Stop::Mistaken(Mistaken { file, text: text.clone(), mistakes })
+        })
     };
     let unchanged = Numbering::of(numbering.numbers().len(), &identity(numbering));
     let unchanged = unchanged.unwrap_or_else(|_| numbering.clone());

@@ -17,13 +17,20 @@ pub fn read(given: &str, terms: &Terms, names: &Names) -> Result<Numbering, Stop
         true => (format!("{given}: "), in_file(file)?),
         false => (String::new(), given.to_string()),
     };
+    // One word may have been meant for the name of a file.
+    let lost = match place.is_empty() && !given.contains(',') && terms.members > 1 {
+        true => format!("; and there is no file {given}"),
+        false => String::new(),
+    };
     let failed = |why: String| Stop::Failed(format!("{place}{why}"));
     let mut order: Vec<usize> = Vec::new();
     for word in text.split([',', '\n']).map(|word| word.trim().trim_matches('"')) {
         if word.is_empty() {
             continue;
         }
-        let member = names.lookup(Kind::Member, word, terms.members).map_err(failed)?;
+        let member = names
+            .lookup(Kind::Member, word, terms.members)
+            .map_err(|why| failed(format!("{why}{lost}")))?;
         if order.contains(&member) {
             return Err(failed(format!(
                 "{} stands in the order twice, and a member has one number",

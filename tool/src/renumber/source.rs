@@ -1,6 +1,7 @@
 //! A source that declares its members in another order.
 
 use crate::folder::{Folder, Sourced};
+use crate::names::{Kind, Names};
 use crate::source::ast::{Name, Source};
 use crate::source::mistake::{Mistake, Mistaken};
 use crate::source::parse;
@@ -41,6 +42,19 @@ pub fn reordered(
     } else {
         Err(mistaken(mistakes))
     }
+}
+
+/// The lines with a comment that names a member: it stays, whoever is declared beside it.
+pub fn commented(text: &str, names: &Names) -> Vec<usize> {
+    let names_one = |comment: &str| {
+        let mut words = comment
+            .split(|letter: char| !letter.is_alphanumeric() && letter != '-' && letter != '_');
+        words.any(|word| names.find(Kind::Member, word).is_some())
+    };
+    // A quote has no `#` in it, and no line end.
+    let comments =
+        text.lines().enumerate().filter_map(|(line, text)| Some((line, text.split_once('#')?.1)));
+    comments.filter(|(_, comment)| names_one(comment)).map(|(line, _)| line + 1).collect()
 }
 
 /// The kind that a member is declared in.

@@ -91,7 +91,7 @@ const BEFORE: usize = 40;
 
 /// A line cut to a window around a place: the window, how far the place is in
 /// it, and how much of the place is.
-fn cut(line: &str, place: usize, marked: usize) -> (String, usize, usize) {
+pub fn cut(line: &str, place: usize, marked: usize) -> (String, usize, usize) {
     let letters: Vec<char> = line.chars().collect();
     if letters.len() <= WIDEST {
         return (line.to_string(), place, marked);

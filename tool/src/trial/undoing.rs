@@ -1,7 +1,6 @@
 //! Other terms to go on with, and what is taken back.
 
 use super::{Reply, Trial};
-use crate::both::Both;
 use crate::folder::Folder;
 use crate::replay::Step;
 use crate::session::Session;
@@ -52,7 +51,7 @@ impl Trial {
         let kept = if revised { count } else { count - 1 };
         for made in 0..=kept {
             while let Some((_, terms)) = left.next_if(|(after, _)| *after == made) {
-                session.revise_again(&Both::accepted(&terms.terms)?)?;
+                session.revise_again(&terms.accepted()?)?;
             }
             if made < kept {
                 let Step { bank, request, .. } = self.session.steps()[made];

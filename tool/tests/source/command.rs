@@ -82,7 +82,11 @@ fn source_goes_back() {
     fs::write(&broken, "M\t0\n").unwrap();
     let (status, _, error) = said(&["source", &broken.display().to_string()]);
     assert_eq!(status, 3);
-    assert!(error.contains("the terms are refused with 2 at line 1"), "{error}");
+    let file = broken.display();
+    let why = format!(
+        "{file} is refused with 2 at line 1; `cuckooormolu check {file}` says what is wrong"
+    );
+    assert!(error.contains(&why), "{error}");
 }
 
 #[test]

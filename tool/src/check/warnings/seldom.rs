@@ -232,3 +232,15 @@ pub fn strangers(terms: &Terms, names: &Names) -> Vec<Warning> {
     }
     warnings
 }
+
+/// Names for some and not for all.
+pub fn nameless(terms: &Terms, names: &Names) -> Vec<Warning> {
+    let warning = |partly: String| Warning {
+        kind: "name",
+        about: About::Nothing,
+        line: 0,
+        what: format!("names.tsv names {partly}"),
+        right: "is it of other terms? What has no name goes by its number".to_string(),
+    };
+    names.nameless(terms).into_iter().map(warning).collect()
+}
