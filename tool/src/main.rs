@@ -69,18 +69,17 @@ fn find(name: &str) -> Result<&'static Command, Stop> {
     })
 }
 
-/// Says why a sub-command stopped: on standard error, or as JSON after whatever
-/// was printed before. Gives the exit status.
+/// Says why a sub-command stopped: on standard error, or as JSON after whatever was
+/// printed before, if that can be printed. Gives the exit status.
 fn report(name: &str, stop: &Stop, json: bool, out: &mut dyn Write) -> i32 {
     let who = if name.is_empty() { "cuckooormolu".into() } else { format!("cuckooormolu {name}") };
-    if json {
-        for line in stop.json() {
-            let _ = writeln!(out, "{line}");
-        }
-    }
-    let _ = out.flush();
+    let written = match json {
+        true => stop.json().iter().try_for_each(|line| writeln!(out, "{line}")),
+        false => Ok(()),
+    };
+    let flushed = out.flush();
     match stop {
-        _ if json => {}
+        _ if json && written.is_ok() && flushed.is_ok() => {}
         Stop::Closed => {}
         Stop::Usage(_) => eprintln!("{who}: {stop}\n`{who} --help` says more."),
         Stop::Mistaken(_) | Stop::Told(..) => eprintln!("{stop}"),

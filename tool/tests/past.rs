@@ -108,6 +108,7 @@ fn what_is_stored_is_told_where_the_answers_cannot_be() {
     let before = live.read("terms.tsv");
     for arguments in [
         &["run", live.path(), "--store", &file][..],
+        &["run", live.path(), "--store", &file, "--json"],
         &["revise", live.path(), newer.path(), "--store", &file],
     ] {
         live.write("terms.tsv", &before);
