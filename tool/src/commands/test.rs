@@ -30,10 +30,11 @@ Runs the tests in each folder's tests.say under its terms:
 Each test begins at moment 0, without the requests of the folder. After `because`
 come words that one reason of `why --all` must have, in this order; others may stand
 between them, and the name of an event, a relation or a definition stands for all its
-forms. `nobody`, `anyone` and `only pete and quin` may stand for a member. `dora denied share pete` is a request that must be denied.
-A test is about one bank.
+forms. `nobody`, `anyone` and `only pete and quin` may stand for a member. `dora denied
+share pete` is a request that must be denied. A test is about one bank.
 
-Prints a diff for each unexpected answer, and a summary. Of several folders, one
+Prints what was expected and what came for each unexpected answer, with the first two
+reasons, and a summary. Of several folders, one
 without tests is told, and the others are tested all the same.
 
   --all    list passing tests too
@@ -155,7 +156,7 @@ impl Tested {
         Mistake::new(span, "").place(&self.text).0
     }
 
-    /// A test that fails as a diff; one that passes in a line, if all are asked for.
+    /// A test that fails, with what was expected and got; one that passes in a line, if all are asked for.
     fn told(&self, test: &Test, outcome: &Outcome, all: bool) -> String {
         let (file, line, title) = (&self.file, self.at(test.span), &test.title);
         if outcome.passed() {
@@ -163,9 +164,17 @@ impl Tested {
         }
         let mut text = format!("FAILED  {file}:{line}: {title}\n");
         for failure in &outcome.failures {
-            let line = self.at(failure.span);
-            text.push_str(&format!("  line {line}\n"));
-            text.push_str(&format!("  - {}\n  + {}\n", failure.expected, failure.found));
+            text.push_str(&format!("  line {}\n", self.at(failure.span)));
+            text.push_str(&format!("    expected: {}\n", failure.expected));
+            text.push_str(&format!("    got:      {}, because\n", failure.found));
+            let more = match failure.more {
+                0 => None,
+                1 => Some("(and 1 more reason)".to_string()),
+                more => Some(format!("(and {more} more reasons)")),
+            };
+            for line in failure.reasons.iter().chain(&more).chain(&failure.missing) {
+                text.push_str(&format!("      {line}\n"));
+            }
         }
         match outcome.skipped {
             0 => {}
@@ -180,7 +189,7 @@ impl Tested {
             Json::Object(vec![
                 ("line", self.at(failure.span).into()),
                 ("expected", failure.expected.as_str().into()),
-                ("found", failure.found.as_str().into()),
+                ("found", failure.sentence().into()),
             ])
         };
         Json::Object(vec![
