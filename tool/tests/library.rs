@@ -50,9 +50,10 @@ fn never_by_what_is_remembered_for_good() {
     let never = "load pete → kick is never granted: dan suspended pete at moment 2, and that is remembered for good.\n";
     assert_eq!((said.status, said.out.as_str()), (1, never));
     // What can be taken back is sought.
-    folder.write("terms.say", &LIBRARY.replace("once someone suspend p", "not p share p since someone suspend p"));
-    let said = run(&["can", folder.path(), "dora share pete"]).out;
-    assert!(said.starts_with("share dora → pete is granted now"), "{said}");
+    let lifted = "not someone share p since someone suspend p";
+    folder.write("terms.say", &LIBRARY.replace("once someone suspend p", lifted));
+    let said = run(&["can", folder.path(), "pete load kick"]).out;
+    assert!(said.starts_with("load pete → kick can be granted after 1 request"), "{said}");
 }
 
 #[test]

@@ -42,7 +42,9 @@ pub fn under(reasons: &mut Reasons, names: &Names, never: &Fact) -> Vec<Story> {
 fn in_order(mut stories: Vec<Story>, granted: bool) -> Vec<Story> {
     match granted {
         true => stories.sort_by_key(Story::is_never),
-        false => stories.sort_by_key(|story| (story.beside, Reverse(story.weight()), story.counts())),
+        false => {
+            stories.sort_by_key(|story| (story.beside, Reverse(story.weight()), story.counts()))
+        }
     }
     stories.sort_by_key(Story::is_slight);
     let tells = |story: &Story| story.facts != [Fact::Always];

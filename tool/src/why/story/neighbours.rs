@@ -34,7 +34,11 @@ impl Teller<'_, '_> {
             stories = self.near_each(&failing);
             stories.push(self.counting(Story::of(Fact::NoStep(place)), f, None));
         }
-        if reached > 1 { beside_each_other(stories) } else { stories }
+        if reached > 1 {
+            beside_each_other(stories)
+        } else {
+            stories
+        }
     }
 
     /// Those who are enough, each with a story of their own if there is one to tell.
@@ -132,7 +136,11 @@ impl Teller<'_, '_> {
                 });
             }
         }
-        if several { beside_each_other(stories) } else { stories }
+        if several {
+            beside_each_other(stories)
+        } else {
+            stories
+        }
     }
 
     /// The edge by which an `out` or `in` entry leads to a neighbour.
