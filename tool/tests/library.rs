@@ -47,7 +47,8 @@ fn never_by_what_no_event_changes() {
 fn never_by_what_is_remembered_for_good() {
     let folder = library("share dora pete\nsuspend dan pete\n");
     let said = run(&["can", folder.path(), "pete load kick"]);
-    let never = "load pete → kick is never granted: dan suspended pete at moment 2, and that is remembered for good.\n";
+    let never = "load pete → kick is never granted: dan suspended pete at moment 2, and that is \
+                 remembered for good.\n";
     assert_eq!((said.status, said.out.as_str()), (1, never));
     // What can be taken back is sought.
     let lifted = "not someone share p since someone suspend p";

@@ -60,9 +60,11 @@ fn what_fails_is_shown_with_what_was_expected() {
     let said = run(&["test", folder.path()]);
     assert_eq!(said.status, 1);
     for wanted in [
-        "tests.say:1: one\n  line 2\n    expected: pete may load saw\n    got:      pete may not load saw, because\n      ",
+        "tests.say:1: one\n  line 2\n    expected: pete may load saw\n    \
+         got:      pete may not load saw, because\n      ",
         "  line 3\n    expected: pete may not share dora\n    got:      pete may share dora, because\n      ",
-        "tests.say:4: two\n  line 6\n    expected: pete may not load saw because suspended\n    got:      pete may load",
+        "tests.say:4: two\n  line 6\n    expected: pete may not load saw because suspended\n    \
+         got:      pete may load",
         "  line 8\n    expected: pete peek saw\n    got:      pete denied peek saw, because\n      ",
         "  2 statements after it were left out\n",
         "\n4 tests with 6 answers: 1 passed, 3 failed\n",
