@@ -146,7 +146,7 @@ fn many_changes_are_grouped_and_cut() {
     let (old, new) = (folder(&terms("by anyone"), ""), folder(&terms("when me is target"), ""));
     let said = revise(&old, &new, &[]).out;
     assert!(
-        said.starts_with("Neither terms say anything about the past.\n\nThese could"),
+        said.starts_with("Neither terms say anything about the past.\n\nNo longer allowed:"),
         "{said}"
     );
     assert!(said.contains("- go m0 → m1, m2, m3, m4, m5, m6 and 33 more\n"), "{said}");

@@ -174,9 +174,9 @@ fn who_may_is_a_table() {
 fn an_attribute_is_a_sentence() {
     let folder = Folder::new();
     let terms = "members dora, tom\nrelations owns, suspended\n\
-                 event suspend by anyone then add target suspended target\nfirst dora owns tom, tom is suspended\n";
+                 event suspend by anyone then add me suspended target\nfirst dora owns tom, tom is suspended\n";
     folder.write("terms.say", terms);
-    folder.write("requests.say", "tom suspend dora\n");
+    folder.write("requests.say", "dora suspend dora\n");
     let page = page(&folder);
     for wanted in [
         "<caption><b>suspended</b> at moment 0</caption>\n<tbody>\n<tr><td>tom is suspended</td></tr>\n</tbody>",
