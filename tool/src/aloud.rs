@@ -40,7 +40,7 @@ use words::{full, letters, Words};
 const WIDTH: usize = 110;
 
 /// What is said of an event that is kept.
-const KEPT: &str = "If you are denied, the try makes a moment all the same.";
+const KEPT: &str = "If you are denied, the attempt is remembered too.";
 
 /// A sentence; what is under its first line, if anything, is an outline.
 #[derive(Clone, Debug, PartialEq, Eq)]

@@ -167,7 +167,9 @@ fn missing(folder: &Path) -> Stop {
     let what = format!("there is no {SOURCE} and no {TERMS} in {}", folder.display());
     Stop::Failed(match near.first() {
         Some(near) => {
-            format!("{what}, but {near}; it has to be called {SOURCE} or {TERMS}, in these letters")
+            format!(
+                "{what}, but {near}; it has to be called {SOURCE} or {TERMS}, spelled exactly so"
+            )
         }
         None => format!(
             "{what}; `cuckooormolu new {}` writes a {SOURCE} to start from",

@@ -63,7 +63,7 @@ impl Matrix {
     pub fn table(&self, words: &Words) -> String {
         let pairs = self.from.len() * self.to.len();
         format!(
-            "{} at moment {}: {} of {pairs} pairs may ({MAY}); rows ask, columns are asked\n\n{}",
+            "{} at moment {}: {} of {pairs} pairs may ({MAY}); rows: who; columns: whom or what\n\n{}",
             words.names.event(self.event),
             self.moment,
             self.count(),

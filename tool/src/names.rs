@@ -120,7 +120,8 @@ impl Names {
                 match (kinds.is_empty(), did_you_mean(word, kinds.iter().copied())) {
                     (true, _) => said,
                     (false, hint) if hint.is_empty() => {
-                        format!("{said}; kinds: {}", kinds.join(", "))
+                        let sign = if said.ends_with('?') { " Kinds" } else { "; kinds" };
+                        format!("{said}{sign}: {}", kinds.join(", "))
                     }
                     (false, hint) => format!("no member or kind `{word}`{hint}"),
                 }

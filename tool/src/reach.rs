@@ -25,9 +25,9 @@ pub struct Limits {
 }
 
 impl Limits {
-    /// Some minutes at most, and half a gigabyte.
+    /// Half a minute or so, and half a gigabyte.
     pub const USUAL: Limits =
-        Limits { within: usize::MAX, tries: 20_000_000, bytes: 512 * 1024 * 1024 };
+        Limits { within: usize::MAX, tries: 8_000_000, bytes: 512 * 1024 * 1024 };
 }
 
 /// What the search comes to.

@@ -166,7 +166,7 @@ impl Revised {
             return parts.join("\n");
         }
         let heads = [
-            (Start::Carried, "These sentences about the past go on:".to_string()),
+            (Start::Carried, "Still remembered:".to_string()),
             (Start::Now, self.begins(&words)),
             (Start::Dropped, "These are dropped, with all that they remember:".to_string()),
         ];

@@ -96,6 +96,13 @@ impl Reasons<'_> {
         let asked = words.request(step.request);
         Err(Stop::Differ(format!("{asked}: {}, with a reason for the opposite", step.verdict)))
     }
+
+    /// Why a claim about the last moment is right.
+    pub fn lines(&mut self, words: &Words, claim: Claim) -> Vec<String> {
+        let (now, granted) = (claim.place.moment, claim.holds);
+        let telling = Telling::new(words.terms, words.names);
+        Lines { reasons: self, words, telling, now, all: false, granted }.of(claim, DEEPEST).0
+    }
 }
 
 /// Why an event is granted or denied at a moment.

@@ -96,7 +96,7 @@ left: would be granted
 right: granted; moment 2, in the left bank without the event
 left preview pete → dora: denied
   dora has not just shared with pete
-  moment 2 was made in the right bank, where dora shared with themselves: the left bank sees the moment, not the event
+  moment 2 was made in the right bank, where dora shared with dora: the left bank sees the moment, not the event
 right: granted; moment 3, in the left bank without the event
 left: granted; moment 4, in the right bank without the event
 left load pete → saw: granted
@@ -140,10 +140,10 @@ fn denied_tries_count_in_their_bank() {
     let wanted = "1  left   load dora → pete      denied; moment 1
      dora is not pete
 2  left   complain dora → pete  granted; moment 2
-     dora tried in vain to load pete at moment 1
+     dora was denied permission to load pete at moment 1
 3  right  complain dora → pete  denied at moment 2
-     dora has never tried in vain to load pete
-     moment 1 was made in the left bank, where dora tried in vain to load pete: the right bank sees the moment, not \
+     dora has never been denied permission to load pete
+     moment 1 was made in the left bank, where dora was denied permission to load pete: the right bank sees the moment, not \
                   the event
 ";
     assert_eq!(said, wanted);

@@ -37,10 +37,10 @@ fn aloud_says_the_name_and_then_what_it_is() {
         "You may forgive the target if you are a bank.\n",
         "You may load the target if you are not suspended and some member",
         "\nA member M is suspended if there was a moment so far of which both of these are true:\n\
-         - at that moment M had just tried in vain to load some member and at the moment before \
-         that one M was warned\n",
-        "\nA member M is warned if M has at some time tried in vain to load some member and no \
-         member has forgiven M\nsince.\n",
+         - at that moment M had just been denied permission to load some member and at the moment before that one \
+         M was\n  warned\n",
+        "\nA member M is warned if M has at some time been denied permission to load some member and no member has\n\
+         forgiven M since.\n",
         "You may tweak with the target if you have at some time loaded the target.",
         "You may take a walk with the target if you have at some time twiddled with the target.",
     ] {
@@ -58,9 +58,9 @@ fn why_says_the_name_and_under_it_why() {
         said,
         "4  load ben → warm-pad  denied; moment 4
      ben is suspended
-       ben tried in vain to load warm-pad at moment 2, and ben was warned at moment 1, and no \
+       ben was denied permission to load warm-pad at moment 2, and ben was warned at moment 1, and no \
        member has forgiven ben since
-         ben tried in vain to load warm-pad at moment 1
+         ben was denied permission to load warm-pad at moment 1
 "
     );
     let both = run(&["why", folder.path(), "2", "--all"]).out;
@@ -109,8 +109,8 @@ fn a_verb_that_is_not_known_is_asked_for() {
     let folder = Folder::new();
     folder.write("terms.say", "members a, b\nevent zap by anyone\n");
     let said = run(&["check", folder.path()]).out;
-    assert!(said.contains("terms.say:2:7: warning: `zap` is no verb that is known here"), "{said}");
-    assert!(said.contains("`event zap said \"zapped\"`"), "{said}");
+    assert!(said.contains("terms.say:2:7: warning: the verb `zap` is not known"), "{said}");
+    assert!(said.contains("`event zap said \"...\"`"), "{said}");
     folder.write("terms.say", "members a, b\nevent zap said \"zapped\" by anyone\n");
     assert_eq!(run(&["check", folder.path()]).out.lines().count(), 2);
     assert_eq!(run(&["compile", folder.path()]).status, 0);

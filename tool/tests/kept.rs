@@ -51,9 +51,9 @@ fn read_aloud() {
     let folder = folder("");
     let aloud = run(&["aloud", folder.path()]).out;
     let load = "has at some time shared with you.\n\
-                If you are denied, the try makes a moment all the same.\n";
+                If you are denied, the attempt is remembered too.\n";
     assert!(aloud.contains(load), "{aloud}");
-    let complain = "if you have at some time tried in vain to load the target.";
+    let complain = "if you have at some time been denied permission to load the target.";
     assert!(aloud.contains(complain), "{aloud}");
     let json = run(&["aloud", folder.path(), "--json"]).out;
     let kept: Vec<bool> = json.lines().map(|line| line.ends_with("\"kept\":true}")).collect();
@@ -66,13 +66,13 @@ fn run_and_why() {
     assert_eq!(
         run(&["why", folder.path()]).out,
         "1  complain pete → saw   denied at moment 0
-     pete has never tried in vain to load saw
+     pete has never been denied permission to load saw
 2  load pete → saw       denied; moment 1
      dora owns saw, but dora has never shared with pete
 3  complain pete → saw   granted; moment 2
-     pete tried in vain to load saw at moment 1
+     pete was denied permission to load saw at moment 1
 4  complain pete → dora  denied at moment 2
-     pete has never tried in vain to load dora
+     pete has never been denied permission to load dora
 "
     );
 }
@@ -98,11 +98,11 @@ fn stored_and_gone_on() {
     folder.write("later/requests.tsv", "R\t2\t1\t2\n");
     let later = folder.file("later").display().to_string();
     let aloud = run(&["aloud", &later]).out;
-    assert!(aloud.contains("- pete has just tried in vain to load saw\n"), "{aloud}");
+    assert!(aloud.contains("- pete has just been denied permission to load saw\n"), "{aloud}");
     let why = run(&["why", &later]).out;
     assert!(
         why.contains(
-            "as far as the stored file remembers, pete had at some time tried in vain to load saw"
+            "as far as the stored file remembers, pete had at some time been denied permission to load saw"
         ),
         "{why}"
     );
@@ -120,7 +120,7 @@ fn drawn() {
         "the denied try that made the moment",
         "Moment 1: denied load pete → saw",
         ">denied load</text>",
-        "If you are denied, the try makes a moment all the same.",
+        "If you are denied, the attempt is remembered too.",
     ] {
         assert!(page.contains(part), "{part}");
     }
@@ -132,7 +132,7 @@ fn the_example_says_why() {
     let path = example("suspended");
     let why = |line: &str| run(&["why", path.to_str().unwrap(), line]).out;
     assert!(why("5").contains(
-        "     pete is suspended\n       pete tried in vain to load saw at moment 4, and pete \
+        "     pete is suspended\n       pete was denied permission to load saw at moment 4, and pete \
             was warned"
     ));
     assert!(why("10").contains("but mint released pete at moment 8"));

@@ -44,6 +44,36 @@ fn never_by_what_no_event_changes() {
 }
 
 #[test]
+fn never_by_what_is_remembered_for_good() {
+    let folder = library("share dora pete\nsuspend dan pete\n");
+    let said = run(&["can", folder.path(), "pete load kick"]);
+    let never = "load pete → kick is never granted: dan suspended pete at moment 2, and that is \
+                 remembered for good.\n";
+    assert_eq!((said.status, said.out.as_str()), (1, never));
+    // What can be taken back is sought.
+    let lifted = "not someone share p since someone suspend p";
+    folder.write("terms.say", &LIBRARY.replace("once someone suspend p", lifted));
+    let said = run(&["can", folder.path(), "pete load kick"]).out;
+    assert!(said.starts_with("load pete → kick can be granted after 1 request"), "{said}");
+}
+
+#[test]
+fn never_in_lines() {
+    let folder = Folder::new();
+    folder.write(
+        "terms.say",
+        "members dora, pete, quin, saw\nrelations owns, friend\nevent vouch said \"vouched for\" by anyone\n\
+         event load when (at least 2 friend of me as f: once f vouch me) or (some o owns target: o is me)\n\
+         first dora owns saw, pete friend dora\n",
+    );
+    let said = run(&["can", folder.path(), "pete load saw"]).out;
+    let never = "load pete → saw is never granted, and no event changes that:\n\n  \
+                 at least 2 friends of pete that have vouched for pete are needed, and there can be only 1: dora\n  \
+                 pete does not own saw\n";
+    assert_eq!(said, never);
+}
+
+#[test]
 fn a_request_is_explained_in_either_order() {
     let folder = library("share dora pete\n");
     let asked =

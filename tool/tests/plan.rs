@@ -47,7 +47,7 @@ fn the_replies_that_defeat_a_plan_are_shown() {
    claim bob → bell  granted
 2  claim ann → bell  denied
 
-`me holds target` holds after no request of the plan (me is ann, target is bell).
+`me holds target` does not hold at any point in the plan (me is ann, target is bell).
 "
     );
     let first = [&ANN[..], &["--first"]].concat();

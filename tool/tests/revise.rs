@@ -81,9 +81,8 @@ fn a_stored_monitor_goes_on() {
     let new = folder(&OLD.replace("some x owns target: once x share me", both), "");
     let said = revise(&stored, &new, &[]);
     assert_eq!((said.status, said.err.as_str()), (0, ""));
-    let wanted =
-        "These sentences about the past go on:\n- in load: A has at some time shared with you.\n\n\
-                  A is any member whom the policy seeks.\n\n\
+    let wanted = "Still remembered:\n- in load: A has at some time shared with you.\n\n\
+                  A stands for any member who fits.\n\n\
                   No answer changes now.\n";
     assert_eq!(said.out, wanted);
 }
@@ -103,7 +102,7 @@ fn the_definition_is_named() {
     let said = revise(&old, &folder(defined, ""), &[]);
     let wanted = "These begin now, at moment 1, and its event, ask a → b, counts:\n\
                   - in ask and load, under welcome: you have at some time asked some member.\n\n\
-                  These could and no longer can:\n- ask a → everybody\n- load a → everybody\n";
+                  No longer allowed:\n- ask a → everybody\n- load a → everybody\n";
     assert_eq!((said.out.as_str(), said.err.as_str()), (wanted, ""));
 }
 
@@ -147,16 +146,16 @@ fn many_changes_are_grouped_and_cut() {
     let (old, new) = (folder(&terms("by anyone"), ""), folder(&terms("when me is target"), ""));
     let said = revise(&old, &new, &[]).out;
     assert!(
-        said.starts_with("Neither terms say anything about the past.\n\nThese could"),
+        said.starts_with("Neither terms say anything about the past.\n\nNo longer allowed:"),
         "{said}"
     );
     assert!(said.contains("- go m0 → m1, m2, m3, m4, m5, m6 and 33 more\n"), "{said}");
     assert!(said.ends_with("- and 1170 pairs more\n"), "{said}");
     let said = revise(&new, &old, &[]).out;
-    assert!(said.contains("These could not and now can:\n- go m0 → m1, m2"), "{said}");
+    assert!(said.contains("Now allowed:\n- go m0 → m1, m2"), "{said}");
     let none = folder(&terms("when false"), "");
     let said = revise(&old, &none, &[]).out;
-    assert!(said.contains("no longer can:\n- go everybody → everybody\n"), "{said}");
+    assert!(said.contains("No longer allowed:\n- go everybody → everybody\n"), "{said}");
 }
 
 #[test]

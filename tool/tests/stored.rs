@@ -96,7 +96,7 @@ fn long_tables_are_told_in_part() {
     let remembered: Vec<&str> = said.lines().skip_while(|line| !line.starts_with("- ")).collect();
     assert_eq!(remembered.len(), 14, "{said}");
     assert!(remembered[0].contains("at the moment before this one"), "{said}");
-    assert_eq!(remembered[1], "- member 0 has at some time done event 0 to themselves");
+    assert_eq!(remembered[1], "- member 0 has at some time done event 0 to member 0");
     assert_eq!(remembered[13], "- and 6 more like these");
 }
 

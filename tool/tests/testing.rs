@@ -50,7 +50,7 @@ fn what_passes() {
 }
 
 #[test]
-fn what_fails_is_shown_as_a_diff() {
+fn what_fails_is_shown_with_what_was_expected() {
     let folder = folder(
         "test one\n  pete may load saw\n  pete may not share dora\n\
          test two\n  given dora share pete\n  pete may not load saw because suspended\n\
@@ -60,10 +60,12 @@ fn what_fails_is_shown_as_a_diff() {
     let said = run(&["test", folder.path()]);
     assert_eq!(said.status, 1);
     for wanted in [
-        "tests.say:1: one\n  line 2\n  - pete may load saw\n  + pete may not load saw because ",
-        "  line 3\n  - pete may not share dora\n  + pete may share dora because ",
-        "tests.say:4: two\n  line 6\n  - pete may not load saw because suspended\n  + pete may load",
-        "  line 8\n  - pete peek saw\n  + pete denied peek saw because ",
+        "tests.say:1: one\n  line 2\n    expected: pete may load saw\n    \
+         got:      pete may not load saw, because\n      ",
+        "  line 3\n    expected: pete may not share dora\n    got:      pete may share dora, because\n      ",
+        "tests.say:4: two\n  line 6\n    expected: pete may not load saw because suspended\n    \
+         got:      pete may load",
+        "  line 8\n    expected: pete peek saw\n    got:      pete denied peek saw, because\n      ",
         "  2 statements after it were left out\n",
         "\n4 tests with 6 answers: 1 passed, 3 failed\n",
     ] {
@@ -86,8 +88,8 @@ fn words_that_the_reason_lacks_are_named() {
          test two\n  pete may not load saw because saw owns dora\n",
     );
     let said = run(&["test", folder.path()]).out;
-    assert!(said.contains("; not found: is suspended\n"), "{said}");
-    assert!(said.contains("; not found in this order: saw owns dora\n"), "{said}");
+    assert!(said.contains("\n      not found: is suspended\n"), "{said}");
+    assert!(said.contains("\n      not found in this order: saw owns dora\n"), "{said}");
 }
 
 #[test]

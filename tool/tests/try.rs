@@ -134,7 +134,7 @@ fn new_terms_at_the_prompt() {
     );
     let said = run_with(&["try", old, "--first"], &typed);
     let revised = "granted; moment 1
-These sentences about the past go on:
+Still remembered:
 - in load: A has at some time shared with you and has not withdrawn from you since.
 
 These begin now, at moment 1, and its event, share dora → pete, counts:
@@ -143,9 +143,9 @@ These begin now, at moment 1, and its event, share dora → pete, counts:
 These are dropped, with all that they remember:
 - in star: you have at some time starred some member.
 
-A is any member whom the policy seeks.
+A stands for any member who fits.
 
-These could and no longer can:
+No longer allowed:
 - load pete → pad
 ? nothing was asked yet under the terms in use
 denied

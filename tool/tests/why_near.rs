@@ -115,7 +115,7 @@ fn what_must_not_be_and_was() {
     let open = "once (someone share me and not me share someone)";
     assert_eq!(
         why(open, &["share pete pete", "lift quin eve"]),
-        ["pete shared with themselves at moment 1, but pete shared with themselves then"]
+        ["pete shared with pete at moment 1, but pete shared with pete then"]
     );
 }
 

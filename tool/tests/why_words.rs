@@ -164,10 +164,7 @@ fn neighbours_that_are_counted() {
     let with_friends = ["out 0 0", "many 0 2 2"];
     assert_eq!(
         why(&with_friends, &["0 1 0", "0 2 3", "1 1 0"]),
-        [
-            "at least 2 friends of ben that have some member as a friend are needed, and there is only 1: cem",
-            "ann is a friend of ben, but no member is a friend of ann"
-        ]
+        ["at least 2 friends of ben that have some member as a friend are needed, and there is only 1: cem"]
     );
     assert_eq!(
         why(&with_friends, &["0 1 0", "0 2 3", "0 0 1", "1 1 0"]),

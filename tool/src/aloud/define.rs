@@ -4,7 +4,7 @@ use super::clause::Who;
 use super::grammar::{be, do_, with, Time};
 use super::resolve::{anyone, person};
 use super::verbs::verb;
-use super::words::{listed, name, Shape, Words};
+use super::words::{listed, name, object, Shape, Words};
 use crate::names::Called;
 
 /// A definition said of people; of each it is known whether it is the initiator.
@@ -67,11 +67,7 @@ pub fn clause(called: &Called, of: Who, given: &[(usize, Who)], holds: bool, tim
         Some(x) => given.iter().find(|(y, _)| y == x).map_or(Who::Target, |(_, who)| *who),
     };
     let people: Vec<Who> = called.people.iter().map(person).collect();
-    let object = people.get(1).map(|who| match *who == people[0] {
-        true if *who == Who::You => ("yourself".to_string(), true),
-        true => ("themselves".to_string(), false),
-        false => (name(*who), *who == Who::You),
-    });
+    let object = people.get(1).map(|who| (object(*who, people[0]), *who == Who::You));
     if is_of_several(called) {
         let people: Vec<String> = people.iter().map(|who| name(*who)).collect();
         let text = of_several(called, &people, time, holds);

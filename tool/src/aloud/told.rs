@@ -40,14 +40,12 @@ impl<'a> Telling<'a> {
         }
         let (from, to) = if self.labels.is_reversed(label) { (to, from) } else { (from, to) };
         let link = self.labels.link(label, Voice::Active, false, time, manner);
-        let to = if from == to { "themselves" } else { to };
         link.map_or_else(String::new, |link| format!("{from} {}", link.with(to)))
     }
 
     /// An event at a moment that is named after it: `dora shared with pete`, `no
     /// member shared with pete`, `dora did not share with pete`.
     pub fn event(&self, label: usize, from: &str, to: &str, holds: bool) -> String {
-        let to = if from == to { "themselves" } else { to };
         format!("{from} {} {to}", self.labels.did(label, holds))
     }
 

@@ -1,5 +1,9 @@
 //! The verbs that names of relations and events are taken for.
 
+mod particle;
+
+use particle::with_particle;
+
 /// A verb with the forms that sentences need.
 #[derive(Clone, Debug, PartialEq, Eq)]
 pub struct Verb {
@@ -17,19 +21,20 @@ pub struct Verb {
 impl Verb {
     /// A verb as a source tells it: what follows `may`, and what follows `has`.
     pub fn told(may: &str, has: &str) -> Verb {
-        let (base, done) = (may.to_string(), has.to_string());
-        Verb { third: base.clone(), base, past: done.clone(), participle: done, preposition: "" }
+        let (base, participle) = (may.to_string(), has.to_string());
+        let past = past_of(has).unwrap_or_else(|| has.to_string());
+        Verb { third: base.clone(), base, past, participle, preposition: "" }
     }
 }
 
 /// Verbs that are said without a preposition and inflected by rule.
 const PLAIN: &str = "
     accept acknowledge add admit allow answer appoint approve archive assess attend ask audit
-    assign assist authorize back ban befriend block borrow browse call cancel certify change check claim clear close
+    assign assist audition authorize back ban befriend block borrow browse call cancel certify change check claim clear close
     confirm contact contain copy create decline delete deny disable discharge dismiss dominate
     download drop edit employ enable endorse enter expel export fetch fire flag follow greet
     guard help hire ignore import include inspect install invite join judge kick lift like list load
-    lock love manage mark mention mentor merge move mute name nominate notify open order own pass pause pick pin
+    lock love manage mark mention mentor merge mix move mute name nominate notify open order own pass pause pick pin
     play praise prescribe preview print promote publish query quote raise rate receive recommend record refer
     refuse reject release remove rename remix rent repair replace report request reserve restore resume return
     review revoke save scan seize share shield sign sponsor star start stop store submit supervise support suspect
@@ -40,6 +45,7 @@ const PLAIN: &str = "
 const IRREGULAR: &[(&str, &str, &str)] = &[
     ("buy", "bought", "bought"),
     ("choose", "chose", "chosen"),
+    ("cut", "cut", "cut"),
     ("feed", "fed", "fed"),
     ("find", "found", "found"),
     ("forget", "forgot", "forgotten"),
@@ -115,13 +121,17 @@ const PREPOSITIONS: &[(&str, &str)] = &[
     ("transfer", "to"),
     ("unsubscribe", "from"),
     ("vote", "for"),
+    ("vouch", "for"),
     ("withdraw", "from"),
     ("write", "to"),
 ];
 
 /// The verb that a name is: in its base form or in the third person, perhaps
-/// with words before it, as in `weak-view`.
+/// with words before it, as in `weak-view`, or a word after it, as in `take-back`.
 pub fn verb(name: &str) -> Option<Verb> {
+    if let Some(verb) = with_particle(name) {
+        return Some(verb);
+    }
     let place = name.rfind(['-', '_']).map_or(0, |place| place + 1);
     let (first, last) = name.split_at(place);
     let verb = single(last)?;
@@ -133,6 +143,13 @@ pub fn verb(name: &str) -> Option<Verb> {
         participle: compound(verb.participle),
         preposition: verb.preposition,
     })
+}
+
+/// The past tense of what follows "has", if it begins with the participle of a known verb:
+/// `taken back from` gives `took back from`.
+fn past_of(has: &str) -> Option<String> {
+    let (done, rest) = has.split_at(has.find(' ').unwrap_or(has.len()));
+    done_by(done).map(|base| inflected(&base).past + rest)
 }
 
 fn single(word: &str) -> Option<Verb> {

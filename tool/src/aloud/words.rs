@@ -106,10 +106,10 @@ pub fn name(who: Who) -> String {
 
 /// How a member is called as the object of a subject.
 pub fn object(who: Who, subject: Who) -> String {
-    match who == subject {
-        false => name(who),
-        true if who == Who::You => "yourself".to_string(),
-        true => "themselves".to_string(),
+    match (who == subject, who) {
+        (false, _) | (true, Who::Member(_)) => name(who),
+        (true, Who::You) => "yourself".to_string(),
+        (true, _) => "themselves".to_string(),
     }
 }
 

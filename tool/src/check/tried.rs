@@ -49,7 +49,7 @@ pub struct Count {
 pub fn one_sided(both: &Both, subject: &Subject, folder: &Folder) -> Result<Vec<Warning>, Stop> {
     let (terms, names) = (subject.terms, subject.names);
     let asked = asked(folder, terms.events)?;
-    let (seen, moments) = seen(both)?;
+    let seen = seen(both)?;
     let one_sided = |event: &usize| {
         let (asked, seen) = (asked[*event], seen[*event]);
         asked.granted + seen.granted == 0 || asked.denied + seen.denied == 0
@@ -67,16 +67,18 @@ pub fn one_sided(both: &Both, subject: &Subject, folder: &Folder) -> Result<Vec<
     for event in (0..terms.events).filter(|event| !constant(event)) {
         let found = sought.contains(&event) && is_found(both, event, sought.len());
         let (asked, seen, name) = (asked[event], seen[event], names.event(event));
-        let s = if moments == 1 { "" } else { "s" };
-        let looks = format!("in {} looks at {moments} moment{s}", seen.granted + seen.denied);
-        let no_proof = "that is no proof, but";
+        let tried = match seen.granted + seen.denied {
+            1 => "1 request was tried".to_string(),
+            looks => format!("{looks} requests were tried"),
+        };
         let (kind, what, right) = if sought.contains(&event) && !found {
-            let what = format!(
-                "nobody was ever granted {name} {looks}; {no_proof} can its policy be met?"
-            );
+            let what =
+                format!("{tried}, and nobody was ever granted {name}: can its policy be met?");
             ("never", what, [IN_FOR_OUT.to_string(), format!("{TURNED}; {ENDED}")])
         } else if asked.denied + seen.denied + tested[event].denied == 0 {
-            let what = format!("nobody was ever denied {name} {looks}; {no_proof} does its policy ask for anything?");
+            let what = format!(
+                "{tried}, and nobody was ever denied {name}: does its policy ask for anything?"
+            );
             (
                 "always",
                 what,
@@ -113,8 +115,8 @@ fn asked(folder: &Folder, events: usize) -> Result<Vec<Count>, Stop> {
     Ok(counts)
 }
 
-/// How looks are answered while requests are tried, and at how many moments.
-fn seen(both: &Both) -> Result<(Vec<Count>, usize), Stop> {
+/// How looks are answered while requests are tried.
+fn seen(both: &Both) -> Result<Vec<Count>, Stop> {
     let terms = both.terms();
     let mut members = busiest(terms);
     // What is always so, or never, is not looked at.
@@ -125,7 +127,7 @@ fn seen(both: &Both) -> Result<(Vec<Count>, usize), Stop> {
     let mut counts: Vec<Count> = terms.policies.iter().map(count).collect();
     look_around(both, &members, &mut counts, LOOKS / RUNS)?;
     members = varied(terms, &members, TRYING);
-    let (stored, mut moments, mut random) = (both.store()?, 1, 1u64);
+    let (stored, mut random) = (both.store()?, 1u64);
     let mut below = |bound: usize| {
         random =
             random.wrapping_mul(6_364_136_223_846_793_005).wrapping_add(1_442_695_040_888_963_407);
@@ -147,9 +149,8 @@ fn seen(both: &Both) -> Result<(Vec<Count>, usize), Stop> {
                 look_around(&trial, &members, &mut counts, most)?;
             }
         }
-        moments += trial.record().graphs().len() - 1;
     }
-    Ok((counts, moments))
+    Ok(counts)
 }
 
 fn is_mixed(count: &Count) -> bool {

@@ -1,18 +1,19 @@
 //! `cuckooormolu can`: the shortest way to a request that is granted.
 
-use crate::aloud::told::Telling;
+mod never;
+
 use crate::arguments::Arguments;
 use crate::both::{Both, Verdict};
 use crate::folder::{Folder, Request};
 use crate::json::Json;
 use crate::names::Names;
-use crate::reach::fixed::Fixed;
 use crate::reach::{search, search_telling, Found, Limits};
 use crate::replay::Replay;
 use crate::stop::{Stop, FAILING, WELL};
 use crate::trial::typed::split;
 use crate::words::Words;
-use keeper::terms::{Entry, Terms};
+use keeper::terms::Terms;
+use never::never;
 use proved::raw;
 use std::io::{IsTerminal, Write};
 use std::path::Path;
@@ -25,8 +26,8 @@ Says whether a request can come to be granted after the requests of a folder, an
 the shortest list of further requests, of anybody, after which it is. REQUEST is who
 asks, the event and who is asked, as in \"pete load saw\"; the event may come first.
 
-If it fails by a kind or a relation that no event changes, it is never granted, and that
-is said at once. Else every state that can be reached is tried, those of fewer requests
+If it fails by a kind or a relation that no event changes, or by what is remembered for
+good, it is never granted, and that is said at once. Else every state that can be reached is tried, those of fewer requests
 first; each step is made by the proved library. If no list is found, all states were
 seen, and there is none; or none within N requests; or the search takes too long or too
 much memory, and says so. On a terminal it shows how far it is. Nothing is requested, so
@@ -57,14 +58,12 @@ pub fn main(arguments: &[String], out: &mut dyn Write) -> Result<i32, Stop> {
             .parse()
             .map_err(|_| Stop::Usage(format!("--within needs a number; `{word}` is none")))?,
     };
-    if let Some(why) = fixed(&both, request, &folder.names)? {
+    let words = Words::new(both.terms(), &folder.names);
+    if let Some(never) = never(&both, request, &words)? {
+        let asked = words.event(request.event, request.from, request.to);
         match arguments.has("--json") {
-            true => writeln!(out, "{}", fixed_json(&why, request, &folder.names))?,
-            false => {
-                let words = Words::new(both.terms(), &folder.names);
-                let asked = words.event(request.event, request.from, request.to);
-                writeln!(out, "{asked} is never granted: {why}, and no event changes that.")?;
-            }
+            true => writeln!(out, "{}", never.json(request, &folder.names))?,
+            false => write!(out, "{}", never.text(&asked))?,
         }
         return Ok(FAILING);
     }
@@ -77,7 +76,6 @@ pub fn main(arguments: &[String], out: &mut dyn Write) -> Result<i32, Stop> {
         Found::After(list) => confirmed(both.clone(), list, request)?,
         _ => Vec::new(),
     };
-    let words = Words::new(both.terms(), &folder.names);
     match arguments.has("--json") {
         true => writeln!(out, "{}", json(&found, &steps, request, within, &folder.names))?,
         false => write!(out, "{}", text(&found, &steps, request, within, &words))?,
@@ -98,34 +96,6 @@ fn asked(words: &[String], terms: &Terms, names: &Names) -> Result<raw::Request,
     };
     let [event, from, to] = names.asked([first, second, to], terms).map_err(Stop::Usage)?;
     Ok(raw::Request { event, from, to })
-}
-
-/// Why a request is never granted, where that is by what never changes. The library denies
-/// it now, too.
-fn fixed(both: &Both, asked: raw::Request, names: &Names) -> Result<Option<String>, Stop> {
-    let raw::Request { event, from, to } = asked;
-    let (terms, graph) = (both.terms(), both.present());
-    let Some((at, holds)) = Fixed::new(terms, graph).fails(event, from, to) else {
-        return Ok(None);
-    };
-    match both.look(event, from, to)? {
-        Verdict::Grant => Err(Stop::Differ("a request that cannot be granted is granted".into())),
-        _ if holds && matches!(terms.entries[at.0], Entry::Var(_)) => {
-            Ok(Some(format!("both are {}", names.member(at.1))))
-        }
-        _ => Ok(Some(Telling::new(terms, names).holds(at, holds, false))),
-    }
-}
-
-fn fixed_json(why: &str, asked: raw::Request, names: &Names) -> Json {
-    Json::Object(vec![
-        ("event", names.event(asked.event).into()),
-        ("from", names.member(asked.from).into()),
-        ("to", names.member(asked.to).into()),
-        ("granted", false.into()),
-        ("why", "never".into()),
-        ("because", why.into()),
-    ])
 }
 
 /// A search that shows on the terminal how far it is.

@@ -34,8 +34,9 @@ stands for all its forms. `nobody`, `anyone` and `only pete and quin` may stand 
 member. `dora denied share pete` is a request that must be denied. A test is about one
 bank.
 
-Prints a diff for each unexpected answer, and a summary. Of several folders, one
-without tests is reported, and the others are tested all the same.
+Prints what was expected and what came for each unexpected answer, with the first two
+reasons, and a summary. Of several folders, one without tests is reported, and the
+others are tested all the same.
 
   --all    list passing tests too
   --json   one JSON object per line: each test, then the summary
@@ -158,7 +159,7 @@ impl Tested {
         Mistake::new(span, "").place(&self.text).0
     }
 
-    /// A test that fails as a diff; one that passes in a line, if all are asked for.
+    /// A test that fails, with what was expected and got; one that passes in a line, if all are asked for.
     fn told(&self, test: &Test, outcome: &Outcome, all: bool) -> String {
         let (file, line, title) = (&self.file, self.at(test.span), &test.title);
         if outcome.passed() {
@@ -166,9 +167,17 @@ impl Tested {
         }
         let mut text = format!("FAILED  {file}:{line}: {title}\n");
         for failure in &outcome.failures {
-            let line = self.at(failure.span);
-            text.push_str(&format!("  line {line}\n"));
-            text.push_str(&format!("  - {}\n  + {}\n", failure.expected, failure.found));
+            text.push_str(&format!("  line {}\n", self.at(failure.span)));
+            text.push_str(&format!("    expected: {}\n", failure.expected));
+            text.push_str(&format!("    got:      {}, because\n", failure.found));
+            let more = match failure.more {
+                0 => None,
+                1 => Some("(and 1 more reason)".to_string()),
+                more => Some(format!("(and {more} more reasons)")),
+            };
+            for line in failure.reasons.iter().chain(&more).chain(&failure.missing) {
+                text.push_str(&format!("      {line}\n"));
+            }
         }
         match outcome.skipped {
             0 => {}
@@ -183,7 +192,7 @@ impl Tested {
             Json::Object(vec![
                 ("line", self.at(failure.span).into()),
                 ("expected", failure.expected.as_str().into()),
-                ("found", failure.found.as_str().into()),
+                ("found", failure.sentence().into()),
             ])
         };
         Json::Object(vec![

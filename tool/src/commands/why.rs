@@ -22,9 +22,9 @@ Says why each request of a folder, or the one on LINE of its file, is granted or
 denied, with the moments that decide it. Moment 0 is the first edges, or what was
 stored; each grant makes a moment, and so does each denial of a kept event: such a
 line ends with the moment it makes, `granted; moment 2`, another one with the moment
-at which it was asked, `denied at moment 2`. For a denial, lists each alternative that
-failed, nearest miss first. Where a condition held at no moment, it tells at which ones
-a part of it did, and what was lacking then.
+at which it was asked, `denied at moment 2`. For a denial, lists what alone was enough
+to deny it, then each possibility that failed, nearest miss first. Where a condition
+held at no moment, it tells at which ones a part of it did, and what was lacking then.
 
 A REQUEST, such as load pete saw, is not made: it says why it would be granted or denied
 after the requests of the folder. With `-` these are read from standard input.

@@ -56,15 +56,20 @@ impl Goal {
         }
     }
 
-    /// That it holds of a pair at some time: `load pete → saw would be granted after it`.
-    pub fn said(&self, words: &Words, (first, second): (usize, usize), after: &str) -> String {
+    /// That it holds of a pair at some time, `load pete → saw would be granted after it`; or,
+    /// if none is given, at no time.
+    pub fn said(&self, words: &Words, pair: (usize, usize), after: Option<&str>) -> String {
+        let (first, second) = pair;
+        let when = after.unwrap_or("at any point in the plan");
         match self.event {
             Some(event) => {
-                format!("{} would be granted {after}", words.event(event, first, second))
+                let would = if after.is_some() { "would" } else { "would not" };
+                format!("{} {would} be granted {when}", words.event(event, first, second))
             }
             None => {
+                let holds = if after.is_some() { "holds" } else { "does not hold" };
                 let (me, target) = (words.member(first), words.member(second));
-                format!("`{}` holds {after} (me is {me}, target is {target})", self.text)
+                format!("`{}` {holds} {when} (me is {me}, target is {target})", self.text)
             }
         }
     }

@@ -1,6 +1,11 @@
 //! Searches over small terms.
 
+use super::fixed::Fixed;
 use super::*;
+use keeper::generate;
+use keeper::record::Record;
+use keeper::step::Step;
+use keeper::terms;
 
 fn read(text: &str) -> Monitor {
     Monitor::read(text.replace(' ', "\t").as_bytes()).unwrap()
@@ -53,4 +58,38 @@ fn a_denied_request_that_is_kept_is_a_step() {
     let text = "M 2\nL 0 2\nF 0 top 0 0\nF 1 not 0 0\nF 2 out 2 0\nP 0 1\nP 1 2\nK 0\n";
     let Found::After(list) = sought(text, 1, Limits::USUAL) else { panic!() };
     assert_eq!(list, [Request { event: 0, from: 0, to: 0 }]);
+}
+
+#[test]
+fn what_is_never_granted_stays_denied() {
+    let (mut by_past, mut by_others) = (0, 0);
+    for seed in 0..400 {
+        let case = generate::case(seed, 99_999);
+        let mut record = Record::of(terms::read(&case.text).unwrap());
+        let (members, events) = (record.terms().members, record.terms().events);
+        if members > 4 {
+            continue;
+        }
+        let all: Vec<[usize; 3]> = (0..events * members * members)
+            .map(|place| [place / members / members, place / members % members, place % members])
+            .collect();
+        let mut never = Vec::new();
+        for step in case.steps.iter().take(12) {
+            // A revision may begin anew what was remembered.
+            let Step::Call(call) = step else { break };
+            let mut fixed = Fixed::new(&record);
+            for asked @ [event, from, to] in &all {
+                let Some(lacks) = fixed.fails(*event, *from, *to) else { continue };
+                let is_past = lacks.iter().any(|lack| record.terms().entries[lack.at.0].is_past());
+                *if is_past { &mut by_past } else { &mut by_others } += 1;
+                never.push(*asked);
+            }
+            drop(fixed);
+            record.answer(call);
+            for [event, from, to] in &never {
+                assert!(!record.permits(*event, *from, *to), "seed {seed}: {event} {from} {to}");
+            }
+        }
+    }
+    assert!(by_past > 10 && by_others > 10, "{by_past} {by_others}");
 }

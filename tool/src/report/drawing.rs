@@ -3,6 +3,7 @@
 //! is a moment's own.
 
 use super::circle::Circle;
+use super::edges::attribute;
 use super::grid::Grid;
 use super::html::escaped;
 use crate::words::Words;
@@ -209,7 +210,10 @@ impl<'a> Drawing<'a> {
         if count > NAMED {
             return format!("{count} relation edges.");
         }
-        let edge = |&(relation, from, to): &Edge| self.words.edge(relation, from, to);
+        let edge = |edge: &Edge| match attribute(edge, self.words) {
+            Some(said) => said,
+            None => self.words.edge(edge.0, edge.1, edge.2),
+        };
         let edges: Vec<String> = graph.edges.iter().map(edge).collect();
         format!("Relation edges: {}.", edges.join(", "))
     }

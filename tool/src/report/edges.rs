@@ -3,6 +3,7 @@
 
 use super::drawing::{Changes, Drawing};
 use super::html::{counted, escaped};
+use crate::aloud::told::Telling;
 use crate::names::Kind;
 use crate::words::Words;
 use keeper::terms::Edge;
@@ -25,7 +26,8 @@ pub fn told(drawing: &Drawing, moment: usize) -> String {
     }
 }
 
-/// A table for each relation that has edges: from whom they lead, and to whom.
+/// A table for each relation that has edges: from whom they lead, and to whom. Where each leads
+/// to its own beginning, it says how somebody is.
 fn tables(drawing: &Drawing, moment: usize) -> String {
     let words = drawing.words;
     let mut leading: BTreeMap<usize, BTreeMap<usize, Vec<String>>> = BTreeMap::new();
@@ -40,11 +42,25 @@ fn tables(drawing: &Drawing, moment: usize) -> String {
         )
     };
     let table = |(relation, rows): (&usize, &BTreeMap<usize, Vec<String>>)| {
+        let attribute = |(from, to): (&usize, &Vec<String>)| {
+            let said = attribute(&(*relation, *from, *from), words);
+            said.filter(|_| to[..] == [words.member(*from)])
+        };
+        let said: Option<Vec<String>> = rows.iter().map(attribute).collect();
+        let (head, rows) = match said {
+            Some(said) => {
+                let row = |said: &String| format!("<tr><td>{}</td></tr>\n", escaped(said));
+                (String::new(), said.iter().map(row).collect::<String>())
+            }
+            None => {
+                let head =
+                    ["from", "to"].map(|end| format!("<th scope=\"col\">{end}</th>")).concat();
+                (format!("<thead><tr>{head}</tr></thead>\n"), rows.iter().map(row).collect())
+            }
+        };
+        let name = escaped(&words.names.relation(*relation));
         format!(
-            "<table><caption><b>{}</b> at moment {moment}</caption>\n<thead><tr><th scope=\"col\">from</th>\
-             <th scope=\"col\">to</th></tr></thead>\n<tbody>\n{}</tbody></table>\n",
-            escaped(&words.names.relation(*relation)),
-            rows.iter().map(row).collect::<String>(),
+            "<table><caption><b>{name}</b> at moment {moment}</caption>\n{head}<tbody>\n{rows}</tbody></table>\n"
         )
     };
     leading.iter().map(table).collect()
@@ -64,9 +80,18 @@ pub fn changed(drawing: &Drawing, moment: usize) -> String {
     }
 }
 
-/// `ben friend cleo`, as sources have it.
-fn sentence(&(relation, from, to): &Edge, words: &Words) -> String {
+/// `tom is suspended`, of an edge of a named relation that leads to its own beginning.
+pub fn attribute(&(relation, from, to): &Edge, words: &Words) -> Option<String> {
+    let name = words.names.given(Kind::Relation, relation).filter(|_| from == to);
+    let (telling, member) = (Telling::new(words.terms, words.names), words.member(from));
+    name.map(|_| telling.edge(relation, &member, &member, false, true))
+}
+
+/// `ben friend cleo`, as sources have it; `tom is suspended`.
+fn sentence(edge: &Edge, words: &Words) -> String {
+    let &(relation, from, to) = edge;
     match words.names.given(Kind::Relation, relation) {
+        Some(_) if from == to => attribute(edge, words).unwrap_or_default(),
         Some(name) => format!("{} {name} {}", words.member(from), words.member(to)),
         None => words.edge(relation, from, to),
     }

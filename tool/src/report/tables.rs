@@ -50,7 +50,7 @@ pub fn table(matrix: &Matrix, words: &Words) -> String {
     let mut text = format!(
         "<div class=\"cells\" tabindex=\"0\" role=\"region\" aria-label=\"Who may {event}\">\
          <table class=\"may{size}\" style=\"--letters:{letters}\"><caption>{} may <b>{event}</b> \
-         at moment {}.<br/>Rows ask, columns are asked.</caption>\n<thead><tr><td></td>",
+         at moment {}.<br/>Rows: who; columns: whom or what.</caption>\n<thead><tr><td></td>",
         match matrix.count() {
             0 => "Nobody".to_string(),
             some => counted(some, "pair"),

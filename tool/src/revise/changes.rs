@@ -57,7 +57,7 @@ impl Changes {
 
     /// What is no longer allowed and what is now, each under its heading.
     pub fn parts(&self, words: &Words) -> Vec<String> {
-        let heads = ["These could and no longer can:", "These could not and now can:"];
+        let heads = ["No longer allowed:", "Now allowed:"];
         let sides: [fn(&Change) -> &[usize]; 2] = [|change| &change.lost, |change| &change.won];
         let told = heads.into_iter().zip(sides);
         let told = told.filter_map(|(head, side)| self.part(head, side, words));

@@ -125,12 +125,12 @@ pub fn letters(told: &[Told]) -> Option<String> {
         texts.any(|text| text.split(|c: char| !c.is_alphanumeric()).any(|word| word == letter))
     };
     let who = match (said("A", 0), said("B", 0), said("C", 3)) {
-        (_, _, true) => "A, B and C are any members",
-        (_, true, _) => "A and B are any members",
-        (true, ..) => "A is any member",
+        (_, _, true) => "A, B and C stand for any members",
+        (_, true, _) => "A and B stand for any members",
+        (true, ..) => "A stands for any member",
         _ => return None,
     };
-    Some(format!("{who} whom the policy seeks.\n"))
+    Some(format!("{who} who fit{}.\n", if who.ends_with('s') { "" } else { "s" }))
 }
 
 /// The sentences with one start under their heading, if there are any. What is

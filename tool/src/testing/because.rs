@@ -20,8 +20,8 @@ pub fn missing(because: &Because, wanted: &str, names: &Names) -> String {
     let is_said = |word: &&str| forms(word, names).iter().any(|form| said.contains(form));
     let missing: Vec<&str> = words(wanted).filter(|word| !is_said(word)).collect();
     match missing.is_empty() {
-        true => format!("; not found in this order: {wanted}"),
-        false => format!("; not found: {}", missing.join(" ")),
+        true => format!("not found in this order: {wanted}"),
+        false => format!("not found: {}", missing.join(" ")),
     }
 }
 
@@ -91,7 +91,7 @@ mod tests {
         }
         assert_eq!(forms("gets", &names), ["gets", "get", "gets", "got", "got"]);
         let missing = |wanted: &str| super::missing(&because, wanted, &names);
-        assert_eq!(missing("Pete is banned again"), "; not found: banned again");
-        assert_eq!(missing("pete share"), "; not found in this order: pete share");
+        assert_eq!(missing("Pete is banned again"), "not found: banned again");
+        assert_eq!(missing("pete share"), "not found in this order: pete share");
     }
 }

@@ -13,6 +13,9 @@ use crate::why::Because;
 use crate::words::Words;
 use keeper::terms;
 
+/// So many reasons of an answer are told.
+const MOST_REASONS: usize = 2;
+
 /// What came of a test.
 #[derive(Clone, Debug, Default)]
 pub struct Outcome {
@@ -29,12 +32,26 @@ impl Outcome {
     }
 }
 
-/// An answer that is not the expected one: both as sentences.
+/// An answer that is not the expected one, or not for the expected reason.
 #[derive(Clone, Debug)]
 pub struct Failure {
     pub span: Span,
     pub expected: String,
     pub found: String,
+    /// Why it was answered so, the first reasons, and how many are left out.
+    pub reasons: Vec<String>,
+    pub more: usize,
+    /// Which words of the expected reason were not found.
+    pub missing: Option<String>,
+}
+
+impl Failure {
+    /// What was found, with the reasons, in one line.
+    pub fn sentence(&self) -> String {
+        let missing = self.missing.iter().map(|missing| format!("; {missing}"));
+        let reasons = self.reasons.join("; ");
+        format!("{} because {reasons}{}", self.found, missing.collect::<String>())
+    }
 }
 
 /// Makes one test from the terms as they were read.
@@ -50,10 +67,10 @@ pub fn run(test: &Test, both: &Both, text: &[u8], names: &Names) -> Result<Outco
                 outcome.answers += 1;
                 if (step.verdict == Verdict::Grant) != *granted {
                     let telling = Telling { replay: &replay, names };
-                    let found = telling.made(*call, !granted);
-                    let found = format!("{found} because {}", sentence(&telling.why(&step)?));
-                    let expected = telling.made(*call, *granted);
-                    outcome.failures.push(Failure { span: statement.span, expected, found });
+                    let (expected, found) =
+                        (telling.made(*call, *granted), telling.made(*call, !granted));
+                    let failure = telling.failure(statement.span, expected, found, &step)?;
+                    outcome.failures.push(failure);
                     outcome.skipped = test.statements.len() - index - 1;
                     break;
                 }
@@ -155,30 +172,37 @@ impl Telling<'_> {
         }
         let (request, moment) = (Request::Ask { event, from, to }, self.replay.moment());
         let step = Step { line: 0, bank: None, request, verdict, moment, made: false };
-        let because = self.why(&step)?;
+        let because = self.why(&step, true)?;
         if answer == may && wanted.is_some_and(|wanted| says(&because, wanted, self.names)) {
             return Ok(None);
         }
         let reason = wanted.map_or(String::new(), |wanted| format!(" because {wanted}"));
+        let expected = self.asked(call, may) + &reason;
+        let failure = self.failure(span, expected, self.asked(call, answer), &step)?;
         let unsaid = wanted.filter(|_| answer == may);
-        let unsaid = unsaid.map(|wanted| missing(&because, wanted, self.names));
-        let found = format!("{} because {}", self.asked(call, answer), sentence(&because));
-        Ok(Some(Failure {
-            span,
-            expected: self.asked(call, may) + &reason,
-            found: found + &unsaid.unwrap_or_default(),
-        }))
+        let missing = unsaid.map(|wanted| missing(&because, wanted, self.names));
+        Ok(Some(Failure { missing, ..failure }))
     }
 
-    /// The whole reason of an answer.
-    fn why(&self, step: &Step) -> Result<Because, Stop> {
-        let because = Reasons::new(self.replay.both.record()).of(&self.words(), step, true)?;
+    /// A failure with the first reasons, without what is told under definitions.
+    fn failure(
+        &self,
+        span: Span,
+        expected: String,
+        found: String,
+        step: &Step,
+    ) -> Result<Failure, Stop> {
+        let because = self.why(step, false)?;
+        let lines = because.lines.iter().filter(|line| !line.starts_with(' '));
+        let mut reasons: Vec<String> = lines.cloned().collect();
+        let more = because.more + reasons.len().saturating_sub(MOST_REASONS);
+        reasons.truncate(MOST_REASONS);
+        Ok(Failure { span, expected, found, reasons, more, missing: None })
+    }
+
+    /// The reason of an answer, the whole or the first of it.
+    fn why(&self, step: &Step, all: bool) -> Result<Because, Stop> {
+        let because = Reasons::new(self.replay.both.record()).of(&self.words(), step, all)?;
         because.ok_or_else(|| Stop::Failed(format!("an answer without a reason: {}", step.verdict)))
     }
-}
-
-/// The reason in one line, without what is told under its definitions.
-fn sentence(because: &Because) -> String {
-    let lines = because.lines.iter().filter(|line| !line.starts_with(' '));
-    lines.map(String::as_str).collect::<Vec<_>>().join("; ")
 }

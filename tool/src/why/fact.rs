@@ -2,7 +2,7 @@
 
 mod sentence;
 
-pub use sentence::Seen;
+pub use sentence::{Seen, NOBODY};
 
 use super::reason::{Claim, Place};
 
@@ -80,6 +80,10 @@ impl Fact {
     /// How much of a possibility it shows to be there: the more, the nearer
     /// the possibility came.
     pub fn weight(&self) -> usize {
-        matches!(self, Fact::Edge { .. } | Fact::Count { .. }).into()
+        match self {
+            Fact::Edge { .. } => 1,
+            Fact::Count { others, .. } => usize::from(*others != 0),
+            _ => 0,
+        }
     }
 }

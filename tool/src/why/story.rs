@@ -15,17 +15,18 @@ use super::begin::Begin;
 use super::fact::Fact;
 use super::reason::{Claim, Place, Reason, Reasons};
 use crate::names::Names;
-use facts::{distinct, telling};
+use facts::{beside_each_other, distinct, telling};
 use keeper::terms::Entry;
+use std::cmp::Reverse;
 
 /// So many steps are followed for one request; what is beyond is told by entry
 /// numbers.
 const LONGEST: usize = 4_000;
 
 /// The stories of a claim, of a request that is granted or denied. The claim's own
-/// entry is told even if it is a definition. All stories are needed. Those of a denial that came
-/// nearest to a grant stand first, those that only say who is whom last. Of a grant, what
-/// happened stands before what never did.
+/// entry is told even if it is a definition. All stories are needed. Of a denial, those that
+/// deny it alone stand first, then those that came nearest to a grant, last those that only say
+/// who is whom or repeat another. Of a grant, what happened stands before what never did.
 pub fn stories(reasons: &mut Reasons, names: &Names, claim: Claim, granted: bool) -> Vec<Story> {
     let mut teller = Teller { reasons, names, granted, left: LONGEST, is_near: false };
     let stories = distinct(teller.inside(claim));
@@ -41,12 +42,14 @@ pub fn under(reasons: &mut Reasons, names: &Names, never: &Fact) -> Vec<Story> {
 fn in_order(mut stories: Vec<Story>, granted: bool) -> Vec<Story> {
     match granted {
         true => stories.sort_by_key(Story::is_never),
-        false => stories.sort_by_key(|story| std::cmp::Reverse(story.weight())),
+        false => {
+            stories.sort_by_key(|story| (story.beside, Reverse(story.weight()), story.counts()))
+        }
     }
     stories.sort_by_key(Story::is_slight);
-    let always = Story::of(Fact::Always);
-    if stories.iter().any(|story| *story != always) {
-        stories.retain(|story| *story != always);
+    let tells = |story: &Story| story.facts != [Fact::Always];
+    if stories.iter().any(tells) {
+        stories.retain(tells);
     }
     stories
 }
@@ -95,7 +98,7 @@ impl Teller<'_, '_> {
             Reason::Neither(first, second) => {
                 let mut stories = self.tell(first);
                 stories.extend(self.tell(second));
-                stories
+                beside_each_other(stories)
             }
             Reason::Neighbour(inner) => {
                 let edge = Story::of(self.edge(place, inner.place.member));

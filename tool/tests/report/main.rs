@@ -161,12 +161,30 @@ fn who_may_is_a_table() {
     let page = page(&folder);
     assert_eq!(page.matches("<table class=\"may\"").count(), 3);
     for wanted in [
-        "<caption>9 pairs may <b>share</b> at moment 3.<br/>Rows ask, columns are asked.</caption>",
+        "<caption>9 pairs may <b>share</b> at moment 3.<br/>Rows: who; columns: whom or what.</caption>",
         "<caption>Nobody may <b>event 2</b> at moment 3.<br/>",
         "<th scope=\"col\" title=\"a very long name indeed\"><div><span>a very long n…</span></div></th>",
         "<tr><th scope=\"row\">0</th><td class=\"y\">✓</td>",
     ] {
         assert!(page.contains(wanted), "{wanted}");
+    }
+}
+
+#[test]
+fn an_attribute_is_a_sentence() {
+    let folder = Folder::new();
+    let terms = "members dora, tom\nrelations owns, suspended\n\
+                 event suspend by anyone then add me suspended target\nfirst dora owns tom, tom is suspended\n";
+    folder.write("terms.say", terms);
+    folder.write("requests.say", "dora suspend dora\n");
+    let page = page(&folder);
+    for wanted in [
+        "<caption><b>suspended</b> at moment 0</caption>\n<tbody>\n<tr><td>tom is suspended</td></tr>\n</tbody>",
+        "<th scope=\"row\">dora</th><td>tom</td>",
+        "Relation edges: owns dora → tom, tom is suspended.",
+        "<li>+ dora is suspended</li>",
+    ] {
+        assert!(page.contains(wanted), "{wanted}\n{page}");
     }
 }
 

@@ -52,13 +52,13 @@ impl Labels {
         Some(format!("{}{not} {}", be(you, time), with(article, name).trim_start()))
     }
 
-    /// An event in the past: `shared with`, `did not share with`, `tried in vain to
-    /// load`.
+    /// An event in the past: `shared with`, `did not share with`, `was denied
+    /// permission to load`.
     pub fn did(&self, label: usize, holds: bool) -> String {
         let may = self.may(label);
         match (self.is_denied(label), holds, self.wording(label)) {
-            (true, true, _) => format!("tried in vain to {may}"),
-            (true, false, _) => format!("did not try in vain to {may}"),
+            (true, true, _) => format!("was denied permission to {may}"),
+            (true, false, _) => format!("was not denied permission to {may}"),
             (false, false, _) => format!("did not {may}"),
             (false, true, Wording::Verb(verb)) => with(&verb.past, verb.preposition),
             (false, true, Wording::Of(name) | Wording::Role(name) | Wording::Name(name)) => {
@@ -129,10 +129,10 @@ impl Labels {
         Some(format!("{} {adverb} {done}", have(you, time)))
     }
 
-    /// What follows "has": `shared with`, `been joined by`, `tried in vain to load`.
+    /// What follows "has": `shared with`, `been joined by`, `been denied permission to load`.
     pub fn done(&self, label: usize, voice: Voice) -> Option<String> {
         if self.is_denied(label) {
-            let tried = || format!("tried in vain to {}", self.may(label));
+            let tried = || format!("been denied permission to {}", self.may(label));
             return (voice == Voice::Active).then(tried);
         }
         Some(match (self.wording(label), voice) {

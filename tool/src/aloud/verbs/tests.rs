@@ -19,6 +19,10 @@ fn inflections() {
     assert_eq!(forms("teaches"), "teach teaches taught taught ");
     assert_eq!(forms("weak-view"), "weak-view weak-views weak-viewed weak-viewed ");
     assert_eq!(forms("part"), "part parts parted parted from");
+    assert_eq!(forms("vouch"), "vouch vouches vouched vouched for");
+    assert_eq!(forms("cut"), "cut cuts cut cut ");
+    assert_eq!(forms("take-back"), "take back takes back took back taken back from");
+    assert_eq!(forms("picks_up"), "pick up picks up picked up picked up ");
 }
 
 #[test]
@@ -28,6 +32,14 @@ fn guesses() {
     {
         assert_eq!(guessed(name), done);
     }
+}
+
+#[test]
+fn the_past_of_words_that_were_told() {
+    let past = |may: &str, has: &str| Verb::told(may, has).past;
+    assert_eq!(past("take back from", "taken back from"), "took back from");
+    assert_eq!(past("play a demo for", "played a demo for"), "played a demo for");
+    assert_eq!(past("frob", "frobbed"), "frobbed");
 }
 
 #[test]

@@ -3,7 +3,6 @@
 use super::{About, Subject, Warning};
 use crate::aloud::labels::Labels;
 use crate::aloud::listed;
-use crate::aloud::verbs::guessed;
 use crate::check::entries::labels;
 use crate::names::{Kind, Labelled, Names};
 use keeper::terms::{Entry, Terms};
@@ -198,10 +197,8 @@ pub fn unsaid(subject: &Subject) -> Vec<Warning> {
     let unsaid = (0..terms.events).filter(|event| labels.is_plain_name(terms.relations + event));
     let warn = |event: usize| {
         let name = names.event(event);
-        let what =
-            format!("`{name}` is no verb that is known here: it is read as \"do {name} to\"");
-        let done = guessed(&name);
-        let right = format!("tell what follows `has`, once: `event {name} said \"{done}\"`");
+        let what = format!("the verb `{name}` is not known, and is read as \"do {name} to\"");
+        let right = format!("say how it reads after \"has\": `event {name} said \"...\"`");
         Warning { kind: "verb", about: About::Policy(event), line: 0, what, right }
     };
     unsaid.filter(|_| sourced).map(warn).collect()

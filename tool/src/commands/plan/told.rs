@@ -21,7 +21,7 @@ impl Told<'_> {
     pub fn text(&self, outcome: &Outcome) -> String {
         let [planner, rival] =
             [self.plan.planner, self.plan.rival].map(|who| self.words.member(who));
-        let goal = |after: &str| self.goal.said(&self.words, self.plan.pair, after);
+        let goal = |after: Option<&str>| self.goal.said(&self.words, self.plan.pair, after);
         let mut text = match outcome {
             Outcome::Accepted { latest } => {
                 let after = match (self.plan.moves.len(), *latest) {
@@ -29,7 +29,7 @@ impl Told<'_> {
                     (_, 1) => "after the first request already".to_string(),
                     (_, latest) => format!("after request {latest} at the latest"),
                 };
-                format!("Accepted: whatever {rival} does, {}.\n", goal(&after))
+                format!("Accepted: whatever {rival} does, {}.\n", goal(Some(&after)))
             }
             Outcome::Rejected { moves, replies } => {
                 let head = if replies.iter().all(Option::is_none) {
@@ -38,7 +38,7 @@ impl Told<'_> {
                     format!("Rejected: {rival} can keep {planner} from it.\n")
                 };
                 let lines = self.lines(moves, replies);
-                format!("{head}\n{lines}\n{}.\n", goal("after no request of the plan"))
+                format!("{head}\n{lines}\n{}.\n", goal(None))
             }
         };
         if outcome.is_accepted() && self.events.len() < self.words.terms.events {

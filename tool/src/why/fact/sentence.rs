@@ -11,7 +11,7 @@ use keeper::record::Graph;
 const MOST_MOMENTS: usize = 2;
 
 /// An end of an edge that nobody is.
-const NOBODY: &str = "no member";
+pub const NOBODY: &str = "no member";
 
 /// From where a fact is told.
 #[derive(Clone, Copy)]

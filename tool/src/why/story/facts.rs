@@ -9,15 +9,22 @@ pub struct Story {
     pub facts: Vec<Fact>,
     /// The fact that turns the story: `but` stands before it.
     pub turn: Option<usize>,
+    /// Whether other possibilities stand beside it, so that it alone denies nothing.
+    pub beside: bool,
+    /// Whether it only says of one member what was told of all together.
+    pub repeats: bool,
 }
 
 impl Story {
     pub fn of(fact: Fact) -> Story {
-        Story { facts: vec![fact], turn: None }
+        Story { facts: vec![fact], ..Story::default() }
     }
 
     /// This story, and then others.
     pub fn then(mut self, others: Vec<Story>) -> Story {
+        if let [only] = &others[..] {
+            (self.beside, self.repeats) = (only.beside, only.repeats);
+        }
         for story in others {
             let from = self.facts.len();
             self.turn = story.turn.map(|turn| from + turn).or(self.turn);
@@ -46,9 +53,14 @@ impl Story {
         self.facts.iter().all(|fact| fact.is_plain())
     }
 
-    /// Whether it comes down to who is whom.
+    /// Whether it comes down to who is whom, or repeats another.
     pub fn is_slight(&self) -> bool {
-        self.facts.last().is_none_or(|fact| fact.is_plain())
+        self.repeats || self.facts.last().is_none_or(|fact| fact.is_plain())
+    }
+
+    /// Whether it tells how many there are.
+    pub fn counts(&self) -> bool {
+        self.facts.iter().any(|fact| matches!(fact, Fact::Count { .. }))
     }
 
     /// Whether it says only what never was.
@@ -75,6 +87,12 @@ pub fn distinct(mut stories: Vec<Story>) -> Vec<Story> {
         facts.dedup();
         known.insert(facts)
     });
+    stories
+}
+
+/// The stories of several possibilities, all of which fail.
+pub fn beside_each_other(mut stories: Vec<Story>) -> Vec<Story> {
+    stories.iter_mut().for_each(|story| story.beside = true);
     stories
 }
 

@@ -61,7 +61,7 @@ impl Teller<'_, '_> {
     }
 
     /// The definition by whose name an entry is told.
-    fn definition(&self, place: Place) -> Option<Place> {
+    pub(super) fn definition(&self, place: Place) -> Option<Place> {
         match self.is_named(place) {
             true => Some(place),
             false => self.definition(self.reasons.followed(place)?),

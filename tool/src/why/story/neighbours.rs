@@ -1,6 +1,6 @@
 //! Stories about neighbours: those of edges, of steps and of counted ones.
 
-use super::facts::{distinct, telling, Story};
+use super::facts::{beside_each_other, distinct, telling, Story};
 use super::Teller;
 use crate::why::fact::Fact;
 use crate::why::reason::{neighbours, Claim, Place};
@@ -14,13 +14,14 @@ impl Teller<'_, '_> {
         let Entry::Reach(x, f, g) = self.reasons.terms().entries[place.entry] else {
             return Vec::new();
         };
-        let mut stories = Vec::new();
+        let (mut stories, mut reached) = (Vec::new(), 0);
         for claim in failing.iter().copied().filter(|claim| claim.place.entry == g) {
             let assigned = Assigned::default().with(x, claim.place.member);
             let step = self.reasons.claim(Place { entry: f, assigned, ..place });
             if !step.holds {
                 continue;
             }
+            reached += 1;
             let step = Story::default().then(telling(self.tell(step)));
             for story in distinct(self.tell(claim)) {
                 let step = step.clone();
@@ -33,7 +34,11 @@ impl Teller<'_, '_> {
             stories = self.near_each(&failing);
             stories.push(self.counting(Story::of(Fact::NoStep(place)), f, None));
         }
-        stories
+        if reached > 1 {
+            beside_each_other(stories)
+        } else {
+            stories
+        }
     }
 
     /// Those who are enough, each with a story of their own if there is one to tell.
@@ -53,8 +58,9 @@ impl Teller<'_, '_> {
         let mut stories = vec![Story::of(self.count(place, &claims))];
         for claim in claims.into_iter().filter(|claim| !claim.holds) {
             let edge = Story::of(self.edge(place, claim.place.member));
-            for story in distinct(self.tell(claim)) {
+            for mut story in distinct(self.tell(claim)) {
                 let edge = edge.clone();
+                story.repeats |= self.is_counted(claim.place, &story);
                 stories.push(match self.granted {
                     true => edge.then(vec![story]),
                     false => edge.but(vec![story]),
@@ -62,6 +68,19 @@ impl Teller<'_, '_> {
             }
         }
         stories
+    }
+
+    /// Whether a story of somebody who doesn't fit says no more than that: what is asked for
+    /// is one thing, and it was not so.
+    fn is_counted(&self, place: Place, story: &Story) -> bool {
+        let is_not = |fact: &Fact| match *fact {
+            Fact::Never { place, .. } | Fact::NeverSince { place, .. } => {
+                self.definition(place).is_none()
+            }
+            Fact::NoEdge { .. } | Fact::Counting(_) => true,
+            _ => false,
+        };
+        self.parts(place).len() == 1 && story.facts.iter().all(is_not)
     }
 
     /// How many of these neighbours of a `many` fit.
@@ -102,7 +121,7 @@ impl Teller<'_, '_> {
             return vec![Story::of(Fact::Only { label, member, out, others, moment })];
         }
         let near = neighbours(self.reasons.terms(), self.reasons.graphs(), place);
-        let mut stories = Vec::new();
+        let (mut stories, several) = (Vec::new(), told.len() > 1);
         for (neighbour, parts) in told {
             let edge = Story::of(self.edge(place, neighbour));
             for story in parts {
@@ -117,7 +136,11 @@ impl Teller<'_, '_> {
                 });
             }
         }
-        stories
+        if several {
+            beside_each_other(stories)
+        } else {
+            stories
+        }
     }
 
     /// The edge by which an `out` or `in` entry leads to a neighbour.
