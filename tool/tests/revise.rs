@@ -95,6 +95,24 @@ fn the_same_terms_change_nothing() {
     assert_eq!((said.out.as_str(), said.err.as_str()), (wanted, ""));
 }
 
+/// A `first` line that is deleted takes nothing from anybody.
+#[test]
+fn first_edges_that_differ_are_told() {
+    let old = "members a, b\nrelation knows, banned\nevent ask when me is not banned\n\
+               first a is banned, a knows b\n";
+    let new = old.replace("first a is banned, a knows b", "first a knows b, b knows a");
+    let (old, new) = (folder(old, "ask b a\n"), folder(&new, ""));
+    let wanted = "What is there from the start differs (`a is banned` is gone, `b knows a` is new), but a \
+                  revision does not use it:\nrelations stay as they are, and change by events only.\n\n\
+                  Else the terms are the same: nothing changes.\n";
+    let later = Folder::new();
+    let file = later.file("terms.tsv").display().to_string();
+    let said = revise(&old, &new, &["--store", &file]);
+    assert_eq!(said.out, format!("{wanted}\n{file} written\n"), "{}", said.err);
+    let still = run_with(&["run", later.path(), "-"], "ask a b\n");
+    assert!(still.out.contains("denied"), "{}{}", still.out, still.err);
+}
+
 #[test]
 fn the_definition_is_named() {
     let defined = "members a, b\nevent ask, load when me is welcome\n\

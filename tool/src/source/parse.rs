@@ -7,6 +7,8 @@ mod english;
 mod formula;
 mod habits;
 mod joined;
+mod lone;
+mod one_time;
 mod phrase;
 mod plainly;
 mod policy;

@@ -143,6 +143,9 @@ impl Parser {
     /// `owner has shared with me`, where the event's own name is meant.
     fn auxiliary(&self) -> Option<Mistake> {
         let word = self.english()?;
+        if let Some(mistake) = self.may_of_times(self.last_word()?, 0) {
+            return Some(mistake);
+        }
         if let Some(advice) = self.having() {
             let message = format!("`{word}` has no meaning here");
             return Some(Mistake::new(self.span(), message).advise(advice));
@@ -207,7 +210,9 @@ impl Parser {
         let subject = self.last_word().filter(|_| self.is_word("not"))?;
         let advice = match (self.word_ahead(1), self.word_ahead(2)) {
             (Some("is"), Some(what)) => format!("write `{subject} is not {what}`"),
-            (Some(verb), Some(whom)) => format!("write `not {subject} {verb} {whom}`"),
+            (Some(verb), Some(whom)) => self
+                .not_done(subject)
+                .unwrap_or_else(|| format!("write `not {subject} {verb} {whom}`")),
             _ => "write `not me owns target`, or `target is not preset`".to_string(),
         };
         let message = "`not` goes before a sentence, or after `is`";

@@ -110,6 +110,9 @@ impl Parser {
     }
 
     fn sentence(&mut self) -> Result<Kind, Mistake> {
+        if let Some(mistake) = self.sentence_of_times() {
+            return Err(mistake);
+        }
         if self.is_word("at") && self.word_ahead(1) != Some("least") && self.amount().is_none() {
             self.next += 1;
             let person = self.person("whom it is said of, or `least`")?;
@@ -135,7 +138,8 @@ impl Parser {
         if special {
             return self.told();
         }
-        if let Some(mistake) = self.beginning().or_else(|| self.label_first()) {
+        let english = self.beginning().or_else(|| self.label_first());
+        if let Some(mistake) = english.or_else(|| self.lone()) {
             return Err(mistake);
         }
         if !self.name_ahead(0) {

@@ -104,7 +104,15 @@ impl Parser {
         };
         let label = self.declared.iter().filter(is_done).min()?;
         let mistake = Mistake::new(self.last(), format!("`{word}` has no meaning here"));
-        Some(mistake.advise(format!("leave it out: `{who} {label} {whom}`")))
+        let past = label != done && self.events.contains(label) && !self.in_past();
+        let advice = match (past, self.word_before(4)) {
+            (true, Some("not")) => format!("write `never {who} {label} {whom}`"),
+            (true, before) if before.is_none_or(|word| word != "once" && word != "never") => {
+                format!("write `once {who} {label} {whom}`")
+            }
+            _ => format!("leave it out: `{who} {label} {whom}`"),
+        };
+        Some(mistake.advise(advice))
     }
 
     /// `target is owned by me`, at the `by`.
@@ -131,7 +139,8 @@ impl Parser {
             "except" | "but" | "without" if anyone => {
                 "say who may do it with `when`: `when me is not banned`, where `banned` is a relation"
             }
-            "except" | "but" | "without" => "write `and not` and the sentence that is the exception",
+            "but" => "write `and` in the place of `but`",
+            "except" | "without" => "write `and not` and the sentence that is the exception",
             word if CLOCK.contains(&word) => {
                 "there is no clock here: the past is told in moments, with `once`, `since` and `previously`"
             }

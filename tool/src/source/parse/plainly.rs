@@ -76,7 +76,7 @@ impl Parser {
     }
 
     /// A word or number some places ahead.
-    fn shown(&self, place: usize) -> String {
+    pub(super) fn shown(&self, place: usize) -> String {
         match self.ahead(place) {
             Token::Word(word) => word.clone(),
             Token::Number(number) => number.to_string(),

@@ -8,6 +8,9 @@ impl Parser {
     pub(super) fn no_policy(&self) -> Mistake {
         let what = "`when` and who may do it, or `by anyone`";
         let mistake = self.expected(what, &["when", "by"]);
+        if let Some(advice) = self.policy_of_times() {
+            return mistake.advise(advice);
+        }
         match self.word_ahead(0) {
             Some("if" | "where" | "while" | "only") => mistake.advise("write `when`"),
             Some("allow" | "allowed" | "permit" | "permitted" | "requires" | "needs") => {
@@ -77,12 +80,23 @@ impl Parser {
         if matches!(self.word_ahead(place), Some("anybody" | "everybody" | "everyone" | "all")) {
             return "write `by anyone`".to_string();
         }
-        if let Some(advice) = self.by_those(place) {
+        if let Some(advice) = self.by_those(place).or_else(|| self.by_member(place)) {
             return advice;
         }
         let whom = self.word_ahead(place).filter(|_| self.name_ahead(place)).map(singular);
         let whom = whom.unwrap_or_else(|| "player".to_string());
         format!("`by anyone`, or `when` and a condition, such as `when me is {whom}`")
+    }
+
+    /// `by dora`: a policy cannot name a member.
+    fn by_member(&self, place: usize) -> Option<String> {
+        let member = self.word_ahead(place).filter(|word| self.members.contains(*word))?;
+        let attribute =
+            ["admin", "chief", "head"].into_iter().find(|word| !self.declared.contains(*word))?;
+        Some(format!(
+            "a policy cannot name a member; give {member} an attribute, `relation {attribute}` and \
+             `first {member} is {attribute}`, and write `when me is {attribute}`"
+        ))
     }
 
     /// `by owners`, `by friends of the owner`, `by my friends`.

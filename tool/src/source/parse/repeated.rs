@@ -6,7 +6,7 @@ use crate::source::kinds::singular;
 
 impl Parser {
     /// How often, and how many words say it: `twice`, `three times`, `2 times`.
-    fn times(&self, place: usize) -> Option<usize> {
+    pub(super) fn times(&self, place: usize) -> Option<usize> {
         let times = self.word_ahead(place + 1) == Some("times");
         match self.ahead(place) {
             Token::Word(word) if word == "twice" => Some(2),
@@ -24,9 +24,13 @@ impl Parser {
         let count =
             self.times(0).filter(|_| self.word_ahead(0).is_none_or(|word| !self.in_sight(word)))?;
         let whom = if who == "target" { "me" } else { "target" };
-        let sentence = again(&format!("{who} {label} {whom}"), count)?;
         let word = self.word_ahead(0).unwrap_or("times");
         let message = format!("expected whom before `{word}`");
+        let before = self.word_before(3 + usize::from(label.starts_with("denied ")));
+        if let Some(advice) = self.not_so_often(before, [who, label, whom], count) {
+            return Some(Mistake::new(self.span(), message).advise(advice));
+        }
+        let sentence = again(&format!("{who} {label} {whom}"), count)?;
         let advice = format!(
             "say that it was so, and once before: `{sentence}`; with `someone` for `{whom}`, whoever it was"
         );
@@ -39,11 +43,14 @@ impl Parser {
         let [denied, who, done, whom] = [3, 4, 2, 1].map(|places| self.word_before(places));
         let (done, whom) = (done?, whom?);
         let (label, _) = self.label_of(done).filter(|(label, _)| self.events.contains(label))?;
-        let sentence = match denied {
-            Some("denied") => format!("{} denied {label} {whom}", who?),
-            who => format!("{} {label} {whom}", who?),
+        let (who, label, before) = match denied {
+            Some("denied") => (who?, format!("denied {label}"), self.word_before(5)),
+            who => (who?, label, self.word_before(4)),
         };
-        Some(format!("say that it was so, and once before: `{}`", again(&sentence, count)?))
+        let sentence = format!("{who} {label} {whom}");
+        self.not_so_often(before, [who, &label, whom], count).or_else(|| {
+            Some(format!("say that it was so, and once before: `{}`", again(&sentence, count)?))
+        })
     }
 
     /// `share me target`, `denied load twice`, `friend target` and `is friend target`: what comes
@@ -143,7 +150,7 @@ impl Parser {
 }
 
 /// A sentence that was so as many times: now, and once before.
-fn again(sentence: &str, count: usize) -> Option<String> {
+pub(super) fn again(sentence: &str, count: usize) -> Option<String> {
     let one = (2..count)
         .fold(sentence.to_string(), |again, _| format!("({sentence} and previously once {again})"));
     (2..=4).contains(&count).then(|| format!("once ({sentence} and previously once {one})"))

@@ -91,7 +91,7 @@ impl Parser {
         if let Some(mistake) = before.or_else(|| self.preposition_before()) {
             return mistake;
         }
-        if let Some(mistake) = self.joining() {
+        if let Some(mistake) = self.times_after().or_else(|| self.joining()) {
             return mistake;
         }
         // A name that stands alone is who the sentence is about.

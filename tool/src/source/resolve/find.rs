@@ -1,6 +1,6 @@
 //! Finds people, labels and definitions by name, or says what was meant.
 
-use super::super::ast::{MemberKind, Name, Person, Quantifier, Span, Walk, Who as Written};
+use super::super::ast::{Fact, MemberKind, Name, Person, Quantifier, Span, Walk, Who as Written};
 use super::super::mistake::Mistake;
 use super::super::said::{Who, ME, TARGET};
 use super::{Resolver, Scope};
@@ -125,6 +125,7 @@ impl Resolver<'_> {
                     true => format!(
                         "say what {text} does or is: `{text} owns target`, `{text} is target`"
                     ),
+                    false if self.is_attribute(text) => format!("say who: `me is {text}`"),
                     false => format!("say who and whom: `me {text} target`"),
                 };
                 return Mistake::new(name.span, message).advise(advice);
@@ -144,6 +145,12 @@ impl Resolver<'_> {
                 {text}: ...`"
             ))
         })
+    }
+
+    /// Whether somebody has a relation to itself from the start.
+    fn is_attribute(&self, text: &str) -> bool {
+        let alone = |fact: &Fact| fact.relation.text == text && fact.from.text == fact.to.text;
+        self.source.first.iter().any(alone)
     }
 
     /// The kinds of members, each with the word that a formula tests for it.
