@@ -2,7 +2,7 @@
 
 mod run_support;
 
-use run_support::{example, run, Folder, Said};
+use run_support::{example, run, run_with, Folder, Said};
 use std::fs;
 
 /// Runs `revise` from one folder to another, with further arguments.

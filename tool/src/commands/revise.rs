@@ -6,7 +6,7 @@ use crate::json::Json;
 use crate::replay::Replay;
 use crate::revise::revise;
 use crate::stop::{Stop, WELL};
-use crate::storing::store;
+use crate::storing::{place, store};
 use std::io::Write;
 use std::path::Path;
 
@@ -29,7 +29,7 @@ two banks, use `revise NEW` at the prompt of `try` instead, which revises both.
                  and events
   --store FILE   store the monitor under the new terms in FILE, creating its folder
                  if need be; if FILE is called terms.tsv, the names are stored
-                 beside it and its folder can be run
+                 beside it and its folder can be run. FILE may be that folder
   --json         one JSON object per line: moment; sentences; changes of answers
 
 Exit status: 0; 3 if the new terms are refused, or a file cannot be read, written or
@@ -45,18 +45,19 @@ pub fn main(arguments: &[String], out: &mut dyn Write) -> Result<i32, Stop> {
     let mut both = Replay::of(&old)?.both;
     let revised = revise(&mut both, &old, &new, arguments.has("--renamed"))?;
     let json = arguments.has("--json");
-    let file = arguments.option("--store");
-    if let Some(file) = file {
+    let file = arguments.option("--store").map(|file| place(Path::new(file)));
+    if let Some(file) = &file {
         let from = Folder { names: revised.names.clone(), ..new };
-        store(Path::new(file), &both.store()?, &from)?;
+        store(file, &both.store()?, &from)?;
     }
     match json {
         true => revised.json().iter().try_for_each(|line| writeln!(out, "{line}"))?,
         false => write!(out, "{}", revised.text(both.terms()))?,
     }
     if let Some(file) = file {
+        let file = file.display().to_string();
         match json {
-            true => writeln!(out, "{}", Json::Object(vec![("stored", file.into())]))?,
+            true => writeln!(out, "{}", Json::Object(vec![("stored", file.as_str().into())]))?,
             false => writeln!(out, "\n{file} written")?,
         }
     }

@@ -60,7 +60,9 @@ impl Parser {
         let told = ["is", "of", "denied"].contains(&verb) || declared(verb) && !declared(noun);
         told.then(|| {
             let advice = match (verb, self.word_ahead(3)) {
-                ("of", Some(whose)) => format!("look for them: `some {noun} owns {whose}: ...`"),
+                ("of", Some(whose)) if !ENGLISH.contains(&whose) => {
+                    format!("look for them: `some {noun} owns {whose}: ...`")
+                }
                 _ => "leave out `the`: the one who asks is `me`, the other is `target`".to_string(),
             };
             Mistake::new(self.span(), "`the` has no meaning here").advise(advice)

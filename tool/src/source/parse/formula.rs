@@ -110,7 +110,8 @@ impl Parser {
     }
 
     fn sentence(&mut self) -> Result<Kind, Mistake> {
-        if let Some(mistake) = self.sentence_of_times() {
+        let english = self.sentence_of_times().or_else(|| self.denied_alone());
+        if let Some(mistake) = english.or_else(|| self.mine_may()) {
             return Err(mistake);
         }
         if self.is_word("at") && self.word_ahead(1) != Some("least") && self.amount().is_none() {

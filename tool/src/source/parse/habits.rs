@@ -52,6 +52,9 @@ impl Parser {
                 "a relation is its name only, between any two members: `relation {name}`"
             ));
         }
+        if self.is_sign(';') {
+            return mistake.advise("delete the `;`: nothing ends a statement");
+        }
         if let Some(advice) = self.request() {
             return mistake.advise(advice);
         }

@@ -10,6 +10,7 @@ impl Parser {
         let word = self.english()?;
         let advice = match word {
             "if" => "leave it out: a condition begins after `when`",
+            "either" => "leave it out: `or` says it already",
             "unless" => "write `not` before the sentence: `not me owns target`",
             "anyone" | "everyone" | "anybody" | "everybody" | "each" => {
                 if let Some(mistake) = self.may_of_times(word, 1) {

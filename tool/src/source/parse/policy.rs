@@ -25,6 +25,7 @@ impl Parser {
                 mistake.advise("write `by anyone`")
             }
             Some("never") => mistake.advise("write `when false`"),
+            Some("and") if self.name_ahead(1) => mistake.advise("put a `,` in the place of `and`"),
             Some(more)
                 if self.name_ahead(0) && matches!(self.word_ahead(1), Some("when" | "by")) =>
             {
@@ -60,6 +61,16 @@ impl Parser {
             ),
             _ => mistake,
         }
+    }
+
+    /// `by anyone who is not suspended`, at the `who`.
+    pub(super) fn anyone_who(&self) -> Option<Mistake> {
+        let who = matches!(self.word_ahead(0), Some("who" | "that" | "which"));
+        let (told, end) = self.predicate("me", 1).filter(|_| who)?;
+        let told = self.ends_at(end).then(|| self.parted(told, end))?;
+        let span = self.tokens[self.next - 2].1.to(self.span_ahead(end - 1));
+        let mistake = Mistake::new(span, "`by anyone` has no condition");
+        Some(mistake.advise(format!("write `when {told}`")))
     }
 
     /// `by anyone and me owns target`, at the `and`.

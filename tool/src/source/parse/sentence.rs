@@ -133,7 +133,7 @@ impl Parser {
                 None => self.being(subject),
             };
         }
-        if let Some(mistake) = self.english_verb() {
+        if let Some(mistake) = self.english_verb().or_else(|| self.verb_last(&word)) {
             return Err(mistake);
         }
         if self.is_cut_off() {

@@ -117,12 +117,19 @@ impl Parser {
             return Some(mistake.advise(attribute));
         }
         Some(mistake.advise(match self.declared.contains(label) || label.contains(' ') {
-            false => {
+            false if self.can_be(subject, label) => {
                 format!("did you mean `{subject} is {label}`? A sentence says who, what and whom")
             }
+            false => "a sentence says who, what and whom: `me owns target`".to_string(),
             true if self.is_attribute(label) => format!("did you mean `{subject} is {label}`?"),
             true => say,
         }))
+    }
+
+    /// Whether `a is b` may have been meant by two words.
+    fn can_be(&self, subject: &str, label: &str) -> bool {
+        let person = ["me", "target", "here"].contains(&subject) || self.in_sight(subject);
+        person && !ENGLISH.contains(&label)
     }
 
     /// Whether a word stands after `is` somewhere.
