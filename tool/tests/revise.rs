@@ -113,6 +113,18 @@ fn first_edges_that_differ_are_told() {
     assert!(still.out.contains("denied"), "{}{}", still.out, still.err);
 }
 
+/// A folder to store in is made, with the names.
+#[test]
+fn a_folder_to_store_in() {
+    let parent = Folder::new();
+    let later = parent.file("later").display().to_string();
+    let old = folder(OLD, "share dora pete\n");
+    let said = revise(&old, &folder(OLD, ""), &["--store", &later]);
+    assert!(said.out.ends_with("later/terms.tsv written\n"), "{}{}", said.out, said.err);
+    let said = run_with(&["run", &later, "-"], "load pete saw\n");
+    assert_eq!(said.out, "1  load pete → saw  granted\n", "{}", said.err);
+}
+
 #[test]
 fn the_definition_is_named() {
     let defined = "members a, b\nevent ask, load when me is welcome\n\

@@ -44,7 +44,7 @@ fn said(source: &Path) -> (String, i32) {
 #[test]
 fn each_has_place_cause_and_cure() {
     let sources = sources();
-    assert_eq!(sources.len(), 151);
+    assert_eq!(sources.len(), 154);
     for source in sources {
         let name = source.file_stem().unwrap().to_string_lossy().into_owned();
         let (text, status) = said(&source);
@@ -72,7 +72,7 @@ fn quoted(text: &str) -> Vec<String> {
 fn cures_that_are_followed_compile() {
     let cured = sources().into_iter().map(|source| (source.with_extension("cured"), source));
     let cured: Vec<(PathBuf, PathBuf)> = cured.filter(|(cured, _)| cured.exists()).collect();
-    assert_eq!(cured.len(), 19);
+    assert_eq!(cured.len(), 21);
     for (cured, source) in cured {
         let (text, status) = said(&cured);
         assert_eq!(status, 0, "{}:\n{text}", cured.display());
@@ -97,7 +97,7 @@ fn cures_that_are_followed_compile() {
 fn cures_that_are_followed_mean_the_same() {
     let tested = sources().into_iter().filter(|source| source.with_extension("tests").exists());
     let tested: Vec<PathBuf> = tested.collect();
-    assert_eq!(tested.len(), 6);
+    assert_eq!(tested.len(), 7);
     for source in tested {
         let folder = Folder::new();
         fs::copy(source.with_extension("cured"), folder.file("terms.say")).unwrap();

@@ -62,7 +62,13 @@ impl Parser {
         }
         let place = self.past_article(1);
         let noun = self.word_ahead(place)?;
-        let relation = self.role(noun)?;
+        // `kim's friend`: the `'s` is passed over.
+        let owned = self.word_ahead(place + 1).filter(|_| self.members.contains(noun));
+        if let Some(relation) = owned.and_then(|owned| self.relation_called(owned)) {
+            let mistake = Mistake::new(self.span_ahead(place), "whose it is goes after `of`");
+            return Some(mistake.advise(format!("write `{from_name} is {relation} of {noun}`")));
+        }
+        let relation = self.relation_called(noun)?;
         let of = self.word_ahead(place + 1).filter(|word| ["of", "with", "to"].contains(word));
         let said = match (of, self.word_ahead(place + 2)) {
             (Some(_), Some(to)) => format!("{from_name} is {relation} of {to}"),

@@ -218,7 +218,10 @@ impl Parser {
             _ => "write `not me owns target`, or `target is not preset`".to_string(),
         };
         let message = "`not` goes before a sentence, or after `is`";
-        Some(Mistake::new(self.span(), message).advise(advice))
+        let before = matches!(self.word_ahead(3), Some("before" | "yet" | "already" | "ever"));
+        let last = self.span_ahead(if before { 3 } else { 0 });
+        let first = if before { self.last() } else { self.span() };
+        Some(Mistake::new(first.to(last), message).advise(advice))
     }
 
     /// `target isnt preset`.

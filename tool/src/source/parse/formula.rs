@@ -90,6 +90,10 @@ impl Parser {
                 let warning = Mistake::new(self.span(), "`once` adds nothing after `never`");
                 self.warnings.push(warning.advise("leave it out"));
             }
+            if self.last_word() == Some("not") && self.is_word("never") {
+                let warning = Mistake::new(self.last(), "`not never` is the same as `once`");
+                self.warnings.push(warning.advise("leave out `not`, or write `once`"));
+            }
             let part = self.part()?;
             self.depth -= 1;
             self.height += 1;

@@ -103,11 +103,12 @@ impl Parser {
         let whom = self.word_ahead(0).filter(|_| !self.begins[self.next])?;
         let (who, done) = (who?, done?);
         let is_done = |name: &&String| {
-            *name == done || verb(name).is_some_and(|verb| verb.participle == done)
+            *name == done
+                || verb(name).is_some_and(|verb| verb.participle == done || verb.third == done)
         };
         let label = self.declared.iter().filter(is_done).min()?;
         let mistake = Mistake::new(self.last(), format!("`{word}` has no meaning here"));
-        let past = label != done && self.events.contains(label) && !self.in_past();
+        let past = self.label_of(done).is_some_and(|(_, past)| past) && !self.in_past();
         let advice = match (past, self.word_before(4)) {
             (true, Some("not")) => format!("write `never {who} {label} {whom}`"),
             (true, before) if before.is_none_or(|word| word != "once" && word != "never") => {

@@ -63,7 +63,7 @@ impl Parser {
     }
 
     /// The relation of which a word is a form.
-    fn relation_called(&self, word: &str) -> Option<String> {
+    pub(super) fn relation_called(&self, word: &str) -> Option<String> {
         let plural = |name: &&String| singulars(name).iter().any(|form| form == word);
         let relations = self.declared.iter().filter(|name| !self.events.contains(*name));
         self.role(word).or_else(|| relations.filter(plural).min().cloned())

@@ -33,8 +33,11 @@ impl Parser {
         {
             return None;
         }
-        let once = if matches!(self.last_word(), Some("not" | "never")) { "never" } else { "once" };
-        let span = self.span().to(self.span_ahead(place));
+        // The `not` is part of what is replaced.
+        let not = matches!(self.last_word(), Some("not" | "never"));
+        let once = if not { "never" } else { "once" };
+        let first = if not { self.last() } else { self.span() };
+        let span = first.to(self.span_ahead(place));
         let mistake = Mistake::new(span, "this does not say what was denied");
         Some(mistake.advise(self.denial_of(once)?))
     }
@@ -44,7 +47,9 @@ impl Parser {
         let person = matches!(self.word_ahead(0), Some("me" | "target" | "someone"));
         let before = self.word_before(3);
         let once = if matches!(before, Some("not" | "never")) { "never" } else { "once" };
-        let mistake = Mistake::new(self.last(), "the name of an event goes after `denied`");
+        let first = usize::from(matches!(before, Some("not" | "never" | "once")));
+        let span = self.tokens[self.next.checked_sub(2 + first)?].1.to(self.span());
+        let mistake = Mistake::new(span, "the name of an event goes after `denied`");
         Some(mistake.advise(self.denial_of(once).filter(|_| person)?))
     }
 }

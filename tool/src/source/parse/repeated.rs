@@ -26,9 +26,11 @@ impl Parser {
         let whom = if who == "target" { "me" } else { "target" };
         let word = self.word_ahead(0).unwrap_or("times");
         let message = format!("expected whom before `{word}`");
-        let before = self.word_before(3 + usize::from(label.starts_with("denied ")));
-        if let Some(advice) = self.not_so_often(before, [who, label, whom], count) {
-            return Some(Mistake::new(self.span(), message).advise(advice));
+        let places = 2 + usize::from(label.starts_with("denied "));
+        if let Some(advice) =
+            self.not_so_often(self.word_before(places + 1), [who, label, whom], count)
+        {
+            return Some(self.from_not(places, advice));
         }
         let sentence = again(&format!("{who} {label} {whom}"), count)?;
         let advice = format!(
@@ -37,20 +39,40 @@ impl Parser {
         Some(Mistake::new(self.span(), message).advise(advice))
     }
 
+    /// The sentence with an event before `twice`: who, what, whom, and how many words it has.
+    fn before_times(&self) -> Option<(&str, String, &str, usize)> {
+        let [denied, who, done, whom] = [3, 4, 2, 1].map(|places| self.word_before(places));
+        let (label, _) = self.label_of(done?).filter(|(label, _)| self.events.contains(label))?;
+        match denied {
+            Some("denied") => Some((who?, format!("denied {label}"), whom?, 4)),
+            who => Some((who?, label, whom?, 3)),
+        }
+    }
+
     /// What to write for `me load target twice`, at the `twice`.
     pub(super) fn repeated(&self) -> Option<String> {
         let count = self.times(0)?;
-        let [denied, who, done, whom] = [3, 4, 2, 1].map(|places| self.word_before(places));
-        let (done, whom) = (done?, whom?);
-        let (label, _) = self.label_of(done).filter(|(label, _)| self.events.contains(label))?;
-        let (who, label, before) = match denied {
-            Some("denied") => (who?, format!("denied {label}"), self.word_before(5)),
-            who => (who?, label, self.word_before(4)),
-        };
-        let sentence = format!("{who} {label} {whom}");
-        self.not_so_often(before, [who, &label, whom], count).or_else(|| {
-            Some(format!("say that it was so, and once before: `{}`", again(&sentence, count)?))
-        })
+        let (who, label, whom, _) = self.before_times()?;
+        let sentence = again(&format!("{who} {label} {whom}"), count)?;
+        Some(format!("say that it was so, and once before: `{sentence}`"))
+    }
+
+    /// `not me load target twice`, at the `twice`.
+    pub(super) fn not_repeated(&self) -> Option<Mistake> {
+        let count = self.times(0)?;
+        let (who, label, whom, places) = self.before_times()?;
+        let before = self.word_before(places + 1);
+        let advice = self.not_so_often(before, [who, &label, whom], count)?;
+        Some(self.from_not(places, advice))
+    }
+
+    /// The mistake at a sentence of so many words, with the `not` before it and how often after it.
+    fn from_not(&self, places: usize, advice: String) -> Mistake {
+        let not = matches!(self.word_before(places + 1), Some("not" | "never"));
+        let first = self.tokens[self.next - places - usize::from(not)].1;
+        let last = usize::from(self.word_ahead(1) == Some("times"));
+        let message = "how often it was so cannot be said like this";
+        Mistake::new(first.to(self.span_ahead(last)), message).advise(advice)
     }
 
     /// `share me target`, `denied load twice`, `friend target` and `is friend target`: what comes

@@ -109,7 +109,8 @@ impl Parser {
         if let Some(mistake) = before.or_else(|| self.preposition_before()) {
             return mistake;
         }
-        if let Some(mistake) = self.times_after().or_else(|| self.joining()) {
+        let often = self.not_repeated().or_else(|| self.times_after());
+        if let Some(mistake) = often.or_else(|| self.joining()) {
             return mistake;
         }
         // A name that stands alone is who the sentence is about.
