@@ -36,6 +36,8 @@ pub const SPOKEN: &str = "requests.say";
 pub const NAMES: &str = "names.tsv";
 /// The readable source that the terms are compiled from.
 pub const SOURCE: &str = "terms.say";
+/// How the files of some editors begin.
+const RTF: &[u8] = b"{\\rtf";
 
 /// What a folder holds. Every sub-command gets its terms from here: of a folder
 /// with a terms.say they are what that compiles to, whatever terms.tsv has.
@@ -84,6 +86,9 @@ impl Folder {
             return Err(missing(&folder));
         }
         let terms = opened(&file)?;
+        if let Some(stop) = no_terms(&file, &terms) {
+            return Err(stop);
+        }
         if file.file_name().is_some_and(|name| name == TERMS) && source.is_file() {
             up_to_date(&terms, &file, &source)?;
         }
@@ -178,6 +183,18 @@ fn missing(folder: &Path) -> Stop {
     })
 }
 
+/// Why a file that was named holds no terms: it has another name, or another form.
+fn no_terms(file: &Path, bytes: &[u8]) -> Option<Stop> {
+    let path = file.display();
+    if bytes.starts_with(RTF) {
+        return Some(Stop::Failed(format!("{path} is rich text; save it as plain text")));
+    }
+    let begins = [&b"members"[..], b"member", b"#", b"relation", b"event"];
+    let source = file.extension().is_none_or(|ending| ending != "tsv")
+        && begins.iter().any(|word| bytes.trim_ascii_start().starts_with(word));
+    source.then(|| Stop::Failed(format!("{path} is a source: rename it to {SOURCE}")))
+}
+
 /// Stops where a terms.tsv that was named is not what the source beside it
 /// compiles to: nobody is to be answered from old terms.
 fn up_to_date(terms: &[u8], file: &Path, source: &Path) -> Result<(), Stop> {
@@ -199,7 +216,12 @@ fn up_to_date(terms: &[u8], file: &Path, source: &Path) -> Result<(), Stop> {
 
 /// A file as a text; empty if there is no such file.
 fn text(path: &Path) -> Result<String, Stop> {
-    String::from_utf8(bytes(path)?).map_err(|error| {
+    let bytes = bytes(path)?;
+    if bytes.starts_with(RTF) {
+        let path = path.display();
+        return Err(Stop::Failed(format!("{path} is rich text; save it as plain text")));
+    }
+    String::from_utf8(bytes).map_err(|error| {
         let valid = &error.as_bytes()[..error.utf8_error().valid_up_to()];
         let line = valid.iter().filter(|&&byte| byte == b'\n').count() + 1;
         let path = path.display();

@@ -61,10 +61,17 @@ pub fn search_telling(
     Search::new(monitor, &members, Sought::Request(asked)).run(monitor, limits, tell)
 }
 
-/// Seeks requests among some members after which one of them is granted an event. After
-/// a request only pairs with one of its two members are looked at, each for a try.
-pub fn search_event(monitor: &Monitor, event: usize, members: &[usize], limits: Limits) -> Found {
-    Search::new(monitor, members, Sought::Event(event)).run(monitor, limits, &mut |_, _| ())
+/// Seeks requests of some events among some members after which one of them is granted an
+/// event. After a request only pairs with one of its two members are looked at, each for a try.
+pub fn search_event(
+    monitor: &Monitor,
+    event: usize,
+    (events, members): (&[bool], &[usize]),
+    limits: Limits,
+) -> Found {
+    let mut search = Search::new(monitor, members, Sought::Event(event));
+    search.requests.retain(|request| events[request.event]);
+    search.run(monitor, limits, &mut |_, _| ())
 }
 
 /// What is to be granted.

@@ -2,6 +2,7 @@
 //! in requests.say, and come from standard input. Each may name its bank first, or none
 //! does: `left load ben warm-pad`.
 
+mod meant;
 #[cfg(test)]
 mod tests;
 mod writing;
@@ -96,6 +97,9 @@ fn ask(words: &[&str], terms: &Terms, names: &Names) -> Result<Option<[usize; 3]
         return match words {
             [] => Ok(None),
             [bank, ..] => Err(match did_you_mean(bank, Bank::BOTH.map(Bank::word)) {
+                _ if meant::meant(words, terms, names).is_some() => {
+                    meant::meant(words, terms, names).unwrap_or_default()
+                }
                 hint if words.len() == 4 && !hint.is_empty() => format!("no bank `{bank}`{hint}"),
                 _ => "a request is an event, who asks and who is asked: `load pete saw` or `pete load saw`; \
                       its bank may come first: `left load pete saw`"

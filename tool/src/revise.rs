@@ -4,10 +4,12 @@
 //! * `agreement`: whether both terms speak of the same members, relations and events
 //! * `sentences`: which sentences about the past go on, begin or are dropped
 //! * `changes`: who could and no longer can, and the other way round
+//! * `unused`: first edges that differ
 
 mod agreement;
 mod changes;
 mod sentences;
+mod unused;
 
 use crate::bank::Bank;
 use crate::both::{Allowed, Banks, Both};
@@ -58,6 +60,8 @@ pub struct Revised {
     last: Option<(Option<Bank>, EventEdge)>,
     /// What has another name in the new terms: kind, number and its name before.
     renamed: Vec<(Kind, usize, String)>,
+    /// What is said of first edges that differ, where both terms have them by name.
+    unused: Option<String>,
     pub told: Vec<Told>,
     /// The changes in each bank.
     changes: Vec<(Option<Bank>, Changes)>,
@@ -88,11 +92,15 @@ pub fn revise(
     let change =
         |(could, can): (&View, &View)| (can.bank, Changes::of(&could.allowed, &can.allowed));
     let names = agreement::merged(revised.terms(), &old.names, &new.names);
+    // Edges of stored terms are those of a later moment.
+    let from_start = old.source.is_some() && new.source.is_some();
+    let unused = unused::told((&before, &old.names), (next.terms(), &new.names));
     Ok(Revised {
         same: is_same(&before, revised.terms()),
         moment: revised.moment(),
         last: can.iter().find_map(|view| Some((view.bank, view.event?))),
         renamed: differing,
+        unused: unused.filter(|_| from_start),
         told: sentences::told((&before, &old.names), (revised.terms(), &names)),
         changes: could.iter().zip(&can).map(change).collect(),
         names,
@@ -161,8 +169,10 @@ impl Revised {
             parts
                 .push(format!("WARNING: renamed, with all that they have and have done:\n{lines}"));
         }
+        parts.extend(self.unused.clone());
         if self.same {
-            parts.push("The terms are the same: nothing changes.\n".to_string());
+            let rest = if self.unused.is_some() { "Else the terms" } else { "The terms" };
+            parts.push(format!("{rest} are the same: nothing changes.\n"));
             return parts.join("\n");
         }
         let heads = [

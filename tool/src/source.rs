@@ -23,6 +23,7 @@ mod entries;
 pub mod goal;
 pub(crate) mod kinds;
 pub mod mistake;
+mod one_or_two;
 pub mod parse;
 mod passing;
 pub mod print;

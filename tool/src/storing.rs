@@ -4,7 +4,7 @@ use crate::folder::{self, definitions, folder_of, Folder, DEFINITIONS, NAMES, SO
 use crate::stop::Stop;
 use keeper::program::MOST_BYTES;
 use std::fs;
-use std::path::Path;
+use std::path::{Path, PathBuf};
 
 /// The one rule about length: what the program can't open is neither read nor
 /// written here.
@@ -28,6 +28,14 @@ pub fn told(file: Option<&str>, printed: Result<(), Stop>) -> Result<(), Stop> {
             "{why}; but {file} is stored, with everything that was made: do not make it again"
         ))),
         (_, printed) => printed,
+    }
+}
+
+/// The file to store in: a path without an ending is a folder, and its terms.tsv is meant.
+pub fn place(path: &Path) -> PathBuf {
+    match path.extension().is_none() || path.is_dir() {
+        true => path.join(TERMS),
+        false => path.to_path_buf(),
     }
 }
 

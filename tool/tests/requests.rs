@@ -63,6 +63,52 @@ fn mistakes_are_told_by_line() {
     assert!(said.err.contains("requests.say:2: no event `laod`"), "{}", said.err);
 }
 
+/// What English has in the place of a request is met with the request.
+#[test]
+fn requests_in_english() {
+    let folder = Folder::new();
+    folder.write(
+        "terms.say",
+        "members Dora, Kim, Glass-Pad\nrelation owns\nevent share by anyone\n\
+         event load when me owns target\nfirst Dora owns Glass-Pad\n",
+    );
+    folder.write(
+        "requests.say",
+        "Dora shares with Kim\nload Dora Glass Pad\nevent load by anyone\nKim may load Glass-Pad\n\
+         Kim sings loud and long\n",
+    );
+    let said = run(&["run", folder.path()]).err;
+    for part in [
+        "requests.say:1: did you mean `Dora share Kim`?",
+        "requests.say:2: did you mean `load Dora Glass-Pad`?",
+        "requests.say:3: this belongs in terms.say",
+        "requests.say:4: did you mean `Kim load Glass-Pad`? Who may do what goes into tests.say",
+        "requests.say:5: a request is an event, who asks and who is asked",
+    ] {
+        assert!(said.contains(part), "{said}");
+    }
+}
+
+/// A file with nearly the right name, or of another form, is named with what to do.
+#[test]
+fn files_that_are_not_read() {
+    let folder = folder();
+    folder.write("Requests.txt", "load pete saw\n");
+    folder.write("test.say", "test a\n");
+    let said = run(&["check", folder.path()]).out;
+    assert!(said.contains("Requests.txt is not read"), "{said}");
+    assert!(said.contains("rename it to requests.say"), "{said}");
+    assert!(said.contains("test.say is not read") && said.contains("rename it to tests.say"), "{said}");
+    let other = Folder::new();
+    other.write("terms.txt", "members a, b\nevent ask by anyone\n");
+    let file = other.file("terms.txt").display().to_string();
+    let said = run(&["check", &file]);
+    assert!(said.status == 3 && said.err.contains("rename it to terms.say"), "{}{}", said.out, said.err);
+    other.write("terms.say", "{\\rtf1 members a, b}\n");
+    let said = run(&["check", other.path()]).err;
+    assert!(said.contains("is rich text; save it as plain text"), "{said}");
+}
+
 #[test]
 fn no_request_is_told_where_all_are_to_be_granted() {
     let folder = folder();

@@ -2,7 +2,7 @@
 
 mod run_support;
 
-use run_support::{example, run, Folder, Said};
+use run_support::{example, run, run_with, Folder, Said};
 use std::fs;
 
 /// Runs `revise` from one folder to another, with further arguments.
@@ -92,6 +92,36 @@ fn the_same_terms_change_nothing() {
     let said = revise(&folder(OLD, "share dora pete\n"), &folder(OLD, ""), &[]);
     let wanted = "The terms are the same: nothing changes.\n";
     assert_eq!((said.out.as_str(), said.err.as_str()), (wanted, ""));
+}
+
+/// A `first` line that is deleted takes nothing from anybody.
+#[test]
+fn first_edges_that_differ_are_told() {
+    let old = "members a, b\nrelation knows, banned\nevent ask when me is not banned\n\
+               first a is banned, a knows b\n";
+    let new = old.replace("first a is banned, a knows b", "first a knows b, b knows a");
+    let (old, new) = (folder(old, "ask b a\n"), folder(&new, ""));
+    let wanted = "What is there from the start differs (`a is banned` is gone, `b knows a` is new), but a \
+                  revision does not use it:\nrelations stay as they are, and change by events only.\n\n\
+                  Else the terms are the same: nothing changes.\n";
+    let later = Folder::new();
+    let file = later.file("terms.tsv").display().to_string();
+    let said = revise(&old, &new, &["--store", &file]);
+    assert_eq!(said.out, format!("{wanted}\n{file} written\n"), "{}", said.err);
+    let still = run_with(&["run", later.path(), "-"], "ask a b\n");
+    assert!(still.out.contains("denied"), "{}{}", still.out, still.err);
+}
+
+/// A folder to store in is made, with the names.
+#[test]
+fn a_folder_to_store_in() {
+    let parent = Folder::new();
+    let later = parent.file("later").display().to_string();
+    let old = folder(OLD, "share dora pete\n");
+    let said = revise(&old, &folder(OLD, ""), &["--store", &later]);
+    assert!(said.out.ends_with("later/terms.tsv written\n"), "{}{}", said.out, said.err);
+    let said = run_with(&["run", &later, "-"], "load pete saw\n");
+    assert_eq!(said.out, "1  load pete → saw  granted\n", "{}", said.err);
 }
 
 #[test]

@@ -1,6 +1,7 @@
 //! Sources with the mistakes that people make, and what is said of each: the
 //! place, the cause and the cure. `NAME.say` is the source, `NAME.txt` what
-//! `check` says of it, and `NAME.cured` the source with the cures followed.
+//! `check` says of it, `NAME.cured` the source with the cures followed, and `NAME.tests`
+//! what these terms have to answer.
 
 mod run_support;
 
@@ -9,7 +10,7 @@ use std::fs;
 use std::path::{Path, PathBuf};
 
 /// Sources that look odd and are right.
-const RIGHT: [&str; 9] = [
+const RIGHT: [&str; 10] = [
     "16-tabs",
     "17-carriage-returns",
     "42-umlaut",
@@ -19,6 +20,7 @@ const RIGHT: [&str; 9] = [
     "82-kind-plural",
     "107-kind-by-its-name",
     "144-names-in-english",
+    "152-counted-friends",
 ];
 
 fn sources() -> Vec<PathBuf> {
@@ -42,7 +44,7 @@ fn said(source: &Path) -> (String, i32) {
 #[test]
 fn each_has_place_cause_and_cure() {
     let sources = sources();
-    assert_eq!(sources.len(), 143);
+    assert_eq!(sources.len(), 154);
     for source in sources {
         let name = source.file_stem().unwrap().to_string_lossy().into_owned();
         let (text, status) = said(&source);
@@ -70,7 +72,7 @@ fn quoted(text: &str) -> Vec<String> {
 fn cures_that_are_followed_compile() {
     let cured = sources().into_iter().map(|source| (source.with_extension("cured"), source));
     let cured: Vec<(PathBuf, PathBuf)> = cured.filter(|(cured, _)| cured.exists()).collect();
-    assert_eq!(cured.len(), 13);
+    assert_eq!(cured.len(), 21);
     for (cured, source) in cured {
         let (text, status) = said(&cured);
         assert_eq!(status, 0, "{}:\n{text}", cured.display());
@@ -87,6 +89,21 @@ fn cures_that_are_followed_compile() {
             let same = warned || shorter || after.starts_with('#');
             assert!(same || told.iter().any(is_told), "{}: {after}", cured.display());
         }
+    }
+}
+
+/// A cure that is followed gives the answers that the sentence meant.
+#[test]
+fn cures_that_are_followed_mean_the_same() {
+    let tested = sources().into_iter().filter(|source| source.with_extension("tests").exists());
+    let tested: Vec<PathBuf> = tested.collect();
+    assert_eq!(tested.len(), 7);
+    for source in tested {
+        let folder = Folder::new();
+        fs::copy(source.with_extension("cured"), folder.file("terms.say")).unwrap();
+        fs::copy(source.with_extension("tests"), folder.file("tests.say")).unwrap();
+        let said = run(&["test", folder.path()]);
+        assert_eq!(said.status, 0, "{}:\n{}{}", source.display(), said.out, said.err);
     }
 }
 

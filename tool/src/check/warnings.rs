@@ -4,13 +4,15 @@ mod seldom;
 
 use super::{effort, tried};
 use crate::both::Both;
-use crate::folder::{Folder, Sourced};
+use crate::folder::{Folder, Sourced, SPOKEN};
 use crate::names::Names;
 use crate::source::ast::Span;
 use crate::source::mistake::Mistake;
 use crate::stop::Stop;
+use crate::testing::TESTS;
 use keeper::terms::Terms;
 use seldom::{edgeless, nameless, strangers, swapped, uncountable, unkept, unsaid, unused};
+use std::fs;
 
 /// Something that may be a mistake.
 #[derive(Clone, Debug, PartialEq, Eq)]
@@ -76,6 +78,7 @@ pub fn warnings(both: &Both, folder: &Folder) -> Result<Vec<Warning>, Stop> {
     warnings.extend(nameless(terms, names));
     warnings.extend(unsaid(&subject));
     warnings.extend(unread(folder));
+    warnings.extend(misnamed(folder));
     let long = effort::long(&subject, both.effort());
     if long.is_none() && effort::is_quick(terms) {
         warnings.extend(tried::one_sided(both, &subject, folder)?);
@@ -106,6 +109,33 @@ fn unread(folder: &Folder) -> Option<Warning> {
         right: "what makes these requests stops there; `run --requests FILE` makes others"
             .to_string(),
     })
+}
+
+/// Files that are called nearly as those of requests and tests are: they are not read.
+fn misnamed(folder: &Folder) -> Vec<Warning> {
+    let files = fs::read_dir(&folder.path).into_iter().flatten().flatten();
+    let files = files.map(|file| file.file_name().to_string_lossy().into_owned());
+    let mut files: Vec<String> = files.collect();
+    files.sort();
+    let mut warnings = Vec::new();
+    for (begins, right) in [("request", SPOKEN), ("test", TESTS)] {
+        let near = |name: &&String| {
+            let (name, ending) =
+                (name.to_lowercase(), name.rsplit_once('.').map(|(_, ending)| ending));
+            name.starts_with(begins) && matches!(ending, Some("txt" | "say" | "rtf"))
+        };
+        if files.iter().any(|name| name == right) {
+            continue;
+        }
+        warnings.extend(files.iter().find(near).map(|name| Warning {
+            kind: "file",
+            about: About::Nothing,
+            line: 0,
+            what: format!("{name} is not read"),
+            right: format!("rename it to {right}"),
+        }));
+    }
+    warnings
 }
 
 impl Folder {

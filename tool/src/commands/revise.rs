@@ -7,7 +7,7 @@ use crate::json::Json;
 use crate::replay::Replay;
 use crate::revise::{revise, Revised};
 use crate::stop::{Stop, WELL};
-use crate::storing::{store, told};
+use crate::storing::{place, store, told};
 use std::io::Write;
 use std::path::Path;
 
@@ -30,7 +30,7 @@ two banks, use `revise NEW` at the prompt of `try` instead, which revises both.
                  and events
   --store FILE   store the monitor under the new terms in FILE, creating its folder
                  if need be; if FILE is called terms.tsv, the names are stored
-                 beside it and its folder can be run
+                 beside it and its folder can be run. FILE may be that folder
   --json         one JSON object per line: moment; sentences; changes of answers
 
 Exit status: 0; 3 if the new terms are refused, or a file cannot be read, written or
@@ -46,11 +46,13 @@ pub fn main(arguments: &[String], out: &mut dyn Write) -> Result<i32, Stop> {
     let mut both = Replay::of(&old)?.both;
     let revised = revise(&mut both, &old, &new, arguments.has("--renamed"))?;
     let json = arguments.has("--json");
-    let file = arguments.option("--store");
-    if let Some(file) = file {
+    let file = arguments.option("--store").map(|file| place(Path::new(file)));
+    if let Some(file) = &file {
         let from = Folder { names: revised.names.clone(), ..new };
-        store(Path::new(file), &both.store()?, &from)?;
+        store(file, &both.store()?, &from)?;
     }
+    let file = file.map(|file| file.display().to_string());
+    let file = file.as_deref();
     told(file, print(&revised, &both, file, json, out))?;
     Ok(WELL)
 }

@@ -45,12 +45,15 @@ fn never_and_given_up() {
 
 #[test]
 fn an_event_of_any_two() {
-    let sought = |event| search_event(&read(TEXT), event, &[0, 1], Limits::USUAL);
+    let sought = |event| search_event(&read(TEXT), event, (&[true; 3], &[0, 1]), Limits::USUAL);
     assert_eq!(sought(0), Found::After(vec![]));
     assert!(matches!(sought(1), Found::After(list) if list.len() == 2));
     assert!(matches!(sought(2), Found::Never { .. }));
     let few = Limits { tries: 12, ..Limits::USUAL };
-    assert!(matches!(search_event(&read(TEXT), 2, &[0, 1], few), Found::GivenUp { .. }));
+    assert!(matches!(
+        search_event(&read(TEXT), 2, (&[true; 3], &[0, 1]), few),
+        Found::GivenUp { .. }
+    ));
 }
 
 #[test]

@@ -72,6 +72,12 @@ pub fn other_size(terms: &Terms, next: &Terms, old: &Folder, new: &Folder) -> St
              by the new terms alone",
             cure(&missing, &added)
         );
+        let cure = match (kind, added.is_empty()) {
+            (Kind::Member, false) => {
+                format!("{cure}. Spare members, declared from the start, get their names later, with `--renamed`")
+            }
+            _ => cure,
+        };
         let at = added
             .first()
             .and_then(|name| new.names.find(kind, name))

@@ -8,6 +8,7 @@ use super::disjoint::disjoint;
 use super::entries::{Entries, Origin};
 use super::kinds;
 use super::mistake::Mistake;
+use super::one_or_two::one_or_two;
 use super::parse::{read, Read};
 use super::passing::passing;
 use super::resolve::Resolver;
@@ -62,6 +63,7 @@ pub fn compile(text: &str) -> Result<Compiled, Vec<Mistake>> {
     warnings.extend(twice(&source, text));
     warnings.extend(seldom(&source, text));
     warnings.extend(disjoint(&source, text));
+    warnings.extend(one_or_two(&source, text));
     warnings.extend(source.events.iter().filter_map(unlike));
     mistakes.extend(notes.without(&doubtful));
     if !mistakes.is_empty() {

@@ -96,7 +96,12 @@ impl Seeker<'_> {
         let message =
             format!("`{word}` is between two members, so `{who} is {word}` is hardly ever true");
         let other = if who == "target" { "me" } else { "target" };
-        self.warn(span, message, format!("say whose: `{who} is {word} of {other}`"));
+        let fact = self.source.first.iter().find(|fact| fact.relation.text == word);
+        let one = fact.map_or("dora", |fact| &fact.from.text);
+        let advice = format!(
+            "say whose, `{who} is {word} of {other}`; if it is said of one alone, `first {one} is {word}`"
+        );
+        self.warn(span, message, advice);
     }
 
     /// An edge from or to one of a kind that has none, and never gets one.

@@ -7,19 +7,23 @@ mod english;
 mod formula;
 mod habits;
 mod joined;
+mod lone;
+mod one_time;
 mod phrase;
 mod plainly;
 mod policy;
 mod predicate;
 mod read;
+mod refused;
 mod repeated;
 mod sentence;
+mod several;
 mod stray;
 mod unfinished;
 
 use super::ast::*;
 use super::mistake::Mistake;
-use super::tokens::{tokens, Token, WORDS};
+use super::tokens::{tokens, Token, ENGLISH, WORDS};
 use std::collections::HashSet;
 
 pub(super) use effect::third;
@@ -143,7 +147,7 @@ impl Parser {
                 let mistake = self.expected("`anyone` after `by`", &["anyone"]);
                 return Err(mistake.advise(self.by_whom()));
             }
-            if let Some(mistake) = self.anyone_joined() {
+            if let Some(mistake) = self.anyone_joined().or_else(|| self.anyone_who()) {
                 return Err(mistake);
             }
             Formula { kind: Kind::True, span: self.last() }
@@ -204,6 +208,9 @@ impl Parser {
     /// `a owns b and c both ways`, `a is teacher`, `a is friend of b`.
     fn fact(&mut self, facts: &mut Vec<Fact>) -> Result<(), Mistake> {
         let from = self.name("the name of a member")?;
+        if let Some(mistake) = self.fact_in_english(&from) {
+            return Err(mistake);
+        }
         if self.take("is") {
             let relation = self.name("the name of a relation")?;
             let other =

@@ -121,14 +121,20 @@ impl Seeker<'_> {
         }
         let (word, label) = (&name.text, &walk.label.text);
         let whom = walk.person.span.words(self.text);
+        let once = if self.source.is_event(label) { "once " } else { "" };
         let said = match walk.outwards {
-            true => format!("{whom} {label} f"),
-            false => format!("f {label} {whom}"),
+            true => format!("{once}{whom} {label} f"),
+            false => format!("{once}f {label} {whom}"),
+        };
+        let quantity = match walk.quantifier {
+            Quantifier::Some => "some".to_string(),
+            Quantifier::Every => "every".to_string(),
+            Quantifier::AtLeast(count) => format!("at least {count}"),
         };
         let message =
             format!("`{word}` is a relation, but here it only names the one who is sought");
         let advice = format!(
-            "for a {word} of yours write `some {word} of me as f: {said}`, else choose another name"
+            "for a {word} of yours write `{quantity} {word} of me as f: {said}`, else choose another name"
         );
         self.warn(name.span, message, advice);
     }

@@ -12,6 +12,14 @@ pub const WORDS: [&str; 43] = [
     "previously", "true", "false", "both", "ways", "such", "that", "reach", "many", "denied",
 ];
 
+/// Words of English that nobody and nothing would be called by.
+#[rustfmt::skip]
+pub const ENGLISH: [&str; 34] = [
+    "the", "a", "an", "my", "your", "his", "her", "its", "our", "their", "may", "can", "must", "will",
+    "should", "was", "were", "are", "been", "be", "has", "have", "had", "do", "does", "did", "before",
+    "after", "until", "while", "for", "with", "to", "from",
+];
+
 #[derive(Clone, Debug, PartialEq, Eq)]
 pub enum Token {
     Word(String),
@@ -37,10 +45,14 @@ pub fn tokens(text: &str) -> (Vec<(Token, Span)>, Vec<Mistake>) {
         } else if letter == '#' {
             rest.find('\n').unwrap_or(rest.len())
         } else {
-            let said = letter == '"'
-                && matches!(found.last(), Some((Token::Word(word), _)) if word == "said");
+            let after = matches!(found.last(), Some((Token::Word(word), _)) if word == "said");
+            let said = letter == '"' && after;
             let token = match said {
                 true => quoted(rest, place),
+                false if after && QUOTES.contains(&letter) => {
+                    found.push((Token::Quoted(String::new()), Span { start: place, end: place }));
+                    Err(other_quotes(rest, place))
+                }
                 false => token(rest, letter, place),
             };
             match token {
@@ -80,12 +92,18 @@ fn token(rest: &str, letter: char, place: usize) -> Result<(Token, usize), Mista
         return Ok((Token::Word(rest[..length].to_string()), length));
     }
     if letter.is_ascii_digit() {
-        let length = length(char::is_alphanumeric);
+        let length = match length(char::is_alphanumeric) {
+            // `808-kick` is one word that was meant.
+            digits if rest[digits..].starts_with(['-', '_']) => {
+                length(|letter| letter.is_alphanumeric() || letter == '-' || letter == '_')
+            }
+            digits => digits,
+        };
         let span = Span { start: place, end: place + length };
         let number = rest[..length].parse();
         let number = number.map_err(|_| {
             Mistake::new(span, format!("`{}` is neither a number nor a name", &rest[..length]))
-                .advise("a name begins with a letter: put one before the digits")
+                .advise(format!("a name begins with a letter, such as `n{}`", &rest[..length]))
         })?;
         return Ok((Token::Number(number), length));
     }
@@ -107,6 +125,17 @@ fn quoted(rest: &str, place: usize) -> Result<(Token, usize), Mistake> {
         None => Err(Mistake::new(Span { start: place, end: place + 1 }, "this `\"` is not closed")
             .advise("put a `\"` after the words, on the same line")),
     }
+}
+
+/// `said 'played'` or with curly quotes: all of it up to the other quote.
+fn other_quotes(rest: &str, place: usize) -> Mistake {
+    let line = rest.lines().next().unwrap_or("");
+    let inner = line.trim_start_matches(QUOTES);
+    let words = inner.split(QUOTES).next().unwrap_or("").trim();
+    let close = line.char_indices().skip(1).find(|(_, letter)| QUOTES.contains(letter));
+    let length = close.map_or(line.len(), |(at, letter)| at + letter.len_utf8());
+    Mistake::new(Span { start: place, end: place + length }, "these quotes have no meaning here")
+        .advise(format!("use straight double quotes: `said \"{words}\"`"))
 }
 
 /// Signs of other languages, and what is written here instead.

@@ -77,7 +77,7 @@ fn named_precisely() {
         ("some x owns target: 3", "expected a formula, found `3`"),
         ("target not is owned", "write `target is not owned`"),
         ("me not owns target", "4:20: `not` goes before a sentence, or after `is`"),
-        ("some x owns target: x not share me", "write `not x share me`"),
+        ("some x owns target: x not share me", "write `never x share me`; `not x share me` is about the last moment only"),
         ("target isnt me", "write `target is not me`"),
         ("target isn't me", "`target is not preset`"),
         ("me didnt share target", "put `not` before the sentence"),
@@ -86,10 +86,10 @@ fn named_precisely() {
         ("owns of target share me", "look for them: `some owns of target as x: ...`"),
         ("target.owner share me", "`some owner owns target: ...`"),
         ("owner owns target and owner share me", "to look for somebody, say `some owner owns target:`"),
-        ("some owner owns target, owner share me", "4:33: a `:` is missing here"),
+        ("some owner owns target, owner share me", "4:39: a `,` where a `:` goes"),
         ("at most 3 owns of me", "write `not` before `at least 4 ...`"),
         ("3 owns of me", "`at least 3 owns of me`"),
-        ("once share", "say who and whom: `me share target`"),
+        ("once share", "say who and whom: `once me share target`"),
         ("me owns target\nplayers: cleo", "`members players: ...`"),
         ("me owns target\nfirst dora owns warm pad", "a name of two words is joined by `-`"),
         ("me is shut\ndefine shut: me is not target", "`define p is shut: ...`"),
@@ -105,7 +105,7 @@ fn named_precisely() {
         ("3rd owns target", "`3rd` is neither a number nor a name"),
         ("me owns the target", "leave out `the`: `target` stands alone"),
         ("some owner owns target: once owner share with me", "leave it out: `owner share me`"),
-        ("some owner owns target: once owner shared with me", "leave it out: `owner share me`"),
+        ("some owner owns target: once owner shared with me", "write `once owner share me`"),
     ];
     let told = |(formula, part): &(&str, &str)| {
         let message = policy(formula);

@@ -42,6 +42,7 @@ pub fn edgeless(subject: &Subject) -> Vec<Warning> {
         !terms.edges.iter().any(|edge| edge.0 == relation)
             && !effects().any(|effect| effect.add && effect.relation == relation)
     };
+    let asserted = asserted(terms);
     let mut warnings = Vec::new();
     for relation in (0..terms.relations).filter(|&relation| empty(relation)) {
         let entries = followers(subject).filter(|&(_, label)| label == relation);
@@ -62,7 +63,11 @@ pub fn edgeless(subject: &Subject) -> Vec<Warning> {
         };
         let in_source = || {
             let name = names.relation(relation);
-            let what = format!("`{name}` never has an edge, so this is never true");
+            let denied = entries.iter().all(|&entry| !asserted[entry]);
+            let what = match denied {
+                true => format!("`{name}` has no edge, so this excludes nobody"),
+                false => format!("`{name}` never has an edge, so this is never true"),
+            };
             (
                 what,
                 format!(
@@ -74,6 +79,21 @@ pub fn edgeless(subject: &Subject) -> Vec<Warning> {
         warnings.push(subject.warn("edgeless", About::Entry(first), in_terms, in_source));
     }
     warnings
+}
+
+/// Whether some policy asks for each entry, and not only for its contrary.
+fn asserted(terms: &Terms) -> Vec<bool> {
+    let mut seen = vec![[false; 2]; terms.entries.len()];
+    let mut open: Vec<(usize, bool)> = terms.policies.iter().map(|&entry| (entry, true)).collect();
+    while let Some((entry, wanted)) = open.pop() {
+        if std::mem::replace(&mut seen[entry][usize::from(wanted)], true) {
+            continue;
+        }
+        let turned = matches!(terms.entries[entry], Entry::Not(_));
+        let operands = terms.entries[entry].operands();
+        open.extend(operands.into_iter().map(|f| (f, wanted != turned)));
+    }
+    seen.into_iter().map(|[_, wanted]| wanted).collect()
 }
 
 /// `relation 1`, or `relation 1 (own)`.

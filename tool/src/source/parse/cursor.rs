@@ -149,6 +149,9 @@ impl Parser {
         if !self.take("denied") {
             return self.name(what);
         }
+        if let Some(mistake) = self.denied_nothing() {
+            return Err(mistake);
+        }
         let event = self.name("the name of an event after `denied`")?;
         Ok(Name { text: format!("denied {}", event.text), span: span.to(event.span) })
     }

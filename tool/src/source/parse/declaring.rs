@@ -48,6 +48,50 @@ impl Parser {
         })
     }
 
+    /// `dora is a friend of kim`, `dora is friends with kim` and `dora saw owns`, after who.
+    pub(super) fn fact_in_english(&self, from: &Name) -> Option<Mistake> {
+        let from_name = &from.text;
+        if !self.is_word("is") {
+            let (to, label) = (self.word_ahead(0)?, self.word_ahead(1)?);
+            let known = self.members.contains(to) && self.declared.contains(label);
+            if !known || self.declared.contains(to) || self.begins[self.next + 1] {
+                return None;
+            }
+            let mistake = Mistake::new(self.span(), "what relates the two goes between them");
+            return Some(mistake.advise(format!("write `{from_name} {label} {to}`")));
+        }
+        let place = self.past_article(1);
+        let noun = self.word_ahead(place)?;
+        // `kim's friend`: the `'s` is passed over.
+        let owned = self.word_ahead(place + 1).filter(|_| self.members.contains(noun));
+        if let Some(relation) = owned.and_then(|owned| self.relation_called(owned)) {
+            let mistake = Mistake::new(self.span_ahead(place), "whose it is goes after `of`");
+            return Some(mistake.advise(format!("write `{from_name} is {relation} of {noun}`")));
+        }
+        let relation = self.relation_called(noun)?;
+        let of = self.word_ahead(place + 1).filter(|word| ["of", "with", "to"].contains(word));
+        let said = match (of, self.word_ahead(place + 2)) {
+            (Some(_), Some(to)) => format!("{from_name} is {relation} of {to}"),
+            _ => format!("{from_name} is {relation}"),
+        };
+        let end = place + if of.is_some() { 3 } else { 1 };
+        let words: Vec<&str> = (0..end).filter_map(|place| self.word_ahead(place)).collect();
+        let written = words.join(" ");
+        if said == format!("{from_name} {written}") {
+            return None;
+        }
+        let span = self.span().to(self.span_ahead(end - 1));
+        let mistake = Mistake::new(span, format!("`{written}` has no meaning here"));
+        let both = match of {
+            Some("with") => format!(
+                "; if that holds both ways, `{from_name} {relation} {} both ways`",
+                words[end - 1]
+            ),
+            _ => String::new(),
+        };
+        Some(mistake.advise(format!("write `{said}`{both}")))
+    }
+
     /// `define suspended p`, `define a person is suspended`: heads as English has them.
     pub(super) fn head_in_english(&self) -> Option<Mistake> {
         let [first, second, third] = [0, 1, 2].map(|place| self.word_ahead(place));

@@ -60,7 +60,9 @@ impl Parser {
         let told = ["is", "of", "denied"].contains(&verb) || declared(verb) && !declared(noun);
         told.then(|| {
             let advice = match (verb, self.word_ahead(3)) {
-                ("of", Some(whose)) => format!("look for them: `some {noun} owns {whose}: ...`"),
+                ("of", Some(whose)) if !ENGLISH.contains(&whose) => {
+                    format!("look for them: `some {noun} owns {whose}: ...`")
+                }
                 _ => "leave out `the`: the one who asks is `me`, the other is `target`".to_string(),
             };
             Mistake::new(self.span(), "`the` has no meaning here").advise(advice)
@@ -143,6 +145,9 @@ impl Parser {
     /// `owner has shared with me`, where the event's own name is meant.
     fn auxiliary(&self) -> Option<Mistake> {
         let word = self.english()?;
+        if let Some(mistake) = self.may_of_times(self.last_word()?, 0) {
+            return Some(mistake);
+        }
         if let Some(advice) = self.having() {
             let message = format!("`{word}` has no meaning here");
             return Some(Mistake::new(self.span(), message).advise(advice));
@@ -207,11 +212,16 @@ impl Parser {
         let subject = self.last_word().filter(|_| self.is_word("not"))?;
         let advice = match (self.word_ahead(1), self.word_ahead(2)) {
             (Some("is"), Some(what)) => format!("write `{subject} is not {what}`"),
-            (Some(verb), Some(whom)) => format!("write `not {subject} {verb} {whom}`"),
+            (Some(verb), Some(whom)) => self
+                .not_done(subject)
+                .unwrap_or_else(|| format!("write `not {subject} {verb} {whom}`")),
             _ => "write `not me owns target`, or `target is not preset`".to_string(),
         };
         let message = "`not` goes before a sentence, or after `is`";
-        Some(Mistake::new(self.span(), message).advise(advice))
+        let before = matches!(self.word_ahead(3), Some("before" | "yet" | "already" | "ever"));
+        let last = self.span_ahead(if before { 3 } else { 0 });
+        let first = if before { self.last() } else { self.span() };
+        Some(Mistake::new(first.to(last), message).advise(advice))
     }
 
     /// `target isnt preset`.

@@ -90,6 +90,10 @@ impl Parser {
                 let warning = Mistake::new(self.span(), "`once` adds nothing after `never`");
                 self.warnings.push(warning.advise("leave it out"));
             }
+            if self.last_word() == Some("not") && self.is_word("never") {
+                let warning = Mistake::new(self.last(), "`not never` is the same as `once`");
+                self.warnings.push(warning.advise("leave out `not`, or write `once`"));
+            }
             let part = self.part()?;
             self.depth -= 1;
             self.height += 1;
@@ -110,6 +114,10 @@ impl Parser {
     }
 
     fn sentence(&mut self) -> Result<Kind, Mistake> {
+        let english = self.sentence_of_times().or_else(|| self.denied_alone());
+        if let Some(mistake) = english.or_else(|| self.mine_may()) {
+            return Err(mistake);
+        }
         if self.is_word("at") && self.word_ahead(1) != Some("least") && self.amount().is_none() {
             self.next += 1;
             let person = self.person("whom it is said of, or `least`")?;
@@ -135,7 +143,8 @@ impl Parser {
         if special {
             return self.told();
         }
-        if let Some(mistake) = self.beginning().or_else(|| self.label_first()) {
+        let english = self.beginning().or_else(|| self.label_first());
+        if let Some(mistake) = english.or_else(|| self.lone()) {
             return Err(mistake);
         }
         if !self.name_ahead(0) {

@@ -52,6 +52,9 @@ impl Parser {
                 "a relation is its name only, between any two members: `relation {name}`"
             ));
         }
+        if self.is_sign(';') {
+            return mistake.advise("delete the `;`: nothing ends a statement");
+        }
         if let Some(advice) = self.request() {
             return mistake.advise(advice);
         }
@@ -100,11 +103,20 @@ impl Parser {
         let whom = self.word_ahead(0).filter(|_| !self.begins[self.next])?;
         let (who, done) = (who?, done?);
         let is_done = |name: &&String| {
-            *name == done || verb(name).is_some_and(|verb| verb.participle == done)
+            *name == done
+                || verb(name).is_some_and(|verb| verb.participle == done || verb.third == done)
         };
         let label = self.declared.iter().filter(is_done).min()?;
         let mistake = Mistake::new(self.last(), format!("`{word}` has no meaning here"));
-        Some(mistake.advise(format!("leave it out: `{who} {label} {whom}`")))
+        let past = self.label_of(done).is_some_and(|(_, past)| past) && !self.in_past();
+        let advice = match (past, self.word_before(4)) {
+            (true, Some("not")) => format!("write `never {who} {label} {whom}`"),
+            (true, before) if before.is_none_or(|word| word != "once" && word != "never") => {
+                format!("write `once {who} {label} {whom}`")
+            }
+            _ => format!("leave it out: `{who} {label} {whom}`"),
+        };
+        Some(mistake.advise(advice))
     }
 
     /// `target is owned by me`, at the `by`.
@@ -131,7 +143,8 @@ impl Parser {
             "except" | "but" | "without" if anyone => {
                 "say who may do it with `when`: `when me is not banned`, where `banned` is a relation"
             }
-            "except" | "but" | "without" => "write `and not` and the sentence that is the exception",
+            "but" => "write `and` in the place of `but`",
+            "except" | "without" => "write `and not` and the sentence that is the exception",
             word if CLOCK.contains(&word) => {
                 "there is no clock here: the past is told in moments, with `once`, `since` and `previously`"
             }

@@ -10,12 +10,22 @@ impl Parser {
         let word = self.english()?;
         let advice = match word {
             "if" => "leave it out: a condition begins after `when`",
+            "either" => "leave it out: `or` says it already",
             "unless" => "write `not` before the sentence: `not me owns target`",
-            "anyone" | "everyone" | "anybody" | "everybody" => {
+            "anyone" | "everyone" | "anybody" | "everybody" | "each" => {
+                if let Some(mistake) = self.may_of_times(word, 1) {
+                    return Some(mistake);
+                }
+                if word == "each" {
+                    return None;
+                }
                 "that everybody may is written `by anyone`, in the place of `when`; in a sentence write `someone`"
             }
             // One may be called so.
-            _ if self.word_ahead(1).is_some_and(|next| next == "is" || self.declared.contains(next)) => {
+            _ if self
+                .word_ahead(1)
+                .is_some_and(|next| next == "is" || self.declared.contains(next)) =>
+            {
                 return None;
             }
             "after" => "what has happened is written with `once`: `once owner share me`",

@@ -22,6 +22,9 @@ impl Parser {
     /// target`, `one of the owners share me`, `I am a friend of the owner`.
     pub(super) fn in_english(&self) -> Option<Mistake> {
         let (quantity, after) = self.quantity_ahead().unwrap_or(("some".to_string(), 0));
+        if let Some(mistake) = self.several_do(&quantity, after) {
+            return Some(mistake);
+        }
         let word = self.english_or_own(0);
         let of = after > 0 && self.word_ahead(after) == Some("of");
         let place = after + usize::from(of);
@@ -76,7 +79,7 @@ impl Parser {
     }
 
     /// A word or number some places ahead.
-    fn shown(&self, place: usize) -> String {
+    pub(super) fn shown(&self, place: usize) -> String {
         match self.ahead(place) {
             Token::Word(word) => word.clone(),
             Token::Number(number) => number.to_string(),
@@ -140,10 +143,13 @@ impl Parser {
     /// The quantity that comes next in English or in this language, and the place after it.
     fn quantity_ahead(&self) -> Option<(String, usize)> {
         let number = |count: usize| format!("at least {count}");
-        if let (Some("at"), Some("least"), Token::Number(count)) =
-            (self.word_ahead(0), self.word_ahead(1), self.ahead(2))
-        {
-            return Some((number(*count), 3));
+        if (self.word_ahead(0), self.word_ahead(1)) == (Some("at"), Some("least")) {
+            let spelled = |word: &str| NUMBERS.iter().position(|known| *known == word);
+            return match self.ahead(2) {
+                Token::Number(count) => Some((number(*count), 3)),
+                Token::Word(word) => spelled(word).map(|at| (number(at + 1), 3)),
+                _ => None,
+            };
         }
         if let Token::Number(count) = self.token() {
             return Some((number(*count), 1));

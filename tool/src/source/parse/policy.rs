@@ -8,6 +8,9 @@ impl Parser {
     pub(super) fn no_policy(&self) -> Mistake {
         let what = "`when` and who may do it, or `by anyone`";
         let mistake = self.expected(what, &["when", "by"]);
+        if let Some(advice) = self.policy_of_times() {
+            return mistake.advise(advice);
+        }
         match self.word_ahead(0) {
             Some("if" | "where" | "while" | "only") => mistake.advise("write `when`"),
             Some("allow" | "allowed" | "permit" | "permitted" | "requires" | "needs") => {
@@ -22,6 +25,7 @@ impl Parser {
                 mistake.advise("write `by anyone`")
             }
             Some("never") => mistake.advise("write `when false`"),
+            Some("and") if self.name_ahead(1) => mistake.advise("put a `,` in the place of `and`"),
             Some(more)
                 if self.name_ahead(0) && matches!(self.word_ahead(1), Some("when" | "by")) =>
             {
@@ -59,6 +63,16 @@ impl Parser {
         }
     }
 
+    /// `by anyone who is not suspended`, at the `who`.
+    pub(super) fn anyone_who(&self) -> Option<Mistake> {
+        let who = matches!(self.word_ahead(0), Some("who" | "that" | "which"));
+        let (told, end) = self.predicate("me", 1).filter(|_| who)?;
+        let told = self.ends_at(end).then(|| self.parted(told, end))?;
+        let span = self.tokens[self.next - 2].1.to(self.span_ahead(end - 1));
+        let mistake = Mistake::new(span, "`by anyone` has no condition");
+        Some(mistake.advise(format!("write `when {told}`")))
+    }
+
     /// `by anyone and me owns target`, at the `and`.
     pub(super) fn anyone_joined(&self) -> Option<Mistake> {
         let word = self.word_ahead(0).filter(|word| ["and", "or", "since"].contains(word))?;
@@ -77,12 +91,23 @@ impl Parser {
         if matches!(self.word_ahead(place), Some("anybody" | "everybody" | "everyone" | "all")) {
             return "write `by anyone`".to_string();
         }
-        if let Some(advice) = self.by_those(place) {
+        if let Some(advice) = self.by_those(place).or_else(|| self.by_member(place)) {
             return advice;
         }
         let whom = self.word_ahead(place).filter(|_| self.name_ahead(place)).map(singular);
         let whom = whom.unwrap_or_else(|| "player".to_string());
         format!("`by anyone`, or `when` and a condition, such as `when me is {whom}`")
+    }
+
+    /// `by dora`: a policy cannot name a member.
+    fn by_member(&self, place: usize) -> Option<String> {
+        let member = self.word_ahead(place).filter(|word| self.members.contains(*word))?;
+        let attribute =
+            ["admin", "chief", "head"].into_iter().find(|word| !self.declared.contains(*word))?;
+        Some(format!(
+            "a policy cannot name a member; give {member} an attribute, `relation {attribute}` and \
+             `first {member} is {attribute}`, and write `when me is {attribute}`"
+        ))
     }
 
     /// `by owners`, `by friends of the owner`, `by my friends`.

@@ -6,7 +6,7 @@ use crate::source::kinds::singular;
 
 impl Parser {
     /// How often, and how many words say it: `twice`, `three times`, `2 times`.
-    fn times(&self, place: usize) -> Option<usize> {
+    pub(super) fn times(&self, place: usize) -> Option<usize> {
         let times = self.word_ahead(place + 1) == Some("times");
         match self.ahead(place) {
             Token::Word(word) if word == "twice" => Some(2),
@@ -24,26 +24,55 @@ impl Parser {
         let count =
             self.times(0).filter(|_| self.word_ahead(0).is_none_or(|word| !self.in_sight(word)))?;
         let whom = if who == "target" { "me" } else { "target" };
-        let sentence = again(&format!("{who} {label} {whom}"), count)?;
         let word = self.word_ahead(0).unwrap_or("times");
         let message = format!("expected whom before `{word}`");
+        let places = 2 + usize::from(label.starts_with("denied "));
+        if let Some(advice) =
+            self.not_so_often(self.word_before(places + 1), [who, label, whom], count)
+        {
+            return Some(self.from_not(places, advice));
+        }
+        let sentence = again(&format!("{who} {label} {whom}"), count)?;
         let advice = format!(
             "say that it was so, and once before: `{sentence}`; with `someone` for `{whom}`, whoever it was"
         );
         Some(Mistake::new(self.span(), message).advise(advice))
     }
 
+    /// The sentence with an event before `twice`: who, what, whom, and how many words it has.
+    fn before_times(&self) -> Option<(&str, String, &str, usize)> {
+        let [denied, who, done, whom] = [3, 4, 2, 1].map(|places| self.word_before(places));
+        let (label, _) = self.label_of(done?).filter(|(label, _)| self.events.contains(label))?;
+        match denied {
+            Some("denied") => Some((who?, format!("denied {label}"), whom?, 4)),
+            who => Some((who?, label, whom?, 3)),
+        }
+    }
+
     /// What to write for `me load target twice`, at the `twice`.
     pub(super) fn repeated(&self) -> Option<String> {
         let count = self.times(0)?;
-        let [denied, who, done, whom] = [3, 4, 2, 1].map(|places| self.word_before(places));
-        let (done, whom) = (done?, whom?);
-        let (label, _) = self.label_of(done).filter(|(label, _)| self.events.contains(label))?;
-        let sentence = match denied {
-            Some("denied") => format!("{} denied {label} {whom}", who?),
-            who => format!("{} {label} {whom}", who?),
-        };
-        Some(format!("say that it was so, and once before: `{}`", again(&sentence, count)?))
+        let (who, label, whom, _) = self.before_times()?;
+        let sentence = again(&format!("{who} {label} {whom}"), count)?;
+        Some(format!("say that it was so, and once before: `{sentence}`"))
+    }
+
+    /// `not me load target twice`, at the `twice`.
+    pub(super) fn not_repeated(&self) -> Option<Mistake> {
+        let count = self.times(0)?;
+        let (who, label, whom, places) = self.before_times()?;
+        let before = self.word_before(places + 1);
+        let advice = self.not_so_often(before, [who, &label, whom], count)?;
+        Some(self.from_not(places, advice))
+    }
+
+    /// The mistake at a sentence of so many words, with the `not` before it and how often after it.
+    fn from_not(&self, places: usize, advice: String) -> Mistake {
+        let not = matches!(self.word_before(places + 1), Some("not" | "never"));
+        let first = self.tokens[self.next - places - usize::from(not)].1;
+        let last = usize::from(self.word_ahead(1) == Some("times"));
+        let message = "how often it was so cannot be said like this";
+        Mistake::new(first.to(self.span_ahead(last)), message).advise(advice)
     }
 
     /// `share me target`, `denied load twice`, `friend target` and `is friend target`: what comes
@@ -143,7 +172,7 @@ impl Parser {
 }
 
 /// A sentence that was so as many times: now, and once before.
-fn again(sentence: &str, count: usize) -> Option<String> {
+pub(super) fn again(sentence: &str, count: usize) -> Option<String> {
     let one = (2..count)
         .fold(sentence.to_string(), |again, _| format!("({sentence} and previously once {again})"));
     (2..=4).contains(&count).then(|| format!("once ({sentence} and previously once {one})"))

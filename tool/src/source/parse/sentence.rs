@@ -133,7 +133,7 @@ impl Parser {
                 None => self.being(subject),
             };
         }
-        if let Some(mistake) = self.english_verb() {
+        if let Some(mistake) = self.english_verb().or_else(|| self.verb_last(&word)) {
             return Err(mistake);
         }
         if self.is_cut_off() {
@@ -143,6 +143,10 @@ impl Parser {
             return Err(mistake.advise(advice));
         }
         let label = self.label("`is`, a relation, an event or a definition")?;
+        let english = self.both_ask(&word, &label).or_else(|| self.participle(&word, &label));
+        if let Some(mistake) = english {
+            return Err(mistake);
+        }
         let walking = self.span();
         let kind = match (self.quantifier()?, subject) {
             (Some(quantifier), Some(subject)) => {
@@ -157,7 +161,9 @@ impl Parser {
             (None, subject) => {
                 let negative = self.is_word("nobody");
                 let english = self.object_in_english(&word, &label.text);
-                if let Some(mistake) = english.or_else(|| self.how_often(&word, &label.text)) {
+                let english = english.or_else(|| self.how_often(&word, &label.text));
+                if let Some(mistake) = english.or_else(|| self.not_before_whom(&word, &label.text))
+                {
                     return Err(mistake);
                 }
                 if let Some(mistake) = self.no_object(&word, &label).filter(|_| subject.is_some()) {

@@ -31,12 +31,30 @@ impl Parser {
 
     /// After a list of names no other name may come.
     pub(super) fn list_ends(&self) -> Result<(), Mistake> {
+        if self.is_word("and") && self.name_ahead(1) {
+            let advice = "put a `,` in the place of `and`";
+            return Err(self.expected("`,` or the next statement", &[]).advise(advice));
+        }
+        if let (Some(kind), true) = (self.word_ahead(0), self.kind_in_line()) {
+            let mistake = self.expected("the next statement", &STATEMENTS);
+            return Err(mistake.advise(format!(
+                "things are members too, of a kind: `members people: ...; {kind}: ...`"
+            )));
+        }
         match self.name_ahead(0) {
             false => Ok(()),
             true => Err(self.expected("`,` or the next statement", &STATEMENTS).advise(
                 "put a `,` between two names; a name of two words is joined by `-`: warm-pad",
             )),
         }
+    }
+
+    /// `presets saw, pad` in a line of its own: a list of members after its kind.
+    fn kind_in_line(&self) -> bool {
+        let plural = self.word_ahead(0).is_some_and(|word| word.ends_with('s'));
+        let begins = |places: usize| self.begins.get(self.next + places) == Some(&true);
+        let listed = matches!(self.ahead(2), Token::Sign(',') | Token::End) || begins(2);
+        plural && self.name_ahead(0) && self.name_ahead(1) && begins(0) && !begins(1) && listed
     }
 
     /// What is said of a line that begins as no statement does.
@@ -91,7 +109,8 @@ impl Parser {
         if let Some(mistake) = before.or_else(|| self.preposition_before()) {
             return mistake;
         }
-        if let Some(mistake) = self.joining() {
+        let often = self.not_repeated().or_else(|| self.times_after());
+        if let Some(mistake) = often.or_else(|| self.joining()) {
             return mistake;
         }
         // A name that stands alone is who the sentence is about.
@@ -101,6 +120,11 @@ impl Parser {
             return mistake;
         }
         let is_sign = matches!(self.token(), Token::Sign(sign) if *sign != ',');
+        let joined = matches!(self.word_ahead(1), Some("and" | "or" | "since"));
+        if self.bare == Some(self.next) && self.is_sign(',') && !joined {
+            let message = "a `,` where a `:` goes";
+            return Mistake::new(self.span(), message).advise("write `:` in the place of the `,`");
+        }
         if self.bare == Some(self.next) && !is_sign {
             let message = "a `:` is missing here";
             let advice = "`some`, `every` and `at least` say whom they are about, then `:`, then what holds of them";
@@ -145,6 +169,7 @@ impl Parser {
             (_, Some("twice")) => {
                 "say that it was so, and once before: `once (me load target and previously once me load target)`"
             }
+            (Token::Sign(','), _) if matches!(self.word_ahead(1), Some("and" | "or" | "since")) => "delete the `,`",
             (Token::Sign(','), _) => "write `and` or `or` in the place of the `,`",
             (_, Some("if")) => "a condition begins with `when`, and its parts are joined with `and` \
                 and `or`",

@@ -117,16 +117,23 @@ impl Parser {
             return Some(mistake.advise(attribute));
         }
         Some(mistake.advise(match self.declared.contains(label) || label.contains(' ') {
-            false => {
+            false if self.can_be(subject, label) => {
                 format!("did you mean `{subject} is {label}`? A sentence says who, what and whom")
             }
+            false => "a sentence says who, what and whom: `me owns target`".to_string(),
             true if self.is_attribute(label) => format!("did you mean `{subject} is {label}`?"),
             true => say,
         }))
     }
 
+    /// Whether `a is b` may have been meant by two words.
+    fn can_be(&self, subject: &str, label: &str) -> bool {
+        let person = ["me", "target", "here"].contains(&subject) || self.in_sight(subject);
+        person && !ENGLISH.contains(&label)
+    }
+
     /// Whether a word stands after `is` somewhere.
-    fn is_attribute(&self, label: &str) -> bool {
+    pub(super) fn is_attribute(&self, label: &str) -> bool {
         let word = |place: usize| match self.tokens.get(place) {
             Some((Token::Word(word), _)) => Some(word.as_str()),
             _ => None,
@@ -166,11 +173,8 @@ impl Parser {
             places += 2;
         }
         let facts = match (self.word_ahead(places), self.word_ahead(places + 1)) {
-            (Some("are"), Some(noun)) if self.role(noun).is_some() && names.len() == 2 => {
-                let relation = self.role(noun).unwrap_or_default();
-                let advice =
-                    format!("write `first {} {relation} {} both ways`", names[0], names[1]);
-                return mistake.advise(advice);
+            (Some("are"), Some(noun)) if self.role(noun).is_some() => {
+                return mistake.advise(self.several_are(&names, noun));
             }
             (Some(relation), Some(to)) if self.declared.contains(relation) => {
                 let fact = |name: &String| format!("{name} {relation} {to}");
@@ -179,6 +183,23 @@ impl Parser {
             _ => "dora owns saw, pete owns saw".to_string(),
         };
         mistake.advise(format!("one fact for each: `first {facts}`"))
+    }
+
+    /// What to write for `tom and kim are suspended`, and for `tom and kim are friends`.
+    fn several_are(&self, names: &[String], noun: &str) -> String {
+        let relation = self.role(noun).unwrap_or_default();
+        let each: Vec<String> = names.iter().map(|name| format!("{name} is {relation}")).collect();
+        let each = each.join(", ");
+        match names {
+            [one, other] if noun.ends_with('s') && !self.is_attribute(&relation) => {
+                let each = match self.relates_two(&relation) {
+                    true => String::new(),
+                    false => format!("; if it is said of each alone, `first {each}`"),
+                };
+                format!("write `first {one} {relation} {other} both ways`{each}")
+            }
+            _ => format!("write `first {each}`"),
+        }
     }
 
     /// `define me is suspended: ...`, where the head has words of its own.

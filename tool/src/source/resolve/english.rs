@@ -28,6 +28,12 @@ impl Resolver<'_> {
                  `some x {relation} target: ...`, and then called `x`"
             ),
             "mine" => format!("write `me {relation} target`"),
+            "his" | "hers" | "theirs" | "ours" | "yours" => {
+                format!("say whose: `me {relation} target`, or `some x {relation} target: ...`")
+            }
+            "allowed" | "permitted" | "authorized" => {
+                "say what has to hold for it: who may do it is what this condition says".to_string()
+            }
             word => {
                 let called = |kind: &&MemberKind| forms(&kind.name.text).iter().any(|form| form == word);
                 let kind = singular(&self.source.kinds.iter().find(called)?.name.text);

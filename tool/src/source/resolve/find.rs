@@ -1,8 +1,9 @@
 //! Finds people, labels and definitions by name, or says what was meant.
 
-use super::super::ast::{MemberKind, Name, Person, Quantifier, Span, Walk, Who as Written};
+use super::super::ast::{Fact, MemberKind, Name, Person, Quantifier, Span, Walk, Who as Written};
 use super::super::mistake::Mistake;
 use super::super::said::{Who, ME, TARGET};
+use super::super::tokens::ENGLISH;
 use super::{Resolver, Scope};
 use crate::names::did_you_mean;
 use crate::source::kinds::{forms, singular};
@@ -68,12 +69,17 @@ impl Resolver<'_> {
             (true, true) => mistake.advise(format!(
                 "{known}; or declare it: `relation {text}`, or `define p is {text}: ...`"
             )),
-            (false, true) if scope.is_empty() => mistake.advise(format!(
+            (false, true) if scope.is_empty() && !self.is_no_name(text) => mistake.advise(format!(
                 "{known}; to look for somebody, say `some {text} {} target:` and after the `:` what holds of them",
                 self.source.relations.first().map_or("owns", |relation| &relation.text)
             )),
             _ => mistake.advise(known),
         }
+    }
+
+    /// Whether nobody would be called by a word: one of English, or an event's.
+    fn is_no_name(&self, text: &str) -> bool {
+        ENGLISH.contains(&text) || self.source.is_event(text)
     }
 
     /// How to name whom a walk finds; `*` stands for the name.
@@ -125,6 +131,7 @@ impl Resolver<'_> {
                     true => format!(
                         "say what {text} does or is: `{text} owns target`, `{text} is target`"
                     ),
+                    false if self.is_attribute(text) => format!("say who: `me is {text}`"),
                     false => format!("say who and whom: `me {text} target`"),
                 };
                 return Mistake::new(name.span, message).advise(advice);
@@ -139,11 +146,18 @@ impl Resolver<'_> {
             let known = self.source.definitions.iter().map(|known| known.name.text.as_str());
             let hint = did_you_mean(text, known);
             let mistake = Mistake::unknown(name, format!("no definition `{text}`{hint}"));
-            mistake.advise(format!(
-                "a sentence says who, what and whom, `me owns target`; or write `define \
-                {text}: ...`"
-            ))
+            let sentence = "a sentence says who, what and whom, `me owns target`";
+            match ENGLISH.contains(&text.as_str()) {
+                true => mistake.advise(sentence),
+                false => mistake.advise(format!("{sentence}; or write `define {text}: ...`")),
+            }
         })
+    }
+
+    /// Whether somebody has a relation to itself from the start.
+    fn is_attribute(&self, text: &str) -> bool {
+        let alone = |fact: &Fact| fact.relation.text == text && fact.from.text == fact.to.text;
+        self.source.first.iter().any(alone)
     }
 
     /// The kinds of members, each with the word that a formula tests for it.
