@@ -98,12 +98,20 @@ fn files_that_are_not_read() {
     let said = run(&["check", folder.path()]).out;
     assert!(said.contains("Requests.txt is not read"), "{said}");
     assert!(said.contains("rename it to requests.say"), "{said}");
-    assert!(said.contains("test.say is not read") && said.contains("rename it to tests.say"), "{said}");
+    assert!(
+        said.contains("test.say is not read") && said.contains("rename it to tests.say"),
+        "{said}"
+    );
     let other = Folder::new();
     other.write("terms.txt", "members a, b\nevent ask by anyone\n");
     let file = other.file("terms.txt").display().to_string();
     let said = run(&["check", &file]);
-    assert!(said.status == 3 && said.err.contains("rename it to terms.say"), "{}{}", said.out, said.err);
+    assert!(
+        said.status == 3 && said.err.contains("rename it to terms.say"),
+        "{}{}",
+        said.out,
+        said.err
+    );
     other.write("terms.say", "{\\rtf1 members a, b}\n");
     let said = run(&["check", other.path()]).err;
     assert!(said.contains("is rich text; save it as plain text"), "{said}");
