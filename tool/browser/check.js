@@ -66,6 +66,8 @@ if (byMember) {
       const chosen = member.value !== 'all' || answer.value !== 'all';
       const bare = all('.moment').filter((one) => seen(one) && ![...one.querySelectorAll('.asked > li')].some(seen));
       say(!chosen || !bare.length, `${member.text}, ${answer.text}: ${bare.length} moments without a request`);
+      const lost = all('.strip .at').filter((link) => seen(link) && !seen(document.querySelector(link.hash)));
+      say(!lost.length, `${member.text}, ${answer.text}: ${lost.length} links to moments that are hidden`);
     }
   }
   byMember.value = byAnswer.value = 'all';
@@ -90,6 +92,9 @@ for (const paper of ['--page', '--card']) {
   contrast('--soft', paper, 4.5);
 }
 for (const answer of ['granted', 'denied', 'refused']) contrast(`--${answer}`, `--${answer}-back`, 4.5);
+// A cell of a pair that may, and its tick.
+contrast('--granted', '--refused-back', 3);
+contrast('--granted', '--card', 4.5);
 for (let relation = 0; relation < 8; relation += 1) contrast(`--c${relation}`, '--card', 3);
 
 document.documentElement.setAttribute('data-checked', wrong.length ? [...new Set(wrong)].slice(0, 8).join('; ') : 'ok');

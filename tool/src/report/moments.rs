@@ -36,8 +36,9 @@ pub fn section(replay: &Replay, words: &Words, drawing: &Drawing) -> Result<Stri
             (_, None) => "the first edges".to_string(),
         };
         text.push_str(&format!(
-            "<li class=\"moment\" id=\"moment-{moment}\">\n\
+            "<li class=\"moment\" id=\"moment-{moment}\" {}>\n\
              <h3><span class=\"number\"><span class=\"away\">Moment </span>{moment}</span> {}</h3>\n",
+            filter::moment_marks(replay.at(moment)),
             escaped(&heading)
         ));
         let pictured = moment < drawing.count();
@@ -59,7 +60,9 @@ pub fn section(replay: &Replay, words: &Words, drawing: &Drawing) -> Result<Stri
 fn strip(replay: &Replay, words: &Words) -> String {
     let moment_link = |moment: usize| {
         format!(
-            "<li><a class=\"at\" href=\"#moment-{moment}\" title=\"moment {moment}\">{moment}</a></li>\n"
+            "<li class=\"to-moment\" {}><a class=\"at\" href=\"#moment-{moment}\" title=\"moment {moment}\">\
+             {moment}</a></li>\n",
+            filter::moment_marks(replay.at(moment)),
         )
     };
     let mut links = vec![moment_link(0)];

@@ -61,9 +61,32 @@ fn everything_is_on_the_page() {
         "Round: a moment. Square: a request, ✓ granted, ✗ denied, ! refused.",
         "prefers-color-scheme:dark",
         "@media print",
+        // What is folded on a screen is open on paper.
+        "details::details-content{display:block;height:auto;content-visibility:visible}",
     ] {
         assert!(page.contains(wanted), "{wanted}");
     }
+}
+
+/// The filter says whom it is about, and a moment tells who asked there with what answer, so
+/// that it is left out together with the link to it.
+#[test]
+fn a_filter_hides_moments_and_their_links() {
+    let folder = preset();
+    folder.write("requests.tsv", "R\t2\t1\t2\nR\t0\t0\t1\n");
+    let page = page(&folder);
+    assert!(page.contains("<label>Requests involving <select id=\"by-member\""), "{page}");
+    assert!(page.contains("<option value=\"all\">any answer</option>"), "{page}");
+    let marks = "data-asked=\"0 0-granted 1 1-denied 1-granted 2 2-denied denied granted\"";
+    for (moment, marks) in [(0, marks), (1, "data-asked=\"\"")] {
+        let link =
+            format!("<li class=\"to-moment\" {marks}><a class=\"at\" href=\"#moment-{moment}\"");
+        assert!(page.contains(&link), "{link}");
+        assert!(page.contains(&format!("<li class=\"moment\" id=\"moment-{moment}\" {marks}>")));
+    }
+    let chosen = "main:has(#by-member option[value=\"2\"]:checked)";
+    let left = ":not(:is([data-asked~=\"2\"])){display:none}";
+    assert!(page.contains(&format!("{chosen} :is(.moment,.strip>.to-moment){left}")), "{page}");
 }
 
 /// Where a choice leaves no request, that is said.
