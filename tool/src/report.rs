@@ -1,7 +1,8 @@
 //! A folder's story as one page of HTML that needs nothing else.
 //!
 //! * `drawing`: graphs as SVG; `circle`: on a circle; `grid`: as a matrix, if members are many
-//! * `layout`: places on the circle; `label`: the event's name beside its line
+//! * `layout`: places on the circle; `label`: the event's name on its line
+//! * `events`: the lines of events; `cited`: the past events that reasons tell of
 //! * `heads`: the ends of lines; `glyphs`: the marks in a matrix; `legend`: what stands for what
 //! * `moments`: the strip, and each moment with what was asked at it; `filter`: which of it
 //! * `edges`: the relation edges in words
@@ -10,8 +11,10 @@
 //! * `html`: text made safe for a page
 
 mod circle;
+pub mod cited;
 pub mod drawing;
 mod edges;
+mod events;
 mod filter;
 mod glyphs;
 mod grid;

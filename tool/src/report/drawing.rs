@@ -3,11 +3,14 @@
 //! is a moment's own.
 
 use super::circle::Circle;
+use super::cited::Cited;
+use super::events;
 use super::grid::Grid;
 use super::html::escaped;
+use super::layout::Area;
 use crate::words::Words;
 use keeper::record::Graph;
-use keeper::terms::{Edge, EventEdge};
+use keeper::terms::Edge;
 use std::collections::BTreeSet;
 
 /// So many edges are named in a picture's description.
@@ -119,10 +122,13 @@ impl<'a> Drawing<'a> {
         }
     }
 
-    fn event_edge(&self, graph: &Graph, edge: EventEdge) -> String {
+    /// The lines of events, and the picture's edges.
+    fn events(&self, moment: usize, cited: &Cited) -> (String, Area) {
+        let (graph, lines) =
+            (&self.graphs[moment], events::lines(self.words, self.graphs, moment, cited));
         match &self.shape {
-            Shape::Grid(grid) => grid.event(edge),
-            Shape::Circle(circle) => circle.event(graph, edge),
+            Shape::Grid(grid) => (grid.events(&lines), grid.bounds()),
+            Shape::Circle(circle) => circle.events(graph, &lines),
         }
     }
 
@@ -143,37 +149,34 @@ impl<'a> Drawing<'a> {
         }
     }
 
-    /// The picture of one moment, with what all share taken from the definitions.
-    pub fn picture(&self, moment: usize) -> String {
+    /// The picture of one moment with what was asked at it; what all share is taken from the
+    /// definitions.
+    pub fn picture(&self, moment: usize, cited: &Cited) -> String {
         let edges = format!("<use href=\"#edges{}\"/>\n", self.layer[moment]);
-        self.scene(moment, "", &edges, "<use href=\"#members\"/>")
+        self.scene(moment, cited, ["", &edges, "<use href=\"#members\"/>"])
     }
 
     /// The picture of one moment for a page that has no definitions, and none but
     /// this. Members have their numbers, to be clicked at.
-    pub fn alone(&self, moment: usize) -> String {
+    pub fn alone(&self, moment: usize, cited: &Cited) -> String {
         let defined = format!("<defs>\n{}</defs>\n", self.heads());
         let edges = self.layer_edges(&self.graphs[moment].edges, "");
-        self.scene(moment, &defined, &edges, &self.members())
+        self.scene(moment, cited, [&defined, &edges, &self.members()])
     }
 
-    fn scene(&self, moment: usize, defined: &str, edges: &str, members: &str) -> String {
+    fn scene(&self, moment: usize, cited: &Cited, [defined, edges, members]: [&str; 3]) -> String {
         let graph = &self.graphs[moment];
-        let (left, top, right, bottom) = match &self.shape {
-            Shape::Grid(grid) => grid.bounds(),
-            Shape::Circle(circle) => circle.bounds(),
-        };
+        let (events, (left, top, right, bottom)) = self.events(moment, cited);
         let (wide, high) = (right - left, bottom - top);
         let added = self.changes(moment).added;
         format!(
             "<svg class=\"graph\" viewBox=\"{left:.0} {top:.0} {wide:.0} {high:.0}\" width=\"{wide:.0}\" \
              height=\"{high:.0}\" role=\"img\" aria-labelledby=\"title{moment} desc{moment}\">\
              <title id=\"title{moment}\">{}</title><desc id=\"desc{moment}\">{}</desc>\n\
-             {defined}{edges}{}{}{members}</svg>\n",
+             {defined}{edges}{}{events}{members}</svg>\n",
             escaped(&self.title(moment)),
             escaped(&self.description(graph)),
             self.added_edges(&added, &graph.edges),
-            graph.event.map_or_else(String::new, |edge| self.event_edge(graph, edge)),
         )
     }
 

@@ -2,6 +2,7 @@
 
 use super::drawing::Drawing;
 use super::glyphs;
+use super::grid::CROSS;
 use super::heads;
 use super::html::escaped;
 use super::palette;
@@ -59,6 +60,7 @@ pub fn list(drawing: &Drawing, moments: usize) -> String {
     if !drawing.words.terms.kept.is_empty() {
         text.push_str(&event("event-edge denied-edge", "the denied try that made the moment"));
     }
+    text.push_str(&asked(drawing));
     if (0..drawing.count()).any(|moment| !drawing.changes(moment).added.is_empty()) {
         text.push_str(&added(drawing));
     }
@@ -74,6 +76,22 @@ pub fn list(drawing: &Drawing, moments: usize) -> String {
         ));
     }
     text
+}
+
+/// How denied requests and past events are drawn.
+fn asked(drawing: &Drawing) -> String {
+    let (denied, past) = match drawing.is_wide() {
+        true => (
+            format!("<path class=\"crossed\" transform=\"translate(7 7)\" d=\"{CROSS}\"/>"),
+            "<rect class=\"past-edge\" x=\"1\" y=\"1\" width=\"12\" height=\"12\"/>".to_string(),
+        ),
+        false => (
+            "<path class=\"asked-edge\" d=\"M1 7H36\" marker-end=\"url(#crossed)\"/>".to_string(),
+            "<path class=\"past-edge\" d=\"M1 7H40\" marker-end=\"url(#arrow-past)\"/>".to_string(),
+        ),
+    };
+    entry(drawing, &denied, "a denied request")
+        + &entry(drawing, &past, "a past event that a reason tells of")
 }
 
 /// How an edge is set off that a moment has got.

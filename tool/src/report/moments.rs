@@ -1,5 +1,6 @@
 //! The strip of answers, and each moment with its graph and what was asked at it.
 
+use super::cited::Cited;
 use super::drawing::Drawing;
 use super::edges;
 use super::filter;
@@ -45,7 +46,10 @@ pub fn section(replay: &Replay, words: &Words, drawing: &Drawing) -> Result<Stri
         let class = if pictured { "scene" } else { "scene bare" };
         text.push_str(&format!("<div class=\"{class}\">\n"));
         text.push_str(&match pictured {
-            true => figure(moment, drawing),
+            true => {
+                let cited = Cited::of(&mut reasons, words.names, replay.at(moment));
+                figure(moment, drawing, &cited)
+            }
             false => edges::changed(drawing, moment),
         });
         text.push_str(&asked(replay, moment, words, &mut reasons)?);
@@ -108,11 +112,11 @@ fn sign(verdict: Verdict) -> &'static str {
 }
 
 /// A moment's picture, and its edges or what changed.
-fn figure(moment: usize, drawing: &Drawing) -> String {
+fn figure(moment: usize, drawing: &Drawing, cited: &Cited) -> String {
     let focus = if drawing.is_wide() { " tabindex=\"0\"" } else { "" };
     format!(
         "<figure{focus}>\n{}<figcaption>\n{}</figcaption>\n</figure>\n",
-        drawing.picture(moment),
+        drawing.picture(moment, cited),
         edges::told(drawing, moment),
     )
 }
