@@ -172,7 +172,7 @@ fn scene(replay: &Replay, words: &Words, cited: &Cited) -> Vec<(&'static str, Js
     let graphs = drawn(words, replay.both.record().graphs());
     let drawing = Drawing::new(words, &graphs);
     let stored = replay.both.is_stored();
-    let begun = if stored { "as stored" } else { "the first edges" };
+    let begun = if stored { "as stored" } else { "at the start" };
     let title = match (moment, graphs[0].event) {
         (0, None) => format!("Moment 0: {begun}"),
         (0, Some(event)) if stored => format!("Moment 0: {begun}, after {}", words.happened(event)),

@@ -40,7 +40,8 @@ pub fn controls(replay: &Replay, words: &Words) -> String {
     let choice = |choice: &Choice| option(&choice.value, &escaped(&choice.name));
     let answers = ANSWERS.iter().map(|answer| option(answer, answer));
     format!(
-        "<div class=\"filter\"><label>Requests involving <select id=\"by-member\" autocomplete=\"off\">{}{}</select></label>, \
+        "<div class=\"filter\"><label>Requests involving \
+         <select id=\"by-member\" autocomplete=\"off\">{}{}</select></label>, \
          <select id=\"by-answer\" aria-label=\"Answer\" autocomplete=\"off\">{}{}</select></div>\n\
          <p class=\"none\" role=\"status\">{NONE}</p>\n",
         option("all", "anyone"),

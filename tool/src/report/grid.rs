@@ -133,8 +133,8 @@ impl Grid {
 fn place_in_cell(place: usize, count: usize) -> ((f64, f64), f64) {
     match (count, place) {
         (0 | 1, _) => ((0.5, 0.5), 4.8),
-        (2, 0) => ((0.27, 0.27), 3.2),
-        (2, _) => ((0.73, 0.73), 3.2),
+        (2, 0) => ((0.29, 0.29), 3.7),
+        (2, _) => ((0.71, 0.71), 3.7),
         _ => {
             let row = (2..).find(|row| row * row >= count).unwrap_or(count);
             let part = |place: usize| (place as f64 + 0.5) / row as f64;

@@ -36,10 +36,7 @@ fn kinds(drawing: &Drawing) -> String {
         let members: Vec<String> = members.iter().map(|one| words.member(*one)).collect();
         format!("<li>{}: {}</li>\n", escaped(kind), escaped(&members.join(", ")))
     };
-    match words.names.kind_relations(words.terms).is_empty() {
-        true => String::new(),
-        false => words.names.kinds().iter().map(item).collect(),
-    }
+    words.names.kinds().iter().map(item).collect()
 }
 
 /// The legend of a page with so many moments, and how many of them are drawn.
@@ -56,12 +53,12 @@ pub fn list(drawing: &Drawing, moments: usize) -> String {
         };
         entry(drawing, &sample, said)
     };
-    text.push_str(&event("event-edge", "the event that made the moment"));
+    text.push_str(&event("event-edge", "what just happened"));
     if !drawing.words.terms.kept.is_empty() {
-        text.push_str(&event("event-edge denied-edge", "the denied try that made the moment"));
+        text.push_str(&event("event-edge denied-edge", "what was just tried and denied"));
     }
     text.push_str(&asked(drawing));
-    if (0..drawing.count()).any(|moment| !drawing.changes(moment).added.is_empty()) {
+    if drawing.moments().any(|moment| !drawing.changes(moment).added.is_empty()) {
         text.push_str(&added(drawing));
     }
     text.push_str(&kinds(drawing));
@@ -69,10 +66,11 @@ pub fn list(drawing: &Drawing, moments: usize) -> String {
     if drawing.is_wide() {
         text.push_str("<p class=\"quiet\">A mark is an edge from its row to its column.</p>\n");
     }
-    if drawing.count() < moments {
+    let count = drawing.moments().count();
+    if count < moments {
         text.push_str(&format!(
-            "<p class=\"quiet\">The first {} of {moments} moments are drawn.</p>\n",
-            drawing.count()
+            "<p class=\"quiet\">{count} of {moments} moments are drawn: the first, the last, and those at which \
+             relations change.</p>\n",
         ));
     }
     text

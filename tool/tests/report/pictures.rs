@@ -95,6 +95,21 @@ fn edges_are_told_once_and_then_what_changes() {
     assert_eq!(page.matches(" added\" d=").count(), 1, "cleo friend ben");
 }
 
+/// Where edges go both ways, the lines are counted; a description tells what was added.
+#[test]
+fn edges_that_go_both_ways() {
+    let folder = Folder::new();
+    folder.write(
+        "terms.say",
+        "members ben, cleo, dora\nrelation friend\nevent befriend by anyone then add me friend target\n\
+         first ben friend cleo, cleo friend ben\n",
+    );
+    folder.write("requests.say", "befriend cleo dora\n");
+    let page = page(&folder);
+    assert!(page.contains("<summary>2 relation edges: 1 line, both ways</summary>"), "{page}");
+    assert!(picture(&page, 1).contains(" Added: friend cleo → dora.</desc>"), "{page}");
+}
+
 /// Lines between many members would hide one another.
 #[test]
 fn many_members_are_a_matrix() {
@@ -133,6 +148,8 @@ fn kinds_are_no_relation_edges() {
     );
     let page = page(&folder);
     assert!(page.contains("<summary>1 relation edge</summary>"), "{page}");
+    assert!(page.contains("3 members of 2 kinds, 1 relation, 1 event."), "{page}");
+    assert!(page.contains("<li>presets: pad</li>"), "{page}");
     assert!(!page.contains("<td>player</td>"), "{page}");
 }
 
@@ -181,7 +198,7 @@ fn names_are_whole_and_near() {
     let page = page(&folder);
     let first = picture(&page, 1);
     let view = numbers(first, "viewBox");
-    let name = first.split("<text").find(|text| text.contains(long)).unwrap();
+    let name = first.split("<text").skip(1).find(|text| text.contains(long)).unwrap();
     let half = long.len() as f64 * 14.0 * 0.6 / 2.0;
     let middle = numbers(name, "x")[0];
     assert!(view[0] <= middle - half && middle + half <= view[0] + view[2], "{view:?} {name}");
