@@ -145,6 +145,15 @@ try {
   const wraps = '(({ scrollWidth, clientWidth }) => scrollWidth <= clientWidth)(document.getElementById("source"))';
   assert.ok(await page.value(wraps), 'a line is cut off');
 
+  // Where nothing could be drawn yet, every card says why.
+  await page.value(`(() => { const source = document.getElementById('source');
+    state.told = null;
+    source.value = 'members a\\nevnt go';
+    source.dispatchEvent(new Event('input')); })()`);
+  for (const card of ['#aloud', '#picture', '#hint', '#strip', '#why', '#table']) {
+    await within(card, 'Fix the mistake on line 2 to see this.');
+  }
+
   for (const [name, options] of [['dark', { dark: true }], ['narrow', { width: 420, height: 1600 }]]) {
     const other = await open(browser, address, options);
     await other.until('document.querySelectorAll(".node").length === 3');
