@@ -11,6 +11,10 @@ use keeper::record::Graph;
 use keeper::terms::Edge;
 use std::collections::BTreeSet;
 
+/// The name of a denied request, or of a past event, is left out if it would be so far off its
+/// line; where the mouse rests on the line, it is told.
+const MOST_OFF: f64 = 12.0;
+
 pub struct Circle<'a> {
     words: &'a Words<'a>,
     layout: Layout,
@@ -106,10 +110,12 @@ impl<'a> Circle<'a> {
             let rest = own.iter().enumerate().filter(|(other, _)| *other != index);
             others.extend(rest.flat_map(|(_, points)| points));
             let size = (self.layout.width(&event.name) + 4.0, self.layout.font + 4.0);
-            let area = crowd.place(&own[index], &others, size);
-            names.push_str(&self.event_name(event, area));
             own[index].iter().for_each(|&(x, y)| bounds = around(bounds, (x, y, x, y)));
-            bounds = around(bounds, area);
+            let most = if event.look.is_now() { f64::INFINITY } else { MOST_OFF };
+            if let Some(area) = crowd.place(&own[index], &others, size, most) {
+                names.push_str(&self.event_name(event, area));
+                bounds = around(bounds, area);
+            }
         }
         // What just happened lies over the past.
         paths.reverse();
@@ -140,9 +146,10 @@ impl<'a> Circle<'a> {
             false => self.event_curves(event).iter().map(Curve::path).collect(),
         };
         text + &format!(
-            "<path class=\"{}\" d=\"{path}\" marker-end=\"url(#{})\"/>\n",
+            "<path class=\"{}\" d=\"{path}\" marker-end=\"url(#{})\"><title>{}</title></path>\n",
             event.look.line(),
             event.look.head(),
+            escaped(&event.name),
         )
     }
 

@@ -41,8 +41,14 @@ impl<'a> Crowd<'a> {
     }
 
     /// Where a name of a size goes: the first place on its own line that is off other lines,
-    /// or else off circles and names, or else the nearest one that is free.
-    pub fn place(&mut self, own: &[Point], others: &[Point], (wide, high): Point) -> Area {
+    /// or else off circles and names, or else the nearest one that is free and not too far.
+    pub fn place(
+        &mut self,
+        own: &[Point],
+        others: &[Point],
+        (wide, high): Point,
+        most: f64,
+    ) -> Option<Area> {
         let around =
             |(x, y): Point| (x - wide / 2.0, y - high / 2.0, x + wide / 2.0, y + high / 2.0);
         let last = (own.len() - 1) as f64;
@@ -50,26 +56,24 @@ impl<'a> Crowd<'a> {
         let room = |area: &Area| self.room(*area, others);
         let clear = places.iter().find(|area| room(area).is_some_and(|room| room > LEAST));
         let on_line = clear.or_else(|| places.iter().find(|area| room(area).is_some()));
-        let area = match on_line {
-            Some(area) => *area,
-            None => self.nearest(own, around).unwrap_or(places[0]),
-        };
+        let area = on_line.copied().or_else(|| self.nearest(own, around, most))?;
         self.names.push(area);
-        area
+        Some(area)
     }
 
     /// The free place that is nearest to a line.
-    fn nearest(&self, own: &[Point], around: impl Fn(Point) -> Area) -> Option<Area> {
-        let far = |(x, y): Point| {
-            own.iter().map(|point| (point.0 - x).hypot(point.1 - y)).fold(f64::INFINITY, f64::min)
+    fn nearest(&self, own: &[Point], around: impl Fn(Point) -> Area, most: f64) -> Option<Area> {
+        let far = |area: &Area| {
+            own.iter().map(|&point| distance(point, *area)).fold(f64::INFINITY, f64::min)
         };
         let (left, top, right, bottom) = self.layout.bounds();
         let steps = |from: f64, to: f64| {
             (0..((to - from) / STEP) as usize).map(move |n| from + n as f64 * STEP)
         };
         let places = steps(top, bottom).flat_map(|y| steps(left, right).map(move |x| (x, y)));
-        let free = places.filter(|&place| self.room(around(place), &[]).is_some());
-        free.min_by(|&one, &other| far(one).total_cmp(&far(other))).map(around)
+        let free = places.map(around).filter(|area| self.room(*area, &[]).is_some());
+        let nearest = free.min_by(|one, other| far(one).total_cmp(&far(other)));
+        nearest.filter(|area| far(area) <= most)
     }
 }
 
@@ -108,9 +112,23 @@ mod tests {
         let layout = of(6);
         let line = layout.curve(1, 4, 0.0, [0.0, 13.0]);
         let (left, top, right, bottom) =
-            Crowd::new(&layout).place(&sampled(&line), &[], (60.0, 14.0));
+            Crowd::new(&layout).place(&sampled(&line), &[], (60.0, 14.0), 0.0).unwrap();
         let (x, y) = line.at(0.5);
-        assert_eq!(((left + right) / 2.0, (top + bottom) / 2.0), (x, y));
+        let off = ((left + right) / 2.0 - x).hypot((top + bottom) / 2.0 - y);
+        assert!(off < 0.1, "{off}");
+    }
+
+    /// A name that has no place near its line is left out.
+    #[test]
+    fn too_far_is_nowhere() {
+        let layout = of(20);
+        let line = sampled(&layout.curve(0, 1, 0.0, [0.0, 13.0]));
+        let (mut crowd, size) = (Crowd::new(&layout), (200.0, 14.0));
+        let most = 8.0;
+        let places = (0..9).map(|_| crowd.place(&line, &[], size, most)).collect::<Vec<_>>();
+        assert!(places[8].is_none(), "{places:?}");
+        let far = |area: &Area| line.iter().map(|&one| distance(one, *area)).fold(99.0, f64::min);
+        assert!(places.iter().flatten().all(|area| far(area) <= most));
     }
 
     /// Whatever the number of members, and whoever does it to whom.
@@ -128,7 +146,8 @@ mod tests {
                 let other = sampled(&layout.curve(from, to, 0.08, [0.0, 8.0]));
                 for name in ["ask", "withdraw", "recommend-to"] {
                     let size = (layout.width(name), layout.font);
-                    let area = Crowd::new(&layout).place(&line, &other, size);
+                    let area =
+                        Crowd::new(&layout).place(&line, &other, size, f64::INFINITY).unwrap();
                     let free = |&dot: &Point| distance(dot, area) >= layout.ring();
                     assert!(layout.places.iter().all(free), "{name}: {from} to {to} of {count}");
                 }
