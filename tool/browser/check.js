@@ -26,19 +26,25 @@ for (const picture of all('svg.graph')) {
   say(picture.querySelector('title') && picture.querySelector('desc'), 'a picture without words');
 }
 
-// The name of an event stands beside lines. Its box has some room above and below the letters.
+// The name of an event stands at its line, and not on another name.
+const overlap = (one, other) => one.x + 1 < other.x + other.width && other.x + 1 < one.x + one.width
+  && one.y + one.height * 0.25 < other.y + other.height * 0.75
+  && other.y + other.height * 0.25 < one.y + one.height * 0.75;
 for (const name of all('.event-name')) {
   const picture = name.closest('svg');
-  const shared = picture.querySelector('use').getAttribute('href');
-  const lines = [...picture.querySelectorAll('path'), ...all(`${shared} path`)];
   const { x, y, width, height } = name.getBBox();
-  const hit = (point) => point.x > x + 1 && point.x < x + width - 1
-    && point.y > y + height / 4 && point.y < y + height * 0.75;
-  const crossed = lines.some((line) => {
+  const far = (low, high, at) => Math.max(low - at, 0, at - high);
+  const off = (point) => Math.hypot(far(x, x + width, point.x), far(y, y + height, point.y));
+  const lines = [...picture.querySelectorAll('.event-edge, .asked-edge, .past-edge')];
+  const near = lines.some((line) => {
     const length = line.getTotalLength();
-    return Array.from({ length: 61 }, (_, part) => line.getPointAtLength((length * part) / 60)).some(hit);
+    return Array.from({ length: 61 }, (_, part) => line.getPointAtLength((length * part) / 60))
+      .some((point) => off(point) < 24);
   });
-  say(!crossed, `${picture.querySelector('title').textContent}: its name lies on a line`);
+  say(near, `${picture.querySelector('title').textContent}: a name far from its line`);
+  const names = [...picture.querySelectorAll('text'), ...all('#members text')].filter((other) => other !== name);
+  const hit = names.some((other) => overlap(name.getBBox(), other.getBBox()));
+  say(!hit, `${picture.querySelector('title').textContent}: ${name.textContent} lies on a name`);
 }
 
 // Nor does it lie on a member's circle.
@@ -66,6 +72,8 @@ if (byMember) {
       const chosen = member.value !== 'all' || answer.value !== 'all';
       const bare = all('.moment').filter((one) => seen(one) && ![...one.querySelectorAll('.asked > li')].some(seen));
       say(!chosen || !bare.length, `${member.text}, ${answer.text}: ${bare.length} moments without a request`);
+      const lost = all('.strip .at').filter((link) => seen(link) && !seen(document.querySelector(link.hash)));
+      say(!lost.length, `${member.text}, ${answer.text}: ${lost.length} links to moments that are hidden`);
     }
   }
   byMember.value = byAnswer.value = 'all';
@@ -90,6 +98,9 @@ for (const paper of ['--page', '--card']) {
   contrast('--soft', paper, 4.5);
 }
 for (const answer of ['granted', 'denied', 'refused']) contrast(`--${answer}`, `--${answer}-back`, 4.5);
+// A cell of a pair that may, and its tick.
+contrast('--granted', '--refused-back', 3);
+contrast('--granted', '--card', 4.5);
 for (let relation = 0; relation < 8; relation += 1) contrast(`--c${relation}`, '--card', 3);
 
 document.documentElement.setAttribute('data-checked', wrong.length ? [...new Set(wrong)].slice(0, 8).join('; ') : 'ok');

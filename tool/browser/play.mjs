@@ -69,7 +69,7 @@ try {
   await request('load', 'player', 'preset', 'granted');
   await within('#moment', 'Moment 2');
   await page.value('(() => { const who = document.getElementById("event"); who.value = "load"; who.onchange(); })()');
-  const line = ['the first edges', '✗ load player → preset', '✓ share designer → player 1', '✓ load player → preset 2'];
+  const line = ['at the start', '✗ load player → preset', '✓ share designer → player 1', '✓ load player → preset 2'];
   assert.deepEqual(await texts('#strip li'), line);
   await within('#table', '1 pair may load at moment 2');
   await page.picture(`${folder}/play-light.png`);
@@ -97,7 +97,8 @@ try {
   // Back to the moment of the share, and on from there another way.
   await page.click('document.querySelectorAll("#strip button")[2]');
   await within('#moment', 'Moment 1');
-  assert.deepEqual(await texts('#strip .back'), ['✓ load player → preset 2']);
+  assert.deepEqual(await texts('#strip .later'), ['✓ load player → preset 2']);
+  assert.deepEqual(await texts('#strip .back'), []);
   assert.ok(await page.value('document.getElementById("dropped").hidden'));
   await request('withdraw', 'designer', 'player', 'granted');
   // What was dropped is said, and can be brought back.
@@ -107,9 +108,9 @@ try {
   await page.until('document.getElementById("dropped").hidden');
   await page.until(`document.querySelectorAll('#strip li').length === ${line.length}`);
   assert.deepEqual(await texts('#strip li'), line);
-  assert.deepEqual(await texts('#strip .back'), ['✓ load player → preset 2']);
+  assert.deepEqual(await texts('#strip .later'), ['✓ load player → preset 2']);
   await request('withdraw', 'designer', 'player', 'granted');
-  assert.deepEqual(await texts('#strip .back'), []);
+  assert.deepEqual(await texts('#strip .later'), []);
   await within('#table', 'Nobody may load at moment 2');
 
   // A cell chooses its two members.
@@ -121,6 +122,37 @@ try {
   await page.click('document.getElementById("save")');
   await within('#said', 'terms.say is saved, and requests.say with 3 requests.');
   assert.equal(await page.value('document.getElementById("save").disabled'), true);
+
+  // Looking back is no change; taking a request back is one.
+  await page.click('document.getElementById("start")');
+  await within('#why', 'This is the start; 3 requests lie ahead.');
+  assert.equal(await page.value('document.getElementById("save").disabled'), true);
+  assert.equal((await texts('#strip .later')).length, 3);
+  await page.click('document.querySelectorAll("#strip button")[3]');
+  await within('#moment', 'Moment 2');
+  await page.click('document.getElementById("undo")');
+  await page.until('document.querySelectorAll("#strip .back").length === 1');
+  assert.equal(await page.value('document.getElementById("save").disabled'), false);
+  await page.click('document.getElementById("redo")');
+  await page.until('document.getElementById("save").disabled');
+
+  // A long line of the source is wrapped, and the line after it keeps its number beside it.
+  await page.value(`(() => { const source = document.getElementById('source');
+    source.value = '# ' + 'wrapped '.repeat(60) + '\\n' + source.value;
+    source.dispatchEvent(new Event('input')); })()`);
+  const rows = (await page.value('document.getElementById("numbers").textContent')).split('\n').indexOf('2');
+  assert.ok(rows > 3, `line 2 is numbered in row ${rows}`);
+  const wraps = '(({ scrollWidth, clientWidth }) => scrollWidth <= clientWidth)(document.getElementById("source"))';
+  assert.ok(await page.value(wraps), 'a line is cut off');
+
+  // Where nothing could be drawn yet, every card says why.
+  await page.value(`(() => { const source = document.getElementById('source');
+    state.told = null;
+    source.value = 'members a\\nevnt go';
+    source.dispatchEvent(new Event('input')); })()`);
+  for (const card of ['#aloud', '#picture', '#hint', '#strip', '#why', '#table']) {
+    await within(card, 'Fix the mistake on line 2 to see this.');
+  }
 
   for (const [name, options] of [['dark', { dark: true }], ['narrow', { width: 420, height: 1600 }]]) {
     const other = await open(browser, address, options);

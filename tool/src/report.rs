@@ -1,23 +1,28 @@
 //! A folder's story as one page of HTML that needs nothing else.
 //!
 //! * `drawing`: graphs as SVG; `circle`: on a circle; `grid`: as a matrix, if members are many
-//! * `layout`: places on the circle; `label`: the event's name beside its line
+//! * `layers`: which moments have a picture
+//! * `layout`: places on the circle; `label`: the event's name on its line
+//! * `events`: the lines of events; `cited`: the past events that reasons tell of
 //! * `heads`: the ends of lines; `glyphs`: the marks in a matrix; `legend`: what stands for what
 //! * `moments`: the strip, and each moment with what was asked at it; `filter`: which of it
 //! * `edges`: the relation edges in words
-//! * `policies`: the policies read aloud; `tables`: who may do what in the end
+//! * `policies`: the policies read aloud; `tables`: who may do what at the end
 //! * `palette`, `colours.css`, `style.css`, `pictures.css`, `tables.css`: what is seen
 //! * `html`: text made safe for a page
 
 mod circle;
+pub mod cited;
 pub mod drawing;
 mod edges;
+mod events;
 mod filter;
 mod glyphs;
 mod grid;
 mod heads;
 pub mod html;
 mod label;
+mod layers;
 mod layout;
 pub mod legend;
 mod moments;
@@ -54,7 +59,8 @@ pub fn page(title: &str, replay: &Replay, names: &Names) -> Result<String, Stop>
          <meta name=\"color-scheme\" content=\"light dark\">\n<title>{title}</title>\n\
          <style>\n{}{}{}</style>\n</head>\n<body>\n\
          <a class=\"skip\" href=\"#story\">Skip to what happened</a>\n{}\
-         <header>\n<h1>{title}</h1>\n{}</header>\n<main>\n{}{}{}</main>\n</body>\n</html>\n",
+         <header>\n<h1>{title}</h1>\n{}</header>\n<main>\n{}{}{}\
+         <p class=\"quiet\">A request works out {}.</p>\n</main>\n</body>\n</html>\n",
         STYLE.concat(),
         palette::style(words.terms.relations),
         filter::style(replay, &words),
@@ -63,13 +69,14 @@ pub fn page(title: &str, replay: &Replay, names: &Names) -> Result<String, Stop>
         policies::section(replay.both.record(), &words),
         moments::section(replay, &words, &drawing)?,
         tables::section(replay, &words)?,
+        effort::told(replay.both.effort()),
     ))
 }
 
 /// How many there are of everything.
 fn summary(replay: &Replay, names: &Names) -> String {
     let terms = replay.both.terms();
-    let kinds = names.kind_relations(terms).len();
+    let (kinds, hidden) = (names.kinds().len(), names.kind_relations(terms).len());
     let count = |wanted: fn(Verdict) -> bool| {
         replay.steps.iter().filter(|step| wanted(step.verdict)).count()
     };
@@ -81,13 +88,12 @@ fn summary(replay: &Replay, names: &Names) -> String {
         answers.push(format!("{refused} refused"));
     }
     format!(
-        "<p class=\"summary\">{}{}, {}, {}. {}: {}. A request works out {}.</p>\n",
+        "<p class=\"summary\">{}{}, {}, {}. {}: {}.</p>\n",
         counted(terms.members, "member"),
         if kinds == 0 { String::new() } else { format!(" of {}", counted(kinds, "kind")) },
-        counted(terms.relations - kinds, "relation"),
+        counted(terms.relations - hidden, "relation"),
         counted(terms.events, "event"),
         counted(replay.steps.len(), "request"),
         answers.join(", "),
-        effort::told(replay.both.effort()),
     )
 }

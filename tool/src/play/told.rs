@@ -9,6 +9,7 @@ use crate::json::Json;
 use crate::matrix::Matrix;
 use crate::names::{Kind, Names};
 use crate::replay::{Replay, Step};
+use crate::report::cited::Cited;
 use crate::report::drawing::{drawn, Drawing};
 use crate::report::{legend, policies, tables};
 use crate::source::ast::Span;
@@ -40,7 +41,8 @@ pub fn told(files: &Files, asked: &Asked) -> Result<Json, Stop> {
     fields.push(("effort", effort::told(replay.both.effort()).into()));
     fields.push(("warnings", warnings(&folder, &asked.source)?));
     fields.push(("aloud", policies::list(replay.both.record(), &words).into()));
-    fields.extend(scene(&replay, &words));
+    let cited = cited(&replay, &words, &steps);
+    fields.extend(scene(&replay, &words, &cited));
     fields.push(("why", why(&replay, &words, &steps)?));
     fields.push(("looks", looks(&replay, &words, asked)?));
     fields.push(("table", table(&replay, &words, asked)?));
@@ -150,13 +152,27 @@ fn step(replay: &mut Replay, named: &Named, names: &Names) -> Result<Made, Stop>
     Ok(Made { step, json: Json::Object(fields) })
 }
 
+/// What the last request adds to the picture: what its reason tells of, and the request
+/// itself if it was denied and made no moment.
+fn cited(replay: &Replay, words: &Words, steps: &[Made]) -> Cited {
+    let last = steps.last().and_then(|made| made.step);
+    let mut cited = match last {
+        Some(step) => Cited::of(&mut Reasons::new(replay.both.record()), words.names, &[step]),
+        None => Cited::default(),
+    };
+    if last.is_some_and(|step| step.made) {
+        cited.denied.clear();
+    }
+    cited
+}
+
 /// The present moment, its picture, and the colours in it.
-fn scene(replay: &Replay, words: &Words) -> Vec<(&'static str, Json)> {
+fn scene(replay: &Replay, words: &Words, cited: &Cited) -> Vec<(&'static str, Json)> {
     let moment = replay.moment();
     let graphs = drawn(words, replay.both.record().graphs());
     let drawing = Drawing::new(words, &graphs);
     let stored = replay.both.is_stored();
-    let begun = if stored { "as stored" } else { "the first edges" };
+    let begun = if stored { "as stored" } else { "at the start" };
     let title = match (moment, graphs[0].event) {
         (0, None) => format!("Moment 0: {begun}"),
         (0, Some(event)) if stored => format!("Moment 0: {begun}, after {}", words.happened(event)),
@@ -166,7 +182,7 @@ fn scene(replay: &Replay, words: &Words) -> Vec<(&'static str, Json)> {
         ("moment", moment.into()),
         ("title", title.into()),
         ("begun", begun.into()),
-        ("picture", drawing.alone(moment).into()),
+        ("picture", drawing.alone(moment, cited).into()),
         ("legend", legend::items(&drawing).into()),
     ]
 }

@@ -3,12 +3,16 @@
 //! is a moment's own.
 
 use super::circle::Circle;
+use super::cited::Cited;
 use super::edges::attribute;
+use super::events;
 use super::grid::Grid;
 use super::html::escaped;
+use super::layers::Layers;
+use super::layout::Area;
 use crate::words::Words;
 use keeper::record::Graph;
-use keeper::terms::{Edge, EventEdge};
+use keeper::terms::Edge;
 use std::collections::BTreeSet;
 
 /// So many edges are named in a picture's description.
@@ -17,18 +21,12 @@ const NAMED: usize = 40;
 /// A graph of more members than these is a matrix.
 const MANY: usize = 20;
 
-/// So many moments have a picture, with so many edges drawn in all of them.
-const MOST_PICTURES: usize = 200;
-const MOST_EDGES: usize = 20_000;
-
 /// The pictures of a record.
 pub struct Drawing<'a> {
     pub words: &'a Words<'a>,
     graphs: &'a [Graph],
     shape: Shape<'a>,
-    /// The different sets of relation edges, and which one each picture has.
-    layers: Vec<&'a BTreeSet<Edge>>,
-    layer: Vec<usize>,
+    layers: Layers<'a>,
 }
 
 /// How graphs are drawn.
@@ -63,28 +61,20 @@ impl<'a> Drawing<'a> {
             let edges = graph.edges.iter().map(|&(_, from, to)| (from, to)).chain(event);
             edges.filter(|(from, to)| from == to).for_each(|(from, _)| looped[from] = true);
         }
-        let (mut layers, mut layer) = (Vec::<&BTreeSet<Edge>>::new(), Vec::new());
-        let mut left = MOST_EDGES;
-        for graph in graphs.iter().take(MOST_PICTURES) {
-            let known = layers.iter().position(|edges| **edges == graph.edges);
-            if known.is_none() {
-                let Some(rest) = left.checked_sub(graph.edges.len()) else { break };
-                left = rest;
-                layers.push(&graph.edges);
-            }
-            layer.push(known.unwrap_or(layers.len() - 1));
-        }
         let shape = match words.terms.members > MANY {
             true => Shape::Grid(Grid::new(words)),
             false => Shape::Circle(Circle::new(words, looped)),
         };
-        Drawing { words, graphs, shape, layers, layer }
+        Drawing { words, graphs, shape, layers: Layers::new(graphs) }
     }
 
-    /// How many moments have a picture: the first ones, as far as the page
-    /// stays light.
-    pub fn count(&self) -> usize {
-        self.layer.len()
+    /// The moments that have a picture, as far as the page stays light.
+    pub fn moments(&self) -> impl Iterator<Item = usize> + '_ {
+        self.layers.moments()
+    }
+
+    pub fn has_picture(&self, moment: usize) -> bool {
+        self.layers.of(moment).is_some()
     }
 
     /// Whether a picture needs the width of the page.
@@ -99,7 +89,7 @@ impl<'a> Drawing<'a> {
         );
         text.push_str(&self.heads());
         text.push_str(&format!("<g id=\"members\">\n{}</g>\n", self.members()));
-        for (index, edges) in self.layers.iter().enumerate() {
+        for (index, edges) in self.layers.sets.iter().enumerate() {
             text.push_str(&self.layer_edges(edges, &format!(" id=\"edges{index}\"")));
         }
         text.push_str("</defs></svg>\n");
@@ -120,10 +110,13 @@ impl<'a> Drawing<'a> {
         }
     }
 
-    fn event_edge(&self, graph: &Graph, edge: EventEdge) -> String {
+    /// The lines of events, and the picture's edges.
+    fn events(&self, moment: usize, cited: &Cited) -> (String, Area) {
+        let (graph, lines) =
+            (&self.graphs[moment], events::lines(self.words, self.graphs, moment, cited));
         match &self.shape {
-            Shape::Grid(grid) => grid.event(edge),
-            Shape::Circle(circle) => circle.event(graph, edge),
+            Shape::Grid(grid) => (grid.events(&lines), grid.bounds()),
+            Shape::Circle(circle) => circle.events(graph, &lines),
         }
     }
 
@@ -144,37 +137,35 @@ impl<'a> Drawing<'a> {
         }
     }
 
-    /// The picture of one moment, with what all share taken from the definitions.
-    pub fn picture(&self, moment: usize) -> String {
-        let edges = format!("<use href=\"#edges{}\"/>\n", self.layer[moment]);
-        self.scene(moment, "", &edges, "<use href=\"#members\"/>")
+    /// The picture of one moment with what was asked at it; what all share is taken from the
+    /// definitions.
+    pub fn picture(&self, moment: usize, cited: &Cited) -> String {
+        let layer = self.layers.of(moment).unwrap_or_default();
+        let edges = format!("<use href=\"#edges{layer}\"/>\n");
+        self.scene(moment, cited, ["", &edges, "<use href=\"#members\"/>"])
     }
 
     /// The picture of one moment for a page that has no definitions, and none but
     /// this. Members have their numbers, to be clicked at.
-    pub fn alone(&self, moment: usize) -> String {
+    pub fn alone(&self, moment: usize, cited: &Cited) -> String {
         let defined = format!("<defs>\n{}</defs>\n", self.heads());
         let edges = self.layer_edges(&self.graphs[moment].edges, "");
-        self.scene(moment, &defined, &edges, &self.members())
+        self.scene(moment, cited, [&defined, &edges, &self.members()])
     }
 
-    fn scene(&self, moment: usize, defined: &str, edges: &str, members: &str) -> String {
+    fn scene(&self, moment: usize, cited: &Cited, [defined, edges, members]: [&str; 3]) -> String {
         let graph = &self.graphs[moment];
-        let (left, top, right, bottom) = match &self.shape {
-            Shape::Grid(grid) => grid.bounds(),
-            Shape::Circle(circle) => circle.bounds(),
-        };
+        let (events, (left, top, right, bottom)) = self.events(moment, cited);
         let (wide, high) = (right - left, bottom - top);
         let added = self.changes(moment).added;
         format!(
             "<svg class=\"graph\" viewBox=\"{left:.0} {top:.0} {wide:.0} {high:.0}\" width=\"{wide:.0}\" \
              height=\"{high:.0}\" role=\"img\" aria-labelledby=\"title{moment} desc{moment}\">\
              <title id=\"title{moment}\">{}</title><desc id=\"desc{moment}\">{}</desc>\n\
-             {defined}{edges}{}{}{members}</svg>\n",
+             {defined}{edges}{}{events}{members}</svg>\n",
             escaped(&self.title(moment)),
-            escaped(&self.description(graph)),
+            escaped(&self.description(moment)),
             self.added_edges(&added, &graph.edges),
-            graph.event.map_or_else(String::new, |edge| self.event_edge(graph, edge)),
         )
     }
 
@@ -197,24 +188,41 @@ impl<'a> Drawing<'a> {
     /// `Moment 1: share dora → pete`.
     pub fn title(&self, moment: usize) -> String {
         match self.graphs[moment].event {
-            None => format!("Moment {moment}: the first edges"),
+            None => format!("Moment {moment}: at the start"),
             Some(edge) => format!("Moment {moment}: {}", self.words.happened(edge)),
         }
     }
 
-    fn description(&self, graph: &Graph) -> String {
-        let count = graph.edges.len();
-        if count == 0 {
-            return "No relation edges.".to_string();
-        }
-        if count > NAMED {
-            return format!("{count} relation edges.");
-        }
-        let edge = |edge: &Edge| match attribute(edge, self.words) {
-            Some(said) => said,
-            None => self.words.edge(edge.0, edge.1, edge.2),
+    /// The relation edges of a moment in words, and what changed. Of many edges only the
+    /// number is told, for each relation.
+    fn description(&self, moment: usize) -> String {
+        let edges = self.edges(moment);
+        let named = |edges: &mut dyn Iterator<Item = &Edge>| {
+            let said = |edge: &Edge| match attribute(edge, self.words) {
+                Some(said) => said,
+                None => self.words.edge(edge.0, edge.1, edge.2),
+            };
+            edges.map(said).collect::<Vec<_>>().join(", ")
         };
-        let edges: Vec<String> = graph.edges.iter().map(edge).collect();
-        format!("Relation edges: {}.", edges.join(", "))
+        let mut text = match edges.len() {
+            0 => "No relation edges.".to_string(),
+            count if count > NAMED => {
+                let count_of = |relation: &usize| {
+                    let count = edges.iter().filter(|edge| edge.0 == *relation).count();
+                    (count > 0).then(|| format!("{count} {}", self.words.names.relation(*relation)))
+                };
+                let counts: Vec<String> =
+                    (0..self.words.terms.relations).filter_map(|one| count_of(&one)).collect();
+                format!("{count} relation edges: {}.", counts.join(", "))
+            }
+            _ => format!("Relation edges: {}.", named(&mut edges.iter())),
+        };
+        let Changes { added, deleted } = self.changes(moment);
+        for (what, changed) in [("Added", added), ("Removed", deleted)] {
+            if !changed.is_empty() && changed.len() <= NAMED {
+                text.push_str(&format!(" {what}: {}.", named(&mut changed.iter())));
+            }
+        }
+        text
     }
 }

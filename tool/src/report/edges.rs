@@ -16,13 +16,24 @@ pub fn told(drawing: &Drawing, moment: usize) -> String {
         (0, count) => format!(
             "<details><summary>{}</summary>\n<div class=\"edges\" tabindex=\"0\" role=\"region\" \
              aria-label=\"Relation edges at moment {moment}\">\n{}</div></details>\n",
-            counted(count, "relation edge"),
+            summed(drawing, moment, count),
             tables(drawing, moment)
         ),
         _ => match changed(drawing, moment) {
             none if none.is_empty() => "<p>relation edges unchanged</p>\n".to_string(),
             some => some,
         },
+    }
+}
+
+/// How many edges there are, and lines, if some go both ways.
+fn summed(drawing: &Drawing, moment: usize, count: usize) -> String {
+    let (edges, summed) = (drawing.edges(moment), counted(count, "relation edge"));
+    let back = |&&(relation, from, to): &&Edge| from < to && edges.contains(&(relation, to, from));
+    match edges.iter().filter(back).count() {
+        both if both == 0 || drawing.is_wide() => summed,
+        both if 2 * both == count => format!("{summed}: {}, both ways", counted(both, "line")),
+        both => format!("{summed}: {}, of which {both} both ways", counted(count - both, "line")),
     }
 }
 

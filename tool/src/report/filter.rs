@@ -10,12 +10,25 @@ use std::collections::BTreeSet;
 const ANSWERS: [&str; 3] = ["granted", "denied", "refused"];
 
 /// What is said where no request is left.
-const NONE: &str = "No request is like that. Choose others, or everybody.";
+const NONE: &str = "No request is like that. Choose another member or answer.";
 
 /// Who takes part in a request, and its answer, for the rules to see.
 pub fn marks(step: &Step) -> String {
     let who: Vec<String> = ends(step).iter().map(usize::to_string).collect();
     format!("data-who=\"{}\" data-answer=\"{}\"", who.join(" "), answered(step.verdict))
+}
+
+/// The same of all requests at a moment: answers, members, and each member with an answer.
+pub fn moment_marks(steps: &[Step]) -> String {
+    let mut marks = BTreeSet::new();
+    for step in steps {
+        let answer = answered(step.verdict);
+        marks.insert(answer.to_string());
+        for end in ends(step) {
+            marks.extend([end.to_string(), format!("{end}-{answer}")]);
+        }
+    }
+    format!("data-asked=\"{}\"", marks.into_iter().collect::<Vec<_>>().join(" "))
 }
 
 /// The two choices.
@@ -27,12 +40,13 @@ pub fn controls(replay: &Replay, words: &Words) -> String {
     let choice = |choice: &Choice| option(&choice.value, &escaped(&choice.name));
     let answers = ANSWERS.iter().map(|answer| option(answer, answer));
     format!(
-        "<div class=\"filter\"><label>Requests of <select id=\"by-member\" autocomplete=\"off\">{}{}</select></label> \
-         <label>that were <select id=\"by-answer\" autocomplete=\"off\">{}{}</select></label></div>\n\
+        "<div class=\"filter\"><label>Requests involving \
+         <select id=\"by-member\" autocomplete=\"off\">{}{}</select></label>, \
+         <select id=\"by-answer\" aria-label=\"Answer\" autocomplete=\"off\">{}{}</select></div>\n\
          <p class=\"none\" role=\"status\">{NONE}</p>\n",
-        option("all", "everybody"),
+        option("all", "anyone"),
         choices(replay, words).iter().map(choice).collect::<String>(),
-        option("all", "answered"),
+        option("all", "any answer"),
         answers.collect::<String>(),
     )
 }
@@ -47,8 +61,17 @@ struct Choice {
 impl Choice {
     /// What marks their requests.
     fn mark(&self) -> String {
+        self.marked("data-who", "")
+    }
+
+    /// What marks the moments with a request of theirs; `answer` is empty or `-granted`.
+    fn moment_mark(&self, answer: &str) -> String {
+        self.marked("data-asked", answer)
+    }
+
+    fn marked(&self, by: &str, end: &str) -> String {
         let marks: Vec<String> =
-            self.members.iter().map(|member| format!("[data-who~=\"{member}\"]")).collect();
+            self.members.iter().map(|member| format!("[{by}~=\"{member}{end}\"]")).collect();
         format!(":is({})", marks.join(","))
     }
 
@@ -78,14 +101,16 @@ fn choices(replay: &Replay, words: &Words) -> Vec<Choice> {
 /// The rules that hide whatever is not chosen, and say where nothing is left.
 pub fn style(replay: &Replay, words: &Words) -> String {
     let answers = ANSWERS.map(|answer| (chosen("by-answer", answer), answer));
-    let mut rules: String =
-        answers.iter().map(|(when, answer)| hidden(when, &answer_mark(answer))).collect();
+    let mut rules: String = answers
+        .iter()
+        .map(|(when, answer)| hidden(when, &answer_mark(answer), &asked(answer)))
+        .collect();
     let count = |answer: &str| replay.steps.iter().filter(|step| is(step, answer)).count();
     let mut bare: Vec<String> = Vec::new();
     bare.extend(answers.iter().filter(|(_, answer)| count(answer) == 0).map(|one| one.0.clone()));
     for choice in choices(replay, words) {
         let by_member = chosen("by-member", &choice.value);
-        rules.push_str(&hidden(&by_member, &choice.mark()));
+        rules.push_str(&hidden(&by_member, &choice.mark(), &choice.moment_mark("")));
         if !replay.steps.iter().any(|step| choice.has(step)) {
             bare.push(by_member.clone());
         }
@@ -98,7 +123,7 @@ pub fn style(replay: &Replay, words: &Words) -> String {
             // that is both.
             let of = |step: &&Step| choice.has(step) && !moments.contains(&step.moment);
             if replay.steps.iter().any(|step| of(&step)) {
-                let both = format!("{}{}", choice.mark(), answer_mark(answer));
+                let both = choice.moment_mark(&format!("-{answer}"));
                 rules.push_str(&format!("{} {{display:none}}\n", no_moment(&when, &both)));
             }
             if moments.is_empty() {
@@ -110,7 +135,7 @@ pub fn style(replay: &Replay, words: &Words) -> String {
     if !bare.is_empty() {
         rules.push_str(&format!("{} {{display:block}}\n", bare.join(",\n")));
     }
-    format!("@supports selector(:has(a)){{@media screen{{.filter{{display:flex}}\n{rules}}}}}\n")
+    format!("@supports selector(:has(a)){{@media screen{{.filter{{display:block}}\n{rules}}}}}\n")
 }
 
 /// The condition that a choice is made.
@@ -122,15 +147,19 @@ fn answer_mark(answer: &str) -> String {
     format!("[data-answer=\"{answer}\"]")
 }
 
-/// The rule that leaves only what has a mark.
-fn hidden(when: &str, mark: &str) -> String {
-    let moments = no_moment(when, mark);
+fn asked(answer: &str) -> String {
+    format!("[data-asked~=\"{answer}\"]")
+}
+
+/// The rule that leaves only the requests that have a mark, and the moments that have one.
+fn hidden(when: &str, mark: &str, moment: &str) -> String {
+    let moments = no_moment(when, moment);
     format!("main{when} :is(.asked>li,.strip>.step):not({mark}),{moments}{{display:none}}\n")
 }
 
-/// The moments without a request that has a mark.
+/// The moments without a mark, and the links to them.
 fn no_moment(when: &str, mark: &str) -> String {
-    format!("main{when} .moment:not(:has(.asked>{mark}))")
+    format!("main{when} :is(.moment,.strip>.to-moment):not({mark})")
 }
 
 fn is(step: &Step, answer: &str) -> bool {

@@ -3,17 +3,18 @@
 
 use super::palette;
 
-/// The shapes, from -1 to 1. Those that are drawn by lines alone are hollow.
+/// The shapes, from -1 to 1: first ● ◆ ▲ +. A cross and a tick are answers. Those that are
+/// drawn by lines alone are hollow.
 const SHAPES: [(Form, &str); 16] = [
-    (Form::Filled, "M-1-1H1V1H-1z"),
-    (Form::Hollow, "M-.8-.8L.8 .8M-.8 .8L.8-.8"),
-    (Form::Filled, "M0-1L1 .9H-1z"),
-    (Form::Hollow, "M-.75 0A.75.75 0 1 1 .75 0A.75.75 0 1 1-.75 0z"),
+    (Form::Filled, "M-1 0A1 1 0 1 1 1 0A1 1 0 1 1-1 0z"),
     (Form::Filled, "M0-1.1L1.1 0L0 1.1L-1.1 0z"),
+    (Form::Filled, "M0-1L1 .9H-1z"),
     (Form::Hollow, "M0-1V1M-1 0H1"),
+    (Form::Filled, "M-.9-.9H.9V.9H-.9z"),
+    (Form::Hollow, "M-.75 0A.75.75 0 1 1 .75 0A.75.75 0 1 1-.75 0z"),
     (Form::Filled, "M0 1L1-.9H-1z"),
     (Form::Hollow, "M-.8-.8H.8V.8H-.8z"),
-    (Form::Filled, "M-1 0A1 1 0 1 1 1 0A1 1 0 1 1-1 0z"),
+    (Form::Filled, "M-.9-1H.9L-.9 1H.9z"),
     (Form::Hollow, "M-1-.5H1M-1 .5H1"),
     (Form::Hollow, "M0-.7L.75 .7H-.75z"),
     (Form::Filled, "M-1-.4H1V.4H-1z"),

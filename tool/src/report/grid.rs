@@ -1,12 +1,13 @@
 //! A graph of many members as a matrix: rows and columns are members, and a mark is an
 //! edge from its row to its column. Lines between so many would hide one another.
 
+use super::events::{EventLine, Look};
 use super::glyphs;
 use super::html::escaped;
 use super::layout::Area;
 use super::tables::shortened;
 use crate::words::Words;
-use keeper::terms::{Edge, EventEdge};
+use keeper::terms::Edge;
 use std::collections::BTreeSet;
 
 const CELL: f64 = 12.5;
@@ -15,6 +16,9 @@ const FONT: f64 = 11.0;
 const LETTER: f64 = 7.1;
 /// Every so many rows and columns there is a line to count by.
 const COUNTED: usize = 8;
+
+/// The cross of a denied request.
+pub const CROSS: &str = "M-5-5L5 5M-5 5L5-5";
 
 /// Where everything is on the picture; the first cell is at its origin.
 pub struct Grid {
@@ -90,21 +94,37 @@ impl Grid {
         some.map(one).collect()
     }
 
-    /// The event's cell, with lines that lead to it from its row and its column.
-    pub fn event(&self, EventEdge { from, to, denied, .. }: EventEdge) -> String {
-        let class = if denied { "event-edge denied-edge" } else { "event-edge" };
-        let (x, y) = (to as f64 * CELL, from as f64 * CELL);
-        let half = CELL / 2.0;
-        format!(
-            "<path class=\"leading\" d=\"M0 {:.1}H{x:.1}M{:.1} 0V{y:.1}\"/>\
-             <rect class=\"{class}\" x=\"{:.1}\" y=\"{:.1}\" width=\"{}\" height=\"{}\"/>\n",
-            y + half,
-            x + half,
-            x - 1.0,
-            y - 1.0,
-            CELL + 2.0,
-            CELL + 2.0,
-        )
+    /// The cells of events: lines lead to what just happened from its row and its column,
+    /// what was denied has a cross, and what is past a thin box.
+    pub fn events(&self, events: &[EventLine]) -> String {
+        events.iter().rev().map(|event| self.event(event)).collect()
+    }
+
+    fn event(&self, EventLine { from, to, name, look, .. }: &EventLine) -> String {
+        let (x, y, half) = (*to as f64 * CELL, *from as f64 * CELL, CELL / 2.0);
+        let (class, title) = (look.line(), format!("<title>{}</title>", escaped(name)));
+        let (middle, level) = (x + half, y + half);
+        let boxed = |out: f64| {
+            let (x, y, side) = (x - out, y - out, CELL + 2.0 * out);
+            format!(
+                "<rect class=\"{class}\" x=\"{x:.1}\" y=\"{y:.1}\" width=\"{side}\" height=\"{side}\">\
+                 {title}</rect>\n"
+            )
+        };
+        match look {
+            Look::Now | Look::NowDenied => {
+                let leading = format!("M0 {level:.1}H{x:.1}M{middle:.1} 0V{y:.1}");
+                format!("<path class=\"leading\" d=\"{leading}\"/>{}", boxed(1.0))
+            }
+            Look::Past => boxed(0.0),
+            Look::Denied => {
+                let cross = CROSS;
+                format!(
+                    "<path class=\"crossed\" transform=\"translate({middle:.1} {level:.1})\" d=\"{cross}\">\
+                     {title}</path>\n"
+                )
+            }
+        }
     }
 }
 
@@ -113,8 +133,8 @@ impl Grid {
 fn place_in_cell(place: usize, count: usize) -> ((f64, f64), f64) {
     match (count, place) {
         (0 | 1, _) => ((0.5, 0.5), 4.8),
-        (2, 0) => ((0.27, 0.27), 3.2),
-        (2, _) => ((0.73, 0.73), 3.2),
+        (2, 0) => ((0.29, 0.29), 3.7),
+        (2, _) => ((0.71, 0.71), 3.7),
         _ => {
             let row = (2..).find(|row| row * row >= count).unwrap_or(count);
             let part = |place: usize| (place as f64 + 0.5) / row as f64;

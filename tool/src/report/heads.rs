@@ -6,11 +6,20 @@ use super::palette;
 /// How many shapes there are.
 const SHAPES: usize = 4;
 
-/// The heads of relations and of events, for the definitions of a picture.
+/// The heads of relations and of events, for the definitions of a picture. A denied request
+/// ends in a cross.
 pub fn all(relations: usize, size: f64) -> String {
     let one = |relation: usize| head(&name(relation), &shape(relation), size);
-    let event = head("arrow", &triangle("event-arrow"), EVENT);
-    (0..relations).map(one).chain([event]).collect()
+    let events = [
+        head("arrow", &triangle("event-arrow"), EVENT),
+        head("arrow-past", &triangle("past-arrow"), size),
+        head(
+            "crossed",
+            "<path class=\"crossed\" d=\"M0-3.6L7.2 3.6M0 3.6L7.2-3.6M0 0H4\"/>",
+            EVENT,
+        ),
+    ];
+    (0..relations).map(one).chain(events).collect()
 }
 
 /// The length of an event's head.

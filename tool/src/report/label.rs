@@ -1,85 +1,80 @@
-//! Where the name of an event goes: beside its line, off the others.
+//! Where the name of an event goes: on its line, which the name's halo parts.
 
 use super::layout::{Area, Curve, Layout, Point};
 
 /// How far along the line a name may stand; the middle is best.
 const PARTS: [f64; 7] = [0.5, 0.42, 0.58, 0.34, 0.66, 0.26, 0.74];
-/// More room than this makes a place no better.
-const ENOUGH: f64 = 14.0;
 /// Points of a line that a name keeps off.
-const POINTS: usize = 40;
+pub const POINTS: usize = 40;
 
-/// Less room than this is a name on a line.
+/// Less room than this is a name on another line.
 const LEAST: f64 = 2.5;
-/// The distance between the places that are tried where none beside the line is free.
+/// The distance between the places that are tried where none on the line is free.
 const STEP: f64 = 6.0;
 
-/// What a name keeps off: points of lines, members' circles, and other names.
-struct Crowd {
-    points: Vec<Point>,
-    /// The middles of the circles, and how far they reach.
-    circles: Vec<Point>,
-    radius: f64,
+/// What a name keeps off: members' circles, and other names.
+pub struct Crowd<'a> {
+    layout: &'a Layout,
     names: Vec<Area>,
-    bounds: Area,
-    /// Half the width and height of the name.
-    half: Point,
 }
 
-impl Crowd {
-    /// How much room is around a name that stands with its middle at a place.
-    fn room(&self, (x, y): Point) -> f64 {
-        let (wide, high) = self.half;
-        let area = (x - wide, y - high, x + wide, y + high);
-        let (left, top, right, bottom) = self.bounds;
-        let inside = area.0 > left && area.1 > top && area.2 < right && area.3 < bottom;
-        let off = |&circle: &Point| distance(circle, area) - self.radius;
-        let circles = self.circles.iter().map(off).fold(ENOUGH, f64::min);
-        if !inside || circles < 0.0 || self.names.iter().any(|name| overlap(area, *name)) {
-            return f64::NEG_INFINITY;
-        }
-        self.points.iter().map(|&point| distance(point, area)).fold(circles, f64::min)
-    }
+/// Points of a line from end to end.
+pub fn sampled(curve: &Curve) -> Vec<Point> {
+    (0..=POINTS).map(|part| curve.at(part as f64 / POINTS as f64)).collect()
 }
 
-/// Where the middle of a name stands: the best place beside its line, or else the nearest
-/// one that is free.
-pub fn place(layout: &Layout, line: &Curve, others: &[Curve], name: &str) -> Point {
-    let sampled =
-        |curve: &Curve| (0..=POINTS).map(|part| curve.at(part as f64 / POINTS as f64)).collect();
-    let own: Vec<Point> = sampled(line);
-    let mut points: Vec<Point> = others.iter().flat_map(sampled).collect();
-    points.extend(&own);
-    let (circles, radius) = (layout.places.clone(), layout.ring());
-    let names = (0..layout.places.len()).map(|member| layout.name_area(member)).collect();
-    let half = (layout.width(name) / 2.0, layout.font / 2.0);
-    let crowd = Crowd { points, circles, radius, names, bounds: layout.bounds(), half };
-    let mut best = (line.at(0.5), f64::NEG_INFINITY);
-    for part in PARTS {
-        for side in [1.0, -1.0] {
-            let ((x, y), (dx, dy)) = (line.at(part), line.across(part));
-            // So far off, the name's corner that is nearest to the line is beside it.
-            let off = (half.0 * dx.abs() + half.1 * dy.abs() + 5.0) * side;
-            let there = (x + dx * off, y + dy * off);
-            let room = crowd.room(there) - (part - 0.5).abs();
-            if room > best.1 {
-                best = (there, room);
-            }
+impl<'a> Crowd<'a> {
+    pub fn new(layout: &'a Layout) -> Crowd<'a> {
+        let names = (0..layout.places.len()).map(|member| layout.name_area(member)).collect();
+        Crowd { layout, names }
+    }
+
+    /// How far a name is from the points of other lines; nothing if it lies on a circle or
+    /// on another name.
+    fn room(&self, area: Area, others: &[Point]) -> Option<f64> {
+        let reach = self.layout.ring();
+        let on_circle = self.layout.places.iter().any(|&dot| distance(dot, area) < reach);
+        if on_circle || self.names.iter().any(|name| overlap(area, *name)) {
+            return None;
         }
+        Some(others.iter().map(|&point| distance(point, area)).fold(f64::INFINITY, f64::min))
     }
-    if best.1 > LEAST {
-        return best.0;
+
+    /// Where a name of a size goes: the first place on its own line that is off other lines,
+    /// or else off circles and names, or else the nearest one that is free and not too far.
+    pub fn place(
+        &mut self,
+        own: &[Point],
+        others: &[Point],
+        (wide, high): Point,
+        most: f64,
+    ) -> Option<Area> {
+        let around =
+            |(x, y): Point| (x - wide / 2.0, y - high / 2.0, x + wide / 2.0, y + high / 2.0);
+        let last = (own.len() - 1) as f64;
+        let places = PARTS.map(|part| around(own[(last * part).round() as usize]));
+        let room = |area: &Area| self.room(*area, others);
+        let clear = places.iter().find(|area| room(area).is_some_and(|room| room > LEAST));
+        let on_line = clear.or_else(|| places.iter().find(|area| room(area).is_some()));
+        let area = on_line.copied().or_else(|| self.nearest(own, around, most))?;
+        self.names.push(area);
+        Some(area)
     }
-    let far = |(x, y): Point| {
-        own.iter().map(|point| (point.0 - x).hypot(point.1 - y)).fold(f64::INFINITY, f64::min)
-    };
-    let (left, top, right, bottom) = crowd.bounds;
-    let steps = |from: f64, to: f64| {
-        (0..((to - from) / STEP) as usize).map(move |n| from + n as f64 * STEP)
-    };
-    let places = steps(top, bottom).flat_map(|y| steps(left, right).map(move |x| (x, y)));
-    let free = places.filter(|&place| crowd.room(place) > LEAST);
-    free.min_by(|&one, &other| far(one).total_cmp(&far(other))).unwrap_or(best.0)
+
+    /// The free place that is nearest to a line.
+    fn nearest(&self, own: &[Point], around: impl Fn(Point) -> Area, most: f64) -> Option<Area> {
+        let far = |area: &Area| {
+            own.iter().map(|&point| distance(point, *area)).fold(f64::INFINITY, f64::min)
+        };
+        let (left, top, right, bottom) = self.layout.bounds();
+        let steps = |from: f64, to: f64| {
+            (0..((to - from) / STEP) as usize).map(move |n| from + n as f64 * STEP)
+        };
+        let places = steps(top, bottom).flat_map(|y| steps(left, right).map(move |x| (x, y)));
+        let free = places.map(around).filter(|area| self.room(*area, &[]).is_some());
+        let nearest = free.min_by(|one, other| far(one).total_cmp(&far(other)));
+        nearest.filter(|area| far(area) <= most)
+    }
 }
 
 /// How far a point is from an area; inside it is 0.
@@ -99,6 +94,11 @@ mod tests {
     use crate::words::Words;
     use keeper::terms::Terms;
 
+    fn of(count: usize) -> Layout {
+        let (terms, names) = (Terms { members: count, ..Terms::default() }, Names::default());
+        Layout::new(&Words::new(&terms, &names), vec![false; count])
+    }
+
     #[test]
     fn areas() {
         let area = (0.0, 0.0, 4.0, 2.0);
@@ -107,27 +107,47 @@ mod tests {
         assert!(overlap(area, (3.0, 1.0, 5.0, 3.0)) && !overlap(area, (4.0, 0.0, 5.0, 1.0)));
     }
 
+    #[test]
+    fn a_name_stands_on_the_middle_of_its_line() {
+        let layout = of(6);
+        let line = layout.curve(1, 4, 0.0, [0.0, 13.0]);
+        let (left, top, right, bottom) =
+            Crowd::new(&layout).place(&sampled(&line), &[], (60.0, 14.0), 0.0).unwrap();
+        let (x, y) = line.at(0.5);
+        let off = ((left + right) / 2.0 - x).hypot((top + bottom) / 2.0 - y);
+        assert!(off < 0.1, "{off}");
+    }
+
+    /// A name that has no place near its line is left out.
+    #[test]
+    fn too_far_is_nowhere() {
+        let layout = of(20);
+        let line = sampled(&layout.curve(0, 1, 0.0, [0.0, 13.0]));
+        let (mut crowd, size) = (Crowd::new(&layout), (200.0, 14.0));
+        let most = 8.0;
+        let places = (0..9).map(|_| crowd.place(&line, &[], size, most)).collect::<Vec<_>>();
+        assert!(places[8].is_none(), "{places:?}");
+        let far = |area: &Area| line.iter().map(|&one| distance(one, *area)).fold(99.0, f64::min);
+        assert!(places.iter().flatten().all(|area| far(area) <= most));
+    }
+
     /// Whatever the number of members, and whoever does it to whom.
     #[test]
     fn no_name_lies_on_a_circle() {
         for count in 2..=20 {
-            let terms = Terms { members: count, ..Terms::default() };
-            let names = Names::default();
-            let layout = Layout::new(&Words::new(&terms, &names), vec![false; count]);
+            let layout = of(count);
             let some = (0..count).step_by(3);
             for (from, to) in some.flat_map(|from| (0..count).map(move |to| (from, to))) {
                 if from == to {
                     continue;
                 }
                 // Also where an edge of a relation goes along.
-                let (line, other) = (
-                    layout.curve(from, to, 0.0, [0.0, 13.0]),
-                    layout.curve(from, to, 0.08, [0.0, 8.0]),
-                );
+                let line = sampled(&layout.curve(from, to, 0.0, [0.0, 13.0]));
+                let other = sampled(&layout.curve(from, to, 0.08, [0.0, 8.0]));
                 for name in ["ask", "withdraw", "recommend-to"] {
-                    let (x, y) = place(&layout, &line, &[other], name);
-                    let (wide, high) = (layout.width(name) / 2.0, layout.font / 2.0);
-                    let area = (x - wide, y - high, x + wide, y + high);
+                    let size = (layout.width(name), layout.font);
+                    let area =
+                        Crowd::new(&layout).place(&line, &other, size, f64::INFINITY).unwrap();
                     let free = |&dot: &Point| distance(dot, area) >= layout.ring();
                     assert!(layout.places.iter().all(free), "{name}: {from} to {to} of {count}");
                 }

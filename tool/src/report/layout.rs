@@ -10,6 +10,10 @@ pub type Point = (f64, f64);
 /// A rectangle of the picture: left, top, right, bottom.
 pub type Area = (f64, f64, f64, f64);
 
+/// Loops of a member reach out so differently, and are turned so far from its name.
+const LOOPS: usize = 4;
+const LOOP_TURN: f64 = PI / 3.0;
+
 /// Where everything is on the picture.
 pub struct Layout {
     pub places: Vec<Point>,
@@ -49,14 +53,6 @@ impl Curve {
         let Curve { start, bend, end } = self;
         let (a, b, c) = ((1.0 - part).powi(2), 2.0 * part * (1.0 - part), part.powi(2));
         (a * start.0 + b * bend.0 + c * end.0, a * start.1 + b * bend.1 + c * end.1)
-    }
-
-    /// The direction across it, of length 1, at a point.
-    pub fn across(&self, part: f64) -> Point {
-        let (before, after) = (self.at(part - 0.01), self.at(part + 0.01));
-        let (x, y) = (after.0 - before.0, after.1 - before.1);
-        let length = x.hypot(y).max(1e-6);
-        (-y / length, x / length)
     }
 }
 
@@ -117,15 +113,27 @@ impl Layout {
         }
     }
 
-    /// A loop on the far side of a dot: its ends, and what it bends towards.
+    /// How far a loop is turned from the outward direction, so that it keeps off the name.
+    fn loop_turn(&self, member: usize) -> f64 {
+        let right = self.anchor(member) == "start";
+        let up = self.outward(member).1 <= 0.0;
+        if right == up {
+            -LOOP_TURN
+        } else {
+            LOOP_TURN
+        }
+    }
+
+    /// A loop beside the name of a dot: its ends, and what it bends towards.
     fn looped(&self, member: usize, order: usize) -> [Point; 4] {
         let (x, y) = self.places[member];
         let (ox, oy) = self.outward(member);
+        let turn = self.loop_turn(member);
         let turned = |angle: f64, far: f64| {
-            let (sin, cos) = angle.sin_cos();
+            let (sin, cos) = (turn + angle).sin_cos();
             (x + (ox * cos - oy * sin) * far, y + (ox * sin + oy * cos) * far)
         };
-        let reach = (self.dot + self.loops) * (1.2 + 0.1 * (order % 4) as f64);
+        let reach = (self.dot + self.loops) * (1.2 + 0.1 * (order % LOOPS) as f64);
         let (leaves, enters) = (turned(-0.6, self.dot), turned(0.6, self.dot + 1.5));
         [leaves, turned(-0.75, reach), turned(0.75, reach), enters]
     }
@@ -152,8 +160,7 @@ impl Layout {
     /// Where a member's name begins or ends, on the far side of its dot.
     pub fn name_place(&self, member: usize) -> Point {
         let (x, y) = self.outward(member);
-        let loops = if self.has_loop[member] { self.loops } else { 0.0 };
-        let far = self.radius + self.dot + loops + 11.0;
+        let far = self.radius + self.dot + 11.0;
         (far * x, far * y)
     }
 
@@ -162,6 +169,9 @@ impl Layout {
         match self.outward(member).0 {
             x if x > 0.3 => "start",
             x if x < -0.3 => "end",
+            // A loop has the other side.
+            x if self.has_loop[member] && x > -1e-6 => "start",
+            _ if self.has_loop[member] => "end",
             _ => "middle",
         }
     }
@@ -193,6 +203,13 @@ impl Layout {
             top = top.min(name.1).min(y - reach);
             right = right.max(name.2).max(x + reach);
             bottom = bottom.max(name.3).max(y + reach);
+            if self.has_loop[member] {
+                for curve in self.loop_curves(member, LOOPS - 1) {
+                    let (x, y) = curve.bend;
+                    (left, right) = (left.min(x), right.max(x));
+                    (top, bottom) = (top.min(y), bottom.max(y));
+                }
+            }
         }
         (left - edge, top - edge, right + edge, bottom + edge)
     }

@@ -2,6 +2,7 @@
 
 use super::drawing::Drawing;
 use super::glyphs;
+use super::grid::CROSS;
 use super::heads;
 use super::html::escaped;
 use super::palette;
@@ -35,10 +36,7 @@ fn kinds(drawing: &Drawing) -> String {
         let members: Vec<String> = members.iter().map(|one| words.member(*one)).collect();
         format!("<li>{}: {}</li>\n", escaped(kind), escaped(&members.join(", ")))
     };
-    match words.names.kind_relations(words.terms).is_empty() {
-        true => String::new(),
-        false => words.names.kinds().iter().map(item).collect(),
-    }
+    words.names.kinds().iter().map(item).collect()
 }
 
 /// The legend of a page with so many moments, and how many of them are drawn.
@@ -55,11 +53,12 @@ pub fn list(drawing: &Drawing, moments: usize) -> String {
         };
         entry(drawing, &sample, said)
     };
-    text.push_str(&event("event-edge", "the event that made the moment"));
+    text.push_str(&event("event-edge", "what just happened"));
     if !drawing.words.terms.kept.is_empty() {
-        text.push_str(&event("event-edge denied-edge", "the denied try that made the moment"));
+        text.push_str(&event("event-edge denied-edge", "what was just tried and denied"));
     }
-    if (0..drawing.count()).any(|moment| !drawing.changes(moment).added.is_empty()) {
+    text.push_str(&asked(drawing));
+    if drawing.moments().any(|moment| !drawing.changes(moment).added.is_empty()) {
         text.push_str(&added(drawing));
     }
     text.push_str(&kinds(drawing));
@@ -67,13 +66,30 @@ pub fn list(drawing: &Drawing, moments: usize) -> String {
     if drawing.is_wide() {
         text.push_str("<p class=\"quiet\">A mark is an edge from its row to its column.</p>\n");
     }
-    if drawing.count() < moments {
+    let count = drawing.moments().count();
+    if count < moments {
         text.push_str(&format!(
-            "<p class=\"quiet\">The first {} of {moments} moments are drawn.</p>\n",
-            drawing.count()
+            "<p class=\"quiet\">{count} of {moments} moments are drawn: the first, the last, and those at which \
+             relations change.</p>\n",
         ));
     }
     text
+}
+
+/// How denied requests and past events are drawn.
+fn asked(drawing: &Drawing) -> String {
+    let (denied, past) = match drawing.is_wide() {
+        true => (
+            format!("<path class=\"crossed\" transform=\"translate(7 7)\" d=\"{CROSS}\"/>"),
+            "<rect class=\"past-edge\" x=\"1\" y=\"1\" width=\"12\" height=\"12\"/>".to_string(),
+        ),
+        false => (
+            "<path class=\"asked-edge\" d=\"M1 7H36\" marker-end=\"url(#crossed)\"/>".to_string(),
+            "<path class=\"past-edge\" d=\"M1 7H40\" marker-end=\"url(#arrow-past)\"/>".to_string(),
+        ),
+    };
+    entry(drawing, &denied, "a denied request")
+        + &entry(drawing, &past, "a past event that a reason tells of")
 }
 
 /// How an edge is set off that a moment has got.

@@ -52,6 +52,20 @@ fn a_change_and_three_requests() {
     assert!(told.contains("You may always share with the target."), "{told}");
 }
 
+/// The picture has the past that the last answer rests on, and the request if it was denied.
+#[test]
+fn the_picture_shows_why() {
+    let folder = folder();
+    let page = Page::of(&folder);
+    let requests = r#"[["share","dora","pete"],["withdraw","dora","pete"],["load","pete","saw"]]"#;
+    let counts = |at: usize| {
+        let told = page.told(SOURCE, requests, at, NOTHING).replace("\\\"", "\"");
+        ["<path class=\"asked-edge\"", "<path class=\"past-edge\"", ">share, 1</text>"]
+            .map(|wanted| told.matches(wanted).count())
+    };
+    assert_eq!((counts(2), counts(3)), ([0, 0, 0], [1, 1, 1]));
+}
+
 /// The legend shows a relation as the picture does: with its dash, and with its end, which
 /// the picture has.
 #[test]

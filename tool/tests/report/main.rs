@@ -3,6 +3,7 @@
 mod pictures;
 #[path = "../run_support/mod.rs"]
 mod run_support;
+mod tables;
 
 use run_support::{example, preset, run, Folder};
 
@@ -58,12 +59,38 @@ fn everything_is_on_the_page() {
         "dora owns saw, and dora shared with pete at moment 1, but dora withdrew from pete at moment 3",
         "<title id=\"title3\">Moment 3: withdraw dora → pete</title>",
         "<desc id=\"desc0\">Relation edges: own dora → saw.</desc>",
-        "Round: a moment. Square: a request, ✓ granted, ✗ denied, ! refused.",
+        "<span class=\"chip granted\" aria-hidden=\"true\">✓</span> a granted request</li>",
+        "<p class=\"then\">Then asked:</p>",
+        "<a class=\"next\" href=\"#moment-1\">→ moment 1</a></p>",
+        "<p class=\"quiet\">A request works out at most ",
         "prefers-color-scheme:dark",
         "@media print",
+        // What is folded on a screen is open on paper.
+        "details::details-content{display:block;height:auto;content-visibility:visible}",
     ] {
         assert!(page.contains(wanted), "{wanted}");
     }
+}
+
+/// The filter says whom it is about, and a moment tells who asked there with what answer, so
+/// that it is left out together with the link to it.
+#[test]
+fn a_filter_hides_moments_and_their_links() {
+    let folder = preset();
+    folder.write("requests.tsv", "R\t2\t1\t2\nR\t0\t0\t1\n");
+    let page = page(&folder);
+    assert!(page.contains("<label>Requests involving <select id=\"by-member\""), "{page}");
+    assert!(page.contains("<option value=\"all\">any answer</option>"), "{page}");
+    let marks = "data-asked=\"0 0-granted 1 1-denied 1-granted 2 2-denied denied granted\"";
+    for (moment, marks) in [(0, marks), (1, "data-asked=\"\"")] {
+        let link =
+            format!("<li class=\"to-moment\" {marks}><a class=\"at\" href=\"#moment-{moment}\"");
+        assert!(page.contains(&link), "{link}");
+        assert!(page.contains(&format!("<li class=\"moment\" id=\"moment-{moment}\" {marks}>")));
+    }
+    let chosen = "main:has(#by-member option[value=\"2\"]:checked)";
+    let left = ":not(:is([data-asked~=\"2\"])){display:none}";
+    assert!(page.contains(&format!("{chosen} :is(.moment,.strip>.to-moment){left}")), "{page}");
 }
 
 /// Where a choice leaves no request, that is said.
@@ -147,27 +174,19 @@ fn long_stories_stay_light() {
     folder.write("requests.tsv", &requests.collect::<String>());
     let page = page(&folder);
     assert!(page.len() < 8_000_000, "{}", page.len());
-    assert!(page.contains("of 1001 moments are drawn."));
+    assert!(page.contains("of 1001 moments are drawn: the first, the last, and those"));
     // What changed is told of every moment that is not drawn, too.
-    let (_, last) = page.split_once("id=\"moment-1000\"").unwrap();
-    assert!(last.contains("<li>− relation 0: 39 → 15</li>"), "{last}");
+    let (_, later) = page.split_once("id=\"moment-500\"").unwrap();
+    assert!(later.contains("<li>− relation 0: 51 → 7</li>"), "{later}");
     tags(&page);
 }
 
+/// A page without requests says what to do.
 #[test]
-fn who_may_is_a_table() {
+fn no_requests_yet() {
     let folder = preset();
-    folder.write("names.tsv", "member\t1\ta very long name indeed\nevent\t0\tshare\n");
-    let page = page(&folder);
-    assert_eq!(page.matches("<table class=\"may\"").count(), 3);
-    for wanted in [
-        "<caption>9 pairs may <b>share</b> at moment 3.<br/>Rows: who; columns: whom or what.</caption>",
-        "<caption>Nobody may <b>event 2</b> at moment 3.<br/>",
-        "<th scope=\"col\" title=\"a very long name indeed\"><div><span>a very long n…</span></div></th>",
-        "<tr><th scope=\"row\">0</th><td class=\"y\">✓</td>",
-    ] {
-        assert!(page.contains(wanted), "{wanted}");
-    }
+    folder.write("requests.tsv", "");
+    assert!(page(&folder).contains("No requests yet. Add requests.say, or use"));
 }
 
 #[test]
@@ -199,8 +218,12 @@ fn a_long_story_is_folded_and_can_be_filtered() {
     assert!(short.contains("option[value=\"denied\"]:checked) :is(.asked>li,.strip>.step)"));
     folder.write("requests.tsv", &"R\t0\t0\t1\n".repeat(100));
     let long = page(&folder);
-    assert!(long.contains("<details class=\"folded\"><summary>141 more</summary>"));
+    assert!(long.contains("<details class=\"folded\"><summary>Moments 15–85</summary>"));
     assert_eq!(long.matches("<li class=\"step\"").count(), 100);
+    // Where relations stay as they are, only the ends are drawn.
+    assert_eq!(long.matches("<svg class=\"graph\"").count(), 24);
+    assert!(long.contains("<p class=\"quiet\">24 of 101 moments are drawn: "), "{long}");
+    assert!(long.contains("<li class=\"moment brief\" id=\"moment-50\""), "{long}");
     assert!(!long.contains("<option value=\"2\">saw</option>"), "saw takes no part");
 }
 

@@ -1,6 +1,6 @@
 //! What is drawn, the legend, and the relation edges in words.
 
-use crate::run_support::Folder;
+use crate::run_support::{preset, Folder};
 use crate::{page, tags};
 
 /// The value of an attribute, the first of its name.
@@ -95,6 +95,21 @@ fn edges_are_told_once_and_then_what_changes() {
     assert_eq!(page.matches(" added\" d=").count(), 1, "cleo friend ben");
 }
 
+/// Where edges go both ways, the lines are counted; a description tells what was added.
+#[test]
+fn edges_that_go_both_ways() {
+    let folder = Folder::new();
+    folder.write(
+        "terms.say",
+        "members ben, cleo, dora\nrelation friend\nevent befriend by anyone then add me friend target\n\
+         first ben friend cleo, cleo friend ben\n",
+    );
+    folder.write("requests.say", "befriend cleo dora\n");
+    let page = page(&folder);
+    assert!(page.contains("<summary>2 relation edges: 1 line, both ways</summary>"), "{page}");
+    assert!(picture(&page, 1).contains(" Added: friend cleo → dora.</desc>"), "{page}");
+}
+
 /// Lines between many members would hide one another.
 #[test]
 fn many_members_are_a_matrix() {
@@ -133,5 +148,67 @@ fn kinds_are_no_relation_edges() {
     );
     let page = page(&folder);
     assert!(page.contains("<summary>1 relation edge</summary>"), "{page}");
+    assert!(page.contains("3 members of 2 kinds, 1 relation, 1 event."), "{page}");
+    assert!(page.contains("<li>presets: pad</li>"), "{page}");
     assert!(!page.contains("<td>player</td>"), "{page}");
+}
+
+/// The picture of a moment.
+fn picture(page: &str, moment: usize) -> &str {
+    let title = format!("aria-labelledby=\"title{moment} ");
+    let graph = page.split("<svg class=\"graph\"").find(|graph| graph.contains(&title)).unwrap();
+    graph.split("</svg>").next().unwrap()
+}
+
+/// What a reason tells of the past is drawn with its moment, and so is a denied request.
+#[test]
+fn the_past_and_the_denied_are_drawn() {
+    let page = page(&preset());
+    let lines = |moment: usize, class: &str| {
+        picture(&page, moment).matches(&format!("<path class=\"{class}\"")).count()
+    };
+    let counts =
+        |moment| ["event-edge", "asked-edge", "past-edge"].map(|class| lines(moment, class));
+    assert_eq!([0, 1, 2, 3].map(counts), [[0, 1, 0], [1, 0, 0], [1, 0, 0], [1, 1, 1]]);
+    let last = picture(&page, 3);
+    assert!(last.contains(">share, 1</text>"), "dora shared at moment 1: {last}");
+    let denied = last.split("<path").find(|path| path.contains("asked-edge")).unwrap();
+    assert!(denied.contains("marker-end=\"url(#crossed)\""), "{denied}");
+    for said in ["a denied request</li>", "a past event that a reason tells of</li>"] {
+        assert!(page.contains(said), "{said}");
+    }
+}
+
+/// The numbers in an attribute.
+fn numbers(text: &str, name: &str) -> Vec<f64> {
+    value(text, name).split(' ').map(|number| number.parse().unwrap()).collect()
+}
+
+/// A long name of an event is whole, and so is its middle on its line; a member's name is
+/// near the member, though there is a loop.
+#[test]
+fn names_are_whole_and_near() {
+    let folder = Folder::new();
+    let long = "recommend-to-everybody-who-may-want-to-hear-of-it";
+    folder.write(
+        "terms.say",
+        &format!("members ben, cleo, dora\nevent {long} by anyone\nevent rest by anyone\n"),
+    );
+    folder.write("requests.say", &format!("{long} ben cleo\nrest ben ben\n"));
+    let page = page(&folder);
+    let first = picture(&page, 1);
+    let view = numbers(first, "viewBox");
+    let name = first.split("<text").skip(1).find(|text| text.contains(long)).unwrap();
+    let half = long.len() as f64 * 14.0 * 0.6 / 2.0;
+    let middle = numbers(name, "x")[0];
+    assert!(view[0] <= middle - half && middle + half <= view[0] + view[2], "{view:?} {name}");
+    assert!(picture(&page, 2).contains(">rest</text>"), "a loop has its name");
+    for node in page.split("<g class=\"node\"").skip(1) {
+        let (circle, name) = node.split_once("<text").unwrap();
+        let ((cx, cy), (x, y)) = (
+            (numbers(circle, "cx")[0], numbers(circle, "cy")[0]),
+            (numbers(name, "x")[0], numbers(name, "y")[0]),
+        );
+        assert!((cx - x).hypot(cy - y) < 20.0, "{node}");
+    }
 }

@@ -46,8 +46,24 @@ function show(text, mistakes) {
     return pieces.append(span);
   });
   $('shown').replaceChildren(pieces);
-  $('numbers').textContent = `${text.split('\n').map((_, index) => index + 1).join('\n')}\n\n`;
+  number();
   follow();
+}
+
+/** Numbers the lines, each at its beginning: a long one takes several rows. */
+function number() {
+  const style = getComputedStyle($('source'));
+  const { lineHeight, font, tabSize, whiteSpace, overflowWrap } = style;
+  const measure = make('div');
+  const width = `${$('source').clientWidth - parseFloat(style.paddingLeft) - parseFloat(style.paddingRight)}px`;
+  measure.id = 'measure';
+  Object.assign(measure.style, { width, font, tabSize, whiteSpace, overflowWrap });
+  const lines = $('source').value.split('\n').map((line) => make('div', '', line || ' '));
+  measure.append(...lines);
+  $('source').parentNode.append(measure);
+  const rows = lines.map((line) => Math.max(1, Math.round(line.offsetHeight / parseFloat(lineHeight))));
+  measure.remove();
+  $('numbers').textContent = `${rows.map((count, index) => `${index + 1}${'\n'.repeat(count)}`).join('')}\n`;
 }
 
 /** Keeps the copy and the line numbers beside the text. */

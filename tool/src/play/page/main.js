@@ -4,7 +4,8 @@ const begin = JSON.parse($('begin').textContent);
 const state = {
   kept: begin.kept, // what the folder has
   requests: begin.kept.requests,
-  at: begin.kept.requests.length,
+  end: begin.kept.requests.length, // so many count; the others were taken back
+  at: begin.kept.requests.length, // so many are made at the moment that is looked at
   dropped: null, // the requests, and where they stood, before a request took the place of later ones
   from: null,
   to: null,
@@ -42,12 +43,16 @@ function draw(source, told) {
   document.body.classList.toggle('stale', mistakes.length > 0);
   for (const card of document.querySelectorAll('.graph-card, .asking, .story, .who')) card.inert = mistakes.length > 0;
   $('size').className = mistakes.length ? 'wrong' : '';
-  $('size').textContent = mistakes.length
-    ? `${mistakes.length} ${mistakes.length === 1 ? 'mistake' : 'mistakes'}`
+  $('size').textContent = mistakes.length ? `${mistakes.length} ${mistakes.length === 1 ? 'mistake' : 'mistakes'}` : '';
+  $('room').textContent = mistakes.length
+    ? ''
     : `${told.entries} of 256 entries, ${told.past} of 32 about the past; a request works out ${told.effort}`;
   markSaved();
   document.body.dataset.drawn = asked;
-  if (mistakes.length) return;
+  if (mistakes.length) {
+    if (!state.told) drawNothing(mistakes[0]);
+    return;
+  }
   state.told = told;
   // Who or what is no longer declared cannot stay chosen.
   const known = (name) => (told.members.includes(name) ? name : null);
@@ -65,6 +70,16 @@ function draw(source, told) {
   if (again) refresh();
 }
 
+/** What is said where nothing can be drawn yet. */
+function drawNothing({ line }) {
+  const where = line ? ` on line ${line}` : '';
+  for (const place of ['aloud', 'picture', 'hint', 'strip', 'why', 'table']) {
+    const said = make(place === 'strip' ? 'li' : place === 'hint' ? 'span' : 'p', 'quiet');
+    said.textContent = `Fix the mistake${where} to see this.`;
+    $(place).replaceChildren(said);
+  }
+}
+
 function fail(error) {
   $('size').className = 'wrong';
   $('size').textContent = error instanceof TypeError
@@ -72,7 +87,7 @@ function fail(error) {
     : error.message;
 }
 
-const present = () => ({ source: $('source').value, requests: state.requests.slice(0, state.at) });
+const present = () => ({ source: $('source').value, requests: state.requests.slice(0, state.end) });
 const changed = () => JSON.stringify(present()) !== JSON.stringify(state.kept);
 
 function markSaved() {
@@ -115,6 +130,10 @@ $('source').addEventListener('input', () => {
   waiting = setTimeout(refresh, 120);
 });
 $('source').addEventListener('scroll', follow);
+new ResizeObserver(() => {
+  number();
+  follow();
+}).observe($('source'));
 for (const end of ['from', 'to']) {
   $(end).onchange = () => {
     state[end] = $(end).value || null;
@@ -130,8 +149,8 @@ $('event').onchange = () => {
   refresh();
 };
 $('table').onclick = chooseCell;
-$('undo').onclick = () => goTo(state.at - 1);
-$('redo').onclick = () => goTo(state.at + 1);
+$('undo').onclick = () => count(state.end - 1);
+$('redo').onclick = () => count(state.end + 1);
 $('start').onclick = () => goTo(0);
 $('restore').onclick = restore;
 $('save').onclick = () => save(false);

@@ -84,10 +84,10 @@ function reason(line) {
 
 /** Makes a request. It takes the place of those that were taken back; they can be brought back. */
 function ask(event) {
-  const { requests, at, from, to } = state;
-  state.dropped = at < requests.length ? { requests, at } : null;
+  const { requests, at, end, from, to } = state;
+  state.dropped = at < requests.length ? { requests, at, end } : null;
   state.requests = [...requests.slice(0, at), [event, from, to]];
-  state.at = state.requests.length;
+  state.at = state.end = state.requests.length;
   refresh();
 }
 

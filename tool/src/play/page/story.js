@@ -1,14 +1,16 @@
 // The requests so far, why the last was answered so, and who may do what.
 
-/** The requests in order. Those that were taken back stay, until another is made. */
+/** The requests in order. Those that were taken back stay, until another is made; those after the moment that is
+    looked at are dim. */
 function drawStory() {
-  const { told, at } = state;
+  const { told, at, end } = state;
   const begin = make('button', 'start', told.begun);
   begin.onclick = () => goTo(0);
   const chips = told.steps.map((step, index) => {
     const name = kind(step.answer);
     const words = `${SIGNS[name]} ${step.event} ${step.from} → ${step.to}`;
-    const chip = make('button', index < at ? name : `${name} back`, words);
+    const when = index >= end ? ' back' : index >= at ? ' later' : '';
+    const chip = make('button', `${name}${when}`, words);
     chip.onclick = () => goTo(index + 1);
     chip.title = `${ANSWERS[name]}${step.made ? `; moment ${step.moment}` : ''}`;
     if (step.made) chip.append(' ', make('sup', '', step.moment));
@@ -25,8 +27,9 @@ function drawStory() {
   // The page itself stays where it is. The line around the request is seen, too.
   const { offsetTop, offsetHeight } = items[at] ?? items[0];
   $('strip').scrollTop = offsetTop + offsetHeight + 3 - $('strip').clientHeight;
-  $('undo').disabled = $('start').disabled = at === 0;
-  $('redo').disabled = at === state.requests.length;
+  $('undo').disabled = end === 0;
+  $('start').disabled = at === 0;
+  $('redo').disabled = end === state.requests.length;
   const gone = state.dropped ? state.dropped.requests.length - state.dropped.at : 0;
   $('dropped').hidden = gone === 0;
   $('gone').textContent = gone === 1 ? '1 later request was dropped.' : `${gone} later requests were dropped.`;
@@ -35,14 +38,20 @@ function drawStory() {
 /** Brings back the requests that another one took the place of, without that one. */
 function restore() {
   if (!state.dropped) return;
-  const { requests, at } = state.dropped;
-  Object.assign(state, { requests, at, dropped: null });
+  Object.assign(state, state.dropped, { dropped: null });
   refresh();
 }
 
-/** Goes to the moment after so many requests. */
+/** Looks at the moment after so many requests; that changes nothing. */
 function goTo(at) {
   state.at = at;
+  if (at > state.end) state.end = at;
+  refresh();
+}
+
+/** Lets so many requests count. */
+function count(end) {
+  Object.assign(state, { end, at: end });
   refresh();
 }
 
@@ -51,7 +60,11 @@ function drawWhy() {
   const { told, at } = state;
   const step = told.steps[at - 1];
   if (!step) {
-    $('why').replaceChildren(make('p', 'quiet', 'Nothing was asked yet.'));
+    const ahead = told.steps.length;
+    const words = ahead
+      ? `This is the start; ${ahead} ${ahead === 1 ? 'request lies' : 'requests lie'} ahead.`
+      : 'Nothing was asked yet.';
+    $('why').replaceChildren(make('p', 'quiet', words));
     return;
   }
   const name = kind(step.answer);
@@ -66,14 +79,18 @@ function drawWho() {
   const { told } = state;
   fill($('event'), told.events.map((name) => [name, name]), state.who);
   $('table').innerHTML = told.table ?? '';
-  const cell = (from, to) => $('table').querySelector('tbody')?.rows[from]?.cells[to + 1];
-  cell(told.members.indexOf(state.from), told.members.indexOf(state.to))?.classList.add('chosen');
+  const [from, to] = [state.from, state.to].map((name) => told.members.indexOf(name));
+  const head = (scope, member) => $('table').querySelector(`th[scope=${scope}][data-member="${member}"]`);
+  const column = head('col', to)?.cellIndex;
+  if (column) head('row', from)?.parentNode.cells[column].classList.add('chosen');
 }
 
 function chooseCell({ target }) {
   const cell = target.closest('tbody td');
   if (!cell) return;
   const { members } = state.told;
-  Object.assign(state, { from: members[cell.parentNode.sectionRowIndex], to: members[cell.cellIndex - 1] });
+  const heads = $('table').querySelector('thead').rows[0].cells;
+  const [from, to] = [cell.parentNode.cells[0], heads[cell.cellIndex]].map((head) => members[head.dataset.member]);
+  Object.assign(state, { from, to });
   refresh();
 }
