@@ -45,7 +45,7 @@ fn warnings_stand_at_their_lines() {
         ),
         (
             "event edit when me owns target and not me owns target",
-            "terms.say:5:7: warning: nobody was ever granted edit",
+            "requests were tried, and nobody was ever granted edit",
         ),
     ];
     for (rest, part) in cases {

@@ -27,11 +27,11 @@ the shortest list of further requests, of anybody, after which it is. REQUEST is
 asks, the event and who is asked, as in \"pete load saw\"; the event may come first.
 
 If it fails by a kind or a relation that no event changes, or by what is remembered for
-good, it is never granted, and that is said at once. Else every state that can be reached is tried, those of fewer requests
-first; each step is made by the proved library. If no list is found, all states were
-seen, and there is none; or none within N requests; or the search takes too long or too
-much memory, and says so. On a terminal it shows how far it is. Nothing is requested, so
-nothing changes.
+good, it is never granted, and that is said at once. Otherwise every state that can be
+reached is tried, those of fewer requests first; each step is made by the proved library.
+If no list is found, all states were seen, and there is none; or none within N requests;
+or the search takes too long or too much memory, and says so. On a terminal it shows how
+far it is. Nothing is requested, so nothing changes.
 
   --within N   seek lists of at most N requests
   --first      begin at moment 0, before any request of DIR

@@ -15,12 +15,14 @@ impl Names {
         beyond.or_else(|| self.nameless(terms).into_iter().next())
     }
 
-    /// Where some have names and others have none: `2 of 3 members`. What has no names at
-    /// all goes by number.
+    /// Where the first two or more have names and the others have none, as in smaller terms:
+    /// `2 of 3 members`. Names may be given to some only, and what has none goes by number.
     pub fn nameless(&self, terms: &Terms) -> Vec<String> {
         let partly = |(kind, count): (Kind, usize)| {
-            let named = self.numbers(kind).filter(|number| *number < count).count();
-            (0 < named && named < count).then(|| format!("{named} of {}", counted(kind, count)))
+            let named = self.numbers(kind).count();
+            let first = self.numbers(kind).all(|number| number < named);
+            (first && 1 < named && named < count)
+                .then(|| format!("{named} of {}", counted(kind, count)))
         };
         counts(terms).into_iter().filter_map(partly).collect()
     }

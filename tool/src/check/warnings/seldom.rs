@@ -250,7 +250,7 @@ pub fn strangers(terms: &Terms, names: &Names) -> Vec<Warning> {
     warnings
 }
 
-/// Names for some and not for all.
+/// Names for the first few only.
 pub fn nameless(terms: &Terms, names: &Names) -> Vec<Warning> {
     let warning = |partly: String| Warning {
         kind: "name",
