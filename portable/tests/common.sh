@@ -64,6 +64,19 @@ build() {
     "$@" -std=c11 $warnings $revise -o "$work/$name/replay" $invariants "$work/replay.c" "$work/$name/cuckooormolu.o"
 }
 
+# bindings NAME C++ COMMAND...: the tests of bindings/c over a build. They take compilers without flags, and include the
+# archive's header, which is to be the C file's here.
+bindings() {
+    name=$1 plus=$2
+    shift 2
+    printf '#!/bin/sh\nexec %s -DCUCKOOORMOLU_AMALGAMATION "$@"\n' "$*" >"$work/$name/cc"
+    printf '#!/bin/sh\nexec %s -DCUCKOOORMOLU_AMALGAMATION "$@"\n' "$plus" >"$work/$name/c++"
+    chmod 755 "$work/$name/cc" "$work/$name/c++"
+    command -v "$plus" >/dev/null || rm "$work/$name/c++"
+    CC="$work/$name/cc" CXX="$work/$name/c++" quietly sh "$top/bindings/c/test.sh" "$work/$name/libcuckooormolu.a"
+    echo "ok   $name: bindings/c/test.sh"
+}
+
 # hold NAME COUNT DIGEST [EMULATOR]: a build passes the tests in C, answers the examples and the pages as the keeper
 # does, and says in the replay what the archive says.
 hold() {

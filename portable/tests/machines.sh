@@ -13,11 +13,7 @@ native() {
     has "$@" || return 0
     build "$name" "$@"
     hold "$name" "$inputs" "$wanted"
-    # bindings/c/test.sh takes a compiler without flags.
-    printf '#!/bin/sh\nexec %s "$@"\n' "$*" >"$work/$name/cc"
-    chmod 755 "$work/$name/cc"
-    CC="$work/$name/cc" CXX=none quietly sh "$top/bindings/c/test.sh" "$work/$name/libcuckooormolu.a"
-    echo "ok   $name: bindings/c/test.sh"
+    bindings "$name" none "$@"
     case $* in
     *-fsanitize=*) differ "$name" "$calls" "$files" -C linker="$work/$name/cc" ;;
     *) differ "$name" "$calls" "$files" ;;

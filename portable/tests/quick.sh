@@ -23,8 +23,7 @@ cp "$folder/cuckooormolu.c" "$folder/cuckooormolu.h" "$folder/example.c" "$folde
 (cd "$work/shown" && cc -std=c11 -O2 -c cuckooormolu.c && cc -std=c11 -O2 -o host example.c cuckooormolu.o)
 (cd "$top/examples/preset" && "$work/shown/host" terms.tsv requests.tsv) | cmp - "$top/examples/preset/expected.tsv"
 echo 'ok   cc: the host beside the C file'
-quietly sh "$top/bindings/c/test.sh" "$work/cc/libcuckooormolu.a"
-echo 'ok   cc: bindings/c/test.sh'
+bindings cc c++ cc
 differ cc "$calls" "$files"
 quietly env -u CUCKOOORMOLU_LIB CUCKOOORMOLU_C="$folder" cargo test --release --quiet -p cuckooormolu
 echo 'ok   cc: the Rust crate, built from the C file'
