@@ -117,7 +117,7 @@ fn drawn() {
     let page = folder.read("page.html").replace('\u{a0}', " ");
     for part in [
         "<path class=\"event-edge denied-edge\" d=\"M",
-        "the denied try that made the moment",
+        "what was just tried and denied",
         "Moment 1: denied load pete → saw",
         ">denied load</text>",
         "If you are denied, the attempt is remembered too.",

@@ -120,13 +120,13 @@ fn definitions_are_told_of_stored_terms() {
 fn kinds_are_counted_and_drawn_apart() {
     let folder = library("");
     let said = run(&["check", folder.path()]).out;
-    let begin = "accepted: 6 members, 2 kinds, 1 relation, 4 events, ";
+    let begin = "accepted: 6 members, 3 kinds, 1 relation, 4 events, ";
     assert!(said.starts_with(begin) && said.contains(", 1 first edge\n"), "{said}");
     let page = folder.file("page.html");
     assert_eq!(run(&["report", folder.path(), "-o", page.to_str().unwrap()]).status, 0);
     let page = folder.read("page.html").replace('\u{a0}', " ");
     for wanted in [
-        "6 members of 2 kinds, 1 relation, 4 events.",
+        "6 members of 3 kinds, 1 relation, 4 events.",
         "Relation edges: owns dora → kick.",
         "<li>designers: dora, dan</li>",
     ] {

@@ -31,7 +31,7 @@ pub fn accepted(both: &Both, folder: &Folder, limits: &Limits) -> Json {
         ("file", file(folder)),
         ("members", terms.members.into()),
         ("relations", terms.relations.into()),
-        ("kinds", folder.names.kind_relations(terms).len().into()),
+        ("kinds", folder.names.kinds().len().into()),
         ("events", terms.events.into()),
         ("entries", terms.entries.len().into()),
         ("past", terms.past().len().into()),

@@ -83,8 +83,9 @@ fn counts(both: &Both, names: &Names) -> Vec<String> {
             false => counted(edges, "first edge", "first edges"),
         },
     ];
-    if !kinds.is_empty() {
-        parts.insert(1, counted(kinds.len(), "kind", "kinds"));
+    let kinds = names.kinds().len();
+    if kinds > 0 {
+        parts.insert(1, counted(kinds, "kind", "kinds"));
     }
     if !terms.kept.is_empty() {
         parts.push(counted(terms.kept.len(), "event kept when denied", "events kept when denied"));
