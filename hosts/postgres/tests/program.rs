@@ -68,7 +68,8 @@ fn a_damaged_circle_is_reported() {
     let damage = "update circle set state = state || '\\x00' where id = 71";
     Connection::script(&server(), damage).unwrap();
     let input = line(71, 1, LOAD) + &line(71, 2, LOAD) + &line(72, 3, LOAD);
-    let why = "circle 71 is damaged: state that is not one of these terms, or was damaged: go on from terms and state that were kept together (refusal 8)";
+    let why = "circle 71 is damaged: state that is not one of these terms, or was damaged: go on \
+               from terms and state that were kept together (refusal 8)";
     let answers = format!("{:032x}\terror\t{why}\n{:032x}\terror\t{why}\n{:032x}\tdeny\n", 1, 2, 3);
     let output = program(&["serve", &server()], input.as_bytes());
     assert_eq!(said(&output), (Some(0), answers, format!("circles: {why}\n")));

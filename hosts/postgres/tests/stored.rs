@@ -44,7 +44,8 @@ fn every_circle_is_checked() {
     let damage = "update circle set terms = set_byte(terms, 4, 65) where id in (-1, 2400)";
     Connection::script(to, damage).unwrap();
     let said_now = said(&program(&["check", to], b""));
-    let why = "is damaged: terms that no accepted text yields (refusal 7)";
+    let why = "is damaged: no terms have been read into this monitor, or they were damaged: \
+               read them again (refusal 7)";
     let out = format!(
         "circle -1 {why}\ncircle 2400 {why}\ncircles: 2501; damaged: 2; above the limit of 1000000 rows: 0\n"
     );
