@@ -1,5 +1,6 @@
 // What a call answers, a record of a set list, and what is told of an entry. The crate has
 // definitions and laws, and no function.
+#![tactic(auto)]
 
 // What a decided request carries.
 #[derive(Drop)]

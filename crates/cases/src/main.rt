@@ -1,6 +1,8 @@
 // Runs the cases of cases.tsv in the current folder: every case of docs/SCOPE.md, Cases, and a dozen more of
 // each refusal. A case prints one line: its label, a tab, the result. The keeper reads the same file and works
 // out by itself what is to be printed.
+#![tactic(auto)]
+
 mod asks;
 mod columns;
 mod lent;

@@ -1,6 +1,8 @@
 // Which old entry has the same fully spelled-out formula as a new one (docs/SCOPE.md, New terms). It is found without
 // spelling out, by classes: the class of an entry is the first old entry with its formula, or the number of old
 // entries. An entry's key is its operator and operands in one number, entries among these by their classes.
+#![tactic(auto)]
+
 ghost use Rattle.std.specs.Prelude.{◌≡◌, true, ℕ, ◌<◌, ◌≤◌, ◌+◌, ◌%◌, ◌/◌, length};
 ghost use Rattle.theory.specs.Limits.{max_entries};
 ghost use Rattle.memory.specs.Layout.{terms_of};

@@ -1,5 +1,7 @@
 // How many rows a request may work out, before its terms are taken (specs/Effort.antt). It is a bound: what a request
 // takes is mostly far less.
+#![tactic(auto)]
+
 ghost use Rattle.std.specs.Prelude.{◌≡◌, ◌+◌, ◌<◌, ◌≤◌};
 ghost use Rattle.theory.specs.Limits.{max_entries};
 ghost use Rattle.memory.specs.Layout.{terms_of};

@@ -1,5 +1,7 @@
 // Answers the requests of requests.tsv by the terms of terms.tsv, both in the current
 // folder (docs/SCOPE.md, The program).
+#![tactic(auto)]
+
 ghost use Rattle.io.specs.Counts.{IsPrefixLen};
 
 use libc::{STDERR_FILENO, STDOUT_FILENO};

@@ -1,4 +1,6 @@
 // Bytes parted into fields, fields as numbers and words, and bytes, numbers and words put into an output.
+#![tactic(auto)]
+
 pub mod emit;
 pub mod field;
 pub mod number;

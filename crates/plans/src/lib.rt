@@ -1,5 +1,7 @@
 // Can a rival keep me from it? A plan of one to three requests, ruled upon by playing it against everything that a
 // rival may do between (docs/SCOPE.md, Plans).
+#![tactic(auto)]
+
 ghost use Rattle.std.specs.Prelude.{◌≡◌};
 ghost use Rattle.plans.specs.Plans.{ruling_of, ruling, scratch_after_ruling};
 

@@ -1,4 +1,6 @@
 // The reader of a terms file, of the old form and of the stored one, into lent memory.
+#![tactic(auto)]
+
 mod free;
 pub mod read;
 mod refusal;

@@ -1,4 +1,6 @@
 // Members renumbered: a state is rewritten into a second lent state. Terms and state are checked as by every call.
+#![tactic(auto)]
+
 ghost use Rattle.std.specs.Prelude.{◌≡◌, true, ℕ, ◌+◌, ◌*◌, ◌<◌, ◌≤◌, length, get_or};
 ghost use Rattle.sets.specs.Sets.{bit};
 ghost use Rattle.memory.specs.Layout.{state_words, block_words, event_at, terms_of};

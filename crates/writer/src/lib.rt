@@ -1,4 +1,6 @@
 // The writer of a terms file and of its stored form, over lent memory.
+#![tactic(auto)]
+
 mod bits;
 mod fresh;
 mod kind;
