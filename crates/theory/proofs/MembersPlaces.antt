@@ -110,6 +110,8 @@ module _ (N : ℕ) (q : ℕ → ℕ) (old : (m : ℕ) → m < N → q m < N) whe
 
   pub under_standing : (cs : List ℕ) (i k : ℕ) → columns_fit N cs ≡ true → inside N cs i k ≡ true → (x : ℕ) → In x cs →
       standing_at cs (word_under cs q i k) (bit_under cs q i k) x ≡ q (standing_at cs i k x)
+  under_standing [] i k fit e z s = elim s [ ]
+  under_standing (x ∷ []) i k fit e z (inr s) = elim s [ ]
   under_standing (x ∷ []) i k fit e z (inl s) = rw (eq-eqb z x s)
   under_standing (x ∷ y ∷ []) i k fit e z s = go (eqb z x) refl (eqb z y) refl s
     where
@@ -123,6 +125,7 @@ module _ (N : ℕ) (q : ℕ → ℕ) (old : (m : ℕ) → m < N → q m < N) whe
       go false _ true _ _ = pair-last (a i k x y f e) (b i k x y f e) (c i k x y f e) (b16 i k x y f e) (c16 i k x y f e)
       go false u false v (inl r) = absurd (eqb-false z x u r)
       go false u false v (inr (inl r)) = absurd (eqb-false z y v r)
+      go false u false v (inr (inr s)) = elim s [ ]
   under_standing (x ∷ y ∷ z ∷ zs) i k fit e v s = absurd (false≢true fit)
 
   -- The place of m under g, with other members, is that of the other members.

@@ -34,6 +34,7 @@ pub columns_in : (f : Formula) (x : ℕ) → x < 16 → free f x ≡ true → In
 columns_in f x l e = go (those 16 0 (free f)) (those_in (free f) 16 0 x (omega arith) l e)
   where
     go : (xs : List ℕ) → In x xs → In x (or_target xs)
+    go [] i = elim i [ ]
     go (y ∷ ys) i = i
 
 pub those_none : (p : ℕ → Bool) (n k : ℕ) → ((x : ℕ) → k ≤ x → x < k + n → p x ≡ false) → those n k p ≡ []
@@ -143,6 +144,8 @@ module _ (N : ℕ) where
     place_inside (x ∷ y ∷ z ∷ zs) fit = absurd (false≢true fit)
 
     pub place_standing : (cs : List ℕ) → columns_fit N cs ≡ true → (x : ℕ) → In x cs → standing_at cs (word_for cs g m) (bit_for cs g) x ≡ g x
+    place_standing [] fit z i = elim i [ ]
+    place_standing (x ∷ []) fit z (inr i) = elim i [ ]
     place_standing (x ∷ []) fit z (inl e) = rw (eq-eqb z x e) (ap g (sym e))
     place_standing (x ∷ y ∷ []) fit z i = go (eqb z x) refl (eqb z y) refl i
       where
@@ -158,4 +161,5 @@ module _ (N : ℕ) where
         go false p true q i = two_second (g x) (g y) c ∙ ap g (sym (eqb-true z y q))
         go false p false q (inl r) = absurd (eqb-false z x p r)
         go false p false q (inr (inl r)) = absurd (eqb-false z y q r)
+        go false p false q (inr (inr i)) = elim i [ ]
     place_standing (x ∷ y ∷ z ∷ zs) fit v i = absurd (false≢true fit)

@@ -5,11 +5,11 @@ use Rattle.fields.proofs.Output.{put_none}
 use Rattle.fields.proofs.emit.put_bytes.Statement.{statement}
 use Rattle.fields.proofs.emit.put_bytes.Tie as tie
 
-returns-3 : tie.Need-returns-3
-returns-3 c = record { all = λ h. c.before.before.put_word.ensures; none = λ h. absurd (h (omega arith)) }
+returns-3 : tie.Need-returns
+returns-3 c = record { all = λ h. c.put_word.ensures; none = λ h. absurd (h (omega arith)) }
 
-pub put-bytes-spec : {M : Type 1} → statement M
-put-bytes-spec =
+pub put_bytes_spec : {M : Type 1} → statement M
+put_bytes_spec =
     tie.close
     (tie.spec
     (λ c. record { all = λ h. absurd (omega arith); none = λ h. put_none _ _ })

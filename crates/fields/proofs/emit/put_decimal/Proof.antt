@@ -5,11 +5,11 @@ use Rattle.fields.proofs.Output.{put_none}
 use Rattle.fields.proofs.emit.put_decimal.Statement.{statement}
 use Rattle.fields.proofs.emit.put_decimal.Tie as tie
 
-returns-3 : tie.Need-returns-3
-returns-3 c = record { all = λ h. c.before.before.put-number.ensures; none = λ h. absurd (h (omega arith, omega arith)) }
+returns-3 : tie.Need-returns
+returns-3 c = record { all = λ h. c.put_number.ensures; none = λ h. absurd (h (omega arith, omega arith)) }
 
-pub put-decimal-spec : {M : Type 1} → statement M
-put-decimal-spec =
+pub put_decimal_spec : {M : Type 1} → statement M
+put_decimal_spec =
     tie.close
     (tie.spec
     (λ c. record { all = λ h. absurd (omega arith); none = λ h. put_none _ _ })

@@ -9,26 +9,26 @@ use Rattle.fields.proofs.Scan.{place_at_here, place_at_next, place_end}
 use Rattle.fields.proofs.field.find.Statement.{statement}
 use Rattle.fields.proofs.field.find.Tie as tie
 
-abbrev invariant-loop : tie.invariant-loop
+abbrev invariant-loop : tie.invariant-loop-i
 invariant-loop s c i₀ i = (i ≤ length s) × (i + place c (drop i s) ≡ place c s)
 
-abbrev decreases-loop : tie.decreases-loop
+abbrev decreases-loop : tie.decreases-loop-i
 decreases-loop s c i₀ i = length s - i
 
-returns : tie.Need-returns invariant-loop decreases-loop
+returns : tie.Need-returns-then-s-i invariant-loop decreases-loop
 returns c =
-    let a = c.before.before.before.before.args in
-    let i = c.before.before.before.loop.i in
-    omega (arith, place_at_here a.c a.s.now i c.before.before.loop-test.true c.if1.true)
+    let a = c.args in
+    let i = c.loop-i.i in
+    omega (arith, place_at_here a.c a.s.now i c.loop-i-test.true c.if-s-i.true)
 
-loop-again : tie.Need-loop-preserved invariant-loop decreases-loop
+loop-again : tie.Need-loop-i-preserved invariant-loop decreases-loop
 loop-again c =
-    let a = c.before.before.before.before.args in
-    let i = c.before.before.before.loop.i in
-    omega (arith, place_at_next a.c a.s.now i c.before.before.loop-test.true c.if1.false)
+    let a = c.args in
+    let i = c.loop-i.i in
+    omega (arith, place_at_next a.c a.s.now i c.loop-i-test.true c.if-s-i.false)
 
-returns-2 : tie.Need-returns-2 invariant-loop decreases-loop
-returns-2 c = omega (arith, place_end c.before.before.args.c c.before.before.args.s.now c.before.loop.i c.loop-test.false)
+returns-2 : tie.Need-returns invariant-loop decreases-loop
+returns-2 c = omega (arith, place_end c.args.c c.args.s.now c.loop-i.i c.loop-i-test.false)
 
 pub find_spec : {M : Type 1} → statement M
 find_spec =

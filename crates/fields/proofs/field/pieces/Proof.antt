@@ -10,25 +10,25 @@ use Rattle.fields.proofs.Scan.{count_at_here, count_at_next, count_end}
 use Rattle.fields.proofs.field.pieces.Statement.{statement}
 use Rattle.fields.proofs.field.pieces.Tie as tie
 
-abbrev invariant-loop : tie.invariant-loop
+abbrev invariant-loop : tie.invariant-loop-i
 invariant-loop s c n₀ i₀ n i = (i ≤ length s) × ((n ≤ suc i) × (n + length (split c (drop i s)) ≡ suc (length (split c s))))
 
-abbrev decreases-loop : tie.decreases-loop
+abbrev decreases-loop : tie.decreases-loop-i
 decreases-loop s c n₀ i₀ n i = length s - i
 
-loop-again : tie.Need-loop-preserved invariant-loop decreases-loop
+loop-again : tie.Need-loop-i-preserved invariant-loop decreases-loop
 loop-again c =
-    let s = c.before.before.before.before.args.s.now in
-    let b = c.before.before.before.before.args.c in
-    let i = c.before.before.before.loop.i in
-    let h = c.before.before.loop-test.true in
-    ⊎_elim (λ w. omega (arith, count_at_here b s i h w.0.taken)) (λ w. omega (arith, count_at_next b s i h w.0.left)) c.if1.branch
+    let s = c.args.s.now in
+    let b = c.args.c in
+    let i = c.loop-i.i in
+    let h = c.loop-i-test.true in
+    ⊎_elim (λ w. omega (arith, count_at_here b s i h w.if-s-i.true)) (λ w. omega (arith, count_at_next b s i h w.if-s-i.false)) c.if-s-i.branch-raw
 
 returns : tie.Need-returns invariant-loop decreases-loop
-returns c = omega (arith, count_end c.before.before.args.c c.before.before.args.s.now c.before.loop.i c.loop-test.false)
+returns c = omega (arith, count_end c.args.c c.args.s.now c.loop-i.i c.loop-i-test.false)
 
-pub pieces-spec : {M : Type 1} → statement M
-pieces-spec =
+pub pieces_spec : {M : Type 1} → statement M
+pieces_spec =
     tie.close
     (tie.spec
     invariant-loop

@@ -6,14 +6,14 @@ use Rattle.fields.proofs.Numeral.{number_empty, number_long, number_digits}
 use Rattle.fields.proofs.number.read_number.Statement.{statement}
 use Rattle.fields.proofs.number.read_number.Tie as tie
 
-returns-3 : tie.Need-returns-3
-returns-3 c = c.value.ensures ∙ sym (number_digits _ c.before.before.if1.false c.before.if2.false)
+returns-3 : tie.Need-returns
+returns-3 c = c.value.ensures ∙ sym (number_digits _ c.if-n-lt1.false c.if-n-gt5.false)
 
-pub read-number-spec : {M : Type 1} → statement M
-read-number-spec =
+pub read_number_spec : {M : Type 1} → statement M
+read_number_spec =
     tie.close
     (tie.spec
-    (λ c. sym (number_empty _ c.if1.true))
-    (λ c. let h = c.if2.true in sym (number_long _ (omega arith)))
+    (λ c. sym (number_empty _ c.if-n-lt1.true))
+    (λ c. let h = c.if-n-gt5.true in sym (number_long _ (omega arith)))
     (λ c κs. search rules)
     returns-3)

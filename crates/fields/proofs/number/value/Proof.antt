@@ -10,47 +10,47 @@ use Rattle.fields.proofs.Scan.{digit_below, digit_above, digit_next, value_next,
 use Rattle.fields.proofs.number.value.Statement.{statement}
 use Rattle.fields.proofs.number.value.Tie as tie
 
-abbrev invariant-loop : tie.invariant-loop
+abbrev invariant-loop : tie.invariant-loop-i
 invariant-loop f v₀ i₀ v i = (i ≤ length f) × ((v < 10 ^ i) × ((all_digits (drop i f) ≡ all_digits f) × (value_from v (drop i f) ≡ value_of f)))
 
-abbrev decreases-loop : tie.decreases-loop
+abbrev decreases-loop : tie.decreases-loop-i
 decreases-loop f v₀ i₀ v i = length f - i
 
-returns : tie.Need-returns invariant-loop decreases-loop
-returns c = rw (sym c.before.before.before.loop.invariant.1.1.0 ∙ digit_below _ _ c.before.before.loop-test.true c.if1.true) refl
+returns : tie.Need-returns-then-d-lt48 invariant-loop decreases-loop
+returns c = rw (sym c.loop-i.invariant.1.1.0 ∙ digit_below _ _ c.loop-i-test.true c.if-d-lt48.true) refl
 
-returns-2 : tie.Need-returns-2 invariant-loop decreases-loop
+returns-2 : tie.Need-returns-then-d-gt57 invariant-loop decreases-loop
 returns-2 c =
-    let e = digit_above _ _ c.before.before.before.loop-test.true c.before.if1.false c.if2.true in
-    rw (sym c.before.before.before.before.loop.invariant.1.1.0 ∙ e) refl
+    let e = digit_above _ _ c.loop-i-test.true c.if-d-lt48.false c.if-d-gt57.true in
+    rw (sym c.loop-i.invariant.1.1.0 ∙ e) refl
 
-mul-v : tie.Need-overflow-mul-v invariant-loop decreases-loop
+mul-v : tie.Need-overflow_mul-v invariant-loop decreases-loop
 mul-v c =
-    let l = c.before.before.before.before.loop in
+    let l = c.loop-i in
     omega (arith, ten_few l.v l.i l.invariant.1.0 (omega arith))
 
-add-v : tie.Need-overflow-add-v invariant-loop decreases-loop
+add-v : tie.Need-overflow_add-v invariant-loop decreases-loop
 add-v c =
-    let l = c.before.before.before.before.loop in
+    let l = c.loop-i in
     omega (arith, ten_few l.v l.i l.invariant.1.0 (omega arith))
 
-loop-again : tie.Need-loop-preserved invariant-loop decreases-loop
+loop-again : tie.Need-loop-i-preserved invariant-loop decreases-loop
 loop-again c =
-    let f = c.before.before.before.before.before.args.f.now in
-    let l = c.before.before.before.before.loop in
-    let h = c.before.before.before.loop-test.true in (
+    let f = c.args.f.now in
+    let l = c.loop-i in
+    let h = c.loop-i-test.true in (
       omega arith,
       (
-        ten_more l.v (get_or f l.i 0) l.i l.invariant.1.0 c.if2.false,
-        (sym (digit_next f l.i h c.before.if1.false c.if2.false) ∙ l.invariant.1.1.0, sym (value_next f l.i h l.v) ∙ l.invariant.1.1.1),
+        ten_more l.v (get_or f l.i 0) l.i l.invariant.1.0 c.if-d-gt57.false,
+        (sym (digit_next f l.i h c.if-d-lt48.false c.if-d-gt57.false) ∙ l.invariant.1.1.0, sym (value_next f l.i h l.v) ∙ l.invariant.1.1.1),
       ),
     )
 
-returns-3 : tie.Need-returns-3 invariant-loop decreases-loop
+returns-3 : tie.Need-returns invariant-loop decreases-loop
 returns-3 c =
-    let f = c.before.before.args.f.now in
-    let l = c.before.loop in
-    rw (sym l.invariant.1.1.0 ∙ digits_end f l.i c.loop-test.false, sym l.invariant.1.1.1 ∙ value_end f l.i l.v c.loop-test.false) refl
+    let f = c.args.f.now in
+    let l = c.loop-i in
+    rw (sym l.invariant.1.1.0 ∙ digits_end f l.i c.loop-i-test.false, sym l.invariant.1.1.1 ∙ value_end f l.i l.v c.loop-i-test.false) refl
 
 pub value_spec : {M : Type 1} → statement M
 value_spec =

@@ -14,4 +14,4 @@ put_spec =
     (λ c. search rules)
     (λ c. search rules)
     (λ c. search rules)
-    (λ c. put_out _ _ _ _ c.if1.false (refl)))
+    (λ c. put_out _ _ _ _ c.if-at-out.false (refl)))

@@ -14,19 +14,19 @@ use Rattle.fields.proofs.Digits.{digits_deep, digits_rest, digits_down, digits_l
 use Rattle.fields.proofs.put.put_digits.Statement.{statement}
 use Rattle.fields.proofs.put.put_digits.Tie as tie
 
-abbrev invariant-loop : tie.invariant-loop
+abbrev invariant-loop : tie.invariant-loop-v
 invariant-loop out at n d₀ i₀ v₀ d i v = (1 ≤ i) × ((i ≤ 5) × ((v < 10 ^ i) × ((v ≤ n) × ((length d ≡ 5) × (digits n ≡ digits_in i v ++ drop i d)))))
 
-abbrev decreases-loop : tie.decreases-loop
+abbrev decreases-loop : tie.decreases-loop-v
 decreases-loop out at n d₀ i₀ v₀ d i v = v
 
-loop-holds : tie.Need-loop-init invariant-loop decreases-loop
-loop-holds c = (omega arith, (omega arith, (c.before.requires.0, (omega arith, (refl, unfold digits in sym (append-nil _))))))
+loop-holds : tie.Need-loop-v-init invariant-loop decreases-loop
+loop-holds c = (omega arith, (omega arith, (c.requires.0, (omega arith, (refl, unfold digits in sym (append-nil _))))))
 
-loop-again : tie.Need-loop-preserved invariant-loop decreases-loop
+loop-again : tie.Need-loop-v-preserved invariant-loop decreases-loop
 loop-again c =
-    let l = c.before.loop in
-    let h = c.loop-test.true in
+    let l = c.loop-v in
+    let h = c.loop-v-test.true in
     let k = digits_deep l.i l.v h l.invariant.1.1.0 in (
       omega arith,
       (
@@ -44,23 +44,23 @@ loop-again c =
       ),
     )
 
-part-put-word-end : tie.Need-slice-bounds-put-word-end invariant-loop decreases-loop
+part-put-word-end : tie.Need-slice_bounds-put_word-end invariant-loop decreases-loop
 part-put-word-end c =
-    let l = c.before.before.before.loop in
+    let l = c.loop-v in
     le_of_eq (sym (length-set l.d (l.i - 1) (48 + l.v) ∙ l.invariant.1.1.1.1.0))
 
 returns : tie.Need-returns invariant-loop decreases-loop
 returns c =
-    let a = c.before.before.before.before.before.before.before.before.before.args in
-    let l = c.before.before.before.before.before.before.before.loop in
+    let a = c.args in
+    let l = c.loop-v in
     let xs = set l.d (l.i - 1) (48 + l.v) in
     let e = length-set l.d (l.i - 1) (48 + l.v) ∙ l.invariant.1.1.1.1.0 in
     let f = take_all (5 - (l.i - 1)) (drop (l.i - 1) xs) (le_of_eq (length-drop (l.i - 1) xs ∙ ap (λ (m : ℕ). m - (l.i - 1)) e)) in
-    let g = l.invariant.1.1.1.1.1 ∙ digits_last l.i l.v l.d c.before.before.before.before.before.before.loop-test.false l.invariant.0 (omega arith) in
-    subst (Put _ _ _ _) (f ∙ sym g) c.before.before.put_word.ensures
+    let g = l.invariant.1.1.1.1.1 ∙ digits_last l.i l.v l.d c.loop-v-test.false l.invariant.0 (omega arith) in
+    subst (Put _ _ _ _) (f ∙ sym g) c.put_word.ensures
 
-pub put-digits-spec : {M : Type 1} → statement M
-put-digits-spec =
+pub put_digits_spec : {M : Type 1} → statement M
+put_digits_spec =
     tie.close
     (tie.spec
     invariant-loop

@@ -8,21 +8,21 @@ use Rattle.fields.proofs.Output.{put_then}
 use Rattle.fields.proofs.put.put_number.Statement.{statement}
 use Rattle.fields.proofs.put.put_number.Tie as tie
 
-returns-2 : tie.Need-returns-2
+returns-2 : tie.Need-returns-then-n-lt100
 returns-2 c =
-    let q = c.before.before in
-    let p = q.before.before.before.before in
-    subst (Put _ _ _ _) (digits_double _ (omega arith) (omega arith)) (put_then p.put2.ensures q.put3.ensures)
+    let q = c in
+    let p = q in
+    subst (Put _ _ _ _) (digits_double _ (omega arith) (omega arith)) (put_then p.put-next.ensures q.put-then-n-lt100.ensures)
 
-pub put-number-spec : {M : Type 1} → statement M
-put-number-spec =
+pub put_number_spec : {M : Type 1} → statement M
+put_number_spec =
     tie.close
     (tie.spec
     (λ c. search rules)
     (λ c. search rules)
     (λ c κs. search rules)
     (λ c. search rules)
-    (λ c. subst (Put _ _ _ _) (digits_single _ (omega arith)) c.before.before.put.ensures)
+    (λ c. subst (Put _ _ _ _) (digits_single _ (omega arith)) c.put.ensures)
     (λ c. search rules)
     (λ c. search rules)
     (λ c κs. search rules)

@@ -9,21 +9,21 @@ use Rattle.fields.proofs.Output.{put_none, put_more, put_whole, put_long}
 use Rattle.fields.proofs.put.put_word.Statement.{statement}
 use Rattle.fields.proofs.put.put_word.Tie as tie
 
-abbrev invariant-loop : tie.invariant-loop
+abbrev invariant-loop : tie.invariant-loop-i
 invariant-loop out₀ at w i₀ next₀ out i next = (i ≤ length w) × ((next ≡ at + i) × Put out₀ out at next (take i w))
 
-abbrev decreases-loop : tie.decreases-loop
+abbrev decreases-loop : tie.decreases-loop-i
 decreases-loop out₀ at w i₀ next₀ out i next = length w - i
 
-loop-again : tie.Need-loop-preserved invariant-loop decreases-loop
+loop-again : tie.Need-loop-i-preserved invariant-loop decreases-loop
 loop-again c =
-    let w = c.before.before.before.before.before.before.before.before.before.args.w.now in
-    let l = c.before.before.before.before.before.before.loop in
-    let e = c.before.before.put.ensures.next in
-    (omega arith, (omega arith, put_more w l.i c.before.before.before.before.before.loop-test.true l.invariant.1.1 c.before.before.put.ensures))
+    let w = c.args.w.now in
+    let l = c.loop-i in
+    let e = c.put-next.ensures.next in
+    (omega arith, (omega arith, put_more w l.i c.loop-i-test.true l.invariant.1.1 c.put-next.ensures))
 
-pub put-word-spec : {M : Type 1} → statement M
-put-word-spec =
+pub put_word_spec : {M : Type 1} → statement M
+put_word_spec =
     tie.close
     (tie.spec
     invariant-loop
@@ -34,5 +34,5 @@ put-word-spec =
     (λ c. search rules)
     (λ c. search rules)
     loop-again
-    (λ c. put_long c.before.loop.invariant.1.1)
-    (λ c. put_whole _ _ c.loop-test.false c.before.loop.invariant.1.1))
+    (λ c. put_long c.loop-i.invariant.1.1)
+    (λ c. put_whole _ _ c.loop-i-test.false c.loop-i.invariant.1.1))

@@ -9,5 +9,5 @@ pick_spec =
     tie.close
     (tie.spec
     (λ c κs. search rules)
-    (λ c. rw (sym c.before.same.ensures ∙ c.if1.true))
-    (λ c. rw (sym c.before.same.ensures ∙ c.if1.false)))
+    (λ c. rw (sym c.same.ensures ∙ c.if-same.true))
+    (λ c. rw (sym c.same.ensures ∙ c.if-same.false)))

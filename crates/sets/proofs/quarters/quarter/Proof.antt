@@ -10,15 +10,15 @@ use Rattle.sets.proofs.Shifts.{quarter_bits}
 use Rattle.sets.proofs.quarters.quarter.Statement.{statement}
 use Rattle.sets.proofs.quarters.quarter.Tie as tie
 
-returns-2 : tie.Need-returns-2
+returns-2 : tie.Need-returns-else-q-lt4
 returns-2 c = λ k.
     let x = c.before.args in
     bit_zero k ∙ sym (is_false _ (λ e.
     let l : 16 * x.q + k < 64 = bit_below x.w 64 (16 * x.q + k) (omega (arith, c.before.ranges.w)) (and_right (ltb k 16) _ e) in
-    omega (arith, c.if1.false)))
+    omega (arith, c.if-q-lt4.false)))
 
-pub quarter-spec : {M : Type 1} → statement M
-quarter-spec =
+pub quarter_spec : {M : Type 1} → statement M
+quarter_spec =
     tie.close
     (tie.spec
     (λ c. search rules)

@@ -28,38 +28,38 @@ nowhere ws from c b (inr h) =
     bit_zero b
     ∙ sym (ap (λ (y : Bool). ltb (from + 3) (length ws) && (y && (ltb b 16 && there ws from c b))) (le-ltb c 16 h) ∙ and-false (ltb (from + 3) (length ws)))
 
-abbrev invariant-loop : tie.invariant-loop
+abbrev invariant-loop : tie.invariant-loop-b
 invariant-loop ws from c s₀ b₀ s b = (b ≤ 16) × ((j : ℕ) → bit s j ≡ (ltb j b && there ws from c j))
 
-abbrev decreases-loop : tie.decreases-loop
+abbrev decreases-loop : tie.decreases-loop-b
 decreases-loop ws from c s₀ b₀ s b = 16 - b
 
-loop-holds : tie.Need-loop-init invariant-loop decreases-loop
+loop-holds : tie.Need-loop-b-init invariant-loop decreases-loop
 loop-holds c = (omega arith, λ j. bit_zero j ∙ sym (ap (λ (x : Bool). x && there c.before.before.before.before.args.ws.now c.before.before.before.before.args.from c.before.before.before.before.args.c j) (le-ltb j 0 (omega arith))))
 
-loop-again : tie.Need-loop-preserved invariant-loop decreases-loop
+loop-again : tie.Need-loop-b-preserved invariant-loop decreases-loop
 loop-again c =
     let i = c.before.before.before.before.before.before.before.before.before.before in
-    let l = c.before.before.before.before.before.loop in
+    let l = c.before.before.before.before.before.loop-b in
     let p = there i.args.ws.now i.args.from i.args.c in (
       omega arith,
       λ j.
-          ap (λ (x : ℕ). bit (bit_or l.s x) j) (c.only.ensures ∙ ap (λ (x : Bool). cond x c.before.single.result 0) c.before.before.has.ensures)
+          ap (λ (x : ℕ). bit (bit_or l.s x) j) (c.only-s.ensures ∙ ap (λ (x : Bool). cond x c.before.single.result 0) c.before.before.has.ensures)
           ∙ swept_more p l.s l.b c.before.single.result (omega arith) l.invariant.1 c.before.single.ensures j,
     )
 
-returns : tie.Need-returns invariant-loop decreases-loop
-returns c = λ b. let x = c.before.before.args in nowhere x.ws.now x.from x.c b (inr c.if1.true)
+returns : tie.Need-returns-then-c-ge16 invariant-loop decreases-loop
+returns c = λ b. let x = c.before.before.args in nowhere x.ws.now x.from x.c b (inr c.if-c-ge16.true)
 
-returns-2 : tie.Need-returns-2 invariant-loop decreases-loop
+returns-2 : tie.Need-returns-then-ws-lt4 invariant-loop decreases-loop
 returns-2 c = λ b. let x = c.before.before.before.args in nowhere x.ws.now x.from x.c b (inl (omega arith))
 
-returns-3 : tie.Need-returns-3 invariant-loop decreases-loop
+returns-3 : tie.Need-returns-then-ws-from invariant-loop decreases-loop
 returns-3 c = λ b. let x = c.before.before.before.before.args in nowhere x.ws.now x.from x.c b (inl (omega arith))
 
-returns-4 : tie.Need-returns-4 invariant-loop decreases-loop
+returns-4 : tie.Need-returns invariant-loop decreases-loop
 returns-4 c = λ b.
-    let l = c.before.loop in
+    let l = c.before.loop-b in
     let x = c.before.before.before.before.before.before.args in
     let e : l.b ≡ 16 = omega (arith, l.invariant.0) in
     let long : x.from + 3 < length x.ws.now = omega arith in
@@ -67,8 +67,8 @@ returns-4 c = λ b.
     l.invariant.1 b ∙ ap (λ (y : ℕ). ltb b y && there x.ws.now x.from x.c b) e
     ∙ sym (ap₂ (λ (p q : Bool). p && (q && (ltb b 16 && there x.ws.now x.from x.c b))) (lt-ltb (x.from + 3) (length x.ws.now) long) (lt-ltb x.c 16 low))
 
-pub stripe-spec : {M : Type 1} → statement M
-stripe-spec =
+pub stripe_spec : {M : Type 1} → statement M
+stripe_spec =
     tie.close
     (tie.spec
     invariant-loop
