@@ -49,6 +49,7 @@ rise_rest m t ts r = and_right (leb m t.number) (numbers_rise t.number ts) r
 -- So the first test that fails has the lowest number.
 fails_above : (m : ℕ) {n : ℕ} (ts : List Test) → numbers_rise m ts ≡ true → Fails n ts → m ≤ n
 unfolding numbers_rise
+fails_above m [] r x = elim x [ ]
 fails_above m (t ∷ ts) r (this e p) = let l = leb-true m t.number (and_left (leb m t.number) _ r) in omega arith
 fails_above m (t ∷ ts) r (other p) =
     let l = leb-true m t.number (and_left (leb m t.number) _ r) in

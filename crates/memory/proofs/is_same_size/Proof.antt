@@ -8,12 +8,12 @@ use Rattle.memory.proofs.is_same_size.Tie as tie
 
 returns : tie.Need-returns
 returns c =
-    ap₂ ◌&&◌ (ap₂ eqb c.before.before.before.before.before.members.ensures.0 c.before.before.before.before.members2.ensures.0)
-    (ap₂ ◌&&◌ (ap₂ eqb c.before.before.before.relations.ensures.0 c.before.before.relations2.ensures.0)
-    (ap₂ eqb c.before.events.ensures.0 c.events2.ensures.0))
+    ap₂ ◌&&◌ (ap₂ eqb c.members.ensures.0 c.members-2.ensures.0)
+    (ap₂ ◌&&◌ (ap₂ eqb c.relations.ensures.0 c.relations-2.ensures.0)
+    (ap₂ eqb c.events.ensures.0 c.events-2.ensures.0))
 
-pub is-same-size-spec : {M : Type 1} → statement M
-is-same-size-spec =
+pub is_same_size_spec : {M : Type 1} → statement M
+is_same_size_spec =
     tie.close
     (tie.spec
     (λ c κs. search rules)

@@ -9,19 +9,19 @@ use borrow.Author.Rules.{rules}
 use Rattle.file.proofs.line.entry_line.Statement.{statement}
 use Rattle.file.proofs.line.entry_line.Tie as tie
 
-operator : (c : tie.After-read-operator) → c.read-operator.result ≡ operator_of (get_or (split 9 c.before.before.before.args.l.now) 2 [])
-operator c = c.read-operator.ensures ∙ ap operator_of c.before.piece.ensures
+operator : (c : tie.After-read_operator-o) → c.read_operator-o.result ≡ operator_of (get_or (split 9 c.args.l.now) 2 [])
+operator c = c.read_operator-o.ensures ∙ ap operator_of c.piece.ensures
 
-returns : tie.Need-returns
+returns : tie.Need-returns-then-o
 unfolding entry_line
-returns c = let e = operator c.before.before in rw (← e, c.before.if1.true) c.long-entry-line.ensures
+returns c = let e = operator c.before.before in rw (← e, c.if-o.true) c.long_entry_line.ensures
 
-returns-2 : tie.Need-returns-2
+returns-2 : tie.Need-returns-else-o
 unfolding entry_line
-returns-2 c = let e = operator c.before.before in rw (← e, c.before.if1.false) c.short-entry-line.ensures
+returns-2 c = let e = operator c.before.before in rw (← e, c.if-o.false) c.short_entry_line.ensures
 
-pub entry-line-spec : {M : Type 1} → statement M
-entry-line-spec =
+pub entry_line_spec : {M : Type 1} → statement M
+entry_line_spec =
     tie.close
     (tie.spec
     (λ c κs. search rules)

@@ -5,10 +5,10 @@ use borrow.Author.Rules.{rules}
 use Rattle.file.proofs.line.number_at.Statement.{statement}
 use Rattle.file.proofs.line.number_at.Tie as tie
 
-pub number-at-spec : {M : Type 1} → statement M
-number-at-spec =
+pub number_at_spec : {M : Type 1} → statement M
+number_at_spec =
     tie.close
     (tie.spec
     (λ c κs. search rules)
     (λ c κs. search rules)
-    (λ c. c.read_number.ensures ∙ ap number_of c.before.piece.ensures))
+    (λ c. c.read_number.ensures ∙ ap number_of c.piece.ensures))

@@ -15,14 +15,12 @@ at_place : (c : lts.After-pick2 (pick-reads.Asked, pick-reads.Learnt) reads.Pre 
 unfolding action_words
 at_place c = picked _ _ _ _ c.pick2.ensures (picked _ _ _ _ c.before.before.pick.ensures (picked_none _ _))
 
-pub read-action-spec : {M : Type 1} → statement M
-read-action-spec =
+pub read_action_spec : {M : Type 1} → statement M
+read_action_spec =
     tie.close
     (tie.spec
     (λ c. search rules)
     (λ c κs. search rules)
     (λ c. search rules)
-    (λ c κs. search rules)
-    (λ c. search rules)
-    (λ c. action_some _ _ (at_place c.before) c.if1.true)
-    (λ c. action_none _ _ (at_place c.before) c.if1.false))
+    (λ c. action_some _ _ (at_place c.before) c.if-add-lt2.true)
+    (λ c. action_none _ _ (at_place c.before) c.if-add-lt2.false))

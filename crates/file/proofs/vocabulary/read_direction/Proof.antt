@@ -8,15 +8,13 @@ use Rattle.file.proofs.vocabulary.read_direction.Tie as tie
 returns : tie.Need-returns
 unfolding direction_of direction_words
 returns c =
-    picked _ _ _ _ c.pick2.ensures
-    (picked _ _ _ _ c.before.before.pick.ensures (picked_none _ _))
+    picked _ _ _ _ c.pick.ensures
+    (picked _ _ _ _ c.pick-back.ensures (picked_none _ _))
 
-pub read-direction-spec : {M : Type 1} → statement M
-read-direction-spec =
+pub read_direction_spec : {M : Type 1} → statement M
+read_direction_spec =
     tie.close
     (tie.spec
-    (λ c. search rules)
-    (λ c κs. search rules)
     (λ c. search rules)
     (λ c κs. search rules)
     returns)

@@ -11,50 +11,50 @@ use Rattle.memory.proofs.BankOutcomes as outcomes
 use Rattle.memory.proofs.banks.inspect_opening.Statement.{statement}
 use Rattle.memory.proofs.banks.inspect_opening.Tie as tie
 
-abbrev checked : tie.After-made2 → tie.After-check-terms
+abbrev checked : tie.After-made-2-1 → tie.After-check_terms
 checked c = c.before.before
 
-abbrev looked : tie.After-check-terms → tie.Else1
+abbrev looked : tie.After-check_terms → tie.Else-is_short
 looked c = c.before.before.before
 
-abbrev start : tie.Else1 → tie.Start
+abbrev start : tie.Else-is_short → tie.Start
 start c = c.before.before.before.before.before.before
 
-lengths : (c : tie.Else1) → let x = (start c).args in
+lengths : (c : tie.Else-is_short) → let x = (start c).args in
     outcomes.short x.terms.now x.relations.now x.own.now x.other.now ≡ false
-lengths c = sym c.before.is_short.ensures ∙ c.if1.false
+lengths c = sym c.is_short.ensures ∙ c.if-is_short.false
 
-terms_good : (c : tie.Else2) → good_memory (start (looked (checked c.before))).args.terms.now ≡ true
-terms_good c = sym (checked c.before).check-terms.ensures.0 ∙ not-false _ c.if2.false
+terms_good : (c : tie.Else-not-check_terms) → good_memory (start (looked (checked c.before))).args.terms.now ≡ true
+terms_good c = sym (checked c.before).check_terms.ensures.0 ∙ not-false _ c.if-not-check_terms.false-raw
 
-long : (c : tie.Else1) → let x = (start c).args in
+long : (c : tie.Else-is_short) → let x = (start c).args in
     (terms_words ≤ length x.terms.now) × (relation_words ≤ length x.relations.now) × (own_words ≤ length x.own.now) × (own_words ≤ length x.other.now)
 long c = let x = (start c).args in outcomes.banks_long x.terms.now x.relations.now x.own.now x.other.now (lengths c)
 
-returns : tie.Need-returns
-returns c = (outcomes.open_short _ _ _ _ (sym c.before.is_short.ensures ∙ c.if1.true), ((λ e. absurd (false≢true e)), (λ _. refl)))
+returns : tie.Need-returns-then-is_short
+returns c = (outcomes.open_short _ _ _ _ (sym c.is_short.ensures ∙ c.if-is_short.true), ((λ e. absurd (false≢true e)), (λ _. refl)))
 
-returns-2 : tie.Need-returns-2
+returns-2 : tie.Need-returns-then-not-check_terms
 returns-2 c =
     let k = checked c.before in
-    (outcomes.open_bad_terms _ _ _ _ (lengths (looked k)) (sym k.check-terms.ensures.0 ∙ not-true _ c.if2.true), ((λ e. absurd (false≢true e)), (λ _. refl)))
+    (outcomes.open_bad_terms _ _ _ _ (lengths (looked k)) (sym k.check_terms.ensures.0 ∙ not-true _ c.if-not-check_terms.true-raw), ((λ e. absurd (false≢true e)), (λ _. refl)))
 
-returns-3 : tie.Need-returns-3
+returns-3 : tie.Need-returns-then-not-check_relations
 returns-3 c =
-    let k = c.before.before in (
-      outcomes.open_bad_relations _ _ _ _ (lengths (looked (checked k.before))) (terms_good k) (sym c.before.check-relations.ensures ∙ not-true _ c.if3.true),
+    let k = c in (
+      outcomes.open_bad_relations _ _ _ _ (lengths (looked (checked k.before.before.before))) (terms_good k.before.before) (sym c.check_relations.ensures ∙ not-true _ c.if-not-check_relations.true-raw),
       ((λ e. absurd (false≢true e)), (λ _. refl)),
     )
 
-returns-4 : tie.Need-returns-4
+returns-4 : tie.Need-returns
 returns-4 c =
-    let k = c.before.before in (
-      outcomes.open_passed _ _ _ _ (lengths (looked (checked k.before))) (terms_good k) (sym c.before.check-relations.ensures ∙ not-false _ c.if3.false),
-      ((λ _. ((checked k.before).check-terms.ensures.1.1 (not-false _ k.if2.false)).0), (λ e. absurd (true≢false e))),
+    let k = c in (
+      outcomes.open_passed _ _ _ _ (lengths (looked (checked k.before.before.before))) (terms_good k.before.before) (sym c.check_relations.ensures ∙ not-false _ c.if-not-check_relations.false-raw),
+      ((λ _. ((checked k.before.before.before).check_terms.ensures.1.1 (not-false _ k.if-not-check_terms.false-raw)).0), (λ e. absurd (true≢false e))),
     )
 
-pub inspect-opening-spec : {M : Type 1} → statement M
-inspect-opening-spec =
+pub inspect_opening_spec : {M : Type 1} → statement M
+inspect_opening_spec =
     tie.close
     (tie.spec
     (λ c κs. search rules)

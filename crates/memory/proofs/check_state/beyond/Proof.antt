@@ -3,5 +3,5 @@ use Rattle.memory.proofs.StateTests.{xor_none}
 use Rattle.memory.proofs.check_state.beyond.Statement.{statement}
 use Rattle.memory.proofs.check_state.beyond.Tie as tie
 
-pub beyond-spec : {M : Type 1} → statement M
-beyond-spec = tie.close (tie.spec (λ c. xor_none c.args.w _))
+pub beyond_spec : {M : Type 1} → statement M
+beyond_spec = tie.close (tie.spec (λ c. xor_none c.args.w _))

@@ -7,12 +7,12 @@ use Rattle.memory.proofs.check_state.check_own.Tie as tie
 
 returns : tie.Need-returns
 returns c =
-    let x = c.before.before.before.before.before.before.before.args in
+    let x = c.args in
     own-tests (terms_of x.terms.now) x.own.now
-    c.before.before.tables_fit.ensures c.event_fits.ensures
+    c.tables_fit.ensures c.event_fits.ensures
 
-pub check-own-spec : {M : Type 1} → statement M
-check-own-spec =
+pub check_own_spec : {M : Type 1} → statement M
+check_own_spec =
     tie.close
     (tie.spec
     (λ c κs. search rules)

@@ -10,21 +10,21 @@ use Rattle.memory.proofs.Pairs as pairs
 use Rattle.memory.proofs.check_state.permitted.Statement.{statement}
 use Rattle.memory.proofs.check_state.permitted.Tie as tie
 
-abbrev invariant-loop : tie.invariant-loop
+abbrev invariant-loop : tie.invariant-loop-q
 invariant-loop n i all s₀ q₀ s q = pairs.Permitting n i s q
 
-abbrev decreases-loop : tie.decreases-loop
+abbrev decreases-loop : tie.decreases-loop-q
 decreases-loop n i all s₀ q₀ s q = 4 - q
 
-loop-again : tie.Need-loop-preserved invariant-loop decreases-loop
+loop-again : tie.Need-loop-q-preserved invariant-loop decreases-loop
 loop-again c =
-    pairs.permitting_more _ _ _ _ _ _ _ c.before.before.loop-test.true c.before.before.before.loop.invariant c.before.before.before.before.mask.ensures
-    c.before.only.ensures
-    (λ k. c.with-quarter.ensures k
-    ∙ ap (λ (x : Bool). bit c.before.before.before.loop.s k || x) (in_quarter c.before.before.before.loop.q k (bit c.before.only.result (k % 16)) c.before.before.loop-test.true))
+    pairs.permitting_more _ _ _ _ _ _ _ c.loop-q-test.true c.loop-q.invariant c.mask-all.ensures
+    c.only.ensures
+    (λ k. c.with_quarter-s.ensures k
+    ∙ ap (λ (x : Bool). bit c.loop-q.s k || x) (in_quarter c.loop-q.q k (bit c.only.result (k % 16)) c.loop-q-test.true))
 
-pub permitted-spec : {M : Type 1} → statement M
-permitted-spec =
+pub permitted_spec : {M : Type 1} → statement M
+permitted_spec =
     tie.close
     (tie.spec
     invariant-loop
@@ -38,4 +38,4 @@ permitted-spec =
     (λ c. omega arith)
     (λ c. omega arith)
     loop-again
-    (λ c. pairs.permitting_all _ _ _ _ (λ l. omega arith) c.before.loop.invariant))
+    (λ c. pairs.permitting_all _ _ _ _ (λ l. omega arith) c.loop-q.invariant))

@@ -6,9 +6,9 @@ use borrow.Author.Tests.{lt-ltb, le-ltb}
 use Rattle.memory.proofs.check_terms.mark_fits.Statement.{statement}
 use Rattle.memory.proofs.check_terms.mark_fits.Tie as tie
 
-pub mark-fits-spec : {M : Type 1} → statement M
-mark-fits-spec =
+pub mark_fits_spec : {M : Type 1} → statement M
+mark_fits_spec =
     tie.close
     (tie.spec
-    (λ c. sym (ap (λ (t : Bool). ltb c.before.args.w (cond t 2 1)) (lt-ltb _ _ c.if1.true)))
-    (λ c. sym (ap (λ (t : Bool). ltb c.before.args.w (cond t 2 1)) (le-ltb _ _ c.if1.false))))
+    (λ c. sym (ap (λ (t : Bool). ltb c.args.w (cond t 2 1)) (lt-ltb _ _ c.if-j-e.true)))
+    (λ c. sym (ap (λ (t : Bool). ltb c.args.w (cond t 2 1)) (le-ltb _ _ c.if-j-e.false))))

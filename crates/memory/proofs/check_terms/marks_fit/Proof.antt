@@ -10,20 +10,20 @@ use Rattle.memory.proofs.TermsTests.{Testing, testing_none, testing_more, testin
 use Rattle.memory.proofs.check_terms.marks_fit.Statement.{statement}
 use Rattle.memory.proofs.check_terms.marks_fit.Tie as tie
 
-abbrev invariant-loop : tie.invariant-loop
+abbrev invariant-loop : tie.invariant-loop-j
 invariant-loop terms e ok₀ j₀ ok j = Testing 16 (λ j. ltb (get_or terms (mark_at j) 0) (cond (ltb j (terms_of terms).events) 2 1)) ok j
 
-abbrev decreases-loop : tie.decreases-loop
+abbrev decreases-loop : tie.decreases-loop-j
 decreases-loop terms e ok₀ j₀ ok j = 16 - j
 
-loop-again : tie.Need-loop-preserved invariant-loop decreases-loop
+loop-again : tie.Need-loop-j-preserved invariant-loop decreases-loop
 loop-again c =
-    let k = c.before.before.before in
-    testing_more k.loop.invariant (omega arith) c.mark-fits.result
-    (c.mark-fits.ensures ∙ ap₂ (λ (w e : ℕ). ltb w (cond (ltb k.loop.j e) 2 1)) c.before.word.ensures.0 k.before.events.ensures.0)
+    let k = c in
+    testing_more k.loop-j.invariant (omega arith) c.mark_fits-ok.result
+    (c.mark_fits-ok.ensures ∙ ap₂ (λ (w e : ℕ). ltb w (cond (ltb k.loop-j.j e) 2 1)) c.word.ensures.0 k.events-e.ensures.0)
 
-pub marks-fit-spec : {M : Type 1} → statement M
-marks-fit-spec =
+pub marks_fit_spec : {M : Type 1} → statement M
+marks_fit_spec =
     tie.close
     (tie.spec
     invariant-loop
@@ -36,4 +36,4 @@ marks-fit-spec =
     (λ c. omega arith)
     (λ c. omega arith)
     loop-again
-    (λ c. testing_all c.before.loop.invariant (omega arith)))
+    (λ c. testing_all c.loop-j.invariant (omega arith)))

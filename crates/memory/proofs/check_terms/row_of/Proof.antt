@@ -46,64 +46,64 @@ of-set e x = ap (λ (w : ℕ). bit w x) e
 of-sets : {s t v w : ℕ} → s ≡ t → v ≡ w → (x : ℕ) → bit (bit_or s v) x ≡ bit t x || bit w x
 of-sets {s} {v = v} e f x = bit-or s v x ∙ ap₂ ◌||◌ (of-set e x) (of-set f x)
 
-returns-2 : tie.Need-returns-2
+returns-2 : tie.Need-returns-in-1
 unfolding operand_fits in_free
-returns-2 c = rw c.before.match.keys2 (refl, (c.single.ensures, c.single.type-inv))
+returns-2 c = rw c.in-1.is (refl, (c.single.ensures, c.single.type_inv))
 
-returns-3 : tie.Need-returns-3
+returns-3 : tie.Need-returns-in-2
 unfolding operand_fits in_free
 returns-3 c =
-    ⊎_elim (λ e. rw e (refl, (of-set c.set_at.ensures, c.set_at.type-inv))) (λ e. rw e (refl, (of-set c.set_at.ensures, c.set_at.type-inv)))
-    c.before.match.keys3
+    ⊎_elim (λ e. rw e (refl, (of-set c.set_at.ensures, c.set_at.type_inv))) (λ e. rw e (refl, (of-set c.set_at.ensures, c.set_at.type_inv)))
+    c.in-2.is
 
-returns-4 : tie.Need-returns-4
+returns-4 : tie.Need-returns-in-3
 unfolding operand_fits in_free
 returns-4 c =
-    let both = of-sets c.before.set-at2.ensures c.set-at3.ensures in
-    let small = or_lt 64 c.before.set-at2.result c.set-at3.result c.before.set-at2.type-inv c.set-at3.type-inv in
-    ⊎_elim (λ e. rw e (refl, (both, small))) (λ e. rw e (refl, (both, small))) c.before.before.match.keys4
+    let both = of-sets c.set_at-in-3.ensures c.set_at-in-3-2.ensures in
+    let small = or_lt 64 c.set_at-in-3.result c.set_at-in-3-2.result c.set_at-in-3.type_inv c.set_at-in-3-2.type_inv in
+    ⊎_elim (λ e. rw e (refl, (both, small))) (λ e. rw e (refl, (both, small))) c.in-3.is
 
-returns-5 : tie.Need-returns-5
+returns-5 : tie.Need-returns-in-4
 unfolding operand_fits in_free
-returns-5 c = rw c.before.match.keys5 (refl, (of-set c.set-at4.ensures, c.set-at4.type-inv))
+returns-5 c = rw c.in-4.is (refl, (of-set c.set_at-in-4.ensures, c.set_at-in-4.type_inv))
 
-returns-6 : tie.Need-returns-6
+returns-6 : tie.Need-returns-in-5
 unfolding operand_fits in_free
-returns-6 c = rw c.before.match.keys6 (refl, (of-set c.set-at5.ensures, c.set-at5.type-inv))
+returns-6 c = rw c.in-5.is (refl, (of-set c.set_at-in-5.ensures, c.set_at-in-5.type_inv))
 
-returns-7 : tie.Need-returns-7
+returns-7 : tie.Need-returns-in-8
 unfolding operand_fits in_free
 returns-7 c =
-    let k = c.before.before in
-    rw k.match.keys7
-    (refl, ((λ x. c.without.ensures x ∙ ap (λ (v : Bool). v && not (eqb x k.before.before.args.a)) (of-set c.before.set-at6.ensures x)), c.without.type-inv))
+    let k = c in
+    rw k.in-8.is
+    (refl, ((λ x. c.without.ensures x ∙ ap (λ (v : Bool). v && not (eqb x k.args.a)) (of-set c.set_at-in-8.ensures x)), c.without.type_inv))
 
-returns-8 : tie.Need-returns-8
+returns-8 : tie.Need-returns-in-9
 unfolding operand_fits in_free
 returns-8 c =
-    let k = c.before.before in
-    rw k.match.keys8
-    (refl, ((λ x. c.with.ensures x ∙ ap (λ (v : Bool). v || (ltb x 64 && eqb x k.before.before.args.a)) (of-set c.before.set-at7.ensures x)), c.with.type-inv))
+    let k = c in
+    rw k.in-9.is
+    (refl, ((λ x. c.with.ensures x ∙ ap (λ (v : Bool). v || (ltb x 64 && eqb x k.args.a)) (of-set c.set_at-in-9.ensures x)), c.with.type_inv))
 
-returns-9 : tie.Need-returns-9
+returns-9 : tie.Need-returns-in-10
 unfolding operand_fits in_free
 returns-9 c =
-    let k = c.before.before.before in
-    let x = k.before.before.args in
-    rw k.match.keys9 (
+    let k = c in
+    let x = k.args in
+    rw k.in-10.is (
       ap (λ (r : Bool). r && (ltb x.a 16 && (ltb x.b x.n && ltb x.c x.n)))
-          (c.reach-fits.ensures ∙ ap₂ (reach_sets x.a) c.before.before.set-at8.ensures c.before.set-at9.ensures),
-      (of-set c.before.set-at9.ensures, c.before.set-at9.type-inv),
+          (c.reach_fits.ensures ∙ ap₂ (reach_sets x.a) c.set_at-f.ensures c.set_at-g.ensures),
+      (of-set c.set_at-g.ensures, c.set_at-g.type_inv),
     )
 
-returns-10 : tie.Need-returns-10
+returns-10 : tie.Need-returns-in-11
 unfolding operand_fits in_free
-returns-10 c = rw c.before.match.keys10 (refl, (of-set c.set-at10.ensures, c.set-at10.type-inv))
+returns-10 c = rw c.in-11.is (refl, (of-set c.set_at-in-11.ensures, c.set_at-in-11.type_inv))
 
-returns-11 : tie.Need-returns-11
+returns-11 : tie.Need-returns-in_default
 returns-11 c =
-    let r = c.match.rest in
-    let x = c.before.before.args in
+    let r = c.in_default.in_default-own.rest in
+    let x = c.args in
     let beyond = none x.op r.0.0.0.0.0.0.0.0.0.1 r.0.0.0.0.0.0.0.0.1 r.0.0.0.0.0.0.0.1 r.0.0.0.0.0.0.1 r.0.0.0.0.0.1 r.0.0.0.0.1 r.0.0.0.1 r.0.0.1 r.0.1 r.1 in (
       rw (ne_eqb x.op 10 r.0.1, le-ltb x.op 12 beyond) refl,
       (
@@ -112,8 +112,8 @@ returns-11 c =
       ),
     )
 
-pub row-of-spec : {M : Type 1} → statement M
-row-of-spec =
+pub row_of_spec : {M : Type 1} → statement M
+row_of_spec =
     tie.close
     (tie.spec
     (λ c κs. search rules)
@@ -130,7 +130,7 @@ row-of-spec =
     (λ c κs. search rules)
     (λ c κs. search rules)
     (λ c κs. search rules)
-    (λ c. unfold operand_fits in_free in rw c.match.keys1 (refl, (bit_zero, omega arith)))
+    (λ c. unfold operand_fits in_free in rw c.in-0.is (refl, (bit_zero, omega arith)))
     returns-2
     returns-3
     returns-4

@@ -7,14 +7,14 @@ use Rattle.memory.proofs.layout.entry_of.Tie as tie
 returns : tie.Need-returns
 unfolding terms_of
 returns c = record {
-  op-is = c.before.before.before.before.before.before.wide.ensures;
-  a-is = c.before.before.before.before.wide2.ensures;
-  b-is = c.before.before.wide3.ensures;
-  c-is = c.wide4.ensures;
+  op-is = c.wide.ensures;
+  a-is = c.wide-2.ensures;
+  b-is = c.wide-3.ensures;
+  c-is = c.wide-4.ensures;
 }
 
-pub entry-of-spec : {M : Type 1} → statement M
-entry-of-spec =
+pub entry_of_spec : {M : Type 1} → statement M
+entry_of_spec =
     tie.close
     (tie.spec
     (λ c. search rules)

@@ -8,12 +8,12 @@ use Rattle.memory.specs.Layout.{terms_of}
 use Rattle.memory.proofs.layout.is_kept.Statement.{statement}
 use Rattle.memory.proofs.layout.is_kept.Tie as tie
 
-returns-3 : tie.Need-returns-3
+returns-3 : tie.Need-returns-else-j-terms
 unfolding terms_of
-returns-3 c = sym (ap (λ w. eqb w 1) (get_or-eq_default c.before.before.before.args.terms.now 0 (omega (arith, c.if2.false))))
+returns-3 c = sym (ap (λ w. eqb w 1) (get_or-eq_default c.args.terms.now 0 (omega (arith, c.if-j-terms.false))))
 
-pub is-kept-spec : {M : Type 1} → statement M
-is-kept-spec =
+pub is_kept_spec : {M : Type 1} → statement M
+is_kept_spec =
     tie.close
     (tie.spec
     (λ c. search rules)
@@ -21,5 +21,5 @@ is-kept-spec =
     (λ c. unfold terms_of in ap (λ w. eqb w 1) c.word.ensures.0)
     (λ c. search rules)
     (λ c κs. search rules)
-    (λ c. unfold terms_of in ap (λ w. eqb w 1) c.word2.ensures.0)
+    (λ c. unfold terms_of in ap (λ w. eqb w 1) c.word-then-j-terms.ensures.0)
     returns-3)

@@ -32,19 +32,19 @@ none =
     (λ a b c d e f g h i j. absurd (j refl))
     (λ k a b c d e f g h i j. (refl, (refl, refl)))
 
-returns-11 : tie.Need-returns-11
+returns-11 : tie.Need-returns-in_default
 returns-11 c =
-    let r = c.match.rest in
-    none c.before.args.op r.0.0.0.0.0.0.0.0.0.1 r.0.0.0.0.0.0.0.0.1 r.0.0.0.0.0.0.0.1 r.0.0.0.0.0.0.1 r.0.0.0.0.0.1 r.0.0.0.0.1 r.0.0.0.1 r.0.0.1 r.0.1 r.1
+    let r = c.in_default.in_default-own.rest in
+    none c.args.op r.0.0.0.0.0.0.0.0.0.1 r.0.0.0.0.0.0.0.0.1 r.0.0.0.0.0.0.0.1 r.0.0.0.0.0.0.1 r.0.0.0.0.0.1 r.0.0.0.0.1 r.0.0.0.1 r.0.0.1 r.0.1 r.1
 
-pub operands-of-spec : {M : Type 1} → statement M
-operands-of-spec =
+pub operands_of_spec : {M : Type 1} → statement M
+operands_of_spec =
     tie.close
     (tie.spec
     (λ c. search rules)
     (λ c. search rules)
-    (λ c. ⊎_elim (λ e. rw e (refl, (refl, refl))) (λ e. rw e (refl, (refl, refl))) c.match.keys3)
-    (λ c. ⊎_elim (λ e. rw e (refl, (refl, refl))) (λ e. rw e (refl, (refl, refl))) c.match.keys4)
+    (λ c. ⊎_elim (λ e. rw e (refl, (refl, refl))) (λ e. rw e (refl, (refl, refl))) c.in-2.is)
+    (λ c. ⊎_elim (λ e. rw e (refl, (refl, refl))) (λ e. rw e (refl, (refl, refl))) c.in-3.is)
     (λ c. search rules)
     (λ c. search rules)
     (λ c. search rules)

@@ -16,9 +16,11 @@ up_to n = bool_iff _ _ (λ e. lt-ltb n 17 (omega (arith, leb-true n 16 e))) (λ 
 
 returns : tie.Need-returns
 returns c =
-    let n = c.before.before.args.n in
-    ap₂ (λ (r s : ℕ). eqb r 0 || (eqb s 0 && leb n 16)) c.before.rest-of.ensures (c.rest-of2.ensures ∙ ap rest_of c.before.rest-of.ensures)
-    ∙ ap (λ (b : Bool). eqb (rest_of c.before.before.args.free) 0 || (eqb (rest_of (rest_of c.before.before.args.free)) 0 && b)) (up_to n)
+    let n = c.args.n in
+    ap₂ (λ (r s : ℕ). eqb r 0 || (eqb s 0 && leb n 16)) c.rest_of-rest.ensures (c.rest_of.ensures ∙ ap rest_of c.rest_of-rest.ensures)
+    ∙ ap (λ (b : Bool). eqb (rest_of c.args.free) 0 || (eqb (rest_of (rest_of c.args.free)) 0 && b)) (up_to n)
 
-pub columns-fit-spec : {M : Type 1} → statement M
-columns-fit-spec = tie.close (tie.spec (λ c κs. search rules) (λ c κs. search rules) returns)
+pub columns_fit_spec : {M : Type 1} → statement M
+columns_fit_spec = tie.close (tie.spec (λ c κs. search rules)
+    (λ c κs. search rules)
+    returns)

@@ -9,20 +9,20 @@ use Rattle.sets.specs.Sets.{least}
 use Rattle.memory.proofs.table_index.index_of.Statement.{statement}
 use Rattle.memory.proofs.table_index.index_of.Tie as tie
 
-returns-2 : tie.Need-returns-2
+returns-2 : tie.Need-returns
 returns-2 c =
-    let k = c.before.before.before in
-    rw (← k.before.is-past.ensures, not-false k.before.is-past.result k.if1.false)
-    (ap₂ (λ (l y : ℕ). 256 * k.before.before.args.t + 16 * (l % 16) + y) c.before.before.least-of.ensures
-    (c.last-column.ensures.0
-    ∙ ap₂ (λ (r l : ℕ). cond (eqb r 0) (l % 16) (least r % 16)) c.before.rest-of.ensures c.before.before.least-of.ensures))
+    let k = c in
+    rw (← k.is_past.ensures, not-false k.is_past.result k.if-not-is_past.false-raw)
+    (ap₂ (λ (l y : ℕ). 256 * k.args.t + 16 * (l % 16) + y) c.least_of-x.ensures
+    (c.last_column.ensures.0
+    ∙ ap₂ (λ (r l : ℕ). cond (eqb r 0) (l % 16) (least r % 16)) c.rest_of.ensures c.least_of-x.ensures))
 
-pub index-of-spec : {M : Type 1} → statement M
-index-of-spec =
+pub index_of_spec : {M : Type 1} → statement M
+index_of_spec =
     tie.close
     (tie.spec
     (λ c κs. search rules)
-    (λ c. rw (← c.before.is-past.ensures, not-true c.before.is-past.result c.if1.true))
+    (λ c. rw (← c.is_past.ensures, not-true c.is_past.result c.if-not-is_past.true-raw))
     (λ c κs. search rules)
     (λ c. search rules)
     (λ c. search rules)

@@ -7,10 +7,10 @@ use lib.Dec.{eqb}
 use Rattle.memory.proofs.table_index.is_pair.Statement.{statement}
 use Rattle.memory.proofs.table_index.is_pair.Tie as tie
 
-pub is-pair-spec : {M : Type 1} → statement M
-is-pair-spec =
+pub is_pair_spec : {M : Type 1} → statement M
+is_pair_spec =
     tie.close
     (tie.spec
     (λ c κs. search rules)
     (λ c κs. search rules)
-    (λ c. ap₂ (λ (x y : ℕ). not (eqb x y)) c.before.first_of.ensures c.last_of.ensures))
+    (λ c. ap₂ (λ (x y : ℕ). not (eqb x y)) c.first_of.ensures c.last_of.ensures))

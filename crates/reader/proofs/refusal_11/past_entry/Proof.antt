@@ -23,8 +23,8 @@ highest-next p n e = ap (λ (k : ℕ). highest k p) (add-one n) ∙ rw e
 
 abbrev invariant-loop : tie.invariant-loop
 invariant-loop terms t count found₀ k₀ n₀ found k n =
-    (n ≤ count) × (k ≤ n) × (k ≡ number (terms_of terms).initial n)
-    × (found ≡ highest n (chosen (terms_of terms).initial t))
+    (n ≤ count) × (k ≤ n) × (k ≡ number (terms_of terms).entry n)
+    × (found ≡ highest n (chosen (terms_of terms).entry t))
 
 abbrev decreases-loop : tie.decreases-loop
 decreases-loop terms t count found₀ k₀ n₀ found k n = count - n

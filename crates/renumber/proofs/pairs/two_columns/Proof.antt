@@ -20,7 +20,7 @@ use Rattle.renumber.proofs.pairs.two_columns.Statement.{statement}
 use Rattle.renumber.proofs.pairs.two_columns.Tie as tie
 
 abbrev invariant-loop : tie.invariant-loop
-invariant-loop terms index count two₀ n₀ two n = (n ≤ count) × ((b : ℕ) → bit two b ≡ is_pairs (terms_of terms) (number (terms_of terms).initial n) b)
+invariant-loop terms index count two₀ n₀ two n = (n ≤ count) × ((b : ℕ) → bit two b ≡ is_pairs (terms_of terms) (number (terms_of terms).entry n) b)
 
 abbrev decreases-loop : tie.decreases-loop
 decreases-loop terms index count two₀ n₀ two n = count - n
