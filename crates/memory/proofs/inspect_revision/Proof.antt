@@ -71,7 +71,7 @@ returns-6 c =
 check-state-requires : tie.Need-check_state-requires
 check-state-requires c κs =
     let k = c in
-    ((old_good k.before.before, (lengths (new-checked (new-passed (old-checked k.before.before)))).if4.false), (old-checked k.before.before).check_terms-2.ensures.1.1 (outcomes.not-false _ k.if-not-check_terms-2.false-raw))
+    ((old_good k.before.before, (lengths (new-checked (new-passed (old-checked k.before.before)))).if-state-lt-STATE.false), (old-checked k.before.before).check_terms-2.ensures.1.1 (outcomes.not-false _ k.if-not-check_terms-2.false-raw))
 
 returns-7 : tie.Need-returns-then-not-check_state
 returns-7 c =

@@ -10,10 +10,10 @@ use Rattle.file.proofs.vocabulary.read_action.Reads as reads
 use Rattle.file.proofs.vocabulary.read_action.Lts as lts
 use Rattle.fields.proofs.word.pick.Reads as pick-reads
 
-at_place : (c : lts.After-pick2 (pick-reads.Asked, pick-reads.Learnt) reads.Pre reads.Post)
-    → c.pick2.result ≡ index_of action_words c.before.before.before.before.before.args.f.now
+at_place : (c : lts.After-pick-add (pick-reads.Asked, pick-reads.Learnt) reads.Pre reads.Post)
+    → c.pick-add.result ≡ index_of action_words c.args.f.now
 unfolding action_words
-at_place c = picked _ _ _ _ c.pick2.ensures (picked _ _ _ _ c.before.before.pick.ensures (picked_none _ _))
+at_place c = picked _ _ _ _ c.pick-add.ensures (picked _ _ _ _ c.pick-del.ensures (picked_none _ _))
 
 pub read_action_spec : {M : Type 1} → statement M
 read_action_spec =
