@@ -11,14 +11,14 @@ use Rattle.classes.proofs.find_classes.Tie as tie
 
 returns : tie.Need-returns
 returns c =
-    let lent : length c.before.before.before.before.before.before.before.before.before.before.before.before.before.before.before.args.classes.now ≡ max_entries = search rules in (
-      all_filled _ _ _ _ _ _ _ c.before.before.before.before.before.before.before.before.before.before.before.before.count_of.ensures.0 c.before.before.before.before.before.before.before.before.before.before.before.count-of2.ensures.0
-          c.before.before.before.before.before.before.before.old-classes.ensures.0 c.new-classes.ensures,
-      ap (λ (w : List ℕ). length w) c.new-classes.ensures ∙ filled_length _ _ _ _ _ ∙ lent,
+    let lent : length c.args.classes.now ≡ max_entries = search rules in (
+      all_filled _ _ _ _ _ _ _ c.count_of-limit.ensures.0 c.count_of-count.ensures.0
+          c.old_classes.ensures.0 c.new_classes.ensures,
+      ap (λ (w : List ℕ). length w) c.new_classes.ensures ∙ filled_length _ _ _ _ _ ∙ lent,
     )
 
-pub find-classes-spec : {M : Type 1} → statement M
-find-classes-spec =
+pub find_classes_spec : {M : Type 1} → statement M
+find_classes_spec =
     tie.close
     (tie.spec
     (λ c κs. search rules)

@@ -4,8 +4,8 @@ use Rattle.classes.specs.private.Keys.{marked}
 use Rattle.classes.proofs.is_marked.Statement.{statement}
 use Rattle.classes.proofs.is_marked.Tie as tie
 
-pub is-marked-spec : {M : Type 1} → statement M
-is-marked-spec =
+pub is_marked_spec : {M : Type 1} → statement M
+is_marked_spec =
     tie.close
     (tie.spec
     (λ c. search rules)

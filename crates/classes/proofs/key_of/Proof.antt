@@ -20,38 +20,38 @@ unfolding key_of
 together f e op a b c eo ea eb ec =
     ap₂ (λ (x y : ℕ). packed x y b c) eo ea ∙ ap₂ (λ (x y : ℕ). packed e.op (normal (first_operand e.op) f e.a) x y) eb ec
 
-add-result : tie.Need-overflow-add-result
+add-result : tie.Need-overflow_add-result
 add-result c =
-    omega (arith, c.before.before.before.before.before.before.before.before.before.before.op-of.ensures.1, c.before.before.before.before.normal-of.ensures.1 c.before.before.before.before.before.before.before.before.first_of.ensures.1 c.before.before.before.before.before.word.ensures.1)
+    omega (arith, c.op_of-op.ensures.1, c.normal_of-a.ensures.1 c.first_of-x.ensures.1 c.word.ensures.1)
 
-mul-result-2 : tie.Need-overflow-mul-result-2
+mul-result-2 : tie.Need-overflow_mul-result-2
 mul-result-2 c =
-    omega (arith, c.before.before.before.before.before.before.before.before.before.before.op-of.ensures.1, c.before.before.before.before.normal-of.ensures.1 c.before.before.before.before.before.before.before.before.first_of.ensures.1 c.before.before.before.before.before.word.ensures.1)
+    omega (arith, c.op_of-op.ensures.1, c.normal_of-a.ensures.1 c.first_of-x.ensures.1 c.word.ensures.1)
 
-add-result-2 : tie.Need-overflow-add-result-2
+add-result-2 : tie.Need-overflow_add-result-2
 add-result-2 c =
-    omega (arith, c.before.before.before.before.before.before.before.before.before.before.op-of.ensures.1, c.before.before.before.before.normal-of.ensures.1 c.before.before.before.before.before.before.before.before.first_of.ensures.1 c.before.before.before.before.before.word.ensures.1, c.before.before.normal-of2.ensures.1 c.before.before.before.before.before.before.before.second-of.ensures.1 c.before.before.before.word2.ensures.1)
+    omega (arith, c.op_of-op.ensures.1, c.normal_of-a.ensures.1 c.first_of-x.ensures.1 c.word.ensures.1, c.normal_of-b.ensures.1 c.second_of-y.ensures.1 c.word-2.ensures.1)
 
-mul-result-3 : tie.Need-overflow-mul-result-3
+mul-result-3 : tie.Need-overflow_mul-result-3
 mul-result-3 c =
-    omega (arith, c.before.before.before.before.before.before.before.before.before.before.op-of.ensures.1, c.before.before.before.before.normal-of.ensures.1 c.before.before.before.before.before.before.before.before.first_of.ensures.1 c.before.before.before.before.before.word.ensures.1, c.before.before.normal-of2.ensures.1 c.before.before.before.before.before.before.before.second-of.ensures.1 c.before.before.before.word2.ensures.1)
+    omega (arith, c.op_of-op.ensures.1, c.normal_of-a.ensures.1 c.first_of-x.ensures.1 c.word.ensures.1, c.normal_of-b.ensures.1 c.second_of-y.ensures.1 c.word-2.ensures.1)
 
-add-result-3 : tie.Need-overflow-add-result-3
+add-result-3 : tie.Need-overflow_add-result-3
 add-result-3 c =
-    omega (arith, c.before.before.before.before.before.before.before.before.before.before.op-of.ensures.1, c.before.before.before.before.normal-of.ensures.1 c.before.before.before.before.before.before.before.before.first_of.ensures.1 c.before.before.before.before.before.word.ensures.1, c.before.before.normal-of2.ensures.1 c.before.before.before.before.before.before.before.second-of.ensures.1 c.before.before.before.word2.ensures.1, c.normal-of3.ensures.1 c.before.before.before.before.before.before.third_of.ensures.1 c.before.word3.ensures.1)
+    omega (arith, c.op_of-op.ensures.1, c.normal_of-a.ensures.1 c.first_of-x.ensures.1 c.word.ensures.1, c.normal_of-b.ensures.1 c.second_of-y.ensures.1 c.word-2.ensures.1, c.normal_of-c.ensures.1 c.third_of-z.ensures.1 c.word-3.ensures.1)
 
 returns : tie.Need-returns
 returns c =
-    let a = c.before.before.before.before.before.before.before.before.before.before.before.before.before.args in
-    let eo = c.before.before.before.before.before.before.before.before.before.before.op-of.ensures.0 in
-    let ks = c.before.before.before.before.before.before.before.before.before.operands_of in
+    let a = c.args in
+    let eo = c.op_of-op.ensures.0 in
+    let ks = c.operands_of-kinds in
     together (λ x. get_or a.classes.now x 0) ((terms_of a.terms.now).entry a.n) _ _ _ _ eo
-    (one _ first_operand _ _ _ _ _ _ ks.ensures.0 eo c.before.before.before.before.before.before.before.before.first_of.ensures.0 (c.before.before.before.before.normal-of.ensures.0 _ c.before.before.before.before.before.word.ensures.0))
-    (one _ second_operand _ _ _ _ _ _ ks.ensures.1.0 eo c.before.before.before.before.before.before.before.second-of.ensures.0 (c.before.before.normal-of2.ensures.0 _ c.before.before.before.word2.ensures.0))
-    (one _ third_operand _ _ _ _ _ _ ks.ensures.1.1 eo c.before.before.before.before.before.before.third_of.ensures.0 (c.normal-of3.ensures.0 _ c.before.word3.ensures.0))
+    (one _ first_operand _ _ _ _ _ _ ks.ensures.0 eo c.first_of-x.ensures.0 (c.normal_of-a.ensures.0 _ c.word.ensures.0))
+    (one _ second_operand _ _ _ _ _ _ ks.ensures.1.0 eo c.second_of-y.ensures.0 (c.normal_of-b.ensures.0 _ c.word-2.ensures.0))
+    (one _ third_operand _ _ _ _ _ _ ks.ensures.1.1 eo c.third_of-z.ensures.0 (c.normal_of-c.ensures.0 _ c.word-3.ensures.0))
 
-pub key-of-spec : {M : Type 1} → statement M
-key-of-spec =
+pub key_of_spec : {M : Type 1} → statement M
+key_of_spec =
     tie.close
     (tie.spec
     (λ c κs. search rules)

@@ -6,12 +6,12 @@ use Rattle.classes.proofs.Marking.{not_found}
 use Rattle.classes.proofs.lookup.Statement.{statement}
 use Rattle.classes.proofs.lookup.Tie as tie
 
-returns-2 : tie.Need-returns-2
+returns-2 : tie.Need-returns-else-is_marked
 returns-2 c =
-    (not_found _ _ _ _ c.before.before.before.before.requires.2 (sym c.before.is-marked.ensures ∙ c.if1.false), omega arith)
+    (not_found _ _ _ _ c.requires.2 (sym c.is_marked.ensures ∙ c.if-is_marked.false), omega arith)
 
-pub lookup-spec : {M : Type 1} → statement M
-lookup-spec =
+pub lookup_spec : {M : Type 1} → statement M
+lookup_spec =
     tie.close
     (tie.spec
     (λ c κs. search rules)

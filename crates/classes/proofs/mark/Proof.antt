@@ -8,8 +8,8 @@ use Rattle.classes.proofs.mark.Tie as tie
 
 returns : tie.Need-returns
 returns c =
-    let a = c.before.before.before.args in
-    let long = c.before.before.before.requires in (
+    let a = c.args in
+    let long = c.requires in (
       length-set a.marks.now _ _ ∙ long,
       (
         mark_here a.marks.now a.key c.with.result long c.with.ensures,

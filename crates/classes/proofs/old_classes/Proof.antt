@@ -13,42 +13,42 @@ use Rattle.classes.proofs.Filling.{own_turn}
 use Rattle.classes.proofs.old_classes.Statement.{statement}
 use Rattle.classes.proofs.old_classes.Tie as tie
 
-abbrev invariant-loop : tie.invariant-loop
+abbrev invariant-loop : tie.invariant-loop-n
 invariant-loop terms count classes₀ keys₀ marks₀ n₀ classes keys marks n =
     (classes ≡ (own_filled (terms_of terms) n classes₀ keys₀).0) × (keys ≡ (own_filled (terms_of terms) n classes₀ keys₀).1) × Marked keys marks n
     × (length classes ≡ max_entries) × (length keys ≡ max_entries) × (length marks ≡ 64) × (n ≤ count)
 
-abbrev decreases-loop : tie.decreases-loop
+abbrev decreases-loop : tie.decreases-loop-n
 decreases-loop terms count classes₀ keys₀ marks₀ n₀ classes keys marks n = count - n
 
-loop-holds : tie.Need-loop-init invariant-loop decreases-loop
+loop-holds : tie.Need-loop-n-init invariant-loop decreases-loop
 unfolding own_filled
 loop-holds c =
-    let x = c.before.before.before.before in
+    let x = c in
     (refl, refl, record { here = λ j jl. absurd (omega arith) }, x.requires.1, x.requires.2, x.requires.3, omega arith)
 
-lookup-requires : tie.Need-lookup-requires invariant-loop decreases-loop
+lookup-requires : tie.Need-lookup-k-requires invariant-loop decreases-loop
 lookup-requires c κs =
-    let l = c.before.before.before.before.before.loop in
-    (omega (arith, l.invariant.6, l.invariant.4, c.before.before.before.before.before.before.before.before.before.before.requires.0), l.invariant.5, l.invariant.2)
+    let l = c.loop-n in
+    (omega (arith, l.invariant.6, l.invariant.4, c.requires.0), l.invariant.5, l.invariant.2)
 
-cast-classes : tie.Need-overflow-cast-classes invariant-loop decreases-loop
-cast-classes c = omega (arith, c.lookup.ensures.1, c.before.before.before.before.before.before.loop.invariant.6, c.before.before.before.before.before.before.before.before.before.before.before.requires.0)
+cast-classes : tie.Need-overflow_cast-classes invariant-loop decreases-loop
+cast-classes c = omega (arith, c.lookup-k.ensures.1, c.loop-n.invariant.6, c.requires.0)
 
-slice-write-classes : tie.Need-slice-write-classes invariant-loop decreases-loop
-slice-write-classes c = omega (arith, c.before.before.before.before.before.loop-test.true, c.before.before.before.before.before.before.loop.invariant.3, c.before.before.before.before.before.before.before.before.before.before.before.requires.0)
+slice-write-classes : tie.Need-bounds-classes-n invariant-loop decreases-loop
+slice-write-classes c = omega (arith, c.loop-n-test.true, c.loop-n.invariant.3, c.requires.0)
 
-slice-write-keys : tie.Need-slice-write-keys invariant-loop decreases-loop
-slice-write-keys c = omega (arith, c.before.before.before.before.before.loop-test.true, c.before.before.before.before.before.before.loop.invariant.4, c.before.before.before.before.before.before.before.before.before.before.before.requires.0)
+slice-write-keys : tie.Need-bounds-keys-n invariant-loop decreases-loop
+slice-write-keys c = omega (arith, c.loop-n-test.true, c.loop-n.invariant.4, c.requires.0)
 
-loop-again : tie.Need-loop-preserved invariant-loop decreases-loop
+loop-again : tie.Need-loop-n-preserved invariant-loop decreases-loop
 loop-again c =
-    let l = c.before.before.before.before.before.before.before.before.before.before.loop in
-    let x = c.before.before.before.before.before.before.before.before.before.before.before.before.before.before.before in
-    let less = c.before.before.before.before.before.before.before.before.before.loop-test.true in
-    let key = c.before.before.before.before.before.before.before.key_of in
-    let m = c.before.before.mark in
-    let o = own_turn _ _ _ l.n l.classes l.keys _ _ l.invariant.0 l.invariant.1 key.ensures c.before.before.before.before.lookup.ensures.0 in (
+    let l = c.loop-n in
+    let x = c in
+    let less = c.loop-n-test.true in
+    let key = c.key_of-key in
+    let m = c.mark in
+    let o = own_turn _ _ _ l.n l.classes l.keys _ _ l.invariant.0 l.invariant.1 key.ensures c.lookup-k.ensures.0 in (
       o.0,
       o.1,
       marked_more l.keys l.marks _ l.n _ (omega (arith, less, l.invariant.4, x.requires.0)) l.invariant.2 m.ensures.1.0 m.ensures.1.1,
@@ -60,15 +60,15 @@ loop-again c =
 
 returns : tie.Need-returns invariant-loop decreases-loop
 returns c =
-    let l = c.before.loop in
-    let a = c.before.before.before.before.before.before.args in
-    let all : l.n ≡ a.count = omega (arith, l.invariant.6, c.loop-test.false) in (
+    let l = c.loop-n in
+    let a = c.args in
+    let all : l.n ≡ a.count = omega (arith, l.invariant.6, c.loop-n-test.false) in (
       subst (λ (n : ℕ). l.keys ≡ (own_filled (terms_of a.terms.now) n a.classes.now a.keys.now).1) all l.invariant.1,
       (l.invariant.4, l.invariant.5, subst (Marked l.keys l.marks) all l.invariant.2),
     )
 
-pub old-classes-spec : {M : Type 1} → statement M
-old-classes-spec =
+pub old_classes_spec : {M : Type 1} → statement M
+old_classes_spec =
     tie.close
     (tie.spec
     invariant-loop
@@ -81,11 +81,11 @@ old-classes-spec =
     slice-write-classes
     (λ c. omega arith)
     slice-write-keys
-    (λ c κs. c.before.before.before.before.before.before.before.loop.invariant.5)
+    (λ c κs. c.loop-n.invariant.5)
     (λ c. omega arith)
     (λ c. omega arith)
     loop-again
-    (λ c. c.before.loop.invariant.3 ∙ sym c.before.before.before.before.before.before.requires.1)
-    (λ c. c.before.loop.invariant.4 ∙ sym c.before.before.before.before.before.before.requires.2)
-    (λ c. c.before.loop.invariant.5 ∙ sym c.before.before.before.before.before.before.requires.3)
+    (λ c. c.loop-n.invariant.3 ∙ sym c.requires.1)
+    (λ c. c.loop-n.invariant.4 ∙ sym c.requires.2)
+    (λ c. c.loop-n.invariant.5 ∙ sym c.requires.3)
     returns)

@@ -15,5 +15,5 @@ add_spec =
     (λ c κs. search rules)
     (λ c. search rules)
     (λ c. search rules)
-    (λ c. unfold more in rw (lt-ltb _ max_entries c.before.before.if1.true, c.plus.ensures))
-    (λ c. unfold more in rw (le-ltb _ max_entries c.if1.false)))
+    (λ c. unfold more in rw (lt-ltb _ max_entries c.if-k-lt-ENTRIES.true, c.plus.ensures))
+    (λ c. unfold more in rw (le-ltb _ max_entries c.if-k-lt-ENTRIES.false)))

@@ -9,32 +9,32 @@ use Rattle.effort.proofs.CutSums.{one_policy}
 use Rattle.effort.proofs.add_policies.Statement.{statement}
 use Rattle.effort.proofs.add_policies.Tie as tie
 
-abbrev invariant-loop : tie.invariant-loop
+abbrev invariant-loop : tie.invariant-loop-j
 invariant-loop terms words₀ n j₀ words j = (words ≡ policies (terms_of terms) j) × (j ≤ n)
 
-abbrev decreases-loop : tie.decreases-loop
+abbrev decreases-loop : tie.decreases-loop-j
 decreases-loop terms words₀ n j₀ words j = n - j
 
-loop-again : tie.Need-loop-preserved invariant-loop decreases-loop
+loop-again : tie.Need-loop-j-preserved invariant-loop decreases-loop
 loop-again c =
-    let l = c.before.before.before.before.loop in
-    (one_policy (terms_of c.before.before.before.before.before.before.before.args.terms.now) l.j _ l.words _ l.invariant.0 c.before.policy-of.ensures.0 c.add.ensures, omega arith)
+    let l = c.loop-j in
+    (one_policy (terms_of c.args.terms.now) l.j _ l.words _ l.invariant.0 c.policy_of.ensures.0 c.add.ensures, omega arith)
 
 returns : tie.Need-returns invariant-loop decreases-loop
 returns c =
-    let l = c.before.loop in
-    let a = c.before.before.before.before.args in
-    let end : l.j ≡ (terms_of a.terms.now).events = omega (arith, l.invariant.1, c.loop-test.false, c.before.before.events.ensures.0) in
+    let l = c.loop-j in
+    let a = c.args in
+    let end : l.j ≡ (terms_of a.terms.now).events = omega (arith, l.invariant.1, c.loop-j-test.false, c.events-n.ensures.0) in
     l.invariant.0 ∙ ap (policies (terms_of a.terms.now)) end
 
-pub add-policies-spec : {M : Type 1} → statement M
-add-policies-spec =
+pub add_policies_spec : {M : Type 1} → statement M
+add_policies_spec =
     tie.close
     (tie.spec
     invariant-loop
     decreases-loop
     (λ c κs. search rules)
-    (λ c. (c.before.before.requires, omega arith))
+    (λ c. (c.requires, omega arith))
     (λ c κs. search rules)
     (λ c κs. search rules)
     (λ c. omega arith)

@@ -7,15 +7,15 @@ use Rattle.effort.proofs.add_to_operands.Tie as tie
 
 returns : tie.Need-returns
 returns c =
-    let a = c.before.before.before.before.before.before.before.before.before.before.before.before.before.before.before.args in
-    let k = c.before.before.before.before.before.before.before.before.before.before.before.before.operands_of.ensures in
+    let a = c.args in
+    let k = c.operands_of-kinds.ensures in
     to_operands ((terms_of a.terms.now).entry a.p) _ _ _ _ a.x _ _ _ _ _ _ a.words.now _ _ _
-    c.before.before.before.before.before.before.before.before.before.before.before.before.before.op-of.ensures.0 c.before.before.before.before.before.before.before.before.before.first_of.ensures.0 c.before.before.before.before.before.second-of.ensures.0 c.before.third_of.ensures.0
-    k.0 k.1.0 k.1.1 c.before.before.before.before.before.before.before.before.before.before.before.is-entry.ensures c.before.before.before.before.before.before.before.is-entry2.ensures c.before.before.before.is-entry3.ensures
-    c.before.before.before.before.before.before.before.before.add-if.ensures c.before.before.before.before.add-if2.ensures c.add-if3.ensures
+    c.op_of.ensures.0 c.first_of.ensures.0 c.second_of.ensures.0 c.third_of.ensures.0
+    k.0 k.1.0 k.1.1 c.is_entry.ensures c.is_entry-2.ensures c.is_entry-3.ensures
+    c.add_if.ensures c.add_if-2.ensures c.add_if-3.ensures
 
-pub add-to-operands-spec : {M : Type 1} → statement M
-add-to-operands-spec =
+pub add_to_operands_spec : {M : Type 1} → statement M
+add_to_operands_spec =
     tie.close
     (tie.spec
     (λ c κs. search rules)

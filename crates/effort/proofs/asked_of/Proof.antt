@@ -10,41 +10,41 @@ use Rattle.effort.proofs.CutSums.{square_less}
 use Rattle.effort.proofs.asked_of.Statement.{statement}
 use Rattle.effort.proofs.asked_of.Tie as tie
 
-mul-result : tie.Need-overflow-mul-result
-mul-result c = let a = c.before.before.before in record { fits = omega (arith, square_less a.args.n a.requires) }
+mul-result : tie.Need-overflow_mul-result
+mul-result c = let a = c in record { fits = omega (arith, square_less a.args.n a.requires) }
 
-returns : tie.Need-returns
+returns : tie.Need-returns-then-one
 unfolding asked_of
 returns c =
-    let p : is_past c.before.before.before.args.op ≡ true = sym c.before.before.is-past.ensures ∙ c.before.if1.true in
-    rw (p, c.if2.true)
+    let p : is_past c.args.op ≡ true = sym c.is_past.ensures ∙ c.if-is_past.true in
+    rw (p, c.if-one.true)
 
-returns-2 : tie.Need-returns-2
+returns-2 : tie.Need-returns-else-one
 unfolding asked_of
 returns-2 c =
-    let p : is_past c.before.before.before.args.op ≡ true = sym c.before.before.is-past.ensures ∙ c.before.if1.true in
-    rw (p, c.if2.false)
+    let p : is_past c.args.op ≡ true = sym c.is_past.ensures ∙ c.if-is_past.true in
+    rw (p, c.if-one.false)
 
-returns-3 : tie.Need-returns-3
+returns-3 : tie.Need-returns-then-op-lt-OUT
 unfolding asked_of
 returns-3 c =
-    let p : is_past c.before.before.before.args.op ≡ false = sym c.before.before.is-past.ensures ∙ c.before.if1.false in
-    rw (p, lt-ltb _ 4 c.if3.true)
+    let p : is_past c.args.op ≡ false = sym c.is_past.ensures ∙ c.if-is_past.false in
+    rw (p, lt-ltb _ 4 c.if-op-lt-OUT.true)
 
-returns-4 : tie.Need-returns-4
+returns-4 : tie.Need-returns-then-op-eq-BIND
 unfolding asked_of
 returns-4 c =
-    let p : is_past c.before.before.before.before.args.op ≡ false = sym c.before.before.before.is-past.ensures ∙ c.before.before.if1.false in
-    rw (p, le-ltb _ 4 c.before.if3.false, eq-eqb _ 8 c.if4.true)
+    let p : is_past c.args.op ≡ false = sym c.is_past.ensures ∙ c.if-is_past.false in
+    rw (p, le-ltb _ 4 c.if-op-lt-OUT.false, eq-eqb _ 8 c.if-op-eq-BIND.true)
 
-returns-5 : tie.Need-returns-5
+returns-5 : tie.Need-returns-else-op-eq-BIND
 unfolding asked_of
 returns-5 c =
-    let p : is_past c.before.before.before.before.before.args.op ≡ false = sym c.before.before.before.before.is-past.ensures ∙ c.before.before.before.if1.false in
-    rw (p, le-ltb _ 4 c.before.before.if3.false, ne_eqb _ 8 c.before.if4.false) c.times.ensures
+    let p : is_past c.args.op ≡ false = sym c.is_past.ensures ∙ c.if-is_past.false in
+    rw (p, le-ltb _ 4 c.if-op-lt-OUT.false, ne_eqb _ 8 c.if-op-eq-BIND.false) c.times.ensures
 
-pub asked-of-spec : {M : Type 1} → statement M
-asked-of-spec =
+pub asked_of_spec : {M : Type 1} → statement M
+asked_of_spec =
     tie.close
     (tie.spec
     (λ c κs. search rules)

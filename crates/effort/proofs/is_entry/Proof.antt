@@ -4,8 +4,8 @@ use Rattle.effort.specs.Effort.{is_entry}
 use Rattle.effort.proofs.is_entry.Statement.{statement}
 use Rattle.effort.proofs.is_entry.Tie as tie
 
-pub is-entry-spec : {M : Type 1} → statement M
-is-entry-spec =
+pub is_entry_spec : {M : Type 1} → statement M
+is_entry_spec =
     tie.close
     (tie.spec
     (λ c. search rules)
@@ -14,9 +14,9 @@ is-entry-spec =
     (λ c. search rules)
     (λ c. search rules)
     (λ c. search rules)
-    (λ c. unfold is_entry in rw c.enum_told.given.1)
-    (λ c. unfold is_entry in rw c.enum-told2.given.1)
-    (λ c. unfold is_entry in rw c.enum-told3.given.1)
-    (λ c. unfold is_entry in rw c.enum-told4.given.1)
-    (λ c. unfold is_entry in rw c.enum-told5.given.1)
-    (λ c. unfold is_entry in rw c.enum-told6.given.1))
+    (λ c. unfold is_entry in rw c.in-Unused.is)
+    (λ c. unfold is_entry in rw c.in-Variable.is)
+    (λ c. unfold is_entry in rw c.in-Binder.is)
+    (λ c. unfold is_entry in rw c.in-Label.is)
+    (λ c. unfold is_entry in rw c.in-Entry.is)
+    (λ c. unfold is_entry in rw c.in-Count.is))

@@ -10,7 +10,9 @@ use Rattle.effort.proofs.is_one.Tie as tie
 
 returns : tie.Need-returns
 unfolding is_one
-returns c = ap (λ (s : ℕ). eqb s 0) (c.rest-of.ensures ∙ ap rest_of c.before.set_at.ensures)
+returns c = ap (λ (s : ℕ). eqb s 0) (c.rest_of.ensures ∙ ap rest_of c.set_at.ensures)
 
-pub is-one-spec : {M : Type 1} → statement M
-is-one-spec = tie.close (tie.spec (λ c κs. search rules) (λ c κs. search rules) returns)
+pub is_one_spec : {M : Type 1} → statement M
+is_one_spec = tie.close (tie.spec (λ c κs. search rules)
+    (λ c κs. search rules)
+    returns)

@@ -9,26 +9,26 @@ use Rattle.effort.proofs.CutSums.{set_is}
 use Rattle.effort.proofs.set_of.Statement.{statement}
 use Rattle.effort.proofs.set_of.Tie as tie
 
-returns : tie.Need-returns
+returns : tie.Need-returns-then-s-eq0
 returns c =
-    let f = c.before.before.before.Free-of in
-    let p : is_past c.before.before.before.before.args.op ≡ true = sym c.before.before.is-past.ensures ∙ c.before.if1.true in
-    sym (set_is f.result _ _ _ _ _ (omega arith) f.ensures ∙ rw (p, eq-eqb f.result 0 c.if2.true))
+    let f = c.free_of-s in
+    let p : is_past c.args.op ≡ true = sym c.is_past.ensures ∙ c.if-is_past.true in
+    sym (set_is f.result _ _ _ _ _ (omega arith) f.ensures ∙ rw (p, eq-eqb f.result 0 c.if-s-eq0.true))
 
-returns-2 : tie.Need-returns-2
+returns-2 : tie.Need-returns-else-s-eq0
 returns-2 c =
-    let f = c.before.before.before.Free-of in
-    let p : is_past c.before.before.before.before.args.op ≡ true = sym c.before.before.is-past.ensures ∙ c.before.if1.true in
-    sym (set_is f.result _ _ _ _ _ (omega arith) f.ensures ∙ rw (p, ne_eqb f.result 0 c.if2.false))
+    let f = c.free_of-s in
+    let p : is_past c.args.op ≡ true = sym c.is_past.ensures ∙ c.if-is_past.true in
+    sym (set_is f.result _ _ _ _ _ (omega arith) f.ensures ∙ rw (p, ne_eqb f.result 0 c.if-s-eq0.false))
 
-returns-3 : tie.Need-returns-3
+returns-3 : tie.Need-returns
 returns-3 c =
-    let f = c.before.before.Free-of in
-    let p : is_past c.before.before.before.args.op ≡ false = sym c.before.is-past.ensures ∙ c.if1.false in
+    let f = c.free_of-s in
+    let p : is_past c.args.op ≡ false = sym c.is_past.ensures ∙ c.if-is_past.false in
     sym (set_is f.result _ _ _ _ _ (omega arith) f.ensures ∙ rw p)
 
-pub set-of-spec : {M : Type 1} → statement M
-set-of-spec =
+pub set_of_spec : {M : Type 1} → statement M
+set_of_spec =
     tie.close
     (tie.spec
     (λ c κs. search rules)
