@@ -160,7 +160,7 @@ fn an_older_library_is_not_linked() {
     program("rt", "echo \"proved: $*\" && echo new >out/libcuckooormolu_c.a");
     let (_, _, error) = said(&folder, &["run", "mine"]);
     assert!(error.contains("proving and building the library"), "{error}");
-    assert!(error.contains("proved: lib\n"), "{error}");
+    assert!(error.contains("proved: lib --cpu x86-64\n"), "{error}");
     let linked = fs::read_to_string(folder.file("target/staticlib/libcuckooormolu.a")).unwrap();
     assert_eq!(linked, "new\n");
     // Without rt, what is built runs on.
