@@ -34,7 +34,7 @@ returns c =
     let one = ap (λ (p : ℕ). not (eqb (index_first p) (index_last p))) word.ensures.0 ∙ i.requires.1.1.0 in
     let clear-from = c.clear_from in (
       requests.prev_table i.requires.0 i.requires.1.0.0 i.requires.1.0.1 refl word.result _ mask.result members.result word.ensures.0 one c.first_of-a.ensures.0 (sites.mask_is i.requires.0 mask.result members.result mask.ensures members.ensures.0)
-          (rw last_of.ensures at c.decide.ensures.0) clear-from.auto.0 members.ensures.0 clear-from.ensures,
+          (rw last_of.ensures at c.decide.ensures.0) clear-from.auto.out members.ensures.0 clear-from.ensures,
       rem.grown_up (let l = first_lower ((good i.args.terms.now i.requires.0.good).entry i.args.entry i.requires.1.0.0) (rw i.requires.1.0.1) in omega (arith, l, c.first_of-a.ensures.0)) i.requires.1.1.1 c.decide.ensures.1,
     )
 

@@ -85,7 +85,7 @@ returns c =
     let join_Kept = c.join_kept in
     let g = rem.grown_up (let l = second_lower ((good i.args.terms.now i.requires.0.good).entry i.args.entry i.requires.1.0.0) (rw i.requires.1.0.1) in omega (arith, l, second.ensures.0)) i.requires.1.1.1 rows.ensures.1 in (
       requests.since_pair i.requires.0 i.requires.1.0.0 i.requires.1.0.1 refl word.result word.ensures.0 two second.result operand.result second.ensures.0 operand.ensures.0
-          (rw (first_of.ensures, last_of.ensures) at rows.ensures.0) (rw (first_of.ensures, last_of.ensures) at rows2.ensures.0) join_Kept.auto.0 (rw table_of.ensures at join_Kept.ensures),
+          (rw (first_of.ensures, last_of.ensures) at rows.ensures.0) (rw (first_of.ensures, last_of.ensures) at rows2.ensures.0) join_Kept.auto.out (rw table_of.ensures at join_Kept.ensures),
       rem.grown_then g (rem.grown_up (let l = first_lower ((good i.args.terms.now i.requires.0.good).entry i.args.entry i.requires.1.0.0) (rw i.requires.1.0.1) in omega (arith, l, operand.ensures.0)) g.memo rows2.ensures.1),
     )
 

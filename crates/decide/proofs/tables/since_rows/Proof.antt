@@ -35,7 +35,7 @@ join-kept-requires c κs =
     (c.decide.ensures.0.long, c.decide-2.ensures.0.long, omega (arith, c.table_of.ensures, requests.table_small i.requires.0 i.requires.1.0.0 i.requires.1.0.1 refl _ c.word-p.ensures.0), omega (arith, i.requires.0.long_past))
 
 clear-from-requires : tie.Need-clear_from-requires
-clear-from-requires c κs = (c.join_kept.auto.0 ∙ c.decide.ensures.0.long, sites.members_few c.requires.0 _ c.members-n.ensures.0)
+clear-from-requires c κs = (c.join_kept.auto.out ∙ c.decide.ensures.0.long, sites.members_few c.requires.0 _ c.members-n.ensures.0)
 
 returns : tie.Need-returns
 returns c =
@@ -51,7 +51,7 @@ returns c =
     let g = rem.grown_up (let l = second_lower ((good i.args.terms.now i.requires.0.good).entry i.args.entry i.requires.1.0.0) (rw i.requires.1.0.1) in omega (arith, l, c.second_of-b.ensures.0)) i.requires.1.1.1 c.decide.ensures.1 in (
       requests.since_table i.requires.0 i.requires.1.0.0 i.requires.1.0.1 refl word.result _ _ mask.result members.result join_Kept.new.out word.ensures.0 one
           c.second_of-b.ensures.0 c.first_of-a.ensures.0 (sites.mask_is i.requires.0 mask.result members.result mask.ensures members.ensures.0)
-          (rw last_of.ensures at c.decide.ensures.0) (rw last_of.ensures at c.decide-2.ensures.0) join_Kept.auto.0 (rw table_of.ensures at join_Kept.ensures) clear-from.auto.0 members.ensures.0 clear-from.ensures,
+          (rw last_of.ensures at c.decide.ensures.0) (rw last_of.ensures at c.decide-2.ensures.0) join_Kept.auto.out (rw table_of.ensures at join_Kept.ensures) clear-from.auto.out members.ensures.0 clear-from.ensures,
       rem.grown_then g (rem.grown_up (let l = first_lower ((good i.args.terms.now i.requires.0.good).entry i.args.entry i.requires.1.0.0) (rw i.requires.1.0.1) in omega (arith, l, c.first_of-a.ensures.0)) g.memo c.decide-2.ensures.1),
     )
 

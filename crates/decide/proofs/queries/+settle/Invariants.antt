@@ -1,5 +1,0 @@
--- It calls itself with the operands, whose numbers are lower.
-use Rattle.decide.proofs.queries.+settle.Given as goal
-
-abbrev pub decreases-settle : goal.decreases-settle
-decreases-settle l = l.entry
