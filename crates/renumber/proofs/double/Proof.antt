@@ -8,36 +8,36 @@ use Rattle.renumber.proofs.Spreading as spreading
 use Rattle.renumber.proofs.double.Statement.{statement}
 use Rattle.renumber.proofs.double.Tie as tie
 
-abbrev invariant-loop : tie.invariant-loop
+abbrev invariant-loop : tie.invariant-loop-v
 invariant-loop part₀ n more v₀ part v = (v ≤ n) × Doubled part₀ n more part v
 
-abbrev decreases-loop : tie.decreases-loop
+abbrev decreases-loop : tie.decreases-loop-v
 decreases-loop part₀ n more v₀ part v = n - v
 
-slice-read-part : tie.Need-slice-read-part invariant-loop decreases-loop
-slice-read-part c = omega (arith, c.before.before.before.requires.0, c.before.before.before.requires.1, c.before.before.loop.invariant.1.long)
+slice-read-part : tie.Need-bounds-part-v invariant-loop decreases-loop
+slice-read-part c = omega (arith, c.requires.0, c.requires.1, c.loop-v.invariant.1.long)
 
-slice-write-part : tie.Need-slice-write-part invariant-loop decreases-loop
-slice-write-part c = omega (arith, c.before.before.before.requires.0, c.before.before.before.requires.1, c.before.before.loop.invariant.1.long)
+slice-write-part : tie.Need-bounds-part-n invariant-loop decreases-loop
+slice-write-part c = omega (arith, c.requires.0, c.requires.1, c.loop-v.invariant.1.long)
 
-loop-again : tie.Need-loop-preserved invariant-loop decreases-loop
+loop-again : tie.Need-loop-v-preserved invariant-loop decreases-loop
 loop-again c =
-    let l = c.before.before.loop in
-    let x = c.before.before.before in (
+    let l = c.loop-v in
+    let x = c in (
       omega arith,
-      spreading.doubled_more x.args.part.now l.part x.args.n x.args.more l.v c.before.loop-test.true
+      spreading.doubled_more x.args.part.now l.part x.args.n x.args.more l.v c.loop-v-test.true
           (omega (arith, x.requires.0, x.requires.1, l.invariant.1.long)) l.invariant.1,
     )
 
 returns : tie.Need-returns invariant-loop decreases-loop
 returns c =
-    let l = c.before.loop in
-    let x = c.before.before in
+    let l = c.loop-v in
+    let x = c in
     let end : l.v ≡ x.args.n = omega arith in
     subst (Doubled x.args.part.now x.args.n x.args.more l.part) end l.invariant.1
 
-pub double-spec : {M : Type 1} → statement M
-double-spec =
+pub double_spec : {M : Type 1} → statement M
+double_spec =
     tie.close
     (tie.spec
     invariant-loop
@@ -45,11 +45,11 @@ double-spec =
     (λ c. (omega arith, spreading.doubled_none _ _ _))
     (λ c. search rules)
     slice-read-part
-    (λ c. omega (arith, c.before.before.before.requires.1))
-    (λ c. omega (arith, c.before.before.before.requires.1))
+    (λ c. omega (arith, c.requires.1))
+    (λ c. omega (arith, c.requires.1))
     slice-write-part
     (λ c. search rules)
     (λ c. search rules)
     loop-again
-    (λ c. c.before.loop.invariant.1.long)
+    (λ c. c.loop-v.invariant.1.long)
     returns)

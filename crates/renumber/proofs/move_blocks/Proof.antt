@@ -13,79 +13,79 @@ use Rattle.renumber.proofs.Placing as placing
 use Rattle.renumber.proofs.move_blocks.Statement.{statement}
 use Rattle.renumber.proofs.move_blocks.Tie as tie
 
-abbrev invariant-loop : tie.invariant-loop
+abbrev invariant-loop : tie.invariant-loop-b
 invariant-loop two state all bytes second₀ b₀ second b = (b ≤ 48) × Moved two (new_number all) state second₀ second b
 
-abbrev decreases-loop : tie.decreases-loop
+abbrev decreases-loop : tie.decreases-loop-b
 decreases-loop two state all bytes second₀ b₀ second b = 48 - b
 
 -- A block has been looked up.
-abbrev loop : tie.After-has invariant-loop decreases-loop → tie.At-loop invariant-loop decreases-loop
+abbrev loop : tie.After-has invariant-loop decreases-loop → tie.At-loop-b invariant-loop decreases-loop
 loop k = k.before.before
 
 abbrev start : tie.After-has invariant-loop decreases-loop → tie.Start invariant-loop decreases-loop
 start k = (loop k).before.before.before.before.before
 
 abbrev at : tie.After-has invariant-loop decreases-loop → ℕ
-at k = 64 * (loop k).loop.b
+at k = 64 * (loop k).loop-b.b
 
 room : (k : tie.After-has invariant-loop decreases-loop) → at k + 64 ≤ 3072
-room k = omega (arith, k.before.loop-test.true)
+room k = omega (arith, k.loop-b-test.true)
 
-part-move-table-end-2 : tie.Need-slice-bounds-move-table-end-2 invariant-loop decreases-loop
-part-move-table-end-2 c = let k = c.before.before in omega (arith, room k, (start k).requires.0.1, (loop k).loop.invariant.1.long)
+part-move-table-end-2 : tie.Need-slice_bounds-move_table-end-then-has invariant-loop decreases-loop
+part-move-table-end-2 c = let k = c in omega (arith, room k.before.before, (start k.before.before).requires.0.1, (loop k.before.before).loop-b.invariant.1.long)
 
-part-move-rows-end-2 : tie.Need-slice-bounds-move-rows-end-2 invariant-loop decreases-loop
-part-move-rows-end-2 c = let k = c.before.before in omega (arith, room k, (start k).requires.0.1, (loop k).loop.invariant.1.long)
+part-move-rows-end-2 : tie.Need-slice_bounds-move_rows-end-else-has invariant-loop decreases-loop
+part-move-rows-end-2 c = let k = c in omega (arith, room k.before.before, (start k.before.before).requires.0.1, (loop k.before.before).loop-b.invariant.1.long)
 
 -- The words of the block, and where they go.
 from-long : (k : tie.After-has invariant-loop decreases-loop) → length (take (at k + 64 - at k) (drop (at k) (start k).args.state.now)) ≡ 64
 from-long k = rows.part_long (start k).args.state.now (at k) (omega (arith, room k, (start k).requires.0.0))
 
-into-long : (k : tie.After-has invariant-loop decreases-loop) → length (take (at k + 64 - at k) (drop (at k) (loop k).loop.second)) ≡ 64
-into-long k = rows.part_long (loop k).loop.second (at k) (omega (arith, room k, (start k).requires.0.1, (loop k).loop.invariant.1.long))
+into-long : (k : tie.After-has invariant-loop decreases-loop) → length (take (at k + 64 - at k) (drop (at k) (loop k).loop-b.second)) ≡ 64
+into-long k = rows.part_long (loop k).loop-b.second (at k) (omega (arith, room k, (start k).requires.0.1, (loop k).loop-b.invariant.1.long))
 
-move-table-requires : tie.Need-move-table-requires invariant-loop decreases-loop
+move-table-requires : tie.Need-move_table-requires invariant-loop decreases-loop
 move-table-requires c κs =
-    let k = c.before.before.before in
-    let x = start k in
-    ((from-long k, into-long k, x.pre.0.2), (x.pre.1.0, x.pre.1.2 (loop k).loop.b (sym k.has.ensures ∙ c.before.before.if1.true)))
+    let k = c in
+    let x = start k.before.before.before in
+    ((from-long k.before.before.before, into-long k.before.before.before, x.requires.0.2), (x.requires.1.0, x.requires.1.2 (loop k.before.before.before).loop-b.b (sym k.has.ensures ∙ c.if-has.true)))
 
-move-rows-requires : tie.Need-move-rows-requires invariant-loop decreases-loop
+move-rows-requires : tie.Need-move_rows-requires invariant-loop decreases-loop
 move-rows-requires c κs =
-    let k = c.before.before.before in
-    let x = start k in
-    ((from-long k, into-long k, x.pre.0.2), (x.pre.1.0, x.pre.1.1))
+    let k = c in
+    let x = start k.before.before.before in
+    ((from-long k.before.before.before, into-long k.before.before.before, x.requires.0.2), (x.requires.1.0, x.requires.1.1))
 
-loop-again : tie.Need-loop-preserved invariant-loop decreases-loop
+loop-again : tie.Need-loop-b-preserved invariant-loop decreases-loop
 loop-again c =
-    let k = c.before in
-    let x = start k in
-    let l = (loop k).loop in
+    let k = c in
+    let x = start k.before in
+    let l = (loop k.before).loop-b in
     let p : ℕ → ℕ = new_number x.args.all.now in
     let Is : List ℕ → Type 0 = λ m. Moved x.args.two p x.args.state.now x.args.second.now m (l.b + 1) in
-    let more = placing.moved_more p x.pre.1.1 x.args.two x.args.state.now x.args.second.now l.second (take (at k + 64 - at k) (drop (at k) x.args.state.now)) in
-    let same = rows.part_word x.args.state.now (at k) (omega (arith, room k, x.pre.0.0)) in (
+    let more = placing.moved_more p x.requires.1.1 x.args.two x.args.state.now x.args.second.now l.second (take (at k.before + 64 - at k.before) (drop (at k.before) x.args.state.now)) in
+    let same = rows.part_word x.args.state.now (at k.before) (omega (arith, room k.before, x.requires.0.0)) in (
       omega arith,
       ⊎_elim
-          (λ w. subst Is (sym w.6)
-          (more _ l.b (at k) (omega arith) refl x.pre.0.1 same w.3.ensures.long
-          (λ one. absurd (not_both _ (sym k.has.ensures ∙ w.0.taken) one)) (λ _. w.3.ensures) l.inv.1))
-          (λ w. subst Is (sym w.6)
-          (more _ l.b (at k) (omega arith) refl x.pre.0.1 same w.3.ensures.long
-          (λ _. w.3.ensures) (λ two. absurd (not_both _ two (sym k.has.ensures ∙ w.0.left))) l.inv.1))
-          c.if1.branch,
+          (λ w. subst Is (sym w.second-is)
+          (more _ l.b (at k.before) (omega arith) refl x.requires.0.1 same w.move_table.ensures.long
+          (λ one. absurd (not_both _ (sym k.has.ensures ∙ w.if-has.true) one)) (λ _. w.move_table.ensures) l.invariant.1))
+          (λ w. subst Is (sym w.second-is)
+          (more _ l.b (at k.before) (omega arith) refl x.requires.0.1 same w.move_rows.ensures.long
+          (λ _. w.move_rows.ensures) (λ two. absurd (not_both _ two (sym k.has.ensures ∙ w.if-has.false))) l.invariant.1))
+          c.if-has.branch-raw,
     )
 
 returns : tie.Need-returns invariant-loop decreases-loop
 returns c =
-    let l = c.before.loop in
-    let x = c.before.before.before.before.before.before in
+    let l = c.loop-b in
+    let x = c in
     let end : l.b ≡ 48 = omega arith in
     subst (Moved x.args.two (new_number x.args.all.now) x.args.state.now x.args.second.now l.second) end l.invariant.1
 
-pub move-blocks-spec : {M : Type 1} → statement M
-move-blocks-spec =
+pub move_blocks_spec : {M : Type 1} → statement M
+move_blocks_spec =
     tie.close
     (tie.spec
     invariant-loop
@@ -97,7 +97,7 @@ move-blocks-spec =
     (λ c. omega (arith, room c.before))
     (λ c. omega (arith, room c.before))
     (λ c. omega (arith, room c.before))
-    (λ c. omega (arith, room c.before, (start c.before).pre.0.0))
+    (λ c. omega (arith, room c.before, (start c.before).requires.0.0))
     (λ c. omega (arith, room c.before.before))
     (λ c. omega (arith, room c.before.before))
     (λ c. omega (arith, room c.before.before))
@@ -108,7 +108,7 @@ move-blocks-spec =
     (λ c. omega (arith, room c.before))
     (λ c. omega (arith, room c.before))
     (λ c. omega (arith, room c.before))
-    (λ c. omega (arith, room c.before, (start c.before).pre.0.0))
+    (λ c. omega (arith, room c.before, (start c.before).requires.0.0))
     (λ c. omega (arith, room c.before.before))
     (λ c. omega (arith, room c.before.before))
     (λ c. omega (arith, room c.before.before))
@@ -118,5 +118,5 @@ move-blocks-spec =
     (λ c. omega arith)
     (λ c. omega arith)
     loop-again
-    (λ c. c.before.loop.invariant.1.long)
+    (λ c. c.loop-b.invariant.1.long)
     returns)

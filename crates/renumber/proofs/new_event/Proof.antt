@@ -7,23 +7,23 @@ use borrow.Author.Rules.{rules}
 use Rattle.renumber.proofs.new_event.Statement.{statement}
 use Rattle.renumber.proofs.new_event.Tie as tie
 
-mul-result-2 : tie.Need-overflow-mul-result-2
-mul-result-2 c = omega (arith, c.before.new-number.ensures.1 (omega arith), c.new-number2.ensures.1 (omega arith), c.before.before.before.before.requires)
+mul-result-2 : tie.Need-overflow_mul-result-2
+mul-result-2 c = omega (arith, c.new_number-from.ensures.1 (omega arith), c.new_number-to.ensures.1 (omega arith), c.requires)
 
-add-result-2 : tie.Need-overflow-add-result-2
-add-result-2 c = omega (arith, c.before.new-number.ensures.1 (omega arith), c.new-number2.ensures.1 (omega arith), c.before.before.before.before.requires)
+add-result-2 : tie.Need-overflow_add-result-2
+add-result-2 c = omega (arith, c.new_number-from.ensures.1 (omega arith), c.new_number-to.ensures.1 (omega arith), c.requires)
 
-add-result-3 : tie.Need-overflow-add-result-3
-add-result-3 c = omega (arith, c.before.new-number.ensures.1 (omega arith), c.new-number2.ensures.1 (omega arith), c.before.before.before.before.requires)
+add-result-3 : tie.Need-overflow_add-result-3
+add-result-3 c = omega (arith, c.new_number-from.ensures.1 (omega arith), c.new_number-to.ensures.1 (omega arith), c.requires)
 
-returns-2 : tie.Need-returns-2
+returns-2 : tie.Need-returns
 returns-2 c =
-    let i = c.before.before.before.before.args in
-    placing.new-event (new_number i.numbers.now) i.word (i.word - 1) c.before.new-number.result c.new-number2.result
-    (omega arith) c.before.new-number.ensures.0 c.new-number2.ensures.0
+    let i = c.args in
+    placing.new-event (new_number i.numbers.now) i.word (i.word - 1) c.new_number-from.result c.new_number-to.result
+    (omega arith) c.new_number-from.ensures.0 c.new_number-to.ensures.0
 
-pub new-event-spec : {M : Type 1} → statement M
-new-event-spec =
+pub new_event_spec : {M : Type 1} → statement M
+new_event_spec =
     tie.close
     (tie.spec
     (λ c. search rules)

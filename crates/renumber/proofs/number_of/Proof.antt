@@ -8,10 +8,12 @@ use Rattle.renumber.proofs.number_of.Tie as tie
 
 returns : tie.Need-returns
 returns c =
-    let x = c.before.before.before in (
+    let x = c in (
       c.wide.ensures ∙ get_d_any x.args.all.now x.args.m 0 x.args.m (omega (arith, x.requires.0, x.requires.1)),
-      omega (arith, c.wide.ensures, c.before.shared-slice-known2.given x.args.m),
+      omega (arith, c.wide.ensures, c.shared_slice_known-2-1.given x.args.m),
     )
 
-pub number-of-spec : {M : Type 1} → statement M
-number-of-spec = tie.close (tie.spec (λ c. search rules) (λ c κs. search rules) returns)
+pub number_of_spec : {M : Type 1} → statement M
+number_of_spec = tie.close (tie.spec (λ c. search rules)
+    (λ c κs. search rules)
+    returns)

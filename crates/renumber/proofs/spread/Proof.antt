@@ -6,15 +6,15 @@ use Rattle.renumber.proofs.spread.Tie as tie
 
 returns : tie.Need-returns
 returns c = λ p b m.
-    by.whole_spread p m c.before.before.before.before.before.args.set _ _ _ _ (c.before.before.before.spread-part.ensures p b m)
-    (c.before.before.spread-part2.ensures p b m) (c.before.spread-part3.ensures p b m) (c.spread-part4.ensures p b m)
+    by.whole_spread p m c.args.set _ _ _ _ (c.spread_part-a.ensures p b m)
+    (c.spread_part-b.ensures p b m) (c.spread_part-c.ensures p b m) (c.spread_part-d.ensures p b m)
 
-pub spread-spec : {M : Type 1} → statement M
-spread-spec =
+pub spread_spec : {M : Type 1} → statement M
+spread_spec =
     tie.close
     (tie.spec
-    (λ c κs. (c.before.requires, omega arith))
-    (λ c κs. (c.before.before.requires, omega arith))
-    (λ c κs. (c.before.before.before.requires, omega arith))
-    (λ c κs. (c.before.before.before.before.requires, omega arith))
+    (λ c κs. (c.requires, omega arith))
+    (λ c κs. (c.requires, omega arith))
+    (λ c κs. (c.requires, omega arith))
+    (λ c κs. (c.requires, omega arith))
     returns)

@@ -14,18 +14,18 @@ high : (c : tie.Start) → bit_and (c.args.set / 256) 255 < 256
 high c = omega (arith, and_le_r (c.args.set / 256) 255)
 
 returns : tie.Need-returns
-returns c = let x = c.before.before in by.part_spread x.args.bytes.now x.args.i x.args.set x.requires.1
+returns c = let x = c in by.part_spread x.args.bytes.now x.args.i x.args.set x.requires.1
 
-pub spread-part-spec : {M : Type 1} → statement M
-spread-part-spec =
+pub spread_part_spec : {M : Type 1} → statement M
+spread_part_spec =
     tie.close
     (tie.spec
     (λ c. omega arith)
     (λ c. omega (arith, low c))
     (λ c. omega (arith, low c))
-    (λ c. omega (arith, low c.before, c.before.requires.0))
+    (λ c. omega (arith, low c.before, c.requires.0))
     (λ c. omega (arith, high c.before))
     (λ c. omega (arith, high c.before))
     (λ c. omega (arith, high c.before))
-    (λ c. omega (arith, high c.before.before, c.before.before.requires.0))
+    (λ c. omega (arith, high c.before.before, c.requires.0))
     returns)

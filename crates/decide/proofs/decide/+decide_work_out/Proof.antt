@@ -88,12 +88,12 @@ abbrev work-out-below : ℕ → In 6 work-out-kinds.ps
 work-out-below t =
     and 6 work-out-kinds.ps (falls 6 work-out-kinds.ps ◌<◌ μ-work-out t) work-out.Pre
 
-abbrev work-out-Inv-loop : work-out-lts.invariant-loop
+abbrev work-out-Inv-loop : work-out-lts.invariant-loop-rest
 work-out-Inv-loop terms index relations past memo₀ vars x entry want out₀ op a b r all event f₀ y rest₀ memo out f rest =
     loops.Filling want (cell (terms_of terms) relations past (assigned vars) x entry) out₀ rest out × (length f ≡ 64)
     × Grown (terms_of terms) relations past entry memo₀ memo
 
-abbrev work-out-μ-loop : work-out-lts.decreases-loop
+abbrev work-out-μ-loop : work-out-lts.decreases-loop-rest
 work-out-μ-loop terms index relations past memo₀ vars x entry want out₀ op a b r all event f₀ y rest₀ memo out f rest =
     rest
 
@@ -188,7 +188,7 @@ abbrev Part-decide : Type 1
 Part-decide = decide-lts.Claims → In 6 decide-kinds.ps → Out 6 decide-kinds.ps decide-kinds.r → Type 0
 
 abbrev Part-work-out : Type 1
-Part-work-out = work-out-lts.Claims → In 6 work-out-kinds.ps → Out 6 work-out-kinds.ps work-out-kinds.r → work-out-lts.invariant-loop → work-out-lts.decreases-loop → Type 0
+Part-work-out = work-out-lts.Claims → In 6 work-out-kinds.ps → Out 6 work-out-kinds.ps work-out-kinds.r → work-out-lts.invariant-loop-rest → work-out-lts.decreases-loop-rest → Type 0
 
 abbrev here-decide : ℕ → Part-decide → Type 0
 here-decide t part = part (callees-decide t) (decide_at t) decide.Post
@@ -197,21 +197,21 @@ abbrev here-work-out : ℕ → Part-work-out → Type 0
 here-work-out t part = part (callees-work-out t) (work-out-at t) work-out.Post work-out-Inv-loop work-out-μ-loop
 
 -- The function's entry, and the place from which every arm starts.
-abbrev start : (t : ℕ) → here-work-out t work-out-lts.After-mask → here-work-out t work-out-lts.Start
+abbrev start : (t : ℕ) → here-work-out t work-out-lts.After-mask-all → here-work-out t work-out-lts.Start
 start t c = c.before.before.before.before.before.before.before.before.before.before.before.before.before
 
-site : (t : ℕ) (c : here-work-out t work-out-lts.After-mask)
+site : (t : ℕ) (c : here-work-out t work-out-lts.After-mask-all)
     → sites.Site (start t c).args.terms.now (start t c).args.index.now (start t c).args.relations.now (start t c).args.past.now
     (assigned (start t c).args.vars) (start t c).args.x (start t c).args.entry (start t c).args.want
-    c.before.before.before.before.before.op-of.result c.before.before.before.before.first_of.result c.before.before.before.second-of.result c.before.before.relations.result c.mask.result
+    c.op_of-op.result c.first_of-a.result c.second_of-b.result c.relations-r.result c.mask-all.result
 site t c = record {
   ready = (start t c).requires.1.0;
   asked = (start t c).requires.1.1.0;
-  o_is = c.before.before.before.before.before.op-of.ensures.0;
-  a-is = c.before.before.before.before.first_of.ensures.0;
-  b-is = c.before.before.before.second-of.ensures.0;
-  r-is = c.before.before.relations.ensures.0;
-  all-is = sites.mask_is (start t c).requires.1.0 c.mask.result c.before.members.result c.mask.ensures c.before.members.ensures.0;
+  o_is = c.op_of-op.ensures.0;
+  a-is = c.first_of-a.ensures.0;
+  b-is = c.second_of-b.ensures.0;
+  r-is = c.relations-r.ensures.0;
+  all-is = sites.mask_is (start t c).requires.1.0 c.mask-all.result c.members.result c.mask-all.ensures c.members.ensures.0;
 }
 
 -- The past-time operators.
@@ -225,10 +225,10 @@ not-past : (o : ℕ) → (o ≡ 6 → ⊥) → (o ≡ 7 → ⊥) → is_past o �
 not-past o m n = is_false (is_past o) (λ p. ⊎_elim (λ e. m (eqb-true o 6 e)) (λ e. n (eqb-true o 7 e)) (or_cases (eqb o 6) (eqb o 7) p))
 
 -- There is no arm but those of the operators.
-no_other : (t : ℕ) (c : here-work-out t work-out-lts.At-match-rest) → ⊥
+no_other : (t : ℕ) (c : here-work-out t work-out-lts.In_default) → ⊥
 no_other t c =
-    let rest = c.match.rest in
-    sites.no_other (site t c.before.before.before.before.before.before.before.before.before) c.before.before.before.before.before.before.before.before.if2.false c.before.before.before.before.before.before.before.if3.false (not-past _ c.before.before.before.before.before.before.if5.false c.before.before.before.before.before.if6.false) c.before.before.before.before.if7.false
+    let rest = c.in_default.in_default-own.rest in
+    sites.no_other (site t c.before.before.before.before.before.before.before.before.before) c.if-op-eq-TOP.false c.if-op-eq-VAR.false (not-past _ c.if-op-eq-PREV.false c.if-op-eq-SINCE.false) c.if-op-eq-NOT.false
     rest.0.0.0.0.0.1 (λ e. rest.0.0.0.0.1 (inl e)) rest.0.0.0.1 rest.0.0.1 rest.1 rest.0.1 (λ e. rest.0.0.0.0.1 (inr e))
 
 lower : (f entry t : ℕ) → 2 * entry ≡ t → f < entry → 2 * f + 1 < t
@@ -251,424 +251,424 @@ member-small : {terms index rel past : List ℕ} {g : Assignment} {x i want o a 
     → m ≡ g a → a < 16 → m < 64
 member-small {a = a} s m e l = subst (λ (y : ℕ). y < 64) (sym e) (sites.var_below s a l)
 
-decide-has-slot-requires : (t : ℕ) → here-decide t decide-lts.Need-has-slot-requires
-decide-has-slot-requires t c κs = sites.entry_short c.before.before.before.before.before.before.before.before.requires.1.0 _ c.before.before.before.before.before.before.before.before.requires.1.1.0.exists
+decide-has-slot-requires : (t : ℕ) → here-decide t decide-lts.Need-has_slot-kept-requires
+decide-has-slot-requires t c κs = sites.entry_short c.requires.1.0 _ c.requires.1.1.0.exists
 
-decide-missing-requires : (t : ℕ) → here-decide t decide-lts.Need-missing-requires
-decide-missing-requires t c κs = (sites.entry_short c.before.before.before.before.before.before.before.before.before.before.before.requires.1.0 _ c.before.before.before.before.before.before.before.before.before.before.before.requires.1.1.0.exists, c.before.before.has-slot.ensures)
+decide-missing-requires : (t : ℕ) → here-decide t decide-lts.Need-missing-need-requires
+decide-missing-requires t c κs = (sites.entry_short c.requires.1.0 _ c.requires.1.1.0.exists, c.has_slot-kept.ensures)
 
-decide-work-out-requires : (t : ℕ) → here-decide t decide-lts.Need-work-out-requires
+decide-work-out-requires : (t : ℕ) → here-decide t decide-lts.Need-work_out-requires
 decide-work-out-requires t c κs =
-    let miss = c.before.before.before.before.missing in
-    let kept = c.before.before.before.before.before.before.before.has-slot.result in
-    (less _ t c.before.before.before.before.before.before.before.before.before.before.before.before.before.before.before.before.requires.0, (c.before.before.before.before.before.before.before.before.before.before.before.before.before.before.before.before.requires.1.0, (sites.asked_fewer miss.result c.before.before.before.before.before.before.before.before.before.before.before.before.before.before.before.before.requires.1.1.0 (rem.needed kept miss.ensures.0 miss.ensures.1.0), (c.before.before.before.before.before.before.before.before.before.before.before.before.before.before.before.before.requires.1.1.1.0, rem.memo_apart _ c.before.before.before.before.before.before.before.before.before.before.before.before.before.before.before.before.requires.1.1.1.1 miss.ensures.1.1))))
+    let miss = c.missing-need in
+    let kept = c.has_slot-kept.result in
+    (less _ t c.requires.0, (c.requires.1.0, (sites.asked_fewer miss.result c.requires.1.1.0 (rem.needed kept miss.ensures.0 miss.ensures.1.0), (c.requires.1.1.1.0, rem.memo_apart _ c.requires.1.1.1.1 miss.ensures.1.1))))
 
 decide-keep-requires : (t : ℕ) → here-decide t decide-lts.Need-keep-requires
 decide-keep-requires t c κs =
-    let i = c.before.before.before.before.before.before.before.before.before.before.before.before.before.before.before.before.before.before.before.before.before.before.before.before.before.before in
-    let miss = c.before.before.before.before.before.before.before.before.before.before.before.before.before.before.missing in
-    let kept = c.before.before.before.before.before.before.before.before.before.before.before.before.before.before.before.before.before.has-slot in
-    let work = c.before.before.before.before.before.before.before.before.before.work-out in
+    let i = c in
+    let miss = c.missing-need in
+    let kept = c.has_slot-kept in
+    let work = c.work_out in
     (sites.entry_short i.requires.1.0 _ i.requires.1.1.0.exists, λ e. subst (λ (z : ℕ). 133 * i.args.entry + 133 ≤ z) (sym (work.ensures.1.above.long ∙ miss.ensures.1.1.long)) (kept.ensures e), work.ensures.0.long)
 
-decide-same-length : (t : ℕ) → here-decide t decide-lts.Need-same-length
-decide-same-length t c = c.before.before.before.before.keep.auto.0 ∙ c.before.before.before.before.before.before.before.before.before.before.before.before.before.before.work-out.ensures.1.above.long ∙ c.before.before.before.before.before.before.before.before.before.before.before.before.before.before.before.before.before.before.before.missing.auto.0
+decide-same-length : (t : ℕ) → here-decide t decide-lts.Need-shape_of-memo
+decide-same-length t c = c.keep.auto.memo ∙ c.work_out.ensures.1.above.long ∙ c.missing-need.auto.memo
 
-decide-same-length-2 : (t : ℕ) → here-decide t decide-lts.Need-same-length-2
-decide-same-length-2 t c = c.before.before.before.before.keep.auto.1.1.1.1.1.1.1.1.0 ∙ c.before.before.before.before.before.before.before.before.before.before.before.before.before.before.work-out.auto.1.1.1.1.1.1.1.1.1.0
+decide-same-length-2 : (t : ℕ) → here-decide t decide-lts.Need-shape_of-out
+decide-same-length-2 t c = c.keep.auto.out ∙ c.work_out.auto.out
 
 decide-returns : (t : ℕ) → here-decide t decide-lts.Need-returns
 decide-returns t c =
-    let miss = c.before.before.before.before.before.before.before.before.before.before.before.before.before.before.before.before.before.before.before.missing in
-    let kept = c.before.before.before.before.before.before.before.before.before.before.before.before.before.before.before.before.before.before.before.before.before.before.has-slot in
-    let work = c.before.before.before.before.before.before.before.before.before.before.before.before.before.before.work-out in
-    let keep = c.before.before.before.before.keep in
-    let i = c.before.before.before.before.before.before.before.before.before.before.before.before.before.before.before.before.before.before.before.before.before.before.before.before.before.before.before.before.before.before.before in
+    let miss = c.missing-need in
+    let kept = c.has_slot-kept in
+    let work = c.work_out in
+    let keep = c.keep in
+    let i = c in
     rem.decided kept.result (good i.args.terms.now i.requires.1.0.good).few_members
-    (sites.mask_is i.requires.1.0 c.before.before.before.before.before.before.before.before.mask.result c.before.before.before.before.before.before.before.before.before.members.result c.before.before.before.before.before.before.before.before.mask.ensures c.before.before.before.before.before.before.before.before.before.members.ensures.0)
+    (sites.mask_is i.requires.1.0 c.mask-all.result c.members.result c.mask-all.ensures c.members.ensures.0)
     i.requires.1.1.0.vars i.requires.1.1.0.wanted kept.ensures i.requires.1.1.1.1
     miss.ensures.0 miss.ensures.1.0 miss.ensures.1.1 work.ensures.0 work.ensures.1 keep.ensures.0 keep.ensures.1.0 keep.ensures.1.1
 
-work-out-returns : (t : ℕ) → here-work-out t work-out-lts.Need-returns
-work-out-returns t c = (loops.no_rows _ c.if1.true c.before.before.before.before.before.before.before.requires.1.1.1.0, rem.grown_same c.before.before.before.before.before.before.before.requires.1.1.1.1)
+work-out-returns : (t : ℕ) → here-work-out t work-out-lts.Need-returns-then-want-eq0
+work-out-returns t c = (loops.no_rows _ c.if-want-eq0.true c.requires.1.1.1.0, rem.grown_same c.requires.1.1.1.1)
 
 work-out-spread-requires : (t : ℕ) → here-work-out t work-out-lts.Need-spread-requires
-work-out-spread-requires t c κs = c.before.before.before.before.before.before.before.before.before.before.before.before.before.before.before.requires.1.1.1.0
+work-out-spread-requires t c κs = c.requires.1.1.1.0
 
-work-out-returns-2 : (t : ℕ) → here-work-out t work-out-lts.Need-returns-2
+work-out-returns-2 : (t : ℕ) → here-work-out t work-out-lts.Need-returns-then-op-eq-TOP
 work-out-returns-2 t c =
     let s = site t c.before.before.before.before.before in
-    (ops.decide_top s c.before.before.before.before.if2.true c.before.before.spread.ensures, rem.grown_same c.before.before.before.before.before.before.before.before.before.before.before.before.before.before.before.before.before.before.requires.1.1.1.1)
+    (ops.decide_top s c.if-op-eq-TOP.true c.spread.ensures, rem.grown_same c.requires.1.1.1.1)
 
 work-out-diagonal-requires : (t : ℕ) → here-work-out t work-out-lts.Need-diagonal-requires
-work-out-diagonal-requires t c κs = c.before.before.before.before.before.before.before.before.before.before.before.before.before.before.before.before.before.requires.1.1.1.0
+work-out-diagonal-requires t c κs = c.requires.1.1.1.0
 
-work-out-member-of-requires : (t : ℕ) → here-work-out t work-out-lts.Need-member-of-requires
+work-out-member-of-requires : (t : ℕ) → here-work-out t work-out-lts.Need-member_of-requires
 work-out-member-of-requires t c κs =
     let s = site t c.before.before.before.before in
-    sites.a_variable s 1 c.before.before.if3.true refl
+    sites.a_variable s 1 c.if-op-eq-VAR.true refl
 
 work-out-alone-requires : (t : ℕ) → here-work-out t work-out-lts.Need-alone-requires
 work-out-alone-requires t c κs =
     let s = site t c.before.before.before.before.before in
-    (c.before.before.before.before.before.before.before.before.before.before.before.before.before.before.before.before.before.before.requires.1.1.1.0, member-small s _ c.member_of.ensures (sites.a_variable s 1 c.before.before.before.if3.true refl))
+    (c.requires.1.1.1.0, member-small s _ c.member_of.ensures (sites.a_variable s 1 c.if-op-eq-VAR.true refl))
 
-work-out-returns-3 : (t : ℕ) → here-work-out t work-out-lts.Need-returns-3
+work-out-returns-3 : (t : ℕ) → here-work-out t work-out-lts.Need-returns-then-a-x
 work-out-returns-3 t c =
     let s = site t c.before.before.before.before.before.before.before in
-    (ops.decide_var_open s c.before.before.before.before.before.if3.true c.before.before.before.before.if4.true c.before.before.diagonal.ensures, rem.grown_same c.before.before.before.before.before.before.before.before.before.before.before.before.before.before.before.before.before.before.before.before.requires.1.1.1.1)
+    (ops.decide_var_open s c.if-op-eq-VAR.true c.if-a-x.true c.diagonal.ensures, rem.grown_same c.requires.1.1.1.1)
 
-work-out-returns-4 : (t : ℕ) → here-work-out t work-out-lts.Need-returns-4
+work-out-returns-4 : (t : ℕ) → here-work-out t work-out-lts.Need-returns-else-a-x
 work-out-returns-4 t c =
     let s = site t c.before.before.before.before.before.before.before.before in
-    let alone = c.before.before.alone in
-    (ops.decide_var s c.before.before.before.member_of.result c.before.before.before.before.before.before.if3.true c.before.before.before.before.before.if4.false c.before.before.before.member_of.ensures (alone.auto.0 ∙ c.before.before.before.before.before.before.before.before.before.before.before.before.before.before.before.before.before.before.before.before.before.requires.1.1.1.0) alone.ensures, rem.grown_same c.before.before.before.before.before.before.before.before.before.before.before.before.before.before.before.before.before.before.before.before.before.requires.1.1.1.1)
+    let alone = c.alone in
+    (ops.decide_var s c.member_of.result c.if-op-eq-VAR.true c.if-a-x.false c.member_of.ensures (alone.auto.out ∙ c.requires.1.1.1.0) alone.ensures, rem.grown_same c.requires.1.1.1.1)
 
 work-out-recollect-requires : (t : ℕ) → here-work-out t work-out-lts.Need-recollect-requires
 work-out-recollect-requires t c κs =
     let s = site t c.before.before.before.before in
-    (ops.recalling s (is-prev _ c.before.if5.true), c.before.before.before.before.before.before.before.before.before.before.before.before.before.before.before.before.before.requires.1.1.1.0)
+    (ops.recalling s (is-prev _ c.if-op-eq-PREV.true), c.requires.1.1.1.0)
 
-work-out-returns-5 : (t : ℕ) → here-work-out t work-out-lts.Need-returns-5
+work-out-returns-5 : (t : ℕ) → here-work-out t work-out-lts.Need-returns-then-op-eq-PREV
 work-out-returns-5 t c =
     let s = site t c.before.before.before.before.before.before.before in
-    (ops.decide_past s (is-prev _ c.before.before.before.before.if5.true) c.before.before.recollect.ensures, rem.grown_same c.before.before.before.before.before.before.before.before.before.before.before.before.before.before.before.before.before.before.before.before.requires.1.1.1.1)
+    (ops.decide_past s (is-prev _ c.if-op-eq-PREV.true) c.recollect.ensures, rem.grown_same c.requires.1.1.1.1)
 
-work-out-recollect-requires-2 : (t : ℕ) → here-work-out t work-out-lts.Need-recollect-requires-2
+work-out-recollect-requires-2 : (t : ℕ) → here-work-out t work-out-lts.Need-recollect-requires-then-op-eq-SINCE
 work-out-recollect-requires-2 t c κs =
     let s = site t c.before.before.before.before.before in
-    (ops.recalling s (is-since _ c.before.if6.true), c.before.before.before.before.before.before.before.before.before.before.before.before.before.before.before.before.before.before.requires.1.1.1.0)
+    (ops.recalling s (is-since _ c.if-op-eq-SINCE.true), c.requires.1.1.1.0)
 
-work-out-returns-6 : (t : ℕ) → here-work-out t work-out-lts.Need-returns-6
+work-out-returns-6 : (t : ℕ) → here-work-out t work-out-lts.Need-returns-then-op-eq-SINCE
 work-out-returns-6 t c =
     let s = site t c.before.before.before.before.before.before.before.before in
-    (ops.decide_past s (is-since _ c.before.before.before.before.if6.true) c.before.before.recollect2.ensures, rem.grown_same c.before.before.before.before.before.before.before.before.before.before.before.before.before.before.before.before.before.before.before.before.before.requires.1.1.1.1)
+    (ops.decide_past s (is-since _ c.if-op-eq-SINCE.true) c.recollect-then-op-eq-SINCE.ensures, rem.grown_same c.requires.1.1.1.1)
 
 work-out-decide-requires : (t : ℕ) → here-work-out t work-out-lts.Need-decide-requires
 work-out-decide-requires t c κs =
     let s = site t c.before.before.before.before.before.before.before in
-    let q = sites.a_lower s 2 c.before.before.if7.true refl in
-    (lower _ _ t c.before.before.before.before.before.before.before.before.before.before.before.before.before.before.before.before.before.before.before.before.requires.0 q, (s.ready, (sites.operand_same s _ q, (c.before.before.before.before.before.before.before.before.before.before.before.before.before.before.before.before.before.before.before.before.requires.1.1.1.0, rem.memo_lower (below _ _ q) c.before.before.before.before.before.before.before.before.before.before.before.before.before.before.before.before.before.before.before.before.requires.1.1.1.1))))
+    let q = sites.a_lower s 2 c.if-op-eq-NOT.true refl in
+    (lower _ _ t c.requires.0 q, (s.ready, (sites.operand_same s _ q, (c.requires.1.1.1.0, rem.memo_lower (below _ _ q) c.requires.1.1.1.1))))
 
-work-out-same-length-6 : (t : ℕ) → here-work-out t work-out-lts.Need-same-length-6
-work-out-same-length-6 t c = c.before.before.before.before.before.before.before.before.decide.ensures.1.above.long
+work-out-same-length-6 : (t : ℕ) → here-work-out t work-out-lts.Need-shape_of-memo-then-op-eq-NOT
+work-out-same-length-6 t c = c.decide.ensures.1.above.long
 
-work-out-same-length-7 : (t : ℕ) → here-work-out t work-out-lts.Need-same-length-7
-work-out-same-length-7 t c = c.before.before.flip.auto.0 ∙ c.before.before.before.before.before.before.before.before.decide.auto.1.1.1.1.1.1.1.1.1.0
+work-out-same-length-7 : (t : ℕ) → here-work-out t work-out-lts.Need-shape_of-out-then-op-eq-NOT
+work-out-same-length-7 t c = c.flip.auto.out ∙ c.decide.auto.out
 
-work-out-returns-7 : (t : ℕ) → here-work-out t work-out-lts.Need-returns-7
+work-out-returns-7 : (t : ℕ) → here-work-out t work-out-lts.Need-returns-then-op-eq-NOT
 work-out-returns-7 t c =
     let s = site t c.before.before.before.before.before.before.before.before.before.before.before.before.before.before.before.before in
-    (ops.decide_neg s c.before.before.before.before.before.before.before.before.before.before.before.if7.true c.before.before.before.before.before.before.before.before.decide.ensures.0 c.before.before.flip.auto.0 c.before.before.flip.ensures, rem.grown_up (below _ _ (sites.a_lower s 2 c.before.before.before.before.before.before.before.before.before.before.before.if7.true refl)) c.before.before.before.before.before.before.before.before.before.before.before.before.before.before.before.before.before.before.before.before.before.before.before.before.before.before.before.before.before.requires.1.1.1.1 c.before.before.before.before.before.before.before.before.decide.ensures.1)
+    (ops.decide_neg s c.if-op-eq-NOT.true c.decide.ensures.0 c.flip.auto.out c.flip.ensures, rem.grown_up (below _ _ (sites.a_lower s 2 c.if-op-eq-NOT.true refl)) c.requires.1.1.1.1 c.decide.ensures.1)
 
-work-out-event-of-requires : (t : ℕ) → here-work-out t work-out-lts.Need-event-of-requires
+work-out-event-of-requires : (t : ℕ) → here-work-out t work-out-lts.Need-event_of-event-requires
 work-out-event-of-requires t c κs =
     let s = site t c.before.before.before.before.before in
     ((good _ s.ready.good).few_events, s.ready.long_past)
 
 work-out-clear-requires : (t : ℕ) → here-work-out t work-out-lts.Need-clear-requires
-work-out-clear-requires t c κs = c.before.before.before.before.before.before.before.before.before.before.before.before.before.before.before.before.before.before.before.before.before.before.requires.1.1.1.0
+work-out-clear-requires t c κs = c.requires.1.1.1.0
 
-work-out-returns-8 : (t : ℕ) → here-work-out t work-out-lts.Need-returns-8
+work-out-returns-8 : (t : ℕ) → here-work-out t work-out-lts.Need-returns-then-op-is_absent
 work-out-returns-8 t c =
     let s = site t c.before.before.before.before.before.before.before.before.before.before.before.before in
-    let is-absent = c.before.before.before.before.before.is-absent in
-    (near.decide_absent s is-absent.result c.before.before.before.before.if8.true (rw c.before.before.before.before.before.before.event-of.ensures at is-absent.ensures) c.before.before.clear.ensures, rem.grown_same c.before.before.before.before.before.before.before.before.before.before.before.before.before.before.before.before.before.before.before.before.before.before.before.before.before.requires.1.1.1.1)
+    let is-absent = c.is_absent in
+    (near.decide_absent s is-absent.result c.if-op-is_absent.true (rw c.event_of-event.ensures at is-absent.ensures) c.clear.ensures, rem.grown_same c.requires.1.1.1.1)
 
-work-out-decide-requires-2 : (t : ℕ) → here-work-out t work-out-lts.Need-decide-requires-2
+work-out-decide-requires-2 : (t : ℕ) → here-work-out t work-out-lts.Need-decide-requires-in-3
 work-out-decide-requires-2 t c κs =
     let s = site t c.before.before.before.before.before.before.before.before.before.before.before in
-    let q = sites.a_lower s 3 c.before.before.match.keys1 refl in
-    (lower _ _ t c.before.before.before.before.before.before.before.before.before.before.before.before.before.before.before.before.before.before.before.before.before.before.before.before.requires.0 q, (s.ready, (sites.operand_same s _ q, (c.before.before.before.before.before.before.before.before.before.before.before.before.before.before.before.before.before.before.before.before.before.before.before.before.requires.1.1.1.0, rem.memo_lower (below _ _ q) c.before.before.before.before.before.before.before.before.before.before.before.before.before.before.before.before.before.before.before.before.before.before.before.before.requires.1.1.1.1))))
+    let q = sites.a_lower s 3 c.in-3.is refl in
+    (lower _ _ t c.requires.0 q, (s.ready, (sites.operand_same s _ q, (c.requires.1.1.1.0, rem.memo_lower (below _ _ q) c.requires.1.1.1.1))))
 
-work-out-decide-requires-3 : (t : ℕ) → here-work-out t work-out-lts.Need-decide-requires-3
+work-out-decide-requires-3 : (t : ℕ) → here-work-out t work-out-lts.Need-decide-requires-in-3-2
 work-out-decide-requires-3 t c κs =
     let s = site t c.before.before.before.before.before.before.before.before.before.before.before.before.before.before.before.before.before.before in
-    let g = rem.grown_up (below _ _ (sites.a_lower s 3 c.before.before.before.before.before.before.before.before.before.match.keys1 refl)) c.before.before.before.before.before.before.before.before.before.before.before.before.before.before.before.before.before.before.before.before.before.before.before.before.before.before.before.before.before.before.before.requires.1.1.1.1 c.before.before.before.before.before.before.decide2.ensures.1 in
-    let q = sites.b_lower s 3 c.before.before.before.before.before.before.before.before.before.match.keys1 refl in
-    (lower _ _ t c.before.before.before.before.before.before.before.before.before.before.before.before.before.before.before.before.before.before.before.before.before.before.before.before.before.before.before.before.before.before.before.requires.0 q, (s.ready, (sites.operand_same s _ q, (refl, rem.memo_lower (below _ _ q) g.memo))))
+    let g = rem.grown_up (below _ _ (sites.a_lower s 3 c.in-3.is refl)) c.requires.1.1.1.1 c.decide-in-3.ensures.1 in
+    let q = sites.b_lower s 3 c.in-3.is refl in
+    (lower _ _ t c.requires.0 q, (s.ready, (sites.operand_same s _ q, (refl, rem.memo_lower (below _ _ q) g.memo))))
 
 work-out-join-requires : (t : ℕ) → here-work-out t work-out-lts.Need-join-requires
-work-out-join-requires t c κs = (c.before.before.before.before.before.before.before.before.before.before.before.before.decide2.ensures.0.long, c.before.before.before.before.before.decide3.ensures.0.long)
+work-out-join-requires t c κs = (c.decide-in-3.ensures.0.long, c.decide-in-3-2.ensures.0.long)
 
-work-out-ahead-requires : (t : ℕ) → here-work-out t work-out-lts.Need-ahead-requires
+work-out-ahead-requires : (t : ℕ) → here-work-out t work-out-lts.Need-ahead-need-requires
 work-out-ahead-requires t c κs =
     let s = site t c.before.before.before.before.before.before.before.before.before.before in
     (sites.few_relations s, s.ready.long_rel)
 
-work-out-decide-requires-4 : (t : ℕ) → here-work-out t work-out-lts.Need-decide-requires-4
+work-out-decide-requires-4 : (t : ℕ) → here-work-out t work-out-lts.Need-decide-requires-in-4
 work-out-decide-requires-4 t c κs =
     let s = site t c.before.before.before.before.before.before.before.before.before.before.before.before.before in
-    let e = c.before.before.before.before.match.keys2 in
-    let i = c.before.before.before.before.before.before.before.before.before.before.before.before.before.before.before.before.before.before.before.before.before.before.before.before.before.before in
+    let e = c.in-4.is in
+    let i = c in
     let q = sites.ahead_lower s e in
-    (lower _ _ t i.requires.0 q, (s.ready, (sites.operand_ahead s _ _ e (rw c.before.before.before.before.before.before.before.event-of.ensures at c.before.before.ahead.ensures), (refl, rem.memo_lower (below _ _ q) i.requires.1.1.1.1))))
+    (lower _ _ t i.requires.0 q, (s.ready, (sites.operand_ahead s _ _ e (rw c.event_of-event.ensures at c.ahead-need.ensures), (refl, rem.memo_lower (below _ _ q) i.requires.1.1.1.1))))
 
 work-out-gather-requires : (t : ℕ) → here-work-out t work-out-lts.Need-gather-requires
 work-out-gather-requires t c κs =
     let s = site t c.before.before.before.before.before.before.before.before.before.before.before.before.before.before.before.before.before.before.before.before.before in
-    (c.before.before.before.before.before.before.before.before.before.before.before.before.before.before.before.before.before.before.before.before.before.before.before.before.before.before.before.before.before.before.before.before.before.before.requires.1.1.1.0, c.before.before.before.before.before.before.before.decide4.ensures.0.long, sites.few_relations s, s.ready.long_rel)
+    (c.requires.1.1.1.0, c.decide-in-4.ensures.0.long, sites.few_relations s, s.ready.long_rel)
 
-work-out-behind-requires : (t : ℕ) → here-work-out t work-out-lts.Need-behind-requires
+work-out-behind-requires : (t : ℕ) → here-work-out t work-out-lts.Need-behind-need-requires
 work-out-behind-requires t c κs =
     let s = site t c.before.before.before.before.before.before.before.before.before.before in
     (sites.few_relations s, s.ready.long_rel)
 
-work-out-decide-requires-5 : (t : ℕ) → here-work-out t work-out-lts.Need-decide-requires-5
+work-out-decide-requires-5 : (t : ℕ) → here-work-out t work-out-lts.Need-decide-requires-in-5
 work-out-decide-requires-5 t c κs =
     let s = site t c.before.before.before.before.before.before.before.before.before.before.before.before.before in
-    let q = sites.b_lower s 5 c.before.before.before.before.match.keys3 refl in
-    (lower _ _ t c.before.before.before.before.before.before.before.before.before.before.before.before.before.before.before.before.before.before.before.before.before.before.before.before.before.before.requires.0 q, (s.ready, (sites.operand_behind s _ _ c.before.before.before.before.match.keys3 (rw c.before.before.before.before.before.before.before.event-of.ensures at c.before.before.before.senders2.ensures) (rw c.before.before.before.before.before.before.before.event-of.ensures at c.before.before.behind.ensures), (refl, rem.memo_lower (below _ _ q) c.before.before.before.before.before.before.before.before.before.before.before.before.before.before.before.before.before.before.before.before.before.before.before.before.before.before.requires.1.1.1.1))))
+    let q = sites.b_lower s 5 c.in-5.is refl in
+    (lower _ _ t c.requires.0 q, (s.ready, (sites.operand_behind s _ _ c.in-5.is (rw c.event_of-event.ensures at c.senders-from-in-5.ensures) (rw c.event_of-event.ensures at c.behind-need.ensures), (refl, rem.memo_lower (below _ _ q) c.requires.1.1.1.1))))
 
 work-out-scatter-requires : (t : ℕ) → here-work-out t work-out-lts.Need-scatter-requires
 work-out-scatter-requires t c κs =
     let s = site t c.before.before.before.before.before.before.before.before.before.before.before.before.before.before.before.before.before.before.before in
-    (c.before.before.before.before.before.before.before.before.before.before.before.before.before.before.before.before.before.before.before.before.before.before.before.before.before.before.before.before.before.before.before.before.requires.1.1.1.0, c.before.before.before.before.before.decide5.ensures.0.long, sites.few_relations s, s.ready.long_rel)
+    (c.requires.1.1.1.0, c.decide-in-5.ensures.0.long, sites.few_relations s, s.ready.long_rel)
 
-work-out-loop-holds : (t : ℕ) → here-work-out t work-out-lts.Need-loop-init
-work-out-loop-holds t c = (loops.filling _ (as-word _ c.before.before.before.before.before.before.before.before.before.before.before.before.before.before.before.before.before.before.before.before.before.before.before.ranges.want) c.before.before.before.before.before.before.before.before.before.before.before.before.before.before.before.before.before.before.before.before.before.before.before.requires.1.1.1.0, refl, rem.grown_same c.before.before.before.before.before.before.before.before.before.before.before.before.before.before.before.before.before.before.before.before.before.before.before.requires.1.1.1.1)
+work-out-loop-holds : (t : ℕ) → here-work-out t work-out-lts.Need-loop-rest-init
+work-out-loop-holds t c = (loops.filling _ (as-word _ c.ranges.want) c.requires.1.1.1.0, refl, rem.grown_same c.requires.1.1.1.1)
 
 work-out-rebind-requires : (t : ℕ) → here-work-out t work-out-lts.Need-rebind-requires
 work-out-rebind-requires t c κs =
     let s = site t c.before.before.before.before.before.before.before.before.before.before.before.before.before.before in
-    let loop = c.before.before.before.loop in
-    let loop-test = c.before.before.loop-test in
-    let least-of = c.before.least-of in
-    (sites.a_binder s c.before.before.before.before.before.match.keys4, loops.least_small loop.invariant.0.upon loop-test.true least-of.ensures)
+    let loop = c.loop-rest in
+    let loop-test = c.loop-rest-test in
+    let least-of = c.least_of-m in
+    (sites.a_binder s c.in-8.is, loops.least_small loop.invariant.0.upon loop-test.true least-of.ensures)
 
-work-out-decide-requires-6 : (t : ℕ) → here-work-out t work-out-lts.Need-decide-requires-6
+work-out-decide-requires-6 : (t : ℕ) → here-work-out t work-out-lts.Need-decide-requires-in-loop-rest
 work-out-decide-requires-6 t c κs =
     let s = site t c.before.before.before.before.before.before.before.before.before.before.before.before.before.before.before.before.before in
-    let loop = c.before.before.before.before.before.before.loop in
-    let loop-test = c.before.before.before.before.before.loop-test in
-    let least-of = c.before.before.before.before.least-of in
-    let single = c.before.single in
-    let q = sites.b_lower s 8 c.before.before.before.before.before.before.before.before.match.keys4 refl in (
-      lower _ _ t c.before.before.before.before.before.before.before.before.before.before.before.before.before.before.before.before.before.before.before.before.before.before.before.before.before.before.before.before.before.before.requires.0 q,
+    let loop = c.loop-rest in
+    let loop-test = c.loop-rest-test in
+    let least-of = c.least_of-m in
+    let single = c.single in
+    let q = sites.b_lower s 8 c.in-8.is refl in (
+      lower _ _ t c.requires.0 q,
       (
         s.ready,
         (
-          sites.operand_bound s _ _ _ c.before.before.before.before.before.before.before.before.match.keys4 (loops.least_wanted loop.invariant.0.upon loop-test.true least-of.ensures) c.before.before.rebind.ensures
+          sites.operand_bound s _ _ _ c.in-8.is (loops.least_wanted loop.invariant.0.upon loop-test.true least-of.ensures) c.rebind.ensures
               (counting.single-is single.result _ single.ensures (loops.least_small loop.invariant.0.upon loop-test.true least-of.ensures)),
           (loop.invariant.1, rem.memo_lower (below _ _ q) loop.invariant.2.memo),
         ),
       ),
     )
 
-work-out-mul-out : (t : ℕ) → here-work-out t work-out-lts.Need-overflow-mul-out
+work-out-mul-out : (t : ℕ) → here-work-out t work-out-lts.Need-offset_bounds-f-m
 work-out-mul-out t c =
-    let loop = c.before.before.before.before.before.before.before.before.before.before.loop in
-    let loop-test = c.before.before.before.before.before.before.before.before.before.loop-test in
-    let least-of = c.before.before.before.before.before.before.before.before.least-of in
+    let loop = c.loop-rest in
+    let loop-test = c.loop-rest-test in
+    let least-of = c.least_of-m in
     in_bytes _ (loops.least_small loop.invariant.0.upon loop-test.true least-of.ensures)
 
-work-out-array-read-out : (t : ℕ) → here-work-out t work-out-lts.Need-array-read-out
+work-out-array-read-out : (t : ℕ) → here-work-out t work-out-lts.Need-bounds-f-m
 work-out-array-read-out t c =
-    let loop = c.before.before.before.before.before.before.before.before.before.before.loop in
-    let loop-test = c.before.before.before.before.before.before.before.before.before.loop-test in
-    let least-of = c.before.before.before.before.before.before.before.before.least-of in
+    let loop = c.loop-rest in
+    let loop-test = c.loop-rest-test in
+    let least-of = c.least_of-m in
     loops.least_small loop.invariant.0.upon loop-test.true least-of.ensures
 
-work-out-mul-out-2 : (t : ℕ) → here-work-out t work-out-lts.Need-overflow-mul-out-2
+work-out-mul-out-2 : (t : ℕ) → here-work-out t work-out-lts.Need-offset_bounds-out-m
 work-out-mul-out-2 t c =
-    let loop = c.before.before.before.before.before.before.before.before.before.before.loop in
-    let loop-test = c.before.before.before.before.before.before.before.before.before.loop-test in
-    let least-of = c.before.before.before.before.before.before.before.before.least-of in
+    let loop = c.loop-rest in
+    let loop-test = c.loop-rest-test in
+    let least-of = c.least_of-m in
     in_bytes _ (loops.least_small loop.invariant.0.upon loop-test.true least-of.ensures)
 
-work-out-slice-write-out : (t : ℕ) → here-work-out t work-out-lts.Need-slice-write-out
+work-out-slice-write-out : (t : ℕ) → here-work-out t work-out-lts.Need-bounds-out-m
 work-out-slice-write-out t c =
-    let loop = c.before.before.before.before.before.before.before.before.before.before.loop in
-    let loop-test = c.before.before.before.before.before.before.before.before.before.loop-test in
-    let least-of = c.before.before.before.before.before.before.before.before.least-of in
+    let loop = c.loop-rest in
+    let loop-test = c.loop-rest-test in
+    let least-of = c.least_of-m in
     subst (λ (n : ℕ). least-of.result < n) (sym loop.invariant.0.long) (loops.least_small loop.invariant.0.upon loop-test.true least-of.ensures)
 
-work-out-loop-less : (t : ℕ) → here-work-out t work-out-lts.Need-loop-smaller
-work-out-loop-less t c = loops.rest_less c.before.before.before.before.before.before.before.before.before.before.before.loop.invariant.0.upon c.before.before.before.before.before.before.before.before.before.before.loop-test.true c.rest-of.ensures
+work-out-loop-less : (t : ℕ) → here-work-out t work-out-lts.Need-loop-rest-smaller
+work-out-loop-less t c = loops.rest_less c.loop-rest.invariant.0.upon c.loop-rest-test.true c.rest_of-rest.ensures
 
-work-out-loop-again : (t : ℕ) → here-work-out t work-out-lts.Need-loop-preserved
+work-out-loop-again : (t : ℕ) → here-work-out t work-out-lts.Need-loop-rest-preserved
 work-out-loop-again t c =
     let s = site t c.before.before.before.before.before.before.before.before.before.before.before.before.before.before.before.before.before.before.before.before.before.before in
-    let loop = c.before.before.before.before.before.before.before.before.before.before.before.loop in
-    let loop-test = c.before.before.before.before.before.before.before.before.before.before.loop-test in
-    let least-of = c.before.before.before.before.before.before.before.before.before.least-of in
-    let single = c.before.before.before.before.before.before.single in
-    let decide6 = c.before.before.before.before.decide6 in (
-      loops.filling_more _ loop.invariant.0 (loops.turn loop.invariant.0.upon loop-test.true least-of.ensures c.rest-of.ensures)
-          (ops.bound_row s _ single.result _ _ c.before.before.before.before.before.before.before.before.before.before.before.before.before.match.keys4 c.before.before.before.before.before.before.before.before.before.before.before.before.open-under.ensures c.before.before.before.before.before.before.before.rebind.ensures
+    let loop = c.loop-rest in
+    let loop-test = c.loop-rest-test in
+    let least-of = c.least_of-m in
+    let single = c.single in
+    let decide6 = c.decide-in-loop-rest in (
+      loops.filling_more _ loop.invariant.0 (loops.turn loop.invariant.0.upon loop-test.true least-of.ensures c.rest_of-rest.ensures)
+          (ops.bound_row s _ single.result _ _ c.in-8.is c.open_under-y.ensures c.rebind.ensures
           (counting.single-is single.result _ single.ensures (loops.least_small loop.invariant.0.upon loop-test.true least-of.ensures)) decide6.ensures.0),
       decide6.ensures.0.long,
-      rem.grown_then loop.invariant.2 (rem.grown_up (below _ _ (sites.b_lower s 8 c.before.before.before.before.before.before.before.before.before.before.before.before.before.match.keys4 refl)) loop.invariant.2.memo decide6.ensures.1),
+      rem.grown_then loop.invariant.2 (rem.grown_up (below _ _ (sites.b_lower s 8 c.in-8.is refl)) loop.invariant.2.memo decide6.ensures.1),
     )
 
-work-out-decide-requires-7 : (t : ℕ) → here-work-out t work-out-lts.Need-decide-requires-7
+work-out-decide-requires-7 : (t : ℕ) → here-work-out t work-out-lts.Need-decide-requires-in-10
 work-out-decide-requires-7 t c κs =
     let s = site t c.before.before.before.before.before.before.before.before.before.before.before.before in
-    let e = c.before.before.before.match.keys5 in
-    let i = c.before.before.before.before.before.before.before.before.before.before.before.before.before.before.before.before.before.before.before.before.before.before.before.before.before in
+    let e = c.in-10.is in
+    let i = c in
     let q = sites.b_lower s 10 e refl in
     (lower _ _ t i.requires.0 q, (s.ready, (sites.operand_zeros s e, (i.requires.1.1.1.0, rem.memo_lower (below _ _ q) i.requires.1.1.1.1))))
 
-work-out-decide-requires-8 : (t : ℕ) → here-work-out t work-out-lts.Need-decide-requires-8
+work-out-decide-requires-8 : (t : ℕ) → here-work-out t work-out-lts.Need-decide-requires-in-10-2
 work-out-decide-requires-8 t c κs =
-    let s = site t c.before.before.before.before.before.before.before.before.before.before.before.before.before.before.before.before.before.before.before.before.before in
-    let e = c.before.before.before.before.before.before.before.before.before.before.before.before.match.keys5 in
-    let z = c.before.before.before.before.before.before.before.before.before.before.before.third-of2.ensures.0 in
-    let i = c.before.before.before.before.before.before.before.before.before.before.before.before.before.before.before.before.before.before.before.before.before.before.before.before.before.before.before.before.before.before.before.before.before.before in
-    let d = c.before.before.before.before.before.before.before.before.decide7.ensures in
-    let together = c.before.before.together in
+    let s = site t c.before.before.before.before.before.before.before.before.before.before.before.before.before.before.before.before.before.before.before.before in
+    let e = c.in-10.is in
+    let z = c.third_of-c.ensures.0 in
+    let i = c in
+    let d = c.decide-in-10.ensures in
+    let together = c.together-need in
     let g = rem.grown_up (below _ _ (sites.b_lower s 10 e refl)) i.requires.1.1.1.1 d.1 in
     let q = sites.c_lower s _ 10 z e refl in
     (lower _ _ t i.requires.0 q, (s.ready, (ops.reached_asked s _ together.result z e d.0 together.ensures, (refl, rem.memo_lower (below _ _ q) g.memo))))
 
 work-out-follow-requires : (t : ℕ) → here-work-out t work-out-lts.Need-follow-requires
-work-out-follow-requires t c κs = (c.before.before.before.before.before.before.before.before.before.before.before.before.before.before.decide7.ensures.0.long, c.before.before.before.before.before.decide8.ensures.0.long)
+work-out-follow-requires t c κs = (c.decide-in-10.ensures.0.long, c.decide-in-10-2.ensures.0.long)
 
-work-out-decide-requires-9 : (t : ℕ) → here-work-out t work-out-lts.Need-decide-requires-9
+work-out-decide-requires-9 : (t : ℕ) → here-work-out t work-out-lts.Need-decide-requires-then-a-x-2
 work-out-decide-requires-9 t c κs =
     let s = site t c.before.before.before.before.before.before.before.before.before.before.before.before in
-    let e = c.before.before.before.match.keys6 in
+    let e = c.in-9.is in
     let q = sites.b_lower s 9 e refl in
-    (lower _ _ t c.before.before.before.before.before.before.before.before.before.before.before.before.before.before.before.before.before.before.before.before.before.before.before.before.before.requires.0 q, (s.ready, (sites.operand_all s _ q, (refl, rem.memo_lower (below _ _ q) c.before.before.before.before.before.before.before.before.before.before.before.before.before.before.before.before.before.before.before.before.before.before.before.before.before.requires.1.1.1.1))))
+    (lower _ _ t c.requires.0 q, (s.ready, (sites.operand_all s _ q, (refl, rem.memo_lower (below _ _ q) c.requires.1.1.1.1))))
 
-work-out-spread-requires-2 : (t : ℕ) → here-work-out t work-out-lts.Need-spread-requires-2
-work-out-spread-requires-2 t c κs = c.before.before.before.before.before.before.before.before.before.before.before.before.before.before.before.before.before.before.before.before.before.before.before.before.before.before.before.before.before.before.before.before.requires.1.1.1.0
+work-out-spread-requires-2 : (t : ℕ) → here-work-out t work-out-lts.Need-spread-requires-then-a-x-2
+work-out-spread-requires-2 t c κs = c.requires.1.1.1.0
 
-work-out-member-of-requires-2 : (t : ℕ) → here-work-out t work-out-lts.Need-member-of-requires-2
+work-out-member-of-requires-2 : (t : ℕ) → here-work-out t work-out-lts.Need-member_of-c-requires
 work-out-member-of-requires-2 t c κs =
     let s = site t c.before.before.before.before.before.before.before.before.before.before in
-    sites.a_variable s 9 c.before.match.keys6 refl
+    sites.a_variable s 9 c.in-9.is refl
 
-work-out-decide-requires-10 : (t : ℕ) → here-work-out t work-out-lts.Need-decide-requires-10
+work-out-decide-requires-10 : (t : ℕ) → here-work-out t work-out-lts.Need-decide-requires-else-a-x-2
 work-out-decide-requires-10 t c κs =
     let s = site t c.before.before.before.before.before.before.before.before.before.before.before.before.before.before in
-    let e = c.before.before.before.before.before.match.keys6 in
+    let e = c.in-9.is in
     let q = sites.b_lower s 9 e refl in
     let x = sites.a_variable s 9 e refl in
-    let single = c.before.single2 in (
-      lower _ _ t c.before.before.before.before.before.before.before.before.before.before.before.before.before.before.before.before.before.before.before.before.before.before.before.before.before.before.before.requires.0 q,
+    let single = c.single-else-a-x-2 in (
+      lower _ _ t c.requires.0 q,
       (
         s.ready,
         (
-          sites.operand_one s _ _ _ q x (counting.single-is single.result _ (λ k. single.ensures k ∙ ap (λ (y : ℕ). ltb k 64 && eqb k y) c.before.before.before.member-of2.ensures) (sites.var_below s _ x)),
-          (refl, rem.memo_lower (below _ _ q) c.before.before.before.before.before.before.before.before.before.before.before.before.before.before.before.before.before.before.before.before.before.before.before.before.before.before.before.requires.1.1.1.1),
+          sites.operand_one s _ _ _ q x (counting.single-is single.result _ (λ k. single.ensures k ∙ ap (λ (y : ℕ). ltb k 64 && eqb k y) c.member_of-c.ensures) (sites.var_below s _ x)),
+          (refl, rem.memo_lower (below _ _ q) c.requires.1.1.1.1),
         ),
       ),
     )
 
-work-out-mul-spread : (t : ℕ) → here-work-out t work-out-lts.Need-overflow-mul-spread
+work-out-mul-spread : (t : ℕ) → here-work-out t work-out-lts.Need-offset_bounds-f-c
 work-out-mul-spread t c =
     let s = site t c.before.before.before.before.before.before.before.before.before.before.before.before.before.before.before.before.before.before.before in
-    in_bytes _ (member-small s _ c.before.before.before.before.before.before.before.before.member-of2.ensures (sites.a_variable s 9 c.before.before.before.before.before.before.before.before.before.before.match.keys6 refl))
+    in_bytes _ (member-small s _ c.member_of-c.ensures (sites.a_variable s 9 c.in-9.is refl))
 
-work-out-array-read-spread : (t : ℕ) → here-work-out t work-out-lts.Need-array-read-spread
+work-out-array-read-spread : (t : ℕ) → here-work-out t work-out-lts.Need-bounds-f-c
 work-out-array-read-spread t c =
     let s = site t c.before.before.before.before.before.before.before.before.before.before.before.before.before.before.before.before.before.before.before in
-    member-small s _ c.before.before.before.before.before.before.before.before.member-of2.ensures (sites.a_variable s 9 c.before.before.before.before.before.before.before.before.before.before.match.keys6 refl)
+    member-small s _ c.member_of-c.ensures (sites.a_variable s 9 c.in-9.is refl)
 
-work-out-spread-requires-3 : (t : ℕ) → here-work-out t work-out-lts.Need-spread-requires-3
-work-out-spread-requires-3 t c κs = c.before.before.before.before.before.before.before.before.before.before.before.before.before.before.before.before.before.before.before.before.before.before.before.before.before.before.before.before.before.before.before.before.requires.1.1.1.0
+work-out-spread-requires-3 : (t : ℕ) → here-work-out t work-out-lts.Need-spread-requires-else-a-x-2
+work-out-spread-requires-3 t c κs = c.requires.1.1.1.0
 
-work-out-clear-requires-2 : (t : ℕ) → here-work-out t work-out-lts.Need-clear-requires-2
-work-out-clear-requires-2 t c κs = c.before.before.before.before.before.before.before.before.before.before.before.before.before.before.before.before.before.before.before.before.before.before.before.requires.1.1.1.0
+work-out-clear-requires-2 : (t : ℕ) → here-work-out t work-out-lts.Need-clear-requires-in_default
+work-out-clear-requires-2 t c κs = c.requires.1.1.1.0
 
-work-out-same-length-9 : (t : ℕ) → here-work-out t work-out-lts.Need-same-length-9
-work-out-same-length-9 t c = c.before.before.before.before.before.before.before.before.decide3.ensures.1.above.long ∙ c.before.before.before.before.before.before.before.before.before.before.before.before.before.before.before.decide2.ensures.1.above.long
+work-out-same-length-9 : (t : ℕ) → here-work-out t work-out-lts.Need-shape_of-memo-in-3
+work-out-same-length-9 t c = c.decide-in-3-2.ensures.1.above.long ∙ c.decide-in-3.ensures.1.above.long
 
-work-out-same-length-10 : (t : ℕ) → here-work-out t work-out-lts.Need-same-length-10
-work-out-same-length-10 t c = c.before.before.join.auto.0 ∙ c.before.before.before.before.before.before.before.before.before.before.before.before.before.before.before.decide2.auto.1.1.1.1.1.1.1.1.1.0
+work-out-same-length-10 : (t : ℕ) → here-work-out t work-out-lts.Need-shape_of-out-in-3
+work-out-same-length-10 t c = c.join.auto.out ∙ c.decide-in-3.auto.out
 
-work-out-returns-9 : (t : ℕ) → here-work-out t work-out-lts.Need-returns-9
+work-out-returns-9 : (t : ℕ) → here-work-out t work-out-lts.Need-returns-in-3
 work-out-returns-9 t c =
     let s = site t c.before.before.before.before.before.before.before.before.before.before.before.before.before.before.before.before.before.before.before.before.before.before.before.before.before.before.before in
-    let g = rem.grown_up (below _ _ (sites.a_lower s 3 c.before.before.before.before.before.before.before.before.before.before.before.before.before.before.before.before.before.before.match.keys1 refl)) c.before.before.before.before.before.before.before.before.before.before.before.before.before.before.before.before.before.before.before.before.before.before.before.before.before.before.before.before.before.before.before.before.before.before.before.before.before.before.before.before.requires.1.1.1.1 c.before.before.before.before.before.before.before.before.before.before.before.before.before.before.before.decide2.ensures.1 in (
-      ops.decide_or s c.before.before.before.before.before.before.before.before.before.before.before.before.before.before.before.before.before.before.match.keys1 c.before.before.before.before.before.before.before.before.before.before.before.before.before.before.before.decide2.ensures.0 c.before.before.before.before.before.before.before.before.decide3.ensures.0 c.before.before.join.auto.0 c.before.before.join.ensures,
-      rem.grown_then g (rem.grown_up (below _ _ (sites.b_lower s 3 c.before.before.before.before.before.before.before.before.before.before.before.before.before.before.before.before.before.before.match.keys1 refl)) g.memo c.before.before.before.before.before.before.before.before.decide3.ensures.1),
+    let g = rem.grown_up (below _ _ (sites.a_lower s 3 c.in-3.is refl)) c.requires.1.1.1.1 c.decide-in-3.ensures.1 in (
+      ops.decide_or s c.in-3.is c.decide-in-3.ensures.0 c.decide-in-3-2.ensures.0 c.join.auto.out c.join.ensures,
+      rem.grown_then g (rem.grown_up (below _ _ (sites.b_lower s 3 c.in-3.is refl)) g.memo c.decide-in-3-2.ensures.1),
     )
 
-work-out-same-length-11 : (t : ℕ) → here-work-out t work-out-lts.Need-same-length-11
-work-out-same-length-11 t c = c.before.before.before.before.before.before.before.before.before.before.decide4.ensures.1.above.long
+work-out-same-length-11 : (t : ℕ) → here-work-out t work-out-lts.Need-shape_of-memo-in-4
+work-out-same-length-11 t c = c.decide-in-4.ensures.1.above.long
 
-work-out-returns-10 : (t : ℕ) → here-work-out t work-out-lts.Need-returns-10
+work-out-returns-10 : (t : ℕ) → here-work-out t work-out-lts.Need-returns-in-4
 work-out-returns-10 t c =
     let s = site t c.before.before.before.before.before.before.before.before.before.before.before.before.before.before.before.before.before.before.before.before.before.before.before.before in
-    let e = c.before.before.before.before.before.before.before.before.before.before.before.before.before.before.before.match.keys2 in
-    let i = c.before.before.before.before.before.before.before.before.before.before.before.before.before.before.before.before.before.before.before.before.before.before.before.before.before.before.before.before.before.before.before.before.before.before.before.before.before in
-    let senders = c.before.before.before.before.before.before.before.before.before.before.before.before.before.before.senders in
-    let ahead = c.before.before.before.before.before.before.before.before.before.before.before.before.before.ahead in
-    let d = c.before.before.before.before.before.before.before.before.before.before.decide4.ensures in
-    let third = c.before.before.before.before.before.before.third_of in
-    let least = c.before.before.before.before.before.least-count in
-    let event = c.before.before.before.before.before.before.before.before.before.before.before.before.before.before.before.before.before.before.event-of.ensures in
-    let gather = c.before.before.gather in (
-      near.decide_ahead s least.result third.result senders.result ahead.result third.ensures.0 least.ensures e (rw event at senders.ensures) (rw event at ahead.ensures) d.0 (gather.auto.0 ∙ i.requires.1.1.1.0) (rw event at gather.ensures),
+    let e = c.in-4.is in
+    let i = c in
+    let senders = c.senders-from in
+    let ahead = c.ahead-need in
+    let d = c.decide-in-4.ensures in
+    let third = c.third_of in
+    let least = c.least_count-k in
+    let event = c.event_of-event.ensures in
+    let gather = c.gather in (
+      near.decide_ahead s least.result third.result senders.result ahead.result third.ensures.0 least.ensures e (rw event at senders.ensures) (rw event at ahead.ensures) d.0 (gather.auto.out ∙ i.requires.1.1.1.0) (rw event at gather.ensures),
       rem.grown_up (below _ _ (sites.ahead_lower s e)) i.requires.1.1.1.1 d.1,
     )
 
-work-out-same-length-13 : (t : ℕ) → here-work-out t work-out-lts.Need-same-length-13
-work-out-same-length-13 t c = c.before.before.before.before.before.before.before.before.decide5.ensures.1.above.long
+work-out-same-length-13 : (t : ℕ) → here-work-out t work-out-lts.Need-shape_of-memo-in-5
+work-out-same-length-13 t c = c.decide-in-5.ensures.1.above.long
 
-work-out-returns-11 : (t : ℕ) → here-work-out t work-out-lts.Need-returns-11
+work-out-returns-11 : (t : ℕ) → here-work-out t work-out-lts.Need-returns-in-5
 work-out-returns-11 t c =
     let s = site t c.before.before.before.before.before.before.before.before.before.before.before.before.before.before.before.before.before.before.before.before.before.before in
-    let event = c.before.before.before.before.before.before.before.before.before.before.before.before.before.before.before.before.event-of.ensures in
-    let senders = c.before.before.before.before.before.before.before.before.before.before.before.before.senders2 in
-    let behind = c.before.before.before.before.before.before.before.before.before.before.before.behind in (
-      near.decide_into s senders.result behind.result c.before.before.before.before.before.before.before.before.before.before.before.before.before.match.keys3 (rw event at senders.ensures) (rw event at behind.ensures) c.before.before.before.before.before.before.before.before.decide5.ensures.0 (rw event at c.before.before.scatter.ensures),
-      rem.grown_up (below _ _ (sites.b_lower s 5 c.before.before.before.before.before.before.before.before.before.before.before.before.before.match.keys3 refl)) c.before.before.before.before.before.before.before.before.before.before.before.before.before.before.before.before.before.before.before.before.before.before.before.before.before.before.before.before.before.before.before.before.before.before.before.requires.1.1.1.1 c.before.before.before.before.before.before.before.before.decide5.ensures.1,
+    let event = c.event_of-event.ensures in
+    let senders = c.senders-from-in-5 in
+    let behind = c.behind-need in (
+      near.decide_into s senders.result behind.result c.in-5.is (rw event at senders.ensures) (rw event at behind.ensures) c.decide-in-5.ensures.0 (rw event at c.scatter.ensures),
+      rem.grown_up (below _ _ (sites.b_lower s 5 c.in-5.is refl)) c.requires.1.1.1.1 c.decide-in-5.ensures.1,
     )
 
-work-out-same-length-16 : (t : ℕ) → here-work-out t work-out-lts.Need-same-length-16
-work-out-same-length-16 t c = c.before.loop.invariant.0.long ∙ sym c.before.before.before.before.before.before.before.before.before.before.before.before.before.before.before.before.before.before.before.before.before.before.before.before.before.requires.1.1.1.0
+work-out-same-length-16 : (t : ℕ) → here-work-out t work-out-lts.Need-shape_of-out-after-loop-rest
+work-out-same-length-16 t c = c.loop-rest.invariant.0.long ∙ sym c.requires.1.1.1.0
 
-work-out-same-length-17 : (t : ℕ) → here-work-out t work-out-lts.Need-same-length-17
-work-out-same-length-17 t c = c.before.before.before.before.before.before.before.before.decide8.ensures.1.above.long ∙ c.before.before.before.before.before.before.before.before.before.before.before.before.before.before.before.before.before.decide7.ensures.1.above.long
+work-out-same-length-17 : (t : ℕ) → here-work-out t work-out-lts.Need-shape_of-memo-in-10
+work-out-same-length-17 t c = c.decide-in-10-2.ensures.1.above.long ∙ c.decide-in-10.ensures.1.above.long
 
-work-out-same-length-18 : (t : ℕ) → here-work-out t work-out-lts.Need-same-length-18
-work-out-same-length-18 t c = c.before.before.follow.auto.0 ∙ c.before.before.before.before.before.before.before.before.before.before.before.before.before.before.before.before.before.decide7.auto.1.1.1.1.1.1.1.1.1.0
+work-out-same-length-18 : (t : ℕ) → here-work-out t work-out-lts.Need-shape_of-out-in-10
+work-out-same-length-18 t c = c.follow.auto.out ∙ c.decide-in-10.auto.out
 
-work-out-returns-13 : (t : ℕ) → here-work-out t work-out-lts.Need-returns-13
+work-out-returns-13 : (t : ℕ) → here-work-out t work-out-lts.Need-returns-in-10
 work-out-returns-13 t c =
-    let s = site t c.before.before.before.before.before.before.before.before.before.before.before.before.before.before.before.before.before.before.before.before.before.before.before.before.before.before.before.before.before.before in
-    let e = c.before.before.before.before.before.before.before.before.before.before.before.before.before.before.before.before.before.before.before.before.before.match.keys5 in
-    let z = c.before.before.before.before.before.before.before.before.before.before.before.before.before.before.before.before.before.before.before.before.third-of2.ensures.0 in
-    let i = c.before.before.before.before.before.before.before.before.before.before.before.before.before.before.before.before.before.before.before.before.before.before.before.before.before.before.before.before.before.before.before.before.before.before.before.before.before.before.before.before.before.before.before in
-    let d = c.before.before.before.before.before.before.before.before.before.before.before.before.before.before.before.before.before.decide7.ensures in
-    let together = c.before.before.before.before.before.before.before.before.before.before.before.together in
+    let s = site t c.before.before.before.before.before.before.before.before.before.before.before.before.before.before.before.before.before.before.before.before.before.before.before.before.before.before.before.before.before in
+    let e = c.in-10.is in
+    let z = c.third_of-c.ensures.0 in
+    let i = c in
+    let d = c.decide-in-10.ensures in
+    let together = c.together-need in
     let g = rem.grown_up (below _ _ (sites.b_lower s 10 e refl)) i.requires.1.1.1.1 d.1 in
     let q = sites.c_lower s _ 10 z e refl in
-    let d' = c.before.before.before.before.before.before.before.before.decide8.ensures in (
-      ops.decide_reach s _ together.result z e d.0 together.ensures d'.0 c.before.before.follow.ensures,
+    let d' = c.decide-in-10-2.ensures in (
+      ops.decide_reach s _ together.result z e d.0 together.ensures d'.0 c.follow.ensures,
       rem.grown_then g (rem.grown_up (below _ _ q) g.memo d'.1),
     )
 
-work-out-same-length-19 : (t : ℕ) → here-work-out t work-out-lts.Need-same-length-19
-work-out-same-length-19 t c = c.before.before.before.before.before.before.before.before.before.decide9.ensures.1.above.long
+work-out-same-length-19 : (t : ℕ) → here-work-out t work-out-lts.Need-shape_of-memo-then-a-x-2
+work-out-same-length-19 t c = c.decide-then-a-x-2.ensures.1.above.long
 
-work-out-returns-14 : (t : ℕ) → here-work-out t work-out-lts.Need-returns-14
+work-out-returns-14 : (t : ℕ) → here-work-out t work-out-lts.Need-returns-then-a-x-2
 work-out-returns-14 t c =
     let s = site t c.before.before.before.before.before.before.before.before.before.before.before.before.before.before.before.before.before.before.before.before.before.before in
-    let e = c.before.before.before.before.before.before.before.before.before.before.before.before.before.match.keys6 in
-    let own-bits = c.before.before.before.own-bits in (
-      ops.decide_at_open s own-bits.result e c.before.before.before.before.before.before.before.before.before.before.before.before.if9.true c.before.before.before.before.before.before.before.before.before.decide9.ensures.0 own-bits.ensures c.before.before.spread2.ensures,
-      rem.grown_up (below _ _ (sites.b_lower s 9 e refl)) c.before.before.before.before.before.before.before.before.before.before.before.before.before.before.before.before.before.before.before.before.before.before.before.before.before.before.before.before.before.before.before.before.before.before.before.requires.1.1.1.1 c.before.before.before.before.before.before.before.before.before.decide9.ensures.1,
+    let e = c.in-9.is in
+    let own-bits = c.own_bits in (
+      ops.decide_at_open s own-bits.result e c.if-a-x-2.true c.decide-then-a-x-2.ensures.0 own-bits.ensures c.spread-then-a-x-2.ensures,
+      rem.grown_up (below _ _ (sites.b_lower s 9 e refl)) c.requires.1.1.1.1 c.decide-then-a-x-2.ensures.1,
     )
 
-work-out-returns-15 : (t : ℕ) → here-work-out t work-out-lts.Need-returns-15
+work-out-returns-15 : (t : ℕ) → here-work-out t work-out-lts.Need-returns-else-a-x-2
 work-out-returns-15 t c =
     let s = site t c.before.before.before.before.before.before.before.before.before.before.before.before.before.before.before.before.before.before.before.before.before.before in
-    let e = c.before.before.before.before.before.before.before.before.before.before.before.before.before.match.keys6 in
-    let single = c.before.before.before.before.before.before.before.before.before.single2 in
-    let member_of = c.before.before.before.before.before.before.before.before.before.before.before.member-of2 in
+    let e = c.in-9.is in
+    let single = c.single-else-a-x-2 in
+    let member_of = c.member_of-c in
     let x = sites.a_variable s 9 e refl in (
-      ops.decide_at s member_of.result single.result e c.before.before.before.before.before.before.before.before.before.before.before.before.if9.false member_of.ensures
+      ops.decide_at s member_of.result single.result e c.if-a-x-2.false member_of.ensures
           (counting.single-is single.result _ (λ k. single.ensures k ∙ ap (λ (y : ℕ). ltb k 64 && eqb k y) member_of.ensures) (sites.var_below s _ x))
-          c.before.before.before.before.before.before.before.decide10.ensures.0 c.before.before.spread3.ensures,
-      rem.grown_up (below _ _ (sites.b_lower s 9 e refl)) c.before.before.before.before.before.before.before.before.before.before.before.before.before.before.before.before.before.before.before.before.before.before.before.before.before.before.before.before.before.before.before.before.before.before.before.requires.1.1.1.1 c.before.before.before.before.before.before.before.decide10.ensures.1,
+          c.decide-else-a-x-2.ensures.0 c.spread-else-a-x-2.ensures,
+      rem.grown_up (below _ _ (sites.b_lower s 9 e refl)) c.requires.1.1.1.1 c.decide-else-a-x-2.ensures.1,
     )
 
-pub +decide-work-out-spec : {M : Type 1} → statement M
-+decide-work-out-spec = close μ-decide μ-work-out (λ t. decide-lts.spec (
+pub +decide_work_out_spec : {M : Type 1} → statement M
++decide_work_out_spec = close μ-decide μ-work-out (λ t. decide-lts.spec (
   op-of-reads.Asked,
   op-of-reads.Learnt,
   has-slot-reads.Asked,
@@ -707,35 +707,35 @@ pub +decide-work-out-spec : {M : Type 1} → statement M
     (λ c κs. tt)
     (λ c κs. tt)
     (work-out-spread-requires t)
-    (λ c. c.before.before.spread.auto.0)
+    (λ c. c.spread.auto.out)
     (work-out-returns-2 t)
     (work-out-diagonal-requires t)
     (work-out-member-of-requires t)
     (work-out-alone-requires t)
-    (λ c. c.before.before.diagonal.auto.0)
+    (λ c. c.diagonal.auto.out)
     (work-out-returns-3 t)
-    (λ c. c.before.before.alone.auto.0)
+    (λ c. c.alone.auto.out)
     (work-out-returns-4 t)
     (work-out-recollect-requires t)
-    (λ c. c.before.before.recollect.auto.1.1.1.1.1.1.1.0)
+    (λ c. c.recollect.auto.out)
     (work-out-returns-5 t)
     (work-out-recollect-requires-2 t)
-    (λ c. c.before.before.recollect2.auto.1.1.1.1.1.1.1.0)
+    (λ c. c.recollect-then-op-eq-SINCE.auto.out)
     (work-out-returns-6 t)
     (work-out-decide-requires t)
-    (λ c κs. c.before.before.before.before.before.decide.ensures.0.long)
+    (λ c κs. c.decide.ensures.0.long)
     (work-out-same-length-6 t)
     (work-out-same-length-7 t)
     (work-out-returns-7 t)
     (work-out-event-of-requires t)
     (λ c κs. tt)
     (work-out-clear-requires t)
-    (λ c. c.before.before.clear.auto.0)
+    (λ c. c.clear.auto.out)
     (work-out-returns-8 t)
     (work-out-decide-requires-2 t)
     (λ c. refl)
     (work-out-decide-requires-3 t)
-    (λ c. sym c.before.before.before.before.before.decide3.ensures.0.long)
+    (λ c. sym c.decide-in-3-2.ensures.0.long)
     (work-out-join-requires t)
     (λ c κs. tt)
     (work-out-ahead-requires t)
@@ -743,20 +743,20 @@ pub +decide-work-out-spec : {M : Type 1} → statement M
     (work-out-decide-requires-4 t)
     (λ c κs. tt)
     (λ c κs. tt)
-    (λ c. sym c.before.before.before.before.before.before.before.decide4.ensures.0.long)
+    (λ c. sym c.decide-in-4.ensures.0.long)
     (work-out-gather-requires t)
     (λ c κs. tt)
     (work-out-behind-requires t)
     (λ c. refl)
     (work-out-decide-requires-5 t)
-    (λ c. sym c.before.before.before.before.before.decide5.ensures.0.long)
+    (λ c. sym c.decide-in-5.ensures.0.long)
     (work-out-scatter-requires t)
     (λ c κs. tt)
     (work-out-loop-holds t)
     (λ c κs. tt)
     (work-out-rebind-requires t)
     (λ c κs. tt)
-    (λ c. sym c.before.before.before.before.before.before.loop.invariant.1)
+    (λ c. sym c.loop-rest.invariant.1)
     (work-out-decide-requires-6 t)
     (work-out-mul-out t)
     (work-out-array-read-out t)
@@ -767,15 +767,15 @@ pub +decide-work-out-spec : {M : Type 1} → statement M
     (work-out-loop-again t)
     (λ c κs. tt)
     (work-out-decide-requires-7 t)
-    (λ c κs. c.before.before.before.before.before.decide7.ensures.0.long)
+    (λ c κs. c.decide-in-10.ensures.0.long)
     (λ c. refl)
     (work-out-decide-requires-8 t)
-    (λ c. sym c.before.before.before.before.before.decide8.ensures.0.long)
+    (λ c. sym c.decide-in-10-2.ensures.0.long)
     (work-out-follow-requires t)
     (λ c. refl)
     (work-out-decide-requires-9 t)
-    (λ c. sym c.before.before.before.before.before.decide9.ensures.0.long)
-    (λ c κs. c.before.before.before.before.before.decide9.ensures.0.long)
+    (λ c. sym c.decide-then-a-x-2.ensures.0.long)
+    (λ c κs. c.decide-then-a-x-2.ensures.0.long)
     (work-out-spread-requires-2 t)
     (work-out-member-of-requires-2 t)
     (λ c κs. tt)
@@ -789,22 +789,22 @@ pub +decide-work-out-spec : {M : Type 1} → statement M
     (work-out-same-length-10 t)
     (work-out-returns-9 t)
     (work-out-same-length-11 t)
-    (λ c. c.before.before.gather.auto.0)
+    (λ c. c.gather.auto.out)
     (work-out-returns-10 t)
     (work-out-same-length-13 t)
-    (λ c. c.before.before.scatter.auto.0)
+    (λ c. c.scatter.auto.out)
     (work-out-returns-11 t)
-    (λ c. c.before.loop.invariant.2.above.long)
+    (λ c. c.loop-rest.invariant.2.above.long)
     (work-out-same-length-16 t)
-    (λ c. (loops.filled c.before.loop.invariant.0 c.loop-test.false, c.before.loop.invariant.2))
+    (λ c. (loops.filled c.loop-rest.invariant.0 c.loop-rest-test.false, c.loop-rest.invariant.2))
     (work-out-same-length-17 t)
     (work-out-same-length-18 t)
     (work-out-returns-13 t)
     (work-out-same-length-19 t)
-    (λ c. c.before.before.spread2.auto.0)
+    (λ c. c.spread-then-a-x-2.auto.out)
     (work-out-returns-14 t)
-    (λ c. c.before.before.before.before.before.before.before.decide10.ensures.1.above.long)
-    (λ c. c.before.before.spread3.auto.0)
+    (λ c. c.decide-else-a-x-2.ensures.1.above.long)
+    (λ c. c.spread-else-a-x-2.auto.out)
     (work-out-returns-15 t)
-    (λ c. c.before.before.clear2.auto.0)
+    (λ c. c.clear-in_default.auto.out)
     (λ c. absurd (no_other t c.before.before.before.before))

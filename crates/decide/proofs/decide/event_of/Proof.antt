@@ -8,10 +8,10 @@ use Rattle.decide.proofs.decide.event_of.Statement.{statement}
 use Rattle.decide.proofs.decide.event_of.Tie as tie
 
 returns : tie.Need-returns
-returns c = let e = c.before.before in c.labelled.ensures ∙ ap (λ (n : ℕ). labelled n (get_or e.before.before.before.args.past.now 2048 0)) e.events.ensures.0
+returns c = let e = c in c.labelled.ensures ∙ ap (λ (n : ℕ). labelled n (get_or e.args.past.now 2048 0)) e.events.ensures.0
 
-pub event-of-spec : {M : Type 1} → statement M
-event-of-spec =
+pub event_of_spec : {M : Type 1} → statement M
+event_of_spec =
     tie.close
     (tie.spec
     (λ c κs. search rules)

@@ -5,9 +5,9 @@ use borrow.Author.Tests.{eq-eqb, ne_eqb}
 use Rattle.decide.proofs.decide.least_count.Statement.{statement}
 use Rattle.decide.proofs.decide.least_count.Tie as tie
 
-pub least-count-spec : {M : Type 1} → statement M
-least-count-spec =
+pub least_count_spec : {M : Type 1} → statement M
+least_count_spec =
     tie.close
     (tie.spec
-    (λ c. sym (ap (λ (t : Bool). cond t 1 c.before.args.c) (eq-eqb _ _ c.if1.true)))
-    (λ c. sym (ap (λ (t : Bool). cond t 1 c.before.args.c) (ne_eqb _ _ c.if1.false))))
+    (λ c. sym (ap (λ (t : Bool). cond t 1 c.args.c) (eq-eqb _ _ c.if-op-eq-OUT.true)))
+    (λ c. sym (ap (λ (t : Bool). cond t 1 c.args.c) (ne_eqb _ _ c.if-op-eq-OUT.false))))

@@ -5,9 +5,9 @@ use borrow.Author.Tests.{eq-eqb, ne_eqb}
 use Rattle.decide.proofs.decide.open_under.Statement.{statement}
 use Rattle.decide.proofs.decide.open_under.Tie as tie
 
-pub open-under-spec : {M : Type 1} → statement M
-open-under-spec =
+pub open_under_spec : {M : Type 1} → statement M
+open_under_spec =
     tie.close
     (tie.spec
-    (λ c. sym (ap (λ (t : Bool). cond t 16 c.before.args.x) (eq-eqb _ _ c.if1.true)))
-    (λ c. sym (ap (λ (t : Bool). cond t 16 c.before.args.x) (ne_eqb _ _ c.if1.false))))
+    (λ c. sym (ap (λ (t : Bool). cond t 16 c.args.x) (eq-eqb _ _ c.if-y-x.true)))
+    (λ c. sym (ap (λ (t : Bool). cond t 16 c.args.x) (ne_eqb _ _ c.if-y-x.false))))

@@ -7,5 +7,7 @@ use Rattle.decide.proofs.decide.rebind.Tie as tie
 returns : tie.Need-returns
 returns c = let i = c in λ y. assignments.assigned_set i.args.vars i.args.x i.args.m y (search rules)
 
-pub rebind-spec : {M : Type 1} → statement M
-rebind-spec = tie.close (tie.spec (λ c. search rules) (λ c. search rules) returns)
+pub rebind_spec : {M : Type 1} → statement M
+rebind_spec = tie.close (tie.spec (λ c. search rules)
+    (λ c. search rules)
+    returns)

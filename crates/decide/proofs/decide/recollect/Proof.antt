@@ -21,12 +21,12 @@ few : {index past : List ℕ} {g : Assignment} {entry want all : ℕ} (r : Recal
     not (eqb (index_first p) (index_last p)) ≡ true → r.members < 17
 few r p e two = two_few r.members p [] 0 two (ap (λ (k : ℕ). columns_fit r.members (index_columns k)) e ∙ r.fit)
 
-recollect-pair-requires : tie.Need-recollect-pair-requires
+recollect-pair-requires : tie.Need-recollect_pair-requires
 recollect-pair-requires c κs =
-    let word = c.before.before.before.word in
-    let i = c.before.before.before.before.before.before.before in
+    let word = c.word-p in
+    let i = c in
     let r = i.requires.0 in
-    let two = sym c.before.before.is-pair.ensures ∙ c.before.if1.true in
+    let two = sym c.is_pair.ensures ∙ c.if-is_pair.true in
     let n : r.members < 17 = few r word.result word.ensures.0 two in (
       (subst (λ (k : ℕ). index_table k < 32) (sym word.ensures.0) r.exists, r.long, two),
       (
@@ -41,21 +41,21 @@ recollect-pair-requires c κs =
       ),
     )
 
-recollect-one-requires : tie.Need-recollect-one-requires
+recollect-one-requires : tie.Need-recollect_one-requires
 recollect-one-requires c κs =
-    let word = c.before.before.before.word in
-    let i = c.before.before.before.before.before.before.before in
+    let word = c.word-p in
+    let i = c in
     let r = i.requires.0 in
-    ((subst (λ (k : ℕ). index_table k < 32) (sym word.ensures.0) r.exists, r.long, sym c.before.before.is-pair.ensures ∙ c.before.if1.false), i.requires.1)
+    ((subst (λ (k : ℕ). index_table k < 32) (sym word.ensures.0) r.exists, r.long, sym c.is_pair.ensures ∙ c.if-is_pair.false), i.requires.1)
 
-returns : tie.Need-returns
-returns c = rw c.before.before.before.before.before.before.word.ensures.0 at c.before.before.recollect-pair.ensures
+returns : tie.Need-returns-then-is_pair
+returns c = rw c.word-p.ensures.0 at c.recollect_pair.ensures
 
-returns-2 : tie.Need-returns-2
-returns-2 c = rw c.before.before.before.before.before.before.word.ensures.0 at c.before.before.recollect-one.ensures
+returns-2 : tie.Need-returns-else-is_pair
+returns-2 c = rw c.word-p.ensures.0 at c.recollect_one.ensures
 
-pub recollect-spec : {M : Type 1} → statement M
-recollect-spec =
+pub recollect_spec : {M : Type 1} → statement M
+recollect_spec =
     tie.close
     (tie.spec
     (λ c κs. search rules)

@@ -7,15 +7,15 @@ use Rattle.deciding.proofs.EdgeLaws as edges
 use Rattle.decide.proofs.edges.is_absent.Statement.{statement}
 use Rattle.decide.proofs.edges.is_absent.Tie as tie
 
-returns-3 : tie.Need-returns-3
+returns-3 : tie.Need-returns
 returns-3 c =
-    λ e. edges.absent _ _ _ c.before.if1.false (λ a. edges.fired_other_event _ _ a c.if2.false (eqb-false _ _ (not-true _ e)))
+    λ e. edges.absent _ _ _ c.if-l-r.false (λ a. edges.fired_other_event _ _ a c.if-event-eq0.false (eqb-false _ _ (not-true _ e)))
 
-pub is-absent-spec : {M : Type 1} → statement M
-is-absent-spec =
+pub is_absent_spec : {M : Type 1} → statement M
+is_absent_spec =
     tie.close
     (tie.spec
     (λ c e. absurd (true≢false (sym e)))
-    (λ c e. edges.absent _ _ _ c.before.if1.false (λ a. edges.fired_no_event _ _ a c.if2.true))
+    (λ c e. edges.absent _ _ _ c.if-l-r.false (λ a. edges.fired_no_event _ _ a c.if-event-eq0.true))
     (λ c. search rules)
     returns-3)

@@ -8,16 +8,16 @@ use Rattle.deciding.specs.private.Rows.{labelled}
 use Rattle.decide.proofs.edges.labelled.Statement.{statement}
 use Rattle.decide.proofs.edges.labelled.Tie as tie
 
-returns : tie.Need-returns
+returns : tie.Need-returns-then-event-gt-LAST_GRANTED
 unfolding labelled
-returns c = let x = c.before.args in sym (ap (λ (t : Bool). cond t (x.event - (16 - x.e) * 4096) x.event) (lt-ltb _ _ c.if1.true))
+returns c = let x = c.args in sym (ap (λ (t : Bool). cond t (x.event - (16 - x.e) * 4096) x.event) (lt-ltb _ _ c.if-event-gt-LAST_GRANTED.true))
 
-returns-2 : tie.Need-returns-2
+returns-2 : tie.Need-returns-else-event-gt-LAST_GRANTED
 unfolding labelled
-returns-2 c = let x = c.before.args in sym (ap (λ (t : Bool). cond t (x.event - (16 - x.e) * 4096) x.event) (le-ltb _ _ c.if1.false))
+returns-2 c = let x = c.args in sym (ap (λ (t : Bool). cond t (x.event - (16 - x.e) * 4096) x.event) (le-ltb _ _ c.if-event-gt-LAST_GRANTED.false))
 
-pub labelled-spec : {M : Type 1} → statement M
-labelled-spec =
+pub labelled_spec : {M : Type 1} → statement M
+labelled_spec =
     tie.close
     (tie.spec
     (λ c. search rules)

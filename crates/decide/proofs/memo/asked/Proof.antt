@@ -9,15 +9,18 @@ both : (x : Bool) → (x && x) ≡ x
 both true = refl
 both false = refl
 
-returns : tie.Need-returns
+returns : tie.Need-returns-then-whole
 returns c = λ b.
     c.mask.ensures b ∙ both (ltb b 64)
-    ∙ sym (ap (λ (t : Bool). cond t (ltb b 64) (ltb b 64 && eqb b c.before.before.args.c)) c.before.if1.true)
+    ∙ sym (ap (λ (t : Bool). cond t (ltb b 64) (ltb b 64 && eqb b c.args.c)) c.if-whole.true)
 
-returns-2 : tie.Need-returns-2
+returns-2 : tie.Need-returns-else-whole
 returns-2 c = λ b.
     c.single.ensures b
-    ∙ sym (ap (λ (t : Bool). cond t (ltb b 64) (ltb b 64 && eqb b c.before.before.args.c)) c.before.if1.false)
+    ∙ sym (ap (λ (t : Bool). cond t (ltb b 64) (ltb b 64 && eqb b c.args.c)) c.if-whole.false)
 
-pub asked-spec : {M : Type 1} → statement M
-asked-spec = tie.close (tie.spec (λ c κs. tt) (λ c κs. tt) returns returns-2)
+pub asked_spec : {M : Type 1} → statement M
+asked_spec = tie.close (tie.spec (λ c κs. tt)
+    (λ c κs. tt)
+    returns
+    returns-2)

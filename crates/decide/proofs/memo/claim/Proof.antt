@@ -66,17 +66,17 @@ module _ (s : List ℕ) (z p q : ℕ) (long : length s ≡ 133) where
 
 returns : tie.Need-returns
 returns c =
-    let i = c.before.before.before in
-    let p = c.before.packed in
+    let i = c in
+    let p = c.packed in
     let s = i.args.slot.now in
     let z = i.args.z in
-    let q = c.packed2 in (
+    let q = c.packed-2 in (
       (have s z p.result q.result i.requires, reads s z p.result q.result i.requires, column s z p.result q.result i.requires),
       values s z p.result q.result i.requires _ p.ensures q.ensures,
     )
 
-pub claim-spec : {M : Type 1} → statement M
-claim-spec =
+pub claim_spec : {M : Type 1} → statement M
+claim_spec =
     tie.close
     (tie.spec
     (λ c. search rules)

@@ -5,8 +5,8 @@ use borrow.Author.Rules.{rules}
 use Rattle.decide.proofs.memo.has_slot.Statement.{statement}
 use Rattle.decide.proofs.memo.has_slot.Tie as tie
 
-pub has-slot-spec : {M : Type 1} → statement M
-has-slot-spec =
+pub has_slot_spec : {M : Type 1} → statement M
+has_slot_spec =
     tie.close
     (tie.spec
     (λ c. search rules)

@@ -13,9 +13,10 @@ if-had false w b = bit_zero b
 
 returns : tie.Need-returns
 returns c = λ b.
-    let i = c.before.args in
+    let i = c.args in
     bit-or c.only.result i.ask b
     ∙ ap (λ (t : Bool). t || bit i.ask b) (ap (λ (w : ℕ). bit w b) c.only.ensures ∙ if-had i.had i.known b)
 
-pub known-too-spec : {M : Type 1} → statement M
-known-too-spec = tie.close (tie.spec (λ c κs. tt) returns)
+pub known_too_spec : {M : Type 1} → statement M
+known_too_spec = tie.close (tie.spec (λ c κs. tt)
+    returns)

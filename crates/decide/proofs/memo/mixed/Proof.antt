@@ -23,5 +23,5 @@ returns c = λ b.
     bit-or (bit_xor i.v (bit_and i.v i.ask)) (bit_and i.w i.ask) b
     ∙ ap₂ ◌||◌ (bit_without i.v i.ask b) (bit-and i.w i.ask b) ∙ either (bit i.ask b) (bit i.v b) (bit i.w b)
 
-pub mixed-spec : {M : Type 1} → statement M
-mixed-spec = tie.close (tie.spec returns)
+pub mixed_spec : {M : Type 1} → statement M
+mixed_spec = tie.close (tie.spec returns)

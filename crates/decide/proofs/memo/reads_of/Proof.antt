@@ -10,21 +10,21 @@ use Rattle.deciding.proofs.ReadSets as sets
 use Rattle.decide.proofs.memo.reads_of.Statement.{statement}
 use Rattle.decide.proofs.memo.reads_of.Tie as tie
 
-returns : tie.Need-returns
+returns : tie.Need-returns-then-is_past
 returns c =
-    let i = c.before.before.before.before.before.before.args in
-    sets.covered_past i.op i.a i.p i.f i.g i.k c.before.before.single.result _
-    (sym c.before.before.before.before.before.is-past.ensures ∙ c.before.before.before.before.if1.true)
-    (λ x. c.before.before.single.ensures x ∙ ap (λ (y : ℕ). ltb x 64 && eqb x y) c.before.before.before.first_of.ensures)
-    (λ x. c.with.ensures x ∙ ap (λ (y : ℕ). bit c.before.before.single.result x || (ltb x 64 && eqb x y)) c.before.last_of.ensures)
+    let i = c.args in
+    sets.covered_past i.op i.a i.p i.f i.g i.k c.single.result _
+    (sym c.is_past.ensures ∙ c.if-is_past.true)
+    (λ x. c.single.ensures x ∙ ap (λ (y : ℕ). ltb x 64 && eqb x y) c.first_of.ensures)
+    (λ x. c.with.ensures x ∙ ap (λ (y : ℕ). bit c.single.result x || (ltb x 64 && eqb x y)) c.last_of.ensures)
 
-returns-2 : tie.Need-returns-2
+returns-2 : tie.Need-returns-else-is_past
 returns-2 c =
-    let i = c.before.before.before.args in
-    sets.covered_free i.op i.a i.p i.f i.g i.k _ (sym c.before.before.is-past.ensures ∙ c.before.if1.false) (free_entry _ _ _ _ _ _ c.Free-of.ensures)
+    let i = c.args in
+    sets.covered_free i.op i.a i.p i.f i.g i.k _ (sym c.is_past.ensures ∙ c.if-is_past.false) (free_entry _ _ _ _ _ _ c.free_of.ensures)
 
-pub reads-of-spec : {M : Type 1} → statement M
-reads-of-spec =
+pub reads_of_spec : {M : Type 1} → statement M
+reads_of_spec =
     tie.close
     (tie.spec
     (λ c κs. search rules)

@@ -15,14 +15,14 @@ past_end [] n h = refl
 past_end (x ∷ l) zero h = absurd (let z : ⊥ = omega arith in z)
 past_end (x ∷ l) (suc n) h = past_end l n (omega arith)
 
-returns-2 : tie.Need-returns-2
+returns-2 : tie.Need-returns-else-z-lt-VARIABLES
 returns-2 c =
-    let i = c.before.args in
-    let long : length i.t1 ≡ 16 = search rules in
-    sym (past_end i.t1 i.z (omega (arith, long, c.if1.false)))
+    let i = c.args in
+    let long : length i.vars ≡ 16 = search rules in
+    sym (past_end i.vars i.z (omega (arith, long, c.if-z-lt-VARIABLES.false)))
 
-pub standing-spec : {M : Type 1} → statement M
-standing-spec =
+pub standing_spec : {M : Type 1} → statement M
+standing_spec =
     tie.close
     (tie.spec
     (λ c. search rules)

@@ -5,14 +5,14 @@ use borrow.Author.Rules.{rules}
 use Rattle.decide.proofs.memo_choice.are_brief.Statement.{statement}
 use Rattle.decide.proofs.memo_choice.are_brief.Tie as tie
 
-abbrev invariant-loop : tie.invariant-loop
+abbrev invariant-loop : tie.invariant-loop-i
 invariant-loop terms n left₀ i₀ left i = Unit {0}
 
-abbrev decreases-loop : tie.decreases-loop
+abbrev decreases-loop : tie.decreases-loop-i
 decreases-loop terms n left₀ i₀ left i = n - i
 
-pub are-brief-spec : {M : Type 1} → statement M
-are-brief-spec =
+pub are_brief_spec : {M : Type 1} → statement M
+are_brief_spec =
     tie.close
     (tie.spec
     invariant-loop

@@ -5,14 +5,14 @@ use borrow.Author.Rules.{rules}
 use Rattle.decide.proofs.memo_choice.are_few.Statement.{statement}
 use Rattle.decide.proofs.memo_choice.are_few.Tie as tie
 
-abbrev invariant-loop : tie.invariant-loop
+abbrev invariant-loop : tie.invariant-loop-i
 invariant-loop terms once₀ twice₀ i₀ once twice i = Unit {0}
 
-abbrev decreases-loop : tie.decreases-loop
+abbrev decreases-loop : tie.decreases-loop-i
 decreases-loop terms once₀ twice₀ i₀ once twice i = 10 - i
 
-pub are-few-spec : {M : Type 1} → statement M
-are-few-spec =
+pub are_few_spec : {M : Type 1} → statement M
+are_few_spec =
     tie.close
     (tie.spec
     invariant-loop

@@ -12,27 +12,27 @@ use Rattle.deciding.proofs.Pairs as pairs
 use Rattle.decide.proofs.pairs.row_of.Statement.{statement}
 use Rattle.decide.proofs.pairs.row_of.Tie as tie
 
-returns : tie.Need-returns
+returns : tie.Need-returns-then-free-eq1
 returns c =
-    let x = c.before.before.before.args in
-    pairs.row_first x.past.now x.at x.b x.c x.free c.stripe.result c.before.if1.true
+    let x = c.args in
+    pairs.row_first x.past.now x.at x.b x.c x.free c.stripe.result c.if-free-eq1.true
     (λ v. c.stripe.ensures v
     ∙ ap₂ (λ (p q : Bool). p && (q && (ltb v 16 && bit (get_or x.past.now (x.at + v / 4) 0) (16 * (v % 4) + x.c))))
     (lt-ltb (x.at + 3) (length x.past.now) (omega arith)) (lt-ltb x.c 16 (omega arith)))
 
-returns-2 : tie.Need-returns-2
+returns-2 : tie.Need-returns-then-free-eq2
 returns-2 c =
-    let x = c.before.before.before.before.before.args in
-    pairs.row_second x.past.now x.at x.b x.c x.free c.quarter.result c.before.before.before.if1.false c.before.if2.true c.quarter.ensures
+    let x = c.args in
+    pairs.row_second x.past.now x.at x.b x.c x.free c.quarter.result c.if-free-eq1.false c.if-free-eq2.true c.quarter.ensures
 
-returns-3 : tie.Need-returns-3
+returns-3 : tie.Need-returns
 returns-3 c =
-    let x = c.before.before.before.before.before.before.args in
-    pairs.row_shut x.past.now x.at x.b x.c x.free c.only.result c.before.before.before.before.if1.false c.before.before.if2.false
-    c.before.has.result c.only.ensures c.before.has.ensures
+    let x = c.args in
+    pairs.row_shut x.past.now x.at x.b x.c x.free c.only.result c.if-free-eq1.false c.if-free-eq2.false
+    c.has.result c.only.ensures c.has.ensures
 
-pub row-of-spec : {M : Type 1} → statement M
-row-of-spec =
+pub row_of_spec : {M : Type 1} → statement M
+row_of_spec =
     tie.close
     (tie.spec
     (λ c κs. search rules)

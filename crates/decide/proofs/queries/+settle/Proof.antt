@@ -48,60 +48,60 @@ Part = settle-lts.Claims → In 4 settle-kinds.ps → Out 4 settle-kinds.ps sett
 abbrev here-settle : ℕ → Part → Type 0
 here-settle t part = part (callees t) (settle-at t) settle.Post
 
-settle-holds-shared-requires : (t : ℕ) → here-settle t settle-lts.Need-holds-shared-requires
-settle-holds-shared-requires t c κs = (c.before.before.before.before.before.requires.1.0, c.before.before.before.before.before.requires.1.1)
+settle-holds-shared-requires : (t : ℕ) → here-settle t settle-lts.Need-holds_shared-requires
+settle-holds-shared-requires t c κs = (c.requires.1.0, c.requires.1.1)
 
 settle-settle-requires : (t : ℕ) → here-settle t settle-lts.Need-settle-requires
 settle-settle-requires t c κs =
-    let i = c.before.before.before.before.before.before.before.before in
+    let i = c in
     let x = i.args in
-    let l = settled.neg_lower x.terms.now i.requires.1.0.good x.entry i.requires.1.1.0 i.requires.0 c.before.before.op-of.ensures.0 c.before.first_of.ensures.0 c.if2.true in
+    let l = settled.neg_lower x.terms.now i.requires.1.0.good x.entry i.requires.1.1.0 i.requires.0 c.op_of-op.ensures.0 c.first_of-a.ensures.0 c.if-op-eq-NOT.true in
     (l.falls, (i.requires.1.0, (l.exists, i.requires.1.1.1, i.requires.1.1.2)))
 
-settle-returns-2 : (t : ℕ) → here-settle t settle-lts.Need-returns-2
+settle-returns-2 : (t : ℕ) → here-settle t settle-lts.Need-returns-then-op-eq-NOT
 settle-returns-2 t c =
-    let i = c.before.before.before.before.before.before.before.before.before in
+    let i = c in
     let x = i.args in
     settled.neg_settled x.terms.now i.requires.1.0.good x.entry i.requires.1.1.0 x.relations.now x.past.now x.u x.v
-    c.before.before.before.op-of.ensures.0 c.before.before.first_of.ensures.0 c.before.if2.true c.settle.ensures
+    c.op_of-op.ensures.0 c.first_of-a.ensures.0 c.if-op-eq-NOT.true c.settle.ensures
 
-settle-settle-requires-2 : (t : ℕ) → here-settle t settle-lts.Need-settle-requires-2
+settle-settle-requires-2 : (t : ℕ) → here-settle t settle-lts.Need-settle-requires-then-op-eq-OR
 settle-settle-requires-2 t c κs =
-    let i = c.before.before.before.before.before.before.before.before.before in
+    let i = c in
     let x = i.args in
-    let l = settled.or_first_lower x.terms.now i.requires.1.0.good x.entry i.requires.1.1.0 i.requires.0 c.before.before.before.op-of.ensures.0 c.before.before.first_of.ensures.0 c.if3.true in
+    let l = settled.or_first_lower x.terms.now i.requires.1.0.good x.entry i.requires.1.1.0 i.requires.0 c.op_of-op.ensures.0 c.first_of-a.ensures.0 c.if-op-eq-OR.true in
     (l.falls, (i.requires.1.0, (l.exists, i.requires.1.1.1, i.requires.1.1.2)))
 
-settle-returns-3 : (t : ℕ) → here-settle t settle-lts.Need-returns-3
+settle-returns-3 : (t : ℕ) → here-settle t settle-lts.Need-returns-then-settle
 settle-returns-3 t c =
-    let i = c.before.before.before.before.before.before.before.before.before.before.before in
+    let i = c in
     let x = i.args in
     settled.or_first x.terms.now i.requires.1.0.good x.entry i.requires.1.1.0 x.relations.now x.past.now x.u x.v
-    c.before.before.before.before.before.op-of.ensures.0 c.before.before.before.before.first_of.ensures.0 c.before.before.if3.true
-    c.before.settle2.ensures c.if4.true
+    c.op_of-op.ensures.0 c.first_of-a.ensures.0 c.if-op-eq-OR.true
+    c.settle-then-op-eq-OR.ensures c.if-settle.true
 
-settle-settle-requires-3 : (t : ℕ) → here-settle t settle-lts.Need-settle-requires-3
+settle-settle-requires-3 : (t : ℕ) → here-settle t settle-lts.Need-settle-requires-then-op-eq-OR-2
 settle-settle-requires-3 t c κs =
-    let i = c.before.before.before.before.before.before.before.before.before.before.before.before in
+    let i = c in
     let x = i.args in
-    let l = settled.or_second_lower x.terms.now i.requires.1.0.good x.entry i.requires.1.1.0 i.requires.0 c.before.before.before.before.before.before.op-of.ensures.0 c.second-of.ensures.0 c.before.before.before.if3.true in
+    let l = settled.or_second_lower x.terms.now i.requires.1.0.good x.entry i.requires.1.1.0 i.requires.0 c.op_of-op.ensures.0 c.second_of.ensures.0 c.if-op-eq-OR.true in
     (l.falls, (i.requires.1.0, (l.exists, i.requires.1.1.1, i.requires.1.1.2)))
 
-settle-returns-4 : (t : ℕ) → here-settle t settle-lts.Need-returns-4
+settle-returns-4 : (t : ℕ) → here-settle t settle-lts.Need-returns-then-op-eq-OR
 settle-returns-4 t c =
-    let i = c.before.before.before.before.before.before.before.before.before.before.before.before.before in
+    let i = c in
     let x = i.args in
     settled.or_second x.terms.now i.requires.1.0.good x.entry i.requires.1.1.0 x.relations.now x.past.now x.u x.v
-    c.before.before.before.before.before.before.before.op-of.ensures.0 c.before.before.before.before.before.before.first_of.ensures.0 c.before.second-of.ensures.0 c.before.before.before.before.if3.true
-    c.before.before.before.settle2.ensures c.before.before.if4.false c.settle3.ensures
+    c.op_of-op.ensures.0 c.first_of-a.ensures.0 c.second_of.ensures.0 c.if-op-eq-OR.true
+    c.settle-then-op-eq-OR.ensures c.if-settle.false c.settle-then-op-eq-OR-2.ensures
 
-settle-holds-at-requires : (t : ℕ) → here-settle t settle-lts.Need-holds-at-requires
-settle-holds-at-requires t c κs = (c.before.before.before.before.before.before.before.before.before.before.requires.1.0, (c.before.before.before.before.before.before.before.before.before.before.requires.1.1, rem.no_slots _ (omega arith)))
+settle-holds-at-requires : (t : ℕ) → here-settle t settle-lts.Need-holds_at-requires
+settle-holds-at-requires t c κs = (c.requires.1.0, (c.requires.1.1, rem.no_slots _ (omega arith)))
 
-pub +settle-spec : {M : Type 1} → statement M
-+settle-spec = close μ-settle λ t. settle-lts.spec (callees t) (settle-at t) settle.Post
+pub +settle_spec : {M : Type 1} → statement M
++settle_spec = close μ-settle λ t. settle-lts.spec (callees t) (settle-at t) settle.Post
     (settle-holds-shared-requires t)
-    (λ c. c.holds-shared.ensures)
+    (λ c. c.holds_shared.ensures)
     (λ c κs. tt)
     (λ c κs. tt)
     (settle-settle-requires t)
@@ -113,4 +113,4 @@ pub +settle-spec : {M : Type 1} → statement M
     (settle-returns-4 t)
     (λ c. search rules)
     (settle-holds-at-requires t)
-    (λ c. c.before.holds_at.ensures)
+    (λ c. c.holds_at.ensures)

@@ -10,39 +10,39 @@ use Rattle.deciding.proofs.Counting as counting
 use Rattle.decide.proofs.queries.holds_at.Statement.{statement}
 use Rattle.decide.proofs.queries.holds_at.Tie as tie
 
-rebind-requires : tie.Need-rebind-requires
-rebind-requires c κs = (omega arith, omega (arith, sites.member_short c.before.before.before.before.before.requires.0 _ c.before.before.before.before.before.requires.1.0.2))
+rebind-requires : tie.Need-rebind-vars-requires
+rebind-requires c κs = (omega arith, omega (arith, sites.member_short c.requires.0 _ c.requires.1.0.2))
 
 decide-requires : tie.Need-decide-requires
 decide-requires c κs =
-    let i = c.before.before.before.before.before.before.before.before.before in
-    let k = c.before.before.before in (
+    let i = c in
+    let k = c in (
       i.requires.0,
       (
-        requests.request_asked _ (assigned k.rebind.result) k.rebind.ensures _ i.args.u _ i.requires.0 i.requires.1.0.0 i.requires.1.0.1 i.requires.1.0.2
-            (counting.single-is c.before.single.result _ c.before.single.ensures (sites.member_short i.requires.0 _ i.requires.1.0.1)),
+        requests.request_asked _ (assigned k.rebind-vars.result) k.rebind-vars.ensures _ i.args.u _ i.requires.0 i.requires.1.0.0 i.requires.1.0.1 i.requires.1.0.2
+            (counting.single-is c.single.result _ c.single.ensures (sites.member_short i.requires.0 _ i.requires.1.0.1)),
         (refl, i.requires.1.1),
       ),
     )
 
-mul-has : tie.Need-overflow-mul-has
-mul-has c = omega (arith, sites.member_short c.before.before.before.before.before.before.before.before.before.before.before.before.before.requires.0 _ c.before.before.before.before.before.before.before.before.before.before.before.before.before.requires.1.0.1)
+mul-has : tie.Need-offset_bounds-f-u
+mul-has c = omega (arith, sites.member_short c.requires.0 _ c.requires.1.0.1)
 
-array-read-has : tie.Need-array-read-has
-array-read-has c = omega (arith, sites.member_short c.before.before.before.before.before.before.before.before.before.before.before.before.before.requires.0 _ c.before.before.before.before.before.before.before.before.before.before.before.before.before.requires.1.0.1, c.before.before.before.decide.ensures.0.long)
+array-read-has : tie.Need-bounds-f-u
+array-read-has c = omega (arith, sites.member_short c.requires.0 _ c.requires.1.0.1, c.decide.ensures.0.long)
 
 returns : tie.Need-returns
 returns c =
-    let single = c.before.before.before.before.before.before.single in
-    let k = c.before.before.before.before.before.before.before.before in
-    let i = c.before.before.before.before.before.before.before.before.before.before.before.before.before.before in
+    let single = c.single in
+    let k = c in
+    let i = c in
     c.has.ensures
-    ∙ requests.request_answer i.args.v (assigned k.rebind.result) k.rebind.ensures (terms_of i.args.terms.now) i.args.relations.now i.args.past.now _ _ single.result
+    ∙ requests.request_answer i.args.v (assigned k.rebind-vars.result) k.rebind-vars.ensures (terms_of i.args.terms.now) i.args.relations.now i.args.past.now _ _ single.result
     i.requires.1.0.2 (counting.single-is single.result _ single.ensures (sites.member_short i.requires.0 _ i.requires.1.0.1))
-    c.before.before.before.before.decide.ensures.0
+    c.decide.ensures.0
 
-pub holds-at-spec : {M : Type 1} → statement M
-holds-at-spec =
+pub holds_at_spec : {M : Type 1} → statement M
+holds_at_spec =
     tie.close
     (tie.spec
     rebind-requires

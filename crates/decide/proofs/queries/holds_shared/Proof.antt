@@ -8,19 +8,19 @@ use Rattle.decide.proofs.queries.holds_shared.Statement.{statement}
 use Rattle.decide.proofs.queries.holds_shared.Tie as tie
 
 prepare-requires : tie.Need-prepare-requires
-prepare-requires c κs = (c.before.before.before.before.before.requires.0.good, c.before.before.before.before.before.requires.0.indexed)
+prepare-requires c κs = (c.requires.0.good, c.requires.0.indexed)
 
-holds-at-requires : tie.Need-holds-at-requires
+holds-at-requires : tie.Need-holds_at-requires
 holds-at-requires c κs =
-    let i = c.before.before.before.before.before.before.before.before in
-    (i.requires.0, (i.requires.1, rem.memo_lower (let l : i.args.entry < (terms_of i.args.terms.now).entries = i.requires.1.0 in omega arith) (c.before.before.prepare.ensures.1 i.args.relations.now i.args.past.now)))
+    let i = c in
+    (i.requires.0, (i.requires.1, rem.memo_lower (let l : i.args.entry < (terms_of i.args.terms.now).entries = i.requires.1.0 in omega arith) (c.prepare.ensures.1 i.args.relations.now i.args.past.now)))
 
-pub holds-shared-spec : {M : Type 1} → statement M
-holds-shared-spec =
+pub holds_shared_spec : {M : Type 1} → statement M
+holds_shared_spec =
     tie.close
     (tie.spec
     (λ c. search rules)
     prepare-requires
     (λ c. search rules)
     holds-at-requires
-    (λ c. c.before.holds_at.ensures))
+    (λ c. c.holds_at.ensures))

@@ -5,35 +5,35 @@ use Rattle.deciding.proofs.Loops as loops
 use Rattle.decide.proofs.rows.add_to.Statement.{statement}
 use Rattle.decide.proofs.rows.add_to.Tie as tie
 
-abbrev invariant-loop : tie.invariant-loop
+abbrev invariant-loop : tie.invariant-loop-rest
 invariant-loop out₀ set w rest₀ out rest = loops.Joining set w out₀ rest out
 
-abbrev decreases-loop : tie.decreases-loop
+abbrev decreases-loop : tie.decreases-loop-rest
 decreases-loop out₀ set w rest₀ out rest = rest
 
-mul-out : tie.Need-overflow-mul-out invariant-loop decreases-loop
-mul-out c = omega (arith, loops.least_small c.before.before.loop.invariant.upon c.before.loop-test.true c.least-of.ensures)
+mul-out : tie.Need-offset_bounds-out-a invariant-loop decreases-loop
+mul-out c = omega (arith, loops.least_small c.loop-rest.invariant.upon c.loop-rest-test.true c.least_of-a.ensures)
 
-slice-read-out : tie.Need-slice-read-out invariant-loop decreases-loop
+slice-read-out : tie.Need-bounds-out-a invariant-loop decreases-loop
 slice-read-out c =
-    omega (arith, loops.least_small c.before.before.before.loop.invariant.upon c.before.before.loop-test.true c.before.least-of.ensures)
+    omega (arith, loops.least_small c.loop-rest.invariant.upon c.loop-rest-test.true c.least_of-a.ensures)
 
-mul-out-2 : tie.Need-overflow-mul-out-2 invariant-loop decreases-loop
+mul-out-2 : tie.Need-offset_bounds-out-a-in-loop-rest invariant-loop decreases-loop
 mul-out-2 c =
-    omega (arith, loops.least_small c.before.before.before.loop.invariant.upon c.before.before.loop-test.true c.before.least-of.ensures)
+    omega (arith, loops.least_small c.loop-rest.invariant.upon c.loop-rest-test.true c.least_of-a.ensures)
 
-slice-write-out : tie.Need-slice-write-out invariant-loop decreases-loop
+slice-write-out : tie.Need-bounds-out-a-in-loop-rest invariant-loop decreases-loop
 slice-write-out c =
-    omega (arith, loops.least_small c.before.before.before.loop.invariant.upon c.before.before.loop-test.true c.before.least-of.ensures)
+    omega (arith, loops.least_small c.loop-rest.invariant.upon c.loop-rest-test.true c.least_of-a.ensures)
 
-loop-less : tie.Need-loop-smaller invariant-loop decreases-loop
-loop-less c = loops.rest_less c.before.before.before.before.loop.invariant.upon c.before.before.before.loop-test.true c.rest-of.ensures
+loop-less : tie.Need-loop-rest-smaller invariant-loop decreases-loop
+loop-less c = loops.rest_less c.loop-rest.invariant.upon c.loop-rest-test.true c.rest_of-rest.ensures
 
-loop-again : tie.Need-loop-preserved invariant-loop decreases-loop
+loop-again : tie.Need-loop-rest-preserved invariant-loop decreases-loop
 loop-again c =
-    let loop = c.before.before.before.before.loop in
-    loops.joining_more loop.invariant (loops.turn loop.invariant.upon c.before.before.before.loop-test.true c.before.before.least-of.ensures
-    c.rest-of.ensures) c.before.before.before.before.before.before.requires
+    let loop = c.loop-rest in
+    loops.joining_more loop.invariant (loops.turn loop.invariant.upon c.loop-rest-test.true c.least_of-a.ensures
+    c.rest_of-rest.ensures) c.requires
 
 pub add_to_spec : {M : Type 1} → statement M
 add_to_spec =
@@ -50,5 +50,5 @@ add_to_spec =
     (λ c κs. tt)
     loop-less
     loop-again
-    (λ c. c.before.loop.invariant.long)
-    (λ c. loops.joining_all c.before.loop.invariant c.loop-test.false))
+    (λ c. c.loop-rest.invariant.long)
+    (λ c. loops.joining_all c.loop-rest.invariant c.loop-rest-test.false))

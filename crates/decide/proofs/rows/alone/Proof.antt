@@ -5,10 +5,10 @@ use Rattle.decide.proofs.rows.alone.Statement.{statement}
 use Rattle.decide.proofs.rows.alone.Tie as tie
 
 returns : tie.Need-returns
-returns c = loops.alone _ _ c.before.before.clear.ensures c.before.before.before.before.before.requires.1
+returns c = loops.alone _ _ c.clear.ensures c.requires.1
 
-pub alone-spec : {M : Type 1} → statement M
-alone-spec =
+pub alone_spec : {M : Type 1} → statement M
+alone_spec =
     tie.close
     (tie.spec
     (λ c κs. search rules)

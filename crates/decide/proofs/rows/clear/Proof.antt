@@ -7,10 +7,10 @@ use Rattle.deciding.proofs.Counting as counting
 use Rattle.decide.proofs.rows.clear.Statement.{statement}
 use Rattle.decide.proofs.rows.clear.Tie as tie
 
-abbrev invariant-loop : tie.invariant-loop
+abbrev invariant-loop : tie.invariant-loop-a
 invariant-loop out₀ a₀ out a = counting.Storing (λ k. 0) out₀ a out
 
-abbrev decreases-loop : tie.decreases-loop
+abbrev decreases-loop : tie.decreases-loop-a
 decreases-loop out₀ a₀ out a = 64 - a
 
 pub clear_spec : {M : Type 1} → statement M
@@ -24,6 +24,6 @@ clear_spec =
     (λ c. search rules)
     (λ c. search rules)
     (λ c. search rules)
-    (λ c. counting.storing_more _ c.before.loop.invariant (omega arith) c.before.before.requires refl)
-    (λ c. c.before.loop.invariant.long)
-    (λ c. counting.cleared c.before.loop.invariant c.loop-test.false c.before.before.requires))
+    (λ c. counting.storing_more _ c.loop-a.invariant (omega arith) c.requires refl)
+    (λ c. c.loop-a.invariant.long)
+    (λ c. counting.cleared c.loop-a.invariant c.loop-a-test.false c.requires))

@@ -14,17 +14,17 @@ use Rattle.deciding.specs.private.Rows.{in_row, ahead}
 use Rattle.decide.proofs.rows.common.Statement.{statement}
 use Rattle.decide.proofs.rows.common.Tie as tie
 
-returns : tie.Need-returns
+returns : tie.Need-returns-then-k-eq1
 returns c b =
-    let x = c.before.before.before.args in
+    let x = c.args in
     let some = ahead (in_row x.f.now) x.set b in
     let n = count_below 64 (λ m. bit x.set m && in_row x.f.now m b) in
     c.together.ensures b
-    ∙ sym (and_implied (ltb b 64) some (λ e. lt-ltb b 64 (bit_below c.together.result 64 b (omega (arith, c.together.type-inv)) (c.together.ensures b ∙ e))))
-    ∙ ap (◌&&◌ (ltb b 64)) (sym (count_some 64 (λ m. bit x.set m && in_row x.f.now m b)) ∙ ap (λ (k : ℕ). leb k n) (sym c.before.if1.true))
+    ∙ sym (and_implied (ltb b 64) some (λ e. lt-ltb b 64 (bit_below c.together.result 64 b (omega (arith, c.together.type_inv)) (c.together.ensures b ∙ e))))
+    ∙ ap (◌&&◌ (ltb b 64)) (sym (count_some 64 (λ m. bit x.set m && in_row x.f.now m b)) ∙ ap (λ (k : ℕ). leb k n) (sym c.if-k-eq1.true))
 
-pub common-spec : {M : Type 1} → statement M
-common-spec =
+pub common_spec : {M : Type 1} → statement M
+common_spec =
     tie.close
     (tie.spec
     (λ c κs. search rules)

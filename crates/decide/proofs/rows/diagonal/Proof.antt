@@ -7,38 +7,38 @@ use Rattle.deciding.proofs.Counting as counting
 use Rattle.decide.proofs.rows.diagonal.Statement.{statement}
 use Rattle.decide.proofs.rows.diagonal.Tie as tie
 
-abbrev invariant-loop : tie.invariant-loop
+abbrev invariant-loop : tie.invariant-loop-rest
 invariant-loop out₀ want rest₀ out rest = loops.Filling want (λ a b. eqb b a) out₀ rest out
 
-abbrev decreases-loop : tie.decreases-loop
+abbrev decreases-loop : tie.decreases-loop-rest
 decreases-loop out₀ want rest₀ out rest = rest
 
-mul-out : tie.Need-overflow-mul-out invariant-loop decreases-loop
+mul-out : tie.Need-offset_bounds-out-a invariant-loop decreases-loop
 mul-out c =
-    omega (arith, loops.least_small c.before.before.before.loop.invariant.upon c.before.before.loop-test.true c.before.least-of.ensures)
+    omega (arith, loops.least_small c.loop-rest.invariant.upon c.loop-rest-test.true c.least_of-a.ensures)
 
-slice-write-out : tie.Need-slice-write-out invariant-loop decreases-loop
+slice-write-out : tie.Need-bounds-out-a invariant-loop decreases-loop
 slice-write-out c =
-    omega (arith, loops.least_small c.before.before.before.loop.invariant.upon c.before.before.loop-test.true c.before.least-of.ensures)
+    omega (arith, loops.least_small c.loop-rest.invariant.upon c.loop-rest-test.true c.least_of-a.ensures)
 
-loop-less : tie.Need-loop-smaller invariant-loop decreases-loop
-loop-less c = loops.rest_less c.before.before.before.before.loop.invariant.upon c.before.before.before.loop-test.true c.rest-of.ensures
+loop-less : tie.Need-loop-rest-smaller invariant-loop decreases-loop
+loop-less c = loops.rest_less c.loop-rest.invariant.upon c.loop-rest-test.true c.rest_of-rest.ensures
 
-loop-again : tie.Need-loop-preserved invariant-loop decreases-loop
+loop-again : tie.Need-loop-rest-preserved invariant-loop decreases-loop
 loop-again c =
-    let loop = c.before.before.before.before.loop in
-    let loop-test = c.before.before.before.loop-test in
-    let least-of = c.before.before.least-of in
-    loops.filling_more _ loop.invariant (loops.turn loop.invariant.upon loop-test.true least-of.ensures c.rest-of.ensures)
-    (counting.single-is _ _ c.before.single.ensures (loops.least_small loop.invariant.upon loop-test.true least-of.ensures))
+    let loop = c.loop-rest in
+    let loop-test = c.loop-rest-test in
+    let least-of = c.least_of-a in
+    loops.filling_more _ loop.invariant (loops.turn loop.invariant.upon loop-test.true least-of.ensures c.rest_of-rest.ensures)
+    (counting.single-is _ _ c.single.ensures (loops.least_small loop.invariant.upon loop-test.true least-of.ensures))
 
-pub diagonal-spec : {M : Type 1} → statement M
-diagonal-spec =
+pub diagonal_spec : {M : Type 1} → statement M
+diagonal_spec =
     tie.close
     (tie.spec
     invariant-loop
     decreases-loop
-    (λ c. loops.filling _ (omega arith) c.before.requires)
+    (λ c. loops.filling _ (omega arith) c.requires)
     (λ c κs. tt)
     (λ c κs. tt)
     mul-out
@@ -47,4 +47,4 @@ diagonal-spec =
     loop-less
     loop-again
     (λ c. search rules)
-    (λ c. loops.filled c.before.loop.invariant c.loop-test.false))
+    (λ c. loops.filled c.loop-rest.invariant c.loop-rest-test.false))

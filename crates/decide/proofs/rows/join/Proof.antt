@@ -9,27 +9,27 @@ use Rattle.deciding.proofs.Counting as counting
 use Rattle.decide.proofs.rows.join.Statement.{statement}
 use Rattle.decide.proofs.rows.join.Tie as tie
 
-abbrev invariant-loop : tie.invariant-loop
+abbrev invariant-loop : tie.invariant-loop-a
 invariant-loop out₀ f a₀ out a = counting.Storing (λ k. bit_or (get_or out₀ k 0) (get_or f k 0)) out₀ a out
 
-abbrev decreases-loop : tie.decreases-loop
+abbrev decreases-loop : tie.decreases-loop-a
 decreases-loop out₀ f a₀ out a = 64 - a
 
-loop-again : tie.Need-loop-preserved invariant-loop decreases-loop
+loop-again : tie.Need-loop-a-preserved invariant-loop decreases-loop
 loop-again c =
-    let i = c.before.before.before.before in
-    let loop = c.before.before.before.loop in
+    let i = c in
+    let loop = c.loop-a in
     counting.storing_more _ loop.invariant (omega arith) i.requires.0
     (ap (λ (w : ℕ). bit_or w (get_or i.args.f.now loop.a 0)) (counting.storing_next loop.invariant))
 
 returns : tie.Need-returns invariant-loop decreases-loop
 returns c =
-    let i = c.before.before in
-    counting.added (λ k. get_or i.args.f.now k 0) c.before.loop.invariant c.loop-test.false i.requires.0
+    let i = c in
+    counting.added (λ k. get_or i.args.f.now k 0) c.loop-a.invariant c.loop-a-test.false i.requires.0
     (λ k h. get_or-eq_default i.args.f.now 0 (omega (arith, i.requires.1)))
 
-pub join-spec : {M : Type 1} → statement M
-join-spec =
+pub join_spec : {M : Type 1} → statement M
+join_spec =
     tie.close
     (tie.spec
     invariant-loop
@@ -44,5 +44,5 @@ join-spec =
     (λ c. search rules)
     (λ c. search rules)
     loop-again
-    (λ c. c.before.loop.invariant.long)
+    (λ c. c.loop-a.invariant.long)
     returns)

@@ -7,30 +7,30 @@ use Rattle.deciding.proofs.Loops as loops
 use Rattle.decide.proofs.rows.together.Statement.{statement}
 use Rattle.decide.proofs.rows.together.Tie as tie
 
-abbrev invariant-loop : tie.invariant-loop
+abbrev invariant-loop : tie.invariant-loop-rest
 invariant-loop f set s₀ rest₀ s rest = loops.Adding set (in_row f) rest s
 
-abbrev decreases-loop : tie.decreases-loop
+abbrev decreases-loop : tie.decreases-loop-rest
 decreases-loop f set s₀ rest₀ s rest = rest
 
-mul-s : tie.Need-overflow-mul-s invariant-loop decreases-loop
-mul-s c = omega (arith, loops.least_small c.before.before.loop.invariant.upon c.before.loop-test.true c.least-of.ensures)
+mul-s : tie.Need-offset_bounds-f-least_of invariant-loop decreases-loop
+mul-s c = omega (arith, loops.least_small c.loop-rest.invariant.upon c.loop-rest-test.true c.least_of.ensures)
 
-shared-slice-read-s : tie.Need-shared-slice-read-s invariant-loop decreases-loop
+shared-slice-read-s : tie.Need-bounds-f-least_of invariant-loop decreases-loop
 shared-slice-read-s c =
-    omega (arith, loops.least_small c.before.before.before.loop.invariant.upon c.before.before.loop-test.true c.before.least-of.ensures)
+    omega (arith, loops.least_small c.loop-rest.invariant.upon c.loop-rest-test.true c.least_of.ensures)
 
-loop-less : tie.Need-loop-smaller invariant-loop decreases-loop
-loop-less c = loops.rest_less c.before.before.before.before.loop.invariant.upon c.before.before.before.loop-test.true c.rest-of.ensures
+loop-less : tie.Need-loop-rest-smaller invariant-loop decreases-loop
+loop-less c = loops.rest_less c.loop-rest.invariant.upon c.loop-rest-test.true c.rest_of-rest.ensures
 
-loop-again : tie.Need-loop-preserved invariant-loop decreases-loop
+loop-again : tie.Need-loop-rest-preserved invariant-loop decreases-loop
 loop-again c =
-    let loop = c.before.before.before.before.loop in
-    loops.adding_more _ loop.invariant (loops.turn loop.invariant.upon c.before.before.before.loop-test.true c.before.before.least-of.ensures
-    c.rest-of.ensures) (λ b. refl)
+    let loop = c.loop-rest in
+    loops.adding_more _ loop.invariant (loops.turn loop.invariant.upon c.loop-rest-test.true c.least_of.ensures
+    c.rest_of-rest.ensures) (λ b. refl)
 
-pub together-spec : {M : Type 1} → statement M
-together-spec =
+pub together_spec : {M : Type 1} → statement M
+together_spec =
     tie.close
     (tie.spec
     invariant-loop
@@ -42,4 +42,4 @@ together-spec =
     (λ c κs. tt)
     loop-less
     loop-again
-    (λ c. loops.adding_all c.before.loop.invariant c.loop-test.false))
+    (λ c. loops.adding_all c.loop-rest.invariant c.loop-rest-test.false))

@@ -14,14 +14,14 @@ use Rattle.deciding.proofs.Requests as requests
 use Rattle.decide.proofs.tables.prev_pairs.Statement.{statement}
 use Rattle.decide.proofs.tables.prev_pairs.Tie as tie
 
-pair-rows-requires : tie.Need-pair-rows-requires
+pair-rows-requires : tie.Need-pair_rows-requires
 pair-rows-requires c κs =
-    let i = c.before.before.before.before.before.before.before.before.before.before.before.before in
-    let word = c.before.before.before.before.before.word in
-    let first_of = c.before.before.before.before.first_of in
-    let last_of = c.before.before.before.last_of in
+    let i = c in
+    let word = c.word-p in
+    let first_of = c.first_of-x in
+    let last_of = c.last_of-y in
     let two = ap (λ (p : ℕ). not (eqb (index_first p) (index_last p))) word.ensures.0 ∙ i.requires.1.1.0 in
-    let operand = c.before.before.first-of2 in (
+    let operand = c.first_of-a in (
       i.requires.0,
       (
         (
@@ -38,20 +38,20 @@ pair-rows-requires c κs =
 
 returns : tie.Need-returns
 returns c =
-    let i = c.before.before.before.before.before.before.before.before.before.before.before.before.before.before.before.before.before in
-    let word = c.before.before.before.before.before.before.before.before.before.before.word in
-    let first_of = c.before.before.before.before.before.before.before.before.before.first_of in
-    let last_of = c.before.before.before.before.before.before.before.before.last_of in
+    let i = c in
+    let word = c.word-p in
+    let first_of = c.first_of-x in
+    let last_of = c.last_of-y in
     let two = ap (λ (p : ℕ). not (eqb (index_first p) (index_last p))) word.ensures.0 ∙ i.requires.1.1.0 in
-    let operand = c.before.before.before.before.before.before.before.first-of2 in
-    let rows = c.before.before.before.before.pair-rows in (
+    let operand = c.first_of-a in
+    let rows = c.pair_rows in (
       requests.prev_pair i.requires.0 i.requires.1.0.0 i.requires.1.0.1 refl word.result word.ensures.0 two operand.result operand.ensures.0
           (rw (first_of.ensures, last_of.ensures) at rows.ensures.0),
       rem.grown_up (let l = first_lower ((good i.args.terms.now i.requires.0.good).entry i.args.entry i.requires.1.0.0) (rw i.requires.1.0.1) in omega (arith, l, operand.ensures.0)) i.requires.1.1.1 rows.ensures.1,
     )
 
-pub prev-pairs-spec : {M : Type 1} → statement M
-prev-pairs-spec =
+pub prev_pairs_spec : {M : Type 1} → statement M
+prev_pairs_spec =
     tie.close
     (tie.spec
     (λ c κs. tt)

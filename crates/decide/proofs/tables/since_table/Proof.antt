@@ -8,28 +8,28 @@ use Rattle.memory.specs.TableIndex.{index_first, index_last}
 use Rattle.decide.proofs.tables.since_table.Statement.{statement}
 use Rattle.decide.proofs.tables.since_table.Tie as tie
 
-since-pairs-requires : tie.Need-since-pairs-requires
+since-pairs-requires : tie.Need-since_pairs-requires
 since-pairs-requires c κs =
-    let i = c.before.before.before.before.before.before.before.before.before.before.before.before.before in (
+    let i = c in (
       i.requires.0,
       (
         i.requires.1.0,
-        (sym (ap (λ (p : ℕ). not (eqb (index_first p) (index_last p))) c.before.before.before.before.before.word.ensures.0) ∙ sym c.before.before.before.before.is-pair.ensures ∙ c.before.before.before.if1.true, i.requires.1.1),
+        (sym (ap (λ (p : ℕ). not (eqb (index_first p) (index_last p))) c.word.ensures.0) ∙ sym c.is_pair.ensures ∙ c.if-is_pair.true, i.requires.1.1),
       ),
     )
 
-since-rows-requires : tie.Need-since-rows-requires
+since-rows-requires : tie.Need-since_rows-requires
 since-rows-requires c κs =
-    let i = c.before.before.before.before.before.before.before.before.before.before.before.before.before in (
+    let i = c in (
       i.requires.0,
       (
         i.requires.1.0,
-        (sym (ap (λ (p : ℕ). not (eqb (index_first p) (index_last p))) c.before.before.before.before.before.word.ensures.0) ∙ sym c.before.before.before.before.is-pair.ensures ∙ c.before.before.before.if1.false, i.requires.1.1),
+        (sym (ap (λ (p : ℕ). not (eqb (index_first p) (index_last p))) c.word.ensures.0) ∙ sym c.is_pair.ensures ∙ c.if-is_pair.false, i.requires.1.1),
       ),
     )
 
-pub since-table-spec : {M : Type 1} → statement M
-since-table-spec =
+pub since_table_spec : {M : Type 1} → statement M
+since_table_spec =
     tie.close
     (tie.spec
     (λ c κs. tt)
@@ -39,8 +39,8 @@ since-table-spec =
     (λ c. search rules)
     (λ c. search rules)
     (λ c. search rules)
-    (λ c. c.before.before.before.before.before.before.since-pairs.ensures)
+    (λ c. c.since_pairs.ensures)
     (λ c. search rules)
     (λ c. search rules)
     (λ c. search rules)
-    (λ c. c.before.before.before.before.before.before.since-rows.ensures))
+    (λ c. c.since_rows.ensures))
