@@ -14,11 +14,11 @@ U8, U16, U32, U64 = ("Int", 8), ("Int", 16), ("Int", 32), ("Int", 64)
 
 
 class Body:
-    """The lines of a function's body."""
+    """The lines of a function's body, and its constants."""
 
     def __init__(self, types, functions, function):
         self.types, self.functions, self.function = types, functions, function
-        self.lines, self.labels, self.used = [], 0, set()
+        self.lines, self.constants, self.labels, self.used = [], [], 0, set()
         self.statement(function.body, 1, [])
 
     def line(self, depth, text):
@@ -149,6 +149,8 @@ class Body:
                 self.line(depth, "return;" if self.function.kinds[0] == "Unit" else "return l0;")
             case ("Assign", place, value):
                 self.assign(place, value, depth)
+            case ("LendStatic", place, kind, ("Ints", _, values)):
+                self.lend(place, kind, values, depth)
             case ("Call", ("Fn", name, generics), operands, place) if generics == NO_GENERICS:
                 self.call(self.functions[name], operands, place, depth)
             case ("If", operand, "Skip", otherwise):
@@ -216,6 +218,19 @@ class Body:
                 raise Refused("a lent struct is written as a whole")
             case _:
                 self.line(depth, f"{target} = {self.value(value, kind)};")
+
+    def lend(self, place, kind, values, depth):
+        """A constant array is lent, for good and to be read only."""
+        target, wanted = self.place(place)
+        match kind, wanted:
+            case ("Array", ("Int", _), ("Lit", count)), ("Ref", _, "Imm", pointed) if pointed == kind and count:
+                if len(values) != count:
+                    raise Refused(f"{len(values)} values of {count}")
+            case _:
+                raise Refused(f"{show(wanted)} lends {show(kind)}")
+        name = f"c{len(self.constants) + 1}"
+        self.constants.append(f"    static const {self.types.of(kind)} {name} = {{{{{', '.join(map(str, values))}}}}};")
+        self.line(depth, f"{target} = ({self.types.of(wanted)})&{name};")
 
     def call(self, callee, operands, place, depth):
         target, kind = self.place(place)

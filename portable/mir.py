@@ -26,8 +26,8 @@ def form(value):
             return ("place", local, form(steps))
         case {"name": name, "lifetimes": _}:
             return name
-        case {"width": width, "value": number}:
-            return [width, number]
+        case {"width": width, "value": of} | {"width": width, "values": of}:
+            return [width, of]
         case dict() if len(value) == 1:
             [(name, parts)] = value.items()
             parts = form(parts)

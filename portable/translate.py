@@ -30,7 +30,7 @@ def is_large(kind):
 
 def translated(types, functions, function):
     """A function's prototype and definition."""
-    body = Body(types, functions, function).lines
+    body = Body(types, functions, function)
     kinds = [types.of(kind) for kind in function.kinds]
     parameters = ", ".join(declared(kinds[i], f"l{i}") for i in function.arguments) or "void"
     own = [i for i in sorted(function.live) if i not in function.arguments and kinds[i] != "void"]
@@ -38,7 +38,7 @@ def translated(types, functions, function):
     head = f"{static} {declared(kinds[0], identifier(function.name))}({parameters})"
     lines = [f"    {declared(kinds[i], f'l{i}')};" for i in own]
     lines += [f"    (void)l{i};" for i in function.arguments if i not in function.live]
-    return f"{head};", "\n".join([f"/* {function.name} */", head, "{", *lines, *body, "}", ""])
+    return f"{head};", "\n".join([f"/* {function.name} */", head, "{", *body.constants, *lines, *body.lines, "}", ""])
 
 
 def exported(types, function):
