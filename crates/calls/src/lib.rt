@@ -3,14 +3,14 @@
 #![tactic(auto)]
 
 // What a decided request carries.
-#[derive(Drop)]
+#[derive(Clone, Copy)]
 pub enum Verdict {
     Grant,
     Deny,
 }
 
 // A decided request carries its verdict, a refused one its number and line.
-#[derive(Drop)]
+#[derive(Clone, Copy)]
 pub enum Answer {
     Decided(Verdict),
     Refused(usize, usize),
@@ -18,7 +18,7 @@ pub enum Answer {
 
 // A request and its answer: 0 for deny, 1 for grant, 9 where event, from or to names nothing.
 #[repr(C)]
-#[derive(Drop)]
+#[derive(Clone, Copy)]
 pub struct Record {
     pub event: u32,
     pub from: u32,
@@ -27,14 +27,14 @@ pub struct Record {
 }
 
 // How many records were granted, or the refusal's number and line.
-#[derive(Drop)]
+#[derive(Clone, Copy)]
 pub enum Listed {
     Granted(usize),
     Refused(usize, usize),
 }
 
 // What is told of an entry: it holds or it fails, or the refusal's number and line.
-#[derive(Drop)]
+#[derive(Clone, Copy)]
 pub enum Told {
     Holds,
     Fails,

@@ -2,7 +2,7 @@
 use fields::field::piece;
 
 // What is called for: event, from, to.
-#[derive(Drop)]
+#[derive(Clone, Copy)]
 pub(crate) struct Call(pub usize, pub usize, pub usize);
 
 // Field 1.

@@ -12,7 +12,7 @@ use fields::number::{Number, read_number};
 use theory::operators::{MANY, OPERATORS, REACH};
 
 // One line of a terms file, as what it says.
-#[derive(Drop)]
+#[derive(Clone, Copy)]
 pub enum Line {
     Members(usize),
     Labels(usize, usize),

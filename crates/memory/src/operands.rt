@@ -6,7 +6,7 @@ ghost use Rattle.memory.specs.private.Operands.{operand_kind};
 use theory::operators::{AT, BIND, IN, MANY, NOT, OR, OUT, PREV, REACH, SINCE, TOP, VAR};
 
 // Not used, a variable, a variable to bind, a label, an entry, a number of members.
-#[derive(Drop)]
+#[derive(Clone, Copy)]
 pub enum Kind {
     Unused,
     Variable,
@@ -16,7 +16,7 @@ pub enum Kind {
     Count,
 }
 
-#[derive(Drop)]
+#[derive(Clone, Copy)]
 pub struct Operands {
     pub first: Kind,
     pub second: Kind,

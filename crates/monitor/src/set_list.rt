@@ -14,7 +14,7 @@ use memory::Outcome;
 use memory::limits::ENTRIES;
 
 // What the checks give, and the table index where they pass.
-#[derive(Drop)]
+#[derive(Clone, Copy)]
 struct Inspected {
     outcome: Outcome,
     index: [u16; ENTRIES],

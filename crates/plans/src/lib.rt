@@ -12,7 +12,7 @@ mod checks;
 mod game;
 
 // A plan is accepted or rejected, or it is refused with its number and line.
-#[derive(Drop)]
+#[derive(Clone, Copy)]
 pub enum Ruling {
     Accepted,
     Rejected,

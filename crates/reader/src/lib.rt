@@ -9,7 +9,7 @@ mod step;
 mod store;
 
 // A text is of the old form or of the stored one, or it is refused with its number and line.
-#[derive(Drop)]
+#[derive(Clone, Copy)]
 pub enum Filled {
     Old,
     Stored,

@@ -8,7 +8,7 @@ use memory::table_index::is_past;
 
 // What the lines so far have said, in numbers: tables counts the prev and since entries, marks is one past the last
 // event marked as kept, effects counts those of event, and relation, from and to are the last edge or bit of a table.
-#[derive(Drop)]
+#[derive(Clone, Copy)]
 pub struct Context {
     pub stored: bool,
     pub phase: usize,

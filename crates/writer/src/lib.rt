@@ -12,7 +12,7 @@ mod vocabulary;
 pub mod write;
 
 // A writing gives its count of bytes, or it is refused with its number and line.
-#[derive(Drop)]
+#[derive(Clone, Copy)]
 pub enum Written {
     Bytes(usize),
     Refused(usize, usize),

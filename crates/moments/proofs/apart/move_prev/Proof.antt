@@ -13,48 +13,48 @@ use Rattle.deciding.proofs.Remembering as rem
 use Rattle.moments.proofs.apart.move_prev.Statement.{statement}
 use Rattle.moments.proofs.apart.move_prev.Tie as tie
 
-abbrev invariant-loop : tie.invariant-loop
+abbrev invariant-loop : tie.invariant-loop-n
 invariant-loop terms index relations own₀ memo₀ rows₀ entries n₀ own memo rows n =
     (n ≤ entries) × (length own ≡ length own₀) × (length rows ≡ 64) × moves.Downward terms (entries - n) (relations ++ own₀) (relations ++ own)
     × MemoOf (terms_of terms) (relations ++ own) (entries - n) memo × (length memo ≡ length memo₀)
 
-abbrev decreases-loop : tie.decreases-loop
+abbrev decreases-loop : tie.decreases-loop-n
 decreases-loop terms index relations own₀ memo₀ rows₀ entries n₀ own memo rows n = entries - n
 
 renew-requires : tie.Need-renew-requires invariant-loop decreases-loop
-renew-requires c κs = let i = c.before.before.before.before.before.before.before.before in (i.requires.0.good, i.requires.0.indexed)
+renew-requires c κs = let i = c in (i.requires.0.good, i.requires.0.indexed)
 
-loop-holds : tie.Need-loop-init invariant-loop decreases-loop
+loop-holds : tie.Need-loop-n-init invariant-loop decreases-loop
 loop-holds c =
-    let i = c.before.before.before.before.before.before.before.before.before.before.before in
-    let e = c.before.before.before.before.entries in
+    let i = c in
+    let e = c.entries-entries in
     let all : e.result - 0 ≡ (terms_of i.args.terms.now).entries = omega (arith, e.ensures.0) in
-    (omega arith, refl, i.requires.3, rw all moves.downward, rw all (c.before.before.renew.ensures.1 (i.args.relations.now ++ i.args.own.now)), refl)
+    (omega arith, refl, i.requires.3, rw all moves.downward, rw all (c.renew.ensures.1 (i.args.relations.now ++ i.args.own.now)), refl)
 
-prev-turn-requires : tie.Need-prev-turn-requires invariant-loop decreases-loop
+prev-turn-requires : tie.Need-prev_turn-requires invariant-loop decreases-loop
 prev-turn-requires c κs =
-    let i = c.before.before.before.before.before.before.before.before.before.before.before.before.before.before.before.before in
-    let l = c.before.before.before.before.loop in
-    let less = c.before.before.before.loop-test.true in (
+    let i = c in
+    let l = c.loop-n in
+    let less = c.loop-n-test.true in (
       (moves.down_movable i.requires.0 l.invariant.3, i.requires.1, l.invariant.1 ∙ i.requires.2),
-      ((omega (arith, less, c.before.before.before.before.before.before.before.before.before.entries.ensures.0), l.invariant.2), rem.memo_lower (omega (arith, less)) l.invariant.4),
+      ((omega (arith, less, c.entries-entries.ensures.0), l.invariant.2), rem.memo_lower (omega (arith, less)) l.invariant.4),
     )
 
-loop-again : tie.Need-loop-preserved invariant-loop decreases-loop
+loop-again : tie.Need-loop-n-preserved invariant-loop decreases-loop
 loop-again c =
-    let l = c.before.before.before.before.before.before.before.before.before.before.before.loop in
-    let t = c.before.before.before.before.before.before.prev-turn in
-    let less = c.before.before.before.before.before.before.before.before.before.before.loop-test.true in
+    let l = c.loop-n in
+    let t = c.prev_turn in
+    let less = c.loop-n-test.true in
     (omega arith, search rules, search rules, moves.down_more _ _ (omega (arith, less)) l.invariant.3 t.ensures.0, t.ensures.1, search rules)
 
 returns : tie.Need-returns invariant-loop decreases-loop
 returns c =
-    let l = c.before.loop in
-    let none : c.before.before.before.before.before.before.entries.result - l.n ≡ 0 = omega arith in
+    let l = c.loop-n in
+    let none : c.entries-entries.result - l.n ≡ 0 = omega arith in
     moves.down_all (rw none at l.invariant.3)
 
-pub move-prev-spec : {M : Type 1} → statement M
-move-prev-spec =
+pub move_prev_spec : {M : Type 1} → statement M
+move_prev_spec =
     tie.close
     (tie.spec
     invariant-loop
@@ -67,7 +67,7 @@ move-prev-spec =
     prev-turn-requires
     (λ c. omega arith)
     loop-again
-    (λ c. c.before.loop.invariant.1)
-    (λ c. c.before.loop.invariant.5 ∙ c.before.before.before.before.renew.auto.1.1.0)
-    (λ c. c.before.loop.invariant.2 ∙ sym c.before.before.before.before.before.before.before.before.before.before.before.before.before.requires.3)
+    (λ c. c.loop-n.invariant.1)
+    (λ c. c.loop-n.invariant.5 ∙ c.renew.auto.memo)
+    (λ c. c.loop-n.invariant.2 ∙ sym c.requires.3)
     returns)

@@ -12,29 +12,29 @@ use Rattle.deciding.proofs.Apart as parts
 use Rattle.moments.proofs.apart.prev_turn.Statement.{statement}
 use Rattle.moments.proofs.apart.prev_turn.Tie as tie
 
-prev-table-requires : tie.Need-prev-table-requires
+prev-table-requires : tie.Need-prev_table-requires
 prev-table-requires c κs =
-    let i = c.before.before.before.before.before.before.before.before.before.before.before in
+    let i = c in
     let x = i.args in
-    let op = sym c.before.before.before.before.op-of.ensures.0 ∙ c.before.before.before.if1.true in
+    let op = sym c.op_of.ensures.0 ∙ c.if-op_of-eq-PREV.true in
     (parts.ready_apart x.relations.now x.own.now i.requires.0.0 i.requires.0.1 i.requires.0.2, ((i.requires.1.0.0, op, i.requires.1.0.1), parts.memo_apart x.relations.now x.own.now i.requires.0.0 i.requires.0.1 i.requires.0.2 x.n x.memo.now i.requires.1.1))
 
-put-table-requires : tie.Need-put-table-requires
+put-table-requires : tie.Need-put_table-requires
 put-table-requires c κs =
-    let i = c.before.before.before.before.before.before.before.before.before.before.before.before.before.before.before.before.before.before in
-    let op = sym c.before.before.before.before.before.before.before.before.before.before.before.op-of.ensures.0 ∙ c.before.before.before.before.before.before.before.before.before.before.if1.true in
+    let i = c in
+    let op = sym c.op_of.ensures.0 ∙ c.if-op_of-eq-PREV.true in
     let fits = moves.own_fits i.requires.0.0 i.args.n i.requires.1.0.0 (rw op) in
-    (omega (arith, fits, i.requires.0.2), c.before.before.before.before.before.before.prev_table.ensures.0.long)
+    (omega (arith, fits, i.requires.0.2), c.prev_table.ensures.0.long)
 
-returns : tie.Need-returns
+returns : tie.Need-returns-then-op_of-eq-PREV
 returns c =
-    let i = c.before.before.before.before.before.before.before.before.before.before.before.before.before.before.before.before.before.before.before.before.before in
+    let i = c in
     let x = i.args in
     let T = terms_of x.terms.now in
-    let op = sym c.before.before.before.before.before.before.before.before.before.before.before.before.before.before.op-of.ensures.0 ∙ c.before.before.before.before.before.before.before.before.before.before.before.before.before.if1.true in
-    let rows = c.before.before.before.before.before.before.before.before.before.prev_table in
-    let new = rows.new.1.1.1.1.1.1.0 in
-    let put = c.before.before.put-table in
+    let op = sym c.op_of.ensures.0 ∙ c.if-op_of-eq-PREV.true in
+    let rows = c.prev_table in
+    let new = rows.new.out in
+    let put = c.put_table in
     let l = i.requires.1.0.0 in
     let turned = parts.prev_apart x.relations.now x.own.now i.requires.0.0 i.requires.0.1 i.requires.0.2 x.n l new put.ensures op rows.ensures.0 in (
       turned,
@@ -42,13 +42,13 @@ returns c =
           (turned.each i.requires.0.0.state i.requires.0.0.rest i.requires.0.0.has) (parts.memo_joined x.relations.now x.own.now i.requires.0.0 i.requires.0.1 i.requires.0.2 x.n _ rows.ensures.1.memo),
     )
 
-returns-2 : tie.Need-returns-2
+returns-2 : tie.Need-returns-else-op_of-eq-PREV
 returns-2 c =
-    let i = c.before.before.before.before.before.before.before.before in
-    (moves.prev_stays i.requires.0.0 i.args.n i.requires.1.0.0 (λ e. c.if1.false (c.before.op-of.ensures.0 ∙ e)), i.requires.1.1)
+    let i = c in
+    (moves.prev_stays i.requires.0.0 i.args.n i.requires.1.0.0 (λ e. c.if-op_of-eq-PREV.false (c.op_of.ensures.0 ∙ e)), i.requires.1.1)
 
-pub prev-turn-spec : {M : Type 1} → statement M
-prev-turn-spec =
+pub prev_turn_spec : {M : Type 1} → statement M
+prev_turn_spec =
     tie.close
     (tie.spec
     (λ c κs. tt)

@@ -13,29 +13,29 @@ use Rattle.deciding.proofs.Apart as parts
 use Rattle.moments.proofs.apart.since_turn.Statement.{statement}
 use Rattle.moments.proofs.apart.since_turn.Tie as tie
 
-since-table-requires : tie.Need-since-table-requires
+since-table-requires : tie.Need-since_table-requires
 since-table-requires c κs =
-    let i = c.before.before.before.before.before.before.before.before.before.before.before.before.before in
+    let i = c in
     let x = i.args in
-    let op = sym c.before.before.before.before.before.op-of.ensures.0 ∙ c.before.before.before.before.if1.true in
+    let op = sym c.op_of.ensures.0 ∙ c.if-op_of-eq-SINCE.true in
     (parts.ready_apart x.relations.now x.own.now i.requires.0.0 i.requires.0.1 i.requires.0.2, ((i.requires.1.0.0, op, i.requires.1.0.1, i.requires.1.0.2), parts.memo_apart x.relations.now x.own.now i.requires.0.0 i.requires.0.1 i.requires.0.2 x.n x.memo.now (rem.memo_lower (let l = i.requires.1.0.0 in omega arith) i.requires.1.1.0)))
 
-put-table-requires : tie.Need-put-table-requires
+put-table-requires : tie.Need-put_table-requires
 put-table-requires c κs =
-    let i = c.before.before.before.before.before.before.before.before.before.before.before.before.before.before.before.before.before.before.before.before.before.before in
-    let op = sym c.before.before.before.before.before.before.before.before.before.before.before.before.before.before.op-of.ensures.0 ∙ c.before.before.before.before.before.before.before.before.before.before.before.before.before.if1.true in
+    let i = c in
+    let op = sym c.op_of.ensures.0 ∙ c.if-op_of-eq-SINCE.true in
     let fits = moves.own_fits i.requires.0.0 i.args.n i.requires.1.0.0 (rw op) in
-    (omega (arith, fits, i.requires.0.2), c.before.before.before.before.before.before.before.before.since_table.ensures.0.long)
+    (omega (arith, fits, i.requires.0.2), c.since_table.ensures.0.long)
 
-returns : tie.Need-returns
+returns : tie.Need-returns-then-op_of-eq-SINCE
 returns c =
-    let i = c.before.before.before.before.before.before.before.before.before.before.before.before.before.before.before.before.before.before.before.before.before.before.before.before.before in
+    let i = c in
     let x = i.args in
     let T = terms_of x.terms.now in
-    let op = sym c.before.before.before.before.before.before.before.before.before.before.before.before.before.before.before.before.before.op-of.ensures.0 ∙ c.before.before.before.before.before.before.before.before.before.before.before.before.before.before.before.before.if1.true in
-    let rows = c.before.before.before.before.before.before.before.before.before.before.before.since_table in
-    let new = rows.new.1.1.1.1.1.1.1.0 in
-    let put = c.before.before.put-table in
+    let op = sym c.op_of.ensures.0 ∙ c.if-op_of-eq-SINCE.true in
+    let rows = c.since_table in
+    let new = rows.new.out in
+    let put = c.put_table in
     let l = i.requires.1.0.0 in
     let turned = parts.since_apart x.relations.now x.own.now i.requires.0.0 i.requires.0.1 i.requires.0.2 x.n l new put.ensures op rows.ensures.0 in
     let memo = parts.memo_apart x.relations.now x.own.now i.requires.0.0 i.requires.0.1 i.requires.0.2 T.entries x.memo.now i.requires.1.1.0 in
@@ -49,13 +49,13 @@ returns c =
       ),
     )
 
-returns-2 : tie.Need-returns-2
+returns-2 : tie.Need-returns-else-op_of-eq-SINCE
 returns-2 c =
-    let i = c.before.before.before.before.before.before.before.before.before in
-    (moves.since_stays i.requires.0.0 i.args.n i.requires.1.0.0 (λ e. c.if1.false (c.before.op-of.ensures.0 ∙ e)), i.requires.1.1)
+    let i = c in
+    (moves.since_stays i.requires.0.0 i.args.n i.requires.1.0.0 (λ e. c.if-op_of-eq-SINCE.false (c.op_of.ensures.0 ∙ e)), i.requires.1.1)
 
-pub since-turn-spec : {M : Type 1} → statement M
-since-turn-spec =
+pub since_turn_spec : {M : Type 1} → statement M
+since_turn_spec =
     tie.close
     (tie.spec
     (λ c κs. tt)

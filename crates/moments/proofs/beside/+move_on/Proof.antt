@@ -48,66 +48,66 @@ Part = move-on-lts.Claims → In 6 move-on-kinds.ps → Out 6 move-on-kinds.ps m
 abbrev here : ℕ → Part → Type 0
 here t part = part (callees t) (move-on-at t) move-on.Post
 
-move-on-requires : (t : ℕ) → here t move-on-lts.Need-move-on-requires
+move-on-requires : (t : ℕ) → here t move-on-lts.Need-move_on-requires
 move-on-requires t c κs =
-    let i = c.before.before.before.before.before.before.before.before.before.before.before in
+    let i = c in
     let p = i.requires.1 in
     let s = i.args.scratch.now in
     let long : length (take block_words s) ≡ block_words = length-take-le block_words s p.1.0.3 in
-    (omega (arith, c.before.before.before.before.if1.true, i.requires.0, long), (p.0, ((p.1.0.0, p.1.0.1, p.1.0.2, omega (arith, long)), p.1.1)))
+    (omega (arith, c.if-scratch-gt-ROWS.true, i.requires.0, long), (p.0, ((p.1.0.0, p.1.0.1, p.1.0.2, omega (arith, long)), p.1.1)))
 
 -- The words that were lent are as many, when the first of them came back.
-lent : (t : ℕ) (c : move-on-lts.After-move-on (callees t) (move-on-at t) move-on.Post) → let s = c.before.before.before.before.before.before.before.before.before.before.before.before.args.scratch.now in length (c.move-on.new.1.1.1.1.1.0 ++ drop block_words s) ≡ length s
+lent : (t : ℕ) (c : move-on-lts.After-move_on (callees t) (move-on-at t) move-on.Post) → let s = c.before.before.before.before.before.before.before.before.before.before.before.before.args.scratch.now in length (c.move_on.new.scratch ++ drop block_words s) ≡ length s
 lent t c =
     let i = c.before.before.before.before.before.before.before.before.before.before.before.before in
     let s = i.args.scratch.now in
-    let r = c.move-on.new.1.1.1.1.1.0 in
-    let kept : length r ≡ length (take block_words s) = c.move-on.auto.1.1.1.1.1.0 in
+    let r = c.move_on.new.scratch in
+    let kept : length r ≡ length (take block_words s) = c.move_on.auto.scratch in
     let fits = i.requires.1.1.0.3 in
     omega (arith, length-append r (drop block_words s), kept, length-take-le block_words s fits, length-drop block_words s, fits)
 
-same_length : (t : ℕ) → here t move-on-lts.Need-same-length
-same_length t c = c.before.before.before.before.before.before.before.before.before.before.before.before.move-on.auto.1.1.0
+same_length : (t : ℕ) → here t move-on-lts.Need-shape_of-relations-then-scratch-gt-ROWS
+same_length t c = c.move_on.auto.relations
 
-same-length-2 : (t : ℕ) → here t move-on-lts.Need-same-length-2
-same-length-2 t c = c.before.before.before.before.before.before.before.before.before.before.before.before.move-on.auto.1.1.1.0
+same-length-2 : (t : ℕ) → here t move-on-lts.Need-shape_of-own-then-scratch-gt-ROWS
+same-length-2 t c = c.move_on.auto.own
 
-same-length-3 : (t : ℕ) → here t move-on-lts.Need-same-length-3
-same-length-3 t c = c.before.before.before.before.before.before.before.before.before.before.before.before.move-on.auto.1.1.1.1.0
+same-length-3 : (t : ℕ) → here t move-on-lts.Need-shape_of-other-then-scratch-gt-ROWS
+same-length-3 t c = c.move_on.auto.other
 
-same-length-4 : (t : ℕ) → here t move-on-lts.Need-same-length-4
-same-length-4 t c = c.before.before.clear.auto.0 ∙ lent t c.before.before.before.before.before.before.before.before.before.before.before.before
+same-length-4 : (t : ℕ) → here t move-on-lts.Need-shape_of-scratch-then-scratch-gt-ROWS
+same-length-4 t c = c.clear.auto.words ∙ lent t c.before.before.before.before.before.before.before.before.before.before.before.before
 
-returns : (t : ℕ) → here t move-on-lts.Need-returns
+returns : (t : ℕ) → here t move-on-lts.Need-returns-then-scratch-gt-ROWS
 returns t c =
-    let m = c.before.before.before.before.before.before.before.before.before.before.before.before in
-    (m.move-on.ensures.0, (m.move-on.ensures.1.0, λ h. c.before.before.clear.ensures ∙ ap (λ (n : ℕ). replicate n 0) (lent t m)))
+    let m = c in
+    (m.move_on.ensures.0, (m.move_on.ensures.1.0, λ h. c.clear.ensures ∙ ap (λ (n : ℕ). replicate n 0) (lent t c.before.before.before.before.before.before.before.before.before.before.before.before)))
 
-move-both-requires : (t : ℕ) → here t move-on-lts.Need-move-both-requires
+move-both-requires : (t : ℕ) → here t move-on-lts.Need-move_both-requires
 move-both-requires t c κs =
-    let p = c.before.before.before.before.before.before.before.before.before.before.before.before.before.before.requires.1 in
-    (p.0, ((p.1.0.0, p.1.0.1, p.1.0.2, omega (arith, c.before.before.before.before.before.before.before.if1.false, p.1.0.3)), p.1.1))
+    let p = c.requires.1 in
+    (p.0, ((p.1.0.0, p.1.0.1, p.1.0.2, omega (arith, c.if-scratch-gt-ROWS.false, p.1.0.3)), p.1.1))
 
-move-shared-requires : (t : ℕ) → here t move-on-lts.Need-move-shared-requires
+move-shared-requires : (t : ℕ) → here t move-on-lts.Need-move_shared-requires
 move-shared-requires t c κs =
-    let p = c.before.before.before.before.before.before.before.before.before.before.before.before.before.requires.1 in
-    (p.0, ((p.1.0.0, p.1.0.1, p.1.0.2, omega (arith, c.before.before.before.before.before.before.if1.false, p.1.0.3)), p.1.1))
+    let p = c.requires.1 in
+    (p.0, ((p.1.0.0, p.1.0.1, p.1.0.2, omega (arith, c.if-scratch-gt-ROWS.false, p.1.0.3)), p.1.1))
 
-returns-2 : (t : ℕ) → here t move-on-lts.Need-returns-2
+returns-2 : (t : ℕ) → here t move-on-lts.Need-returns-then-are_brief
 returns-2 t c =
-    let e = c.before.before.before.before.before.before.before.before.before.move-both.ensures in
-    (e.0, (e.1, λ h. absurd (let z : ⊥ = omega (arith, c.before.before.before.before.before.before.before.before.before.before.before.before.before.before.before.before.before.if1.false, h) in z)))
+    let e = c.move_both.ensures in
+    (e.0, (e.1, λ h. absurd (let z : ⊥ = omega (arith, c.if-scratch-gt-ROWS.false, h) in z)))
 
-returns-3 : (t : ℕ) → here t move-on-lts.Need-returns-3
+returns-3 : (t : ℕ) → here t move-on-lts.Need-returns-else-are_brief
 returns-3 t c =
-    let e = c.before.before.before.before.before.before.before.before.move-shared.ensures in
-    (e.0, (e.1, λ h. absurd (let z : ⊥ = omega (arith, c.before.before.before.before.before.before.before.before.before.before.before.before.before.before.before.if1.false, h) in z)))
+    let e = c.move_shared.ensures in
+    (e.0, (e.1, λ h. absurd (let z : ⊥ = omega (arith, c.if-scratch-gt-ROWS.false, h) in z)))
 
-pub +move-on-spec : {M : Type 1} → statement M
-+move-on-spec = close μ-move-on λ t. move-on-lts.spec (callees t) (move-on-at t) move-on.Post
+pub +move_on_spec : {M : Type 1} → statement M
++move_on_spec = close μ-move-on λ t. move-on-lts.spec (callees t) (move-on-at t) move-on.Post
     (λ c. omega arith)
     (λ c. search rules)
-    (λ c. omega (arith, c.before.before.before.if1.true))
+    (λ c. omega (arith, c.if-scratch-gt-ROWS.true))
     (move-on-requires t)
     (λ c κs. tt)
     (same_length t)

@@ -14,28 +14,28 @@ use Rattle.moments.proofs.beside.enter.Statement.{statement}
 use Rattle.moments.proofs.beside.enter.Tie as tie
 
 -- The relations keep their length, and get the effects if the request is granted.
-same-long : (c : tie.Joined1) → length c.if1.relations ≡ length c.before.before.before.before.before.args.relations.now
-same-long c = ⊎_elim (λ w. ap length w.5 ∙ w.2.kept.1.0) (λ w. ap length w.1) c.if1.branch
+same-long : (c : tie.Joined-granted) → length c.if-granted.relations ≡ length c.args.relations.now
+same-long c = ⊎_elim (λ w. ap length w.relations-is ∙ w.make_effects.auto.relations) (λ w. ap length w.relations-is) c.if-granted.branch-raw
 
-affected : (c : tie.Joined1) (own : List ℕ) → let x = c.before.before.before.before.before.args in
-    Becomes x.terms.now (affected_if x.granted x.event x.from x.to) (x.relations.now ++ own) (c.if1.relations ++ own)
+affected : (c : tie.Joined-granted) (own : List ℕ) → let x = c.args in
+    Becomes x.terms.now (affected_if x.granted x.event x.from x.to) (x.relations.now ++ own) (c.if-granted.relations ++ own)
 affected c own =
-    let x = c.before.before.before.before.before.args in
+    let x = c.args in
     let P : List ℕ → Type 0 = λ (r : List ℕ). Becomes x.terms.now (affected_if x.granted x.event x.from x.to) (x.relations.now ++ own) (r ++ own) in
     ⊎_elim
-    (λ w. subst P (sym w.5) (made_effects x.event x.from x.to w.0.taken (w.2.ensures own)))
-    (λ w. subst P (sym w.1) (no_effects x.event x.from x.to w.0.left))
-    c.if1.branch
+    (λ w. subst P (sym w.relations-is) (made_effects x.event x.from x.to w.if-granted.true (w.make_effects.ensures own)))
+    (λ w. subst P (sym w.relations-is) (no_effects x.event x.from x.to w.if-granted.false))
+    c.if-granted.branch-raw
 
 returns : tie.Need-returns
 returns c =
-    let j = c.before.before.before.before in
-    let i = j.before.before.before.before.before in
+    let j = c in
+    let i = j in
     let x = i.args in
-    let long = same-long j ∙ i.requires.1.0 in (
-      entered_by x.granted x.event x.from x.to (affected j x.own.now) (c.before.before.put-event.ensures j.if1.relations long),
-      hushed_by x.granted x.event x.from x.to (affected j x.other.now)
-          (event_apart x.terms.now (good x.terms.now i.requires.0.0) j.if1.relations x.other.now long none refl),
+    let long = same-long j.before.before.before.before ∙ i.requires.1.0 in (
+      entered_by x.granted x.event x.from x.to (affected j.before.before.before.before x.own.now) (c.put_event.ensures j.if-granted.relations long),
+      hushed_by x.granted x.event x.from x.to (affected j.before.before.before.before x.other.now)
+          (event_apart x.terms.now (good x.terms.now i.requires.0.0) j.if-granted.relations x.other.now long none refl),
     )
 
 pub enter_spec : {M : Type 1} → statement M

@@ -17,64 +17,64 @@ use Rattle.moments.proofs.beside.first_moment.Statement.{statement}
 use Rattle.moments.proofs.beside.first_moment.Tie as tie
 
 -- The own words are cleared.
-zeros : (c : tie.After-clear) → c.clear.new.0 ≡ replicate own_words 0
-zeros c = let i = c.before.before.before.before.before.before in c.clear.ensures ∙ ap (λ (n : ℕ). replicate n 0) (length-take-le own_words i.args.own.now i.requires.1.1)
+zeros : (c : tie.After-clear) → c.clear.new.words ≡ replicate own_words 0
+zeros c = let i = c in c.clear.ensures ∙ ap (λ (n : ℕ). replicate n 0) (length-take-le own_words i.args.own.now i.requires.1.1)
 
-zeros-long : (c : tie.After-clear) → length c.clear.new.0 ≡ own_words
+zeros-long : (c : tie.After-clear) → length c.clear.new.words ≡ own_words
 zeros-long c = ap length (zeros c) ∙ length-replicate {A = ℕ} own_words 0
 
-lent : (c : tie.After-clear) → take own_words (put_mid 0 own_words c.before.before.before.before.before.before.args.own.now c.clear.new.0) ≡ c.clear.new.0
-lent c = take_at c.clear.new.0 (drop own_words c.before.before.before.before.before.before.args.own.now) own_words (zeros-long c)
+lent : (c : tie.After-clear) → take own_words (put_mid 0 own_words c.args.own.now c.clear.new.words) ≡ c.clear.new.words
+lent c = take_at c.clear.new.words (drop own_words c.args.own.now) own_words (zeros-long c)
 
-lent-long : (c : tie.After-clear) → length (take own_words (put_mid 0 own_words c.before.before.before.before.before.before.args.own.now c.clear.new.0)) ≡ own_words
+lent-long : (c : tie.After-clear) → length (take own_words (put_mid 0 own_words c.args.own.now c.clear.new.words)) ≡ own_words
 lent-long c = ap length (lent c) ∙ zeros-long c
 
-has : (c : tie.After-clear) → let x = c.before.before.before.before.before.before.args in HasState (terms_of x.terms.now) (record { now = first (state_of x.relations.now).now.edge; table = λ t a b. false })
-    [] (take relation_words x.relations.now ++ take own_words (put_mid 0 own_words x.own.now c.clear.new.0))
-has c = let i = c.before.before.before.before.before.before in parts.cleared_apart (terms_of i.args.terms.now) i.args.relations.now i.requires.1.0 i.requires.1.2 (lent c ∙ zeros c)
+has : (c : tie.After-clear) → let x = c.args in HasState (terms_of x.terms.now) (record { now = first (state_of x.relations.now).now.edge; table = λ t a b. false })
+    [] (take relation_words x.relations.now ++ take own_words (put_mid 0 own_words x.own.now c.clear.new.words))
+has c = let i = c in parts.cleared_apart (terms_of i.args.terms.now) i.args.relations.now i.requires.1.0 i.requires.1.2 (lent c ∙ zeros c)
 
 -- The tables can be moved on.
-ready : (c : tie.After-clear) → let x = c.before.before.before.before.before.before.args in Movable x.terms.now x.index.now (take relation_words x.relations.now ++ take own_words (put_mid 0 own_words x.own.now c.clear.new.0))
-ready c = let i = c.before.before.before.before.before.before in record { long_terms = i.requires.0.0; good = i.requires.0.1; indexed = i.requires.0.2; state = _; rest = []; has = has c }
+ready : (c : tie.After-clear) → let x = c.args in Movable x.terms.now x.index.now (take relation_words x.relations.now ++ take own_words (put_mid 0 own_words x.own.now c.clear.new.words))
+ready c = let i = c in record { long_terms = i.requires.0.0; good = i.requires.0.1; indexed = i.requires.0.2; state = _; rest = []; has = has c }
 
-move-since-requires : tie.Need-move-since-requires
+move-since-requires : tie.Need-move_since-requires
 move-since-requires c κs =
-    let k = c.before.before.before.before.before.before.before.before in
-    let i = k.before.before.before.before.before.before in
-    (ready k, length-take-le relation_words i.args.relations.now i.requires.1.0, lent-long k, search rules)
+    let k = c in
+    let i = k in
+    (ready k.before.before.before.before.before.before.before.before, length-take-le relation_words i.args.relations.now i.requires.1.0, lent-long k.before.before.before.before.before.before.before.before, search rules)
 
-open-shared-requires : tie.Need-open-shared-requires
+open-shared-requires : tie.Need-open_shared-requires
 open-shared-requires c κs =
-    let k = c.before.before.before.before.before.before.before in
-    let i = k.before.before.before.before.before.before in
-    (ready k, length-take-le relation_words i.args.relations.now i.requires.1.0, lent-long k, omega arith)
+    let k = c in
+    let i = k in
+    (ready k.before.before.before.before.before.before.before, length-take-le relation_words i.args.relations.now i.requires.1.0, lent-long k.before.before.before.before.before.before.before, omega arith)
 
 -- The words at moment 0.
-opened : (c : tie.After-clear) (r : List ℕ) → let x = c.before.before.before.before.before.before.args in
-    let m = take relation_words x.relations.now ++ take own_words (put_mid 0 own_words x.own.now c.clear.new.0) in
+opened : (c : tie.After-clear) (r : List ℕ) → let x = c.args in
+    let m = take relation_words x.relations.now ++ take own_words (put_mid 0 own_words x.own.now c.clear.new.words) in
     length r ≡ own_words → Becomes x.terms.now since_moved m (take relation_words x.relations.now ++ r) →
-    take relation_words x.relations.now ++ put_mid 0 own_words (put_mid 0 own_words x.own.now c.clear.new.0) r
+    take relation_words x.relations.now ++ put_mid 0 own_words (put_mid 0 own_words x.own.now c.clear.new.words) r
     ≡ words_of (terms_of x.terms.now) (opening (terms_of x.terms.now) (state_of x.relations.now).now.edge) ++ drop own_words x.own.now
 unfolding opening
 opened k r long moved =
     let x = k.before.before.before.before.before.before.args in
-    parts.opened_apart (take relation_words x.relations.now) x.own.now k.clear.last.0 r (zeros-long k) long
+    parts.opened_apart (take relation_words x.relations.now) x.own.now k.clear.new.words r (zeros-long k) long
     ((moved.each _ [] (has k)).words ∙ append-nil (words_of (terms_of x.terms.now) (opening (terms_of x.terms.now) (state_of x.relations.now).now.edge)))
 
-returns : tie.Need-returns
+returns : tie.Need-returns-then-are_brief
 returns c =
-    let s = c.before.before.before.before in
-    let k = s.before.before.before.before.before.before.before.before.before in
-    opened k s.move-since.new.1.1.1.0 (s.move-since.auto.1.1.1.0 ∙ lent-long k) s.move-since.ensures
+    let s = c in
+    let k = s in
+    opened k.before.before.before.before.before.before.before.before.before.before.before.before.before s.move_since.new.own (s.move_since.auto.own ∙ lent-long k.before.before.before.before.before.before.before.before.before.before.before.before.before) s.move_since.ensures
 
-returns-2 : tie.Need-returns-2
+returns-2 : tie.Need-returns-else-are_brief
 returns-2 c =
-    let s = c.before.before.before in
-    let k = s.before.before.before.before.before.before.before.before in
-    opened k s.open_shared.new.1.1.1.0 (s.open_shared.auto.1.1.1.0 ∙ lent-long k) s.open_shared.ensures
+    let s = c in
+    let k = s in
+    opened k.before.before.before.before.before.before.before.before.before.before.before s.open_shared.new.own (s.open_shared.auto.own ∙ lent-long k.before.before.before.before.before.before.before.before.before.before.before) s.open_shared.ensures
 
-pub first-moment-spec : {M : Type 1} → statement M
-first-moment-spec =
+pub first_moment_spec : {M : Type 1} → statement M
+first_moment_spec =
     tie.close
     (tie.spec
     (λ c. search rules)

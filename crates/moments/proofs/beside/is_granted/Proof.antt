@@ -27,28 +27,28 @@ bank c =
 
 settle-requires : tie.Need-settle-requires
 settle-requires c κs =
-    let i = c.before.before.before.before.before.before.before.before in
+    let i = c in
     let x = i.args in
-    let exists = (good x.terms.now i.requires.0.1).policy_exists x.event (call i).event in (
-      apart.ready_apart (take relation_words x.relations.now) (take own_words x.own.now) (bank i)
+    let exists = (good x.terms.now i.requires.0.1).policy_exists x.event (call i.before.before.before.before.before.before.before.before).event in (
+      apart.ready_apart (take relation_words x.relations.now) (take own_words x.own.now) (bank i.before.before.before.before.before.before.before.before)
           (length-take-le relation_words x.relations.now i.requires.1.0.0) (length-take-le own_words x.own.now i.requires.1.0.1),
-      (rw c.before.before.before.policy-of.ensures.0 exists, (call i).from, (call i).to),
+      (rw c.policy_of-policy.ensures.0 exists, (call i.before.before.before.before.before.before.before.before).from, (call i.before.before.before.before.before.before.before.before).to),
     )
 
 returns : tie.Need-returns
 returns c =
-    let i = c.before.before.before.before.before.before.before.before.before in
+    let i = c in
     let x = i.args in
     let T = terms_of x.terms.now in
     let r = take relation_words x.relations.now in
     let o = take own_words x.own.now in
-    moves.granted T (good x.terms.now i.requires.0.1) (joined x.relations.now x.own.now) (moves.long (bank i)) i.requires.1.0.2 x.event x.from x.to (call i)
-    c.before.before.before.before.policy-of.ensures.0
+    moves.granted T (good x.terms.now i.requires.0.1) (joined x.relations.now x.own.now) (moves.long (bank i.before.before.before.before.before.before.before.before.before)) i.requires.1.0.2 x.event x.from x.to (call i.before.before.before.before.before.before.before.before.before)
+    c.policy_of-policy.ensures.0
     (apart.joined_parts r o (length-take-le relation_words x.relations.now i.requires.1.0.0) (length-take-le own_words x.own.now i.requires.1.0.1)
-    (λ rel past. c.settle.result ≡ now_at T rel past (assign (λ y. 0) 0 x.to) c.before.before.before.before.policy-of.result x.from) c.settle.ensures)
+    (λ rel past. c.settle.result ≡ now_at T rel past (assign (λ y. 0) 0 x.to) c.policy_of-policy.result x.from) c.settle.ensures)
 
-pub is-granted-spec : {M : Type 1} → statement M
-is-granted-spec =
+pub is_granted_spec : {M : Type 1} → statement M
+is_granted_spec =
     tie.close
     (tie.spec
     (λ c κs. search rules)

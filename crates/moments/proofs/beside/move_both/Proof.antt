@@ -11,95 +11,95 @@ use Rattle.moments.proofs.beside.move_both.Tie as tie
 
 returns : tie.Need-returns
 returns c =
-    let since2 = c.before.before.before.before.before.before in
-    let since = since2.before.before.before.before.before.before.before.before.before.before.before in
-    let moment = since.before.before.before.before.before.before.before.before.before.before.before in
-    let prev2 = moment.before.before.before.before.before.before.before.before.before.before in
-    let prev = prev2.before.before.before.before.before.before.before.before.before.before.before in
-    let x = prev.before.before.before.before.before.before.before.before.before.before.before.before.args in (
-      moves.stepped x.granted x.event x.from x.to prev.move-prev.ensures moment.enter.ensures.0 since.move-since.ensures,
-      stepped_quietly x.granted x.event x.from x.to prev2.move-prev2.ensures moment.enter.ensures.1 since2.move-since2.ensures,
+    let since2 = c in
+    let since = since2 in
+    let moment = since in
+    let prev2 = moment in
+    let prev = prev2 in
+    let x = prev.args in (
+      moves.stepped x.granted x.event x.from x.to prev.move_prev.ensures moment.enter.ensures.0 since.move_since.ensures,
+      stepped_quietly x.granted x.event x.from x.to prev2.move_prev-2.ensures moment.enter.ensures.1 since2.move_since-2.ensures,
     )
 
 -- After the prev tables of the bank, of the other, after the moment itself, and after the
 -- since tables of the bank: lengths.
-rows-1 : (c : tie.After-move-prev) → length c.move-prev.new.1.1.1.1.1.0 ≡ block_words
-rows-1 c = c.move-prev.auto.1.1.1.1.1.0 ∙ c.before.before.before.before.before.before.before.before.before.before.before.before.requires.1.0.3
+rows-1 : (c : tie.After-move_prev) → length c.move_prev.new.rows ≡ block_words
+rows-1 c = c.move_prev.auto.rows ∙ c.requires.1.0.3
 
-rows-2 : (c : tie.After-move-prev2) → length c.move-prev2.new.1.1.1.1.1.0 ≡ block_words
-rows-2 c = c.move-prev2.auto.1.1.1.1.1.0 ∙ rows-1 c.before.before.before.before.before.before.before.before.before.before.before
+rows-2 : (c : tie.After-move_prev-2) → length c.move_prev-2.new.rows ≡ block_words
+rows-2 c = c.move_prev-2.auto.rows ∙ rows-1 c.before.before.before.before.before.before.before.before.before.before
 
-rows-3 : (c : tie.After-move-since) → length c.move-since.new.1.1.1.1.1.0 ≡ block_words
-rows-3 c = c.move-since.auto.1.1.1.1.1.0 ∙ rows-2 c.before.before.before.before.before.before.before.before.before.before.before.before.before.before.before.before.before.before.before.before.before
+rows-3 : (c : tie.After-move_since) → length c.move_since.new.rows ≡ block_words
+rows-3 c = c.move_since.auto.rows ∙ rows-2 c.before.before.before.before.before.before.before.before.before.before.before.before.before.before.before.before.before.before.before.before
 
-own-1 : (c : tie.After-move-prev) → length c.move-prev.new.1.1.1.0 ≡ own_words
-own-1 c = c.move-prev.auto.1.1.1.0 ∙ c.before.before.before.before.before.before.before.before.before.before.before.before.requires.1.0.1
+own-1 : (c : tie.After-move_prev) → length c.move_prev.new.own ≡ own_words
+own-1 c = c.move_prev.auto.own ∙ c.requires.1.0.1
 
-other-1 : (c : tie.After-move-prev2) → length c.move-prev2.new.1.1.1.0 ≡ own_words
-other-1 c = c.move-prev2.auto.1.1.1.0 ∙ c.before.before.before.before.before.before.before.before.before.before.before.before.before.before.before.before.before.before.before.before.before.before.before.requires.1.0.2
+other-1 : (c : tie.After-move_prev-2) → length c.move_prev-2.new.own ≡ own_words
+other-1 c = c.move_prev-2.auto.own ∙ c.requires.1.0.2
 
-relations-2 : (c : tie.After-enter) → length c.enter.new.1.0 ≡ relation_words
-relations-2 c = c.enter.auto.1.0 ∙ c.before.before.before.before.before.before.before.before.before.before.before.before.before.before.before.before.before.before.before.before.before.before.before.before.before.before.before.before.before.before.before.before.before.requires.1.0.0
+relations-2 : (c : tie.After-enter) → length c.enter.new.relations ≡ relation_words
+relations-2 c = c.enter.auto.relations ∙ c.requires.1.0.0
 
-own-2 : (c : tie.After-enter) → length c.enter.new.1.1.0 ≡ own_words
-own-2 c = c.enter.auto.1.1.0 ∙ own-1 c.before.before.before.before.before.before.before.before.before.before.before.before.before.before.before.before.before.before.before.before.before
+own-2 : (c : tie.After-enter) → length c.enter.new.own ≡ own_words
+own-2 c = c.enter.auto.own ∙ own-1 c.before.before.before.before.before.before.before.before.before.before.before.before.before.before.before.before.before.before.before.before
 
-other-2 : (c : tie.After-enter) → length c.enter.new.1.1.1.0 ≡ own_words
-other-2 c = c.enter.auto.1.1.1.0 ∙ other-1 c.before.before.before.before.before.before.before.before.before.before
+other-2 : (c : tie.After-enter) → length c.enter.new.other ≡ own_words
+other-2 c = c.enter.auto.other ∙ other-1 c.before.before.before.before.before.before.before.before.before.before
 
 -- The tables of both can be moved on after the moment.
-own-movable : (c : tie.After-enter) → let x = c.before.before.before.before.before.before.before.before.before.before.before.before.before.before.before.before.before.before.before.before.before.before.before.before.before.before.before.before.before.before.before.before.before.args in Movable x.terms.now x.index.now (c.enter.new.1.0 ++ c.enter.new.1.1.0)
-own-movable c = moves.moved (moves.moved c.before.before.before.before.before.before.before.before.before.before.before.before.before.before.before.before.before.before.before.before.before.before.before.before.before.before.before.before.before.before.before.before.before.requires.0.0 c.before.before.before.before.before.before.before.before.before.before.before.before.before.before.before.before.before.before.before.before.before.move-prev.ensures) c.enter.ensures.0
+own-movable : (c : tie.After-enter) → let x = c.args in Movable x.terms.now x.index.now (c.enter.new.relations ++ c.enter.new.own)
+own-movable c = moves.moved (moves.moved c.requires.0.0 c.move_prev.ensures) c.enter.ensures.0
 
-other-movable : (c : tie.After-enter) → let x = c.before.before.before.before.before.before.before.before.before.before.before.before.before.before.before.before.before.before.before.before.before.before.before.before.before.before.before.before.before.before.before.before.before.args in Movable x.terms.now x.index.now (c.enter.new.1.0 ++ c.enter.new.1.1.1.0)
-other-movable c = moves.moved (moves.moved c.before.before.before.before.before.before.before.before.before.before.before.before.before.before.before.before.before.before.before.before.before.before.before.before.before.before.before.before.before.before.before.before.before.requires.0.1 c.before.before.before.before.before.before.before.before.before.before.move-prev2.ensures) c.enter.ensures.1
+other-movable : (c : tie.After-enter) → let x = c.args in Movable x.terms.now x.index.now (c.enter.new.relations ++ c.enter.new.other)
+other-movable c = moves.moved (moves.moved c.requires.0.1 c.move_prev-2.ensures) c.enter.ensures.1
 
-move-prev-requires : tie.Need-move-prev-requires
-move-prev-requires c κs = let i = c.before.before.before.before.before.before.before.before.before.before.before in (i.requires.0.0, i.requires.1.0.0, i.requires.1.0.1, i.requires.1.0.3)
+move-prev-requires : tie.Need-move_prev-requires
+move-prev-requires c κs = let i = c in (i.requires.0.0, i.requires.1.0.0, i.requires.1.0.1, i.requires.1.0.3)
 
-move-prev-requires-2 : tie.Need-move-prev-requires-2
-move-prev-requires-2 c κs = let i = c.before.before.before.before.before.before.before.before.before.before.before.before.before.before.before.before.before.before.before.before.before.before in (i.requires.0.1, i.requires.1.0.0, i.requires.1.0.2, rows-1 c.before.before.before.before.before.before.before.before.before.before)
+move-prev-requires-2 : tie.Need-move_prev-requires-2
+move-prev-requires-2 c κs = let i = c in (i.requires.0.1, i.requires.1.0.0, i.requires.1.0.2, rows-1 c.before.before.before.before.before.before.before.before.before)
 
 enter-requires : tie.Need-enter-requires
 enter-requires c κs =
-    let i = c.before.before.before.before.before.before.before.before.before.before.before.before.before.before.before.before.before.before.before.before.before.before.before.before.before.before.before.before.before.before.before.before in
-    ((i.requires.0.0.good, i.requires.1.1), (i.requires.1.0.0, own-1 c.before.before.before.before.before.before.before.before.before.before.before.before.before.before.before.before.before.before.before.before, other-1 c.before.before.before.before.before.before.before.before.before))
+    let i = c in
+    ((i.requires.0.0.good, i.requires.1.1), (i.requires.1.0.0, own-1 c.before.before.before.before.before.before.before.before.before.before.before.before.before.before.before.before.before.before.before, other-1 c.before.before.before.before.before.before.before.before.before))
 
-move-since-requires : tie.Need-move-since-requires
+move-since-requires : tie.Need-move_since-requires
 move-since-requires c κs =
-    let e = c.before.before.before.before.before.before.before.before.before.before in
-    (own-movable e, relations-2 e, own-2 e, rows-2 e.before.before.before.before.before.before.before.before.before.before)
+    let e = c in
+    (own-movable e.before.before.before.before.before.before.before.before.before, relations-2 e.before.before.before.before.before.before.before.before.before, own-2 e.before.before.before.before.before.before.before.before.before, rows-2 e.before.before.before.before.before.before.before.before.before.before.before.before.before.before.before.before.before.before.before)
 
-move-since-requires-2 : tie.Need-move-since-requires-2
-move-since-requires-2 c κs = let s = c.before.before.before.before.before.before.before.before.before.before in
-    let e = s.before.before.before.before.before.before.before.before.before.before.before in
-    (other-movable e, relations-2 e, other-2 e, rows-3 s)
+move-since-requires-2 : tie.Need-move_since-requires-2
+move-since-requires-2 c κs = let s = c in
+    let e = s in
+    (other-movable e.before.before.before.before.before.before.before.before.before.before.before.before.before.before.before.before.before.before.before, relations-2 e.before.before.before.before.before.before.before.before.before.before.before.before.before.before.before.before.before.before.before, other-2 e.before.before.before.before.before.before.before.before.before.before.before.before.before.before.before.before.before.before.before, rows-3 s.before.before.before.before.before.before.before.before.before)
 
-same_length : tie.Need-same-length
-same_length c = c.before.before.before.before.before.before.before.before.before.before.before.before.before.before.before.before.before.before.before.before.before.before.before.before.before.before.before.before.enter.auto.1.0
+same_length : tie.Need-shape_of-relations
+same_length c = c.enter.auto.relations
 
-same-length-2 : tie.Need-same-length-2
-same-length-2 c = c.before.before.before.before.before.before.before.before.before.before.before.before.before.before.before.before.before.move-since.auto.1.1.1.0 ∙ c.before.before.before.before.before.before.before.before.before.before.before.before.before.before.before.before.before.before.before.before.before.before.before.before.before.before.before.before.enter.auto.1.1.0 ∙ c.before.before.before.before.before.before.before.before.before.before.before.before.before.before.before.before.before.before.before.before.before.before.before.before.before.before.before.before.before.before.before.before.before.before.before.before.before.before.before.before.before.before.before.before.before.before.before.before.before.move-prev.auto.1.1.1.0
+same-length-2 : tie.Need-shape_of-own
+same-length-2 c = c.move_since.auto.own ∙ c.enter.auto.own ∙ c.move_prev.auto.own
 
-same-length-3 : tie.Need-same-length-3
-same-length-3 c = c.before.before.before.before.before.before.move-since2.auto.1.1.1.0 ∙ c.before.before.before.before.before.before.before.before.before.before.before.before.before.before.before.before.before.before.before.before.before.before.before.before.before.before.before.before.enter.auto.1.1.1.0 ∙ c.before.before.before.before.before.before.before.before.before.before.before.before.before.before.before.before.before.before.before.before.before.before.before.before.before.before.before.before.before.before.before.before.before.before.before.before.before.before.move-prev2.auto.1.1.1.0
+same-length-3 : tie.Need-shape_of-other
+same-length-3 c = c.move_since-2.auto.own ∙ c.enter.auto.other ∙ c.move_prev-2.auto.own
 
-same-length-4 : tie.Need-same-length-4
+same-length-4 : tie.Need-shape_of-memo
 same-length-4 c =
-    let t = c.before.before.before.before.before.before in
-    let s = t.before.before.before.before.before.before.before.before.before.before.before in
-    let q = s.before.before.before.before.before.before.before.before.before.before.before.before.before.before.before.before.before.before.before.before.before in
-    t.move-since2.auto.1.1.1.1.0 ∙ s.move-since.auto.1.1.1.1.0 ∙ q.move-prev2.auto.1.1.1.1.0 ∙ q.before.before.before.before.before.before.before.before.before.before.before.move-prev.auto.1.1.1.1.0
+    let t = c in
+    let s = t in
+    let q = s in
+    t.move_since-2.auto.memo ∙ s.move_since.auto.memo ∙ q.move_prev-2.auto.memo ∙ q.move_prev.auto.memo
 
-same-length-5 : tie.Need-same-length-5
+same-length-5 : tie.Need-shape_of-rows
 same-length-5 c =
-    let t = c.before.before.before.before.before.before in
-    let s = t.before.before.before.before.before.before.before.before.before.before.before in
-    let q = s.before.before.before.before.before.before.before.before.before.before.before.before.before.before.before.before.before.before.before.before.before in
-    t.move-since2.auto.1.1.1.1.1.0 ∙ s.move-since.auto.1.1.1.1.1.0 ∙ q.move-prev2.auto.1.1.1.1.1.0 ∙ q.before.before.before.before.before.before.before.before.before.before.before.move-prev.auto.1.1.1.1.1.0
+    let t = c in
+    let s = t in
+    let q = s in
+    t.move_since-2.auto.rows ∙ s.move_since.auto.rows ∙ q.move_prev-2.auto.rows ∙ q.move_prev.auto.rows
 
-pub move-both-spec : {M : Type 1} → statement M
-move-both-spec =
+pub move_both_spec : {M : Type 1} → statement M
+move_both_spec =
     tie.close
     (tie.spec
     move-prev-requires

@@ -3,11 +3,11 @@ use borrow.Author.Rules.{rules}
 use Rattle.moments.proofs.beside.move_shared.Statement.{statement}
 use Rattle.moments.proofs.beside.move_shared.Tie as tie
 
-move-both-requires : tie.Need-move-both-requires
-move-both-requires c κs = c.before.before.before.before.before.before.before.before.before.before.before.requires
+move-both-requires : tie.Need-move_both-requires
+move-both-requires c κs = c.requires
 
-pub move-shared-spec : {M : Type 1} → statement M
-move-shared-spec =
+pub move_shared_spec : {M : Type 1} → statement M
+move_shared_spec =
     tie.close
     (tie.spec
     (λ c. search rules)
@@ -16,4 +16,4 @@ move-shared-spec =
     (λ c. search rules)
     (λ c. search rules)
     (λ c. search rules)
-    (λ c. c.before.before.before.before.before.before.before.before.before.move-both.ensures))
+    (λ c. c.move_both.ensures))

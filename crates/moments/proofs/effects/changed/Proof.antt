@@ -20,15 +20,18 @@ deleted : (c x : Bool) → (x && not c) ≡ cond c false x
 deleted true x = and-false x
 deleted false x = and-true x
 
-returns : tie.Need-returns
+returns : tie.Need-returns-then-adds
 returns c m =
-    let x = c.before.before.args in
-    c.with.ensures m ∙ added m x.b (bit x.w m) c.before.before.requires ∙ rw c.before.if1.true
+    let x = c.args in
+    c.with.ensures m ∙ added m x.b (bit x.w m) c.requires ∙ rw c.if-adds.true
 
-returns-2 : tie.Need-returns-2
+returns-2 : tie.Need-returns-else-adds
 returns-2 c m =
-    let x = c.before.before.args in
-    c.without.ensures m ∙ deleted (eqb m x.b) (bit x.w m) ∙ rw c.before.if1.false
+    let x = c.args in
+    c.without.ensures m ∙ deleted (eqb m x.b) (bit x.w m) ∙ rw c.if-adds.false
 
-pub changed-spec : {M : Type 1} → statement M
-changed-spec = tie.close (tie.spec (λ c κs. search rules) (λ c κs. search rules) returns returns-2)
+pub changed_spec : {M : Type 1} → statement M
+changed_spec = tie.close (tie.spec (λ c κs. search rules)
+    (λ c κs. search rules)
+    returns
+    returns-2)

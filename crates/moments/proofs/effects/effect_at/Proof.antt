@@ -4,8 +4,8 @@ use mathlib.Core.Path.{refl}
 use Rattle.moments.proofs.effects.effect_at.Statement.{statement}
 use Rattle.moments.proofs.effects.effect_at.Tie as tie
 
-pub effect-at-spec : {M : Type 1} → statement M
-effect-at-spec =
+pub effect_at_spec : {M : Type 1} → statement M
+effect_at_spec =
     tie.close
     (tie.spec
     (λ c. search rules)

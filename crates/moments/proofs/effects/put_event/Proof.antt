@@ -30,25 +30,25 @@ names T false j u v e = e
 
 returns : tie.Need-returns
 returns c relations long =
-    let s = c.before.before.before in
+    let s = c in
     let x = s.args in
-    let e = ap (λ (n : ℕ). 1 + n * 4096 + x.from * 64 + x.to) c.held.ensures.0 ∙ word-is x.granted x.event x.from x.to in
+    let e = ap (λ (n : ℕ). 1 + n * 4096 + x.from * 64 + x.to) c.held-number.ensures.0 ∙ word-is x.granted x.event x.from x.to in
     subst
     (λ (n : ℕ). Becomes x.terms.now (evented (occurring x.granted x.event x.from x.to)) (relations ++ x.own.now) (relations ++ set x.own.now 2048 n))
     (sym e)
     (event_apart x.terms.now (good x.terms.now s.requires.0) relations x.own.now long (occurring x.granted x.event x.from x.to)
     (names (terms_of x.terms.now) x.granted x.event x.from x.to s.requires.1))
 
-pub put-event-spec : {M : Type 1} → statement M
-put-event-spec =
+pub put_event_spec : {M : Type 1} → statement M
+put_event_spec =
     tie.close
     (tie.spec
     (λ c κs. (call c.before.before).small.0)
-    (λ c. omega (arith, c.held.ensures.1))
-    (λ c. omega (arith, c.held.ensures.1))
+    (λ c. omega (arith, c.held-number.ensures.1))
+    (λ c. omega (arith, c.held-number.ensures.1))
     (λ c. omega (arith, (call c.before.before.before).small))
-    (λ c. omega (arith, c.held.ensures.1, (call c.before.before.before).small))
-    (λ c. omega (arith, c.held.ensures.1, (call c.before.before.before).small))
+    (λ c. omega (arith, c.held-number.ensures.1, (call c.before.before.before).small))
+    (λ c. omega (arith, c.held-number.ensures.1, (call c.before.before.before).small))
     (λ c. search rules)
     (λ c. search rules)
     returns)

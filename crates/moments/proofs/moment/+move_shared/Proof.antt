@@ -34,30 +34,30 @@ Part = move-shared-lts.Claims → In 4 move-shared-kinds.ps → Out 4 move-share
 abbrev here : ℕ → Part → Type 0
 here t part = part (callees t) (move-shared-at t) move-shared.Post
 
-move-shared-requires : (t : ℕ) → here t move-shared-lts.Need-move-shared-requires
+move-shared-requires : (t : ℕ) → here t move-shared-lts.Need-move_shared-requires
 move-shared-requires t c κs =
-    let i = c.before.before.before.before.before.before.before in
+    let i = c in
     let p = i.requires.1 in
     let s = i.args.rows.now in
     let long : length (take block_words s) ≡ block_words = length-take-le block_words s p.0.1 in
-    (omega (arith, c.before.before.if1.true, i.requires.0, long), ((p.0.0, omega (arith, long)), p.1))
+    (omega (arith, c.if-rows-gt-ROWS.true, i.requires.0, long), ((p.0.0, omega (arith, long)), p.1))
 
-move-all-requires : (t : ℕ) → here t move-shared-lts.Need-move-all-requires
+move-all-requires : (t : ℕ) → here t move-shared-lts.Need-move_all-requires
 move-all-requires t c κs =
-    let p = c.before.before.before.before.before.before.before.before.requires.1 in
-    ((p.0.0, omega (arith, c.before.before.before.if1.false, p.0.1)), p.1)
+    let p = c.requires.1 in
+    ((p.0.0, omega (arith, c.if-rows-gt-ROWS.false, p.0.1)), p.1)
 
-pub +move-shared-spec : {M : Type 1} → statement M
-+move-shared-spec = close μ-move-shared λ t. move-shared-lts.spec (callees t) (move-shared-at t) move-shared.Post
+pub +move_shared_spec : {M : Type 1} → statement M
++move_shared_spec = close μ-move-shared λ t. move-shared-lts.spec (callees t) (move-shared-at t) move-shared.Post
     (λ c. omega arith)
     (λ c. search rules)
-    (λ c. omega (arith, c.before.if1.true))
+    (λ c. omega (arith, c.if-rows-gt-ROWS.true))
     (move-shared-requires t)
     (λ c. search rules)
     (λ c. search rules)
-    (λ c. c.before.before.before.before.move-shared.ensures)
+    (λ c. c.move_shared.ensures)
     (λ c. search rules)
     (move-all-requires t)
     (λ c. search rules)
     (λ c. search rules)
-    (λ c. c.before.before.before.before.before.move_all.ensures)
+    (λ c. c.move_all.ensures)

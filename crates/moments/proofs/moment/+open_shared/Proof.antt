@@ -34,30 +34,30 @@ Part = open-shared-lts.Claims → In 4 open-shared-kinds.ps → Out 4 open-share
 abbrev here : ℕ → Part → Type 0
 here t part = part (callees t) (open-shared-at t) open-shared.Post
 
-open-shared-requires : (t : ℕ) → here t open-shared-lts.Need-open-shared-requires
+open-shared-requires : (t : ℕ) → here t open-shared-lts.Need-open_shared-requires
 open-shared-requires t c κs =
-    let i = c.before.before.before.before.before.before.before in
+    let i = c in
     let p = i.requires.1 in
     let s = i.args.rows.now in
     let long : length (take block_words s) ≡ block_words = length-take-le block_words s p.1 in
-    (omega (arith, c.before.before.if1.true, i.requires.0, long), (p.0, omega (arith, long)))
+    (omega (arith, c.if-rows-gt-ROWS.true, i.requires.0, long), (p.0, omega (arith, long)))
 
-move-since-requires : (t : ℕ) → here t open-shared-lts.Need-move-since-requires
+move-since-requires : (t : ℕ) → here t open-shared-lts.Need-move_since-requires
 move-since-requires t c κs =
-    let p = c.before.before.before.before.before.before.before.before.requires.1 in
-    (p.0, omega (arith, c.before.before.before.if1.false, p.1))
+    let p = c.requires.1 in
+    (p.0, omega (arith, c.if-rows-gt-ROWS.false, p.1))
 
-pub +open-shared-spec : {M : Type 1} → statement M
-+open-shared-spec = close μ-open-shared λ t. open-shared-lts.spec (callees t) (open-shared-at t) open-shared.Post
+pub +open_shared_spec : {M : Type 1} → statement M
++open_shared_spec = close μ-open-shared λ t. open-shared-lts.spec (callees t) (open-shared-at t) open-shared.Post
     (λ c. omega arith)
     (λ c. search rules)
-    (λ c. omega (arith, c.before.if1.true))
+    (λ c. omega (arith, c.if-rows-gt-ROWS.true))
     (open-shared-requires t)
     (λ c. search rules)
     (λ c. search rules)
-    (λ c. c.before.before.before.before.open-shared.ensures)
+    (λ c. c.open_shared.ensures)
     (λ c. search rules)
     (move-since-requires t)
     (λ c. search rules)
     (λ c. search rules)
-    (λ c. c.before.before.before.before.before.move-since.ensures)
+    (λ c. c.move_since.ensures)

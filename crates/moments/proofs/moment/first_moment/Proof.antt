@@ -11,62 +11,62 @@ use Rattle.moments.proofs.moment.first_moment.Tie as tie
 abbrev start : tie.After-clear → tie.Start
 start k = k.before.before.before.before.before
 
-move-since-requires : tie.Need-move-since-requires
+move-since-requires : tie.Need-move_since-requires
 move-since-requires c κs =
-    let k = c.before.before.before.before.before.before.before in
-    let i = start k in
+    let k = c in
+    let i = start k.before.before.before.before.before.before.before in
     let x = i.args in (
       record {
-        long_terms = i.pre.0.0;
-        good = i.pre.0.1;
-        indexed = i.pre.0.2;
+        long_terms = i.requires.0.0;
+        good = i.requires.0.1;
+        indexed = i.requires.0.2;
         state = _;
         rest = _;
-        has = cleared (terms_of x.terms.now) x.state.now k.clear.new.0 i.pre.1.0 i.pre.1.1
+        has = cleared (terms_of x.terms.now) x.state.now k.clear.new.words i.requires.1.0 i.requires.1.1
             k.clear.ensures;
       },
       search rules,
     )
 
-open-shared-requires : tie.Need-open-shared-requires
+open-shared-requires : tie.Need-open_shared-requires
 open-shared-requires c κs =
-    let k = c.before.before.before.before.before.before in
-    let i = start k in
+    let k = c in
+    let i = start k.before.before.before.before.before.before in
     let x = i.args in (
       record {
-        long_terms = i.pre.0.0;
-        good = i.pre.0.1;
-        indexed = i.pre.0.2;
+        long_terms = i.requires.0.0;
+        good = i.requires.0.1;
+        indexed = i.requires.0.2;
         state = _;
         rest = _;
-        has = cleared (terms_of x.terms.now) x.state.now k.clear.new.0 i.pre.1.0 i.pre.1.1
+        has = cleared (terms_of x.terms.now) x.state.now k.clear.new.words i.requires.1.0 i.requires.1.1
             k.clear.ensures;
       },
       omega arith,
     )
 
-returns : tie.Need-returns
+returns : tie.Need-returns-then-are_brief
 unfolding opening
 returns c =
-    let s = c.before.before.before.before in
-    let k = s.before.before.before.before.before.before.before.before in
-    let i = start k in
+    let s = c in
+    let k = s in
+    let i = start k.before.before.before.before.before.before.before.before.before.before.before.before in
     let x = i.args in
-    (s.move-since.ensures.each _ _ (cleared (terms_of x.terms.now) x.state.now k.clear.new.0 i.pre.1.0 i.pre.1.1
+    (s.move_since.ensures.each _ _ (cleared (terms_of x.terms.now) x.state.now k.clear.new.words i.requires.1.0 i.requires.1.1
     k.clear.ensures)).words
 
-returns-2 : tie.Need-returns-2
+returns-2 : tie.Need-returns-else-are_brief
 unfolding opening
 returns-2 c =
-    let s = c.before.before.before in
-    let k = s.before.before.before.before.before.before.before in
-    let i = start k in
+    let s = c in
+    let k = s in
+    let i = start k.before.before.before.before.before.before.before.before.before.before in
     let x = i.args in
-    (s.open_shared.ensures.each _ _ (cleared (terms_of x.terms.now) x.state.now k.clear.new.0 i.pre.1.0 i.pre.1.1
+    (s.open_shared.ensures.each _ _ (cleared (terms_of x.terms.now) x.state.now k.clear.new.words i.requires.1.0 i.requires.1.1
     k.clear.ensures)).words
 
-pub first-moment-spec : {M : Type 1} → statement M
-first-moment-spec =
+pub first_moment_spec : {M : Type 1} → statement M
+first_moment_spec =
     tie.close
     (tie.spec
     (λ c. search rules)

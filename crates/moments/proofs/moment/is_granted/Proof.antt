@@ -11,18 +11,20 @@ use Rattle.moments.proofs.moment.is_granted.Tie as tie
 call : (c : tie.Start) → Named (terms_of c.args.terms.now) c.args.event c.args.from c.args.to
 call c = let x = c.args in all_named (terms_of x.terms.now) (good x.terms.now c.requires.0.1) x.event x.from x.to c.requires.1.2
 
-is-so-requires : tie.Need-is-so-requires
+is-so-requires : tie.Need-is_so-requires
 is-so-requires c κs =
-    let i = c.before.before.before.before in
+    let i = c in
     let x = i.args in
-    let exists = (good x.terms.now i.requires.0.1).policy_exists x.event (call i).event in
-    (i.requires.0, ((i.requires.1.0, i.requires.1.1), (rw c.policy-of.ensures.0 exists, (call i).from, (call i).to)))
+    let exists = (good x.terms.now i.requires.0.1).policy_exists x.event (call i.before.before.before.before).event in
+    (i.requires.0, ((i.requires.1.0, i.requires.1.1), (rw c.policy_of.ensures.0 exists, (call i.before.before.before.before).from, (call i.before.before.before.before).to)))
 
 returns : tie.Need-returns
 returns c =
-    let x = c.before.before.before.before.before.args in
-    c.is-so.ensures
-    ∙ ap (λ (n : ℕ). holds_at (terms_of x.terms.now) (state_of x.state.now) n x.from x.to) c.before.policy-of.ensures.0
+    let x = c.args in
+    c.is_so.ensures
+    ∙ ap (λ (n : ℕ). holds_at (terms_of x.terms.now) (state_of x.state.now) n x.from x.to) c.policy_of.ensures.0
 
-pub is-granted-spec : {M : Type 1} → statement M
-is-granted-spec = tie.close (tie.spec (λ c κs. tt) is-so-requires returns)
+pub is_granted_spec : {M : Type 1} → statement M
+is_granted_spec = tie.close (tie.spec (λ c κs. tt)
+    is-so-requires
+    returns)

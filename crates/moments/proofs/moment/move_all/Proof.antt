@@ -7,30 +7,30 @@ use Rattle.moments.proofs.moment.move_all.Tie as tie
 
 enter-requires : tie.Need-enter-requires
 enter-requires c κs =
-    let prev = c.before.before.before.before.before.before.before in
-    let i = prev.before.before.before.before.before.before.before.before.before in
-    (i.requires.0.0.good, i.requires.1, moves.long (moves.moved i.requires.0.0 prev.move-prev.ensures))
+    let prev = c in
+    let i = prev in
+    (i.requires.0.0.good, i.requires.1, moves.long (moves.moved i.requires.0.0 prev.move_prev.ensures))
 
-move-since-requires : tie.Need-move-since-requires
+move-since-requires : tie.Need-move_since-requires
 move-since-requires c κs =
-    let entered = c.before.before.before.before.before in
-    let prev = entered.before.before.before.before.before.before.before.before in
-    let i = prev.before.before.before.before.before.before.before.before.before in
-    (moves.moved (moves.moved i.requires.0.0 prev.move-prev.ensures) entered.enter.ensures, prev.move-prev.auto.1.1.1.1.0 ∙ i.requires.0.1)
+    let entered = c in
+    let prev = entered in
+    let i = prev in
+    (moves.moved (moves.moved i.requires.0.0 prev.move_prev.ensures) entered.enter.ensures, prev.move_prev.auto.rows ∙ i.requires.0.1)
 
 returns : tie.Need-returns
 returns c =
-    let since = c.before.before.before.before.before.before in
-    let entered = since.before.before.before.before.before.before in
-    let prev = entered.before.before.before.before.before.before.before.before in
-    let x = prev.before.before.before.before.before.before.before.before.before.args in
-    moves.stepped x.granted x.event x.from x.to prev.move-prev.ensures entered.enter.ensures since.move-since.ensures
+    let since = c in
+    let entered = since in
+    let prev = entered in
+    let x = prev.args in
+    moves.stepped x.granted x.event x.from x.to prev.move_prev.ensures entered.enter.ensures since.move_since.ensures
 
-pub move-all-spec : {M : Type 1} → statement M
-move-all-spec =
+pub move_all_spec : {M : Type 1} → statement M
+move_all_spec =
     tie.close
     (tie.spec
-    (λ c κs. c.before.before.before.before.before.before.before.before.requires.0)
+    (λ c κs. c.requires.0)
     enter-requires
     move-since-requires
     (λ c. search rules)

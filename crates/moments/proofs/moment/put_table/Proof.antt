@@ -11,16 +11,16 @@ use Rattle.moments.proofs.moment.put_table.Tie as tie
 
 returns : tie.Need-returns
 returns c =
-    let i = c.before.before.before.before.before.before.before.before.before in
-    let s = c.before.before.store-table in
-    let t = c.before.before.before.before.table_of in
-    let w = c.before.before.before.before.before.word in
+    let i = c in
+    let s = c.store_table in
+    let t = c.table_of-k in
+    let w = c.word in
     let k : ℕ = 64 * t.result in
-    put_back k (k + 64) i.args.own.now s.new.0 i.args.rows.now s.ensures (omega (arith, i.requires.1))
+    put_back k (k + 64) i.args.own.now s.new.part i.args.rows.now s.ensures (omega (arith, i.requires.1))
     ∙ ap (λ t. put (64 * t) i.args.rows.now i.args.own.now) (t.ensures ∙ ap index_table w.ensures.0)
 
-pub put-table-spec : {M : Type 1} → statement M
-put-table-spec =
+pub put_table_spec : {M : Type 1} → statement M
+put_table_spec =
     tie.close
     (tie.spec
     (λ c κs. search rules)
