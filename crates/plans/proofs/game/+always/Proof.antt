@@ -179,7 +179,7 @@ always-loop-again t c =
     ))
     (λ w. (
       upto,
-      rw w.1 l.invariant.1,
+      rw w.words-is l.invariant.1,
       offers_more l.i ask l.invariant.2 (implies (offered T l.i) (λ o. absurd (not_both _ o (sym e ∙ w.if-is_offered.false)))),
     ))
     c.if-is_offered.branch-raw
