@@ -40,6 +40,10 @@ module _ (t relations own other scratch spare : List ℕ) (j u v : ℕ) where
 abbrev pub Mem : Type 0
 Mem = List ℕ × (List ℕ × (List ℕ × (List ℕ × (List ℕ × Unit {0}))))
 
+-- Nothing more is kept of the memory from turn to turn.
+abbrev pub Free : Mem → Type 0
+Free m = Unit {0}
+
 module _ (t : List ℕ) where
   module _ {X : Type 0} (f : (relations own other scratch spare : List ℕ) → (j u v : ℕ) → X) where
     abbrev of : Mem → Record → X

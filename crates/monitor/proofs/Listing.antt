@@ -64,6 +64,10 @@ turns_within o n = at (has_passed o)
     at true = omega arith
     at false = omega arith
 
+-- A record that is answered is one of the list.
+pub within : (o : Outcome) (i n k m : ℕ) → i < n → n ≡ turns_of o m → k ≡ m → i < k
+within o i n k m l e s = omega (arith, turns_within o m)
+
 -- A turn is made only where the checks pass.
 pub turns_passed : (o : Outcome) (i n : ℕ) → i < turns_of o n → has_passed o ≡ true
 unfolding turns_of

@@ -9,8 +9,9 @@ use Rattle.monitor.proofs.are_members.Tie as tie
 
 returns : tie.Need-returns
 returns c =
-    let x = c.before.before.args in
-    ap (λ (n : ℕ). ltb x.u n && ltb x.v n) c.members.ensures.0
+    let x = c.args in
+    ap (λ (n : ℕ). ltb x.u n && ltb x.v n) c.members-n.ensures.0
 
-pub are-members-spec : {M : Type 1} → statement M
-are-members-spec = tie.close (tie.spec (λ c κs. search rules) returns)
+pub are_members_spec : {M : Type 1} → statement M
+are_members_spec = tie.close (tie.spec (λ c κs. search rules)
+    returns)

@@ -18,10 +18,10 @@ list_checked : (terms relations own other scratch spare : List ℕ) → (ltb (le
 unfolding bank_list_checks
 list_checked terms relations own other scratch spare e = rw e
 
-pub inspect-bank-list-spec : {M : Type 1} → statement M
-inspect-bank-list-spec =
+pub inspect_bank_list_spec : {M : Type 1} → statement M
+inspect_bank_list_spec =
     tie.close
     (tie.spec
-    (λ c. sym (list_short _ _ _ _ _ _ c.if1.true))
+    (λ c. sym (list_short _ _ _ _ _ _ c.if-scratch-spare.true))
     (λ c κs. search rules)
-    (λ c. c.inspect.ensures.0 ∙ list_checked _ _ _ _ _ _ c.before.before.if1.false))
+    (λ c. c.inspect.ensures.0 ∙ list_checked _ _ _ _ _ _ c.if-scratch-spare.false))

@@ -12,41 +12,41 @@ use Rattle.monitor.proofs.banks.request.Statement.{statement}
 use Rattle.monitor.proofs.banks.request.Tie as tie
 
 -- The function's entry, and where the answer is known.
-abbrev judged : tie.After-is-moving → tie.After-answer-call
+abbrev judged : tie.After-is_moving → tie.After-answer_call-a
 judged c = c.before.before
 
-abbrev start : tie.After-answer-call → tie.Start
-start c = c.before.before.before.before.before.before.before.before.before.before.before.before.before
+abbrev start : tie.After-answer_call-a → tie.Start
+start c = c.before.before.before.before.before.before.before.before
 
 -- What is_moving says of the answer that is due.
-due : (c : tie.After-is-moving) → let x = (start (judged c)).args in
-    c.is-moving.result
+due : (c : tie.After-is_moving) → let x = (start (judged c)).args in
+    c.is_moving.result
     ≡ moves ((terms_of x.terms.now).kept x.event)
     (bank_answer x.terms.now x.relations.now x.own.now x.other.now x.scratch.now x.spare.now x.event x.from x.to)
-due c = c.is-moving.ensures ∙ ap₂ moves c.before.is-kept.ensures (judged c).answer-call.ensures.0
+due c = c.is_moving.ensures ∙ ap₂ moves c.is_kept.ensures (judged c).answer_call-a.ensures.0
 
 -- Where a moment is made, there is a verdict.
-decided : (c : tie.Then1) → is_decided (answer_of (judged c.before).answer-call.result) ≡ true
-decided c = moves_decided c.before.before.is-kept.result (answer_of (judged c.before).answer-call.result) (sym c.before.is-moving.ensures ∙ c.if1.true)
+decided : (c : tie.Then-is_moving) → is_decided (answer_of (judged c.before).answer_call-a.result) ≡ true
+decided c = moves_decided c.is_kept.result (answer_of (judged c.before).answer_call-a.result) (sym c.is_moving.ensures ∙ c.if-is_moving.true)
 
-next-moments-requires : tie.Need-next-moments-requires
+next-moments-requires : tie.Need-next_moments-requires
 next-moments-requires c κs =
-    let t = c.before.before.before.before.before.before.before in
-    let p = answers.verdict_says _ _ _ _ _ _ _ _ _ (judged t.before).answer-call.ensures.0 (decided t) in
+    let t = c in
+    let p = answers.verdict_says _ _ _ _ _ _ _ _ _ (judged t.before.before.before.before.before.before.before.before).answer_call-a.ensures.0 (decided t.before.before.before.before.before.before.before) in
     let k = p.checked in (
-      (k.long_terms, k.good_terms, (judged t.before).answer-call.ensures.1 (decided t), p.names),
+      (k.long_terms, k.good_terms, (judged t.before.before.before.before.before.before.before.before).answer_call-a.ensures.1 (decided t.before.before.before.before.before.before.before), p.names),
       ((k.long_banks.relations_long, k.long_banks.own_long, k.long_banks.other_long), ((k.good-own, k.good_other), (p.long_scratch, p.long_spare))),
     )
 
-returns : tie.Need-returns
+returns : tie.Need-returns-then-is_moving
 returns c =
-    let m = c.before.before.before.before.before.before.before.before.before.before in
-    let t = m.before.before.before.before.before.before.before.before in
-    let x = (start (judged t.before)).args in
-    let a = (judged t.before).answer-call.ensures.0 in
-    let k = sym (due t.before) ∙ t.if1.true in
+    let m = c in
+    let t = m in
+    let x = (start (judged t.before.before.before.before.before.before.before.before.before.before.before.before.before.before.before.before.before.before.before)).args in
+    let a = (judged t.before.before.before.before.before.before.before.before.before.before.before.before.before.before.before.before.before.before.before).answer_call-a.ensures.0 in
+    let k = sym (due t.before.before.before.before.before.before.before.before.before.before.before.before.before.before.before.before.before.before.before) ∙ t.if-is_moving.true in
     let after = moved_after x.terms.now x.relations.now x.own.now x.other.now x.scratch.now x.spare.now x.event x.from x.to k
-    (m.before.is-grant.ensures ∙ ap granted a) m.next-moments.ensures.0 in (
+    (m.is_grant.ensures ∙ ap granted a) m.next_moments.ensures.0 in (
       a,
       (
         after.0,
@@ -54,16 +54,16 @@ returns c =
           after.1,
           (
             after.2,
-            (m.next-moments.ensures.1.0 ∙ answers.lent_cleared _ _ _ _ _ _ _ _ _ k _, m.next-moments.ensures.1.1 ∙ answers.lent_cleared _ _ _ _ _ _ _ _ _ k _),
+            (m.next_moments.ensures.1.0 ∙ answers.lent_cleared _ _ _ _ _ _ _ _ _ k _, m.next_moments.ensures.1.1 ∙ answers.lent_cleared _ _ _ _ _ _ _ _ _ k _),
           ),
         ),
       ),
     )
 
-returns-2 : tie.Need-returns-2
+returns-2 : tie.Need-returns
 returns-2 c =
-    let k = sym (due c.before) ∙ c.if1.false in (
-      (judged c.before).answer-call.ensures.0,
+    let k = sym (due c.before) ∙ c.if-is_moving.false in (
+      (judged c.before).answer_call-a.ensures.0,
       (
         answers.relations_kept _ _ _ _ _ _ _ _ _ k,
         (
@@ -76,14 +76,14 @@ returns-2 c =
       ),
     )
 
-pub request-spec : {M : Type 1} → statement M
-request-spec =
+pub request_spec : {M : Type 1} → statement M
+request_spec =
     tie.close
     (tie.spec
     (λ c κs. search rules)
     (λ c κs. search rules)
     (λ c κs. search rules)
-    (λ c. let t = c.before in sym ((judged t.before).answer-call.ensures.1 (decided t)).long)
+    (λ c. let t = c in sym ((judged t.before.before).answer_call-a.ensures.1 (decided t.before)).long)
     (λ c κs. search rules)
     next-moments-requires
     (λ c. search rules)

@@ -8,13 +8,13 @@ use Rattle.calls.specs.declared.Answer.{Answer}
 use Rattle.monitor.proofs.lists.number_of.Statement.{statement}
 use Rattle.monitor.proofs.lists.number_of.Tie as tie
 
-cast-result : tie.Need-overflow-cast-result
+cast-result : tie.Need-overflow_cast-result
 cast-result c =
-    let fits = subst (λ (a : Answer). answer_number (answer_of a) < 2 ^ 32) c.before.a2.given.1 c.before.before.before.requires in
+    let fits = subst (λ (a : Answer). answer_number (answer_of a) < 2 ^ 32) c.in-Refused.is c.requires in
     search rules
 
-pub number-of-spec : {M : Type 1} → statement M
-number-of-spec =
+pub number_of_spec : {M : Type 1} → statement M
+number_of_spec =
     tie.close
     (tie.spec
     (λ c. search rules)

@@ -7,10 +7,10 @@ use Rattle.monitor.proofs.lists.tally.Statement.{statement}
 use Rattle.calls.specs.SetList.{gain_of}
 use Rattle.monitor.proofs.lists.tally.Tie as tie
 
-pub tally-spec : {M : Type 1} → statement M
-tally-spec =
+pub tally_spec : {M : Type 1} → statement M
+tally_spec =
     tie.close
     (tie.spec
     (λ c. search rules)
-    (λ c. unfold gain_of in rw (eq-eqb _ _ c.if1.true))
-    (λ c. unfold gain_of in rw (ne_eqb _ _ c.if1.false) (sym (add-zero _))))
+    (λ c. unfold gain_of in rw (eq-eqb _ _ c.if-answer-eq1.true))
+    (λ c. unfold gain_of in rw (ne_eqb _ _ c.if-answer-eq1.false) (sym (add-zero _))))

@@ -4,9 +4,9 @@ use Rattle.calls.specs.private.Listing.{turns_of}
 use Rattle.monitor.proofs.lists.turns.Statement.{statement}
 use Rattle.monitor.proofs.lists.turns.Tie as tie
 
-pub turns-spec : {M : Type 1} → statement M
+pub turns_spec : {M : Type 1} → statement M
 unfolding turns_of
-turns-spec =
+turns_spec =
     tie.close
     (tie.spec
     (λ c. search rules)

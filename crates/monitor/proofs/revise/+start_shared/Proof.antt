@@ -34,32 +34,32 @@ Part = start-shared-lts.Claims → In 9 start-shared-kinds.ps → Out 9 start-sh
 abbrev here : ℕ → Part → Type 0
 here t part = part (callees t) (start-shared-at t) start-shared.Post
 
-start-shared-requires : (t : ℕ) → here t start-shared-lts.Need-start-shared-requires
+start-shared-requires : (t : ℕ) → here t start-shared-lts.Need-start_shared-requires
 start-shared-requires t c κs =
-    let i = c.before.before.before.before.before.before.before.before.before.before.before.before in
+    let i = c in
     let p = i.requires.1 in
     let s = i.args.rows.now in
     let long : length (take block_words s) ≡ block_words = length-take-le block_words s p.1.0.3 in (
-      omega (arith, c.before.before.if1.true, i.requires.0, long),
+      omega (arith, c.if-rows-gt-ROWS.true, i.requires.0, long),
       (p.0, ((p.1.0.0, p.1.0.1, p.1.0.2, omega (arith, long)), p.1.1)),
     )
 
-start-tables-requires : (t : ℕ) → here t start-shared-lts.Need-start-tables-requires
+start-tables-requires : (t : ℕ) → here t start-shared-lts.Need-start_tables-requires
 start-tables-requires t c κs =
-    let p = c.before.before.before.before.before.before.before.before.before.before.before.before.before.requires.1 in
-    (p.0, ((p.1.0.0, p.1.0.1, p.1.0.2, omega (arith, c.before.before.before.if1.false, p.1.0.3)), p.1.1))
+    let p = c.requires.1 in
+    (p.0, ((p.1.0.0, p.1.0.1, p.1.0.2, omega (arith, c.if-rows-gt-ROWS.false, p.1.0.3)), p.1.1))
 
-pub +start-shared-spec : {M : Type 1} → statement M
-+start-shared-spec = close μ-start-shared λ t. start-shared-lts.spec (callees t) (start-shared-at t) start-shared.Post
+pub +start_shared_spec : {M : Type 1} → statement M
++start_shared_spec = close μ-start-shared λ t. start-shared-lts.spec (callees t) (start-shared-at t) start-shared.Post
     (λ c. omega arith)
     (λ c. search rules)
-    (λ c. omega (arith, c.before.if1.true))
+    (λ c. omega (arith, c.if-rows-gt-ROWS.true))
     (start-shared-requires t)
     (λ c. search rules)
     (λ c. search rules)
-    (λ c. c.before.before.before.before.start-shared.ensures)
+    (λ c. c.start_shared.ensures)
     (λ c. search rules)
     (start-tables-requires t)
     (λ c. search rules)
     (λ c. search rules)
-    (λ c. c.before.before.before.before.before.start-tables.ensures)
+    (λ c. c.start_tables.ensures)

@@ -15,53 +15,53 @@ use Rattle.monitor.proofs.revise.begin.Tie as tie
 abbrev start : tie.After-clear → tie.Start
 start k = k.before.before.before.before.before.before.before.before.before.before
 
-zeros : (k : tie.After-clear) → k.clear.new.0 ≡ replicate own_words 0
+zeros : (k : tie.After-clear) → k.clear.new.words ≡ replicate own_words 0
 zeros k = k.clear.ensures ∙ ap (λ (n : ℕ). replicate n 0) (start k).requires.1.2
 
-start-tables-requires : tie.Need-start-tables-requires
+start-tables-requires : tie.Need-start_tables-requires
 start-tables-requires c κs =
-    let k = c.before.before.before.before.before.before.before.before in
-    let i = start k in
+    let k = c in
+    let i = start k.before.before.before.before.before.before.before.before in
     let x = i.args in (
-      i.pre.0,
+      i.requires.0,
       (
-        (i.pre.1.0, i.pre.1.1, length-set k.clear.new.0 table_words _ ∙ ap length (zeros k) ∙ length-replicate {A = ℕ} own_words 0, search rules),
-        parts.begun_apart x.relations.now x.own.now i.pre.0.0 i.pre.1.0 (zeros k),
+        (i.requires.1.0, i.requires.1.1, length-set k.clear.new.words table_words _ ∙ ap length (zeros k.before.before.before.before.before.before.before.before) ∙ length-replicate {A = ℕ} own_words 0, search rules),
+        parts.begun_apart x.relations.now x.own.now i.requires.0.0 i.requires.1.0 (zeros k.before.before.before.before.before.before.before.before),
       ),
     )
 
-start-shared-requires : tie.Need-start-shared-requires
+start-shared-requires : tie.Need-start_shared-requires
 start-shared-requires c κs =
-    let k = c.before.before.before.before.before.before.before in
-    let i = start k in
+    let k = c in
+    let i = start k.before.before.before.before.before.before.before in
     let x = i.args in (
-      i.pre.0,
+      i.requires.0,
       (
-        (i.pre.1.0, i.pre.1.1, length-set k.clear.new.0 table_words _ ∙ ap length (zeros k) ∙ length-replicate {A = ℕ} own_words 0, omega arith),
-        parts.begun_apart x.relations.now x.own.now i.pre.0.0 i.pre.1.0 (zeros k),
+        (i.requires.1.0, i.requires.1.1, length-set k.clear.new.words table_words _ ∙ ap length (zeros k.before.before.before.before.before.before.before) ∙ length-replicate {A = ℕ} own_words 0, omega arith),
+        parts.begun_apart x.relations.now x.own.now i.requires.0.0 i.requires.1.0 (zeros k.before.before.before.before.before.before.before),
       ),
     )
 
-same_length : tie.Need-same-length
+same_length : tie.Need-shape_of-second-then-are_brief
 same_length c =
-    let t = c.before.before.before.before in
-    let k = t.before.before.before.before.before.before.before.before.before in
-    t.start-tables.auto.1.1.1.1.1.1.1.0 ∙ length-set k.clear.new.0 table_words _ ∙ k.clear.auto.0
+    let t = c in
+    let k = t in
+    t.start_tables.auto.second ∙ length-set k.clear.new.words table_words _ ∙ k.clear.auto.words
 
-same-length-2 : tie.Need-same-length-2
+same-length-2 : tie.Need-shape_of-second-else-are_brief
 same-length-2 c =
-    let t = c.before.before.before in
-    let k = t.before.before.before.before.before.before.before.before in
-    t.start-shared.auto.1.1.1.1.1.1.1.0 ∙ length-set k.clear.new.0 table_words _ ∙ k.clear.auto.0
+    let t = c in
+    let k = t in
+    t.start_shared.auto.second ∙ length-set k.clear.new.words table_words _ ∙ k.clear.auto.words
 
-returns : tie.Need-returns
-returns c = let t = c.before.before.before.before in starting.begun_all (start t.before.before.before.before.before.before.before.before.before).requires.0.0 _ t.start-tables.ensures
+returns : tie.Need-returns-then-are_brief
+returns c = let t = c in starting.begun_all (start t.before.before.before.before.before.before.before.before.before.before.before.before.before).requires.0.0 _ t.start_tables.ensures
 
-returns-2 : tie.Need-returns-2
-returns-2 c = let t = c.before.before.before in starting.begun_all (start t.before.before.before.before.before.before.before.before).requires.0.0 _ t.start-shared.ensures
+returns-2 : tie.Need-returns-else-are_brief
+returns-2 c = let t = c in starting.begun_all (start t.before.before.before.before.before.before.before.before.before.before.before).requires.0.0 _ t.start_shared.ensures
 
-pub begin-spec : {M : Type 1} → statement M
-begin-spec =
+pub begin_spec : {M : Type 1} → statement M
+begin_spec =
     tie.close
     (tie.spec
     (λ c κs. search rules)

@@ -8,21 +8,21 @@ use Rattle.deciding.proofs.Stored.{copied}
 use Rattle.monitor.proofs.revise.copy.Statement.{statement}
 use Rattle.monitor.proofs.revise.copy.Tie as tie
 
-abbrev invariant-loop : tie.invariant-loop
+abbrev invariant-loop : tie.invariant-loop-i
 invariant-loop to₀ from i₀ to i = (i ≤ length to₀) × (length to ≡ length to₀) × (take i to ≡ take i from)
 
-abbrev decreases-loop : tie.decreases-loop
+abbrev decreases-loop : tie.decreases-loop-i
 decreases-loop to₀ from i₀ to i = length to₀ - i
 
-loop-again : tie.Need-loop-preserved invariant-loop decreases-loop
+loop-again : tie.Need-loop-i-preserved invariant-loop decreases-loop
 loop-again c =
-    let l = c.before.before.loop in
-    (omega arith, length-set l.to l.i _ ∙ l.invariant.1, copied l.i l.to c.before.before.before.args.from.now (omega arith) (omega arith) l.invariant.2)
+    let l = c.loop-i in
+    (omega arith, length-set l.to l.i _ ∙ l.invariant.1, copied l.i l.to c.args.from.now (omega arith) (omega arith) l.invariant.2)
 
 returns : tie.Need-returns invariant-loop decreases-loop
 returns c =
-    let l = c.before.loop in
-    let x = c.before.before.args in
+    let l = c.loop-i in
+    let x = c.args in
     let end : l.i ≡ length x.to.now = omega arith in
     sym (take_all l.i l.to (omega arith)) ∙ l.invariant.2 ∙ ap (λ (n : ℕ). take n x.from.now) end
 
@@ -40,5 +40,5 @@ copy_spec =
     (λ c. omega arith)
     (λ c. omega arith)
     loop-again
-    (λ c. c.before.loop.invariant.1)
+    (λ c. c.loop-i.invariant.1)
     returns)

@@ -42,79 +42,79 @@ module _ {old before new index : List ℕ} (relations own : List ℕ) (r : Revis
     second_fits second has size = subst (λ (m : ℕ). 64 * index_table (get_or index n 0) + 64 ≤ m) (sym size) (moves.own_fits (starting.begun_movable r n has) n nl p)
 
 -- The function's entry, from where the class is known.
-abbrev start : tie.After-word → tie.Start
+abbrev start : tie.After-word-k → tie.Start
 start c = c.before.before.before.before.before.before.before.before.before.before.before.before
 
 -- The class.
-class : (c : tie.After-word) → let x = (start c).args in c.word.result ≡ first_same (terms_of x.old.now) (formula (terms_of x.new.now) x.n)
-class c = c.word.ensures.0 ∙ (start c).requires.0.1.here _ (start c).requires.1.1.0.0
+class : (c : tie.After-word-k) → let x = (start c).args in c.word-k.result ≡ first_same (terms_of x.old.now) (formula (terms_of x.new.now) x.n)
+class c = c.word-k.ensures.0 ∙ (start c).requires.0.1.here _ (start c).requires.1.1.0.0
 
 -- An old entry has the formula.
-abbrev found : tie.Then1 → tie.After-word
+abbrev found : tie.Then-k-entries → tie.After-word-k
 found c = c.before.before
 
-found-lower : (c : tie.Then1) → (found c).word.result < (terms_of (start (found c)).args.old.now).entries
-found-lower c = omega (arith, c.if1.true, c.before.entries.ensures.0)
+found-lower : (c : tie.Then-k-entries) → (found c).word-k.result < (terms_of (start (found c)).args.old.now).entries
+found-lower c = omega (arith, c.if-k-entries.true, c.entries.ensures.0)
 
 -- And the entry is past-time.
-abbrev looked : tie.After-is-past → tie.Then1
+abbrev looked : tie.After-is_past → tie.Then-k-entries
 looked c = c.before.before
 
-past_is : (c : tie.After-is-past) → c.is-past.result ≡ is_past ((terms_of (start (found (looked c))).args.new.now).entry (start (found (looked c))).args.n).op
-past_is c = c.is-past.ensures ∙ ap is_past c.before.op-of.ensures.0
+past_is : (c : tie.After-is_past) → c.is_past.result ≡ is_past ((terms_of (start (found (looked c))).args.new.now).entry (start (found (looked c))).args.n).op
+past_is c = c.is_past.ensures ∙ ap is_past c.op_of.ensures.0
 
-returns : tie.Need-returns
+returns : tie.Need-returns-then-is_past
 returns c =
-    let k = c.before.before in
-    let t = k.before.before in
-    let o = t.before.before.before in
-    let i = start (found o) in
+    let k = c in
+    let t = k in
+    let o = t in
+    let i = start (found o.before.before.before.before.before.before.before) in
     let x = i.args in
-    let p = sym (past_is t.before) ∙ t.if2.true in
-    let r = i.pre.0.0 in
-    let nl = i.pre.1.1.0.0 in
-    let has = i.pre.1.1.1.0 in
-    let has' = begins x.relations.now x.own.now r i.pre.1.0.0 x.n _ nl (class (found o)) p (found-lower o) x.second.now has k.take-table.ensures in
-    (has', (starting.start_memo r x.n nl has has' i.pre.1.1.1.1.0 i.pre.1.1.1.1.1, i.pre.1.1.1.1.1))
+    let p = sym (past_is t.before.before.before.before.before) ∙ t.if-is_past.true in
+    let r = i.requires.0.0 in
+    let nl = i.requires.1.1.0.0 in
+    let has = i.requires.1.1.1.0 in
+    let has' = begins x.relations.now x.own.now r i.requires.1.0.0 x.n _ nl (class (found o.before.before.before.before.before.before.before)) p (found-lower o.before.before.before.before.before.before.before) x.second.now has k.take_table.ensures in
+    (has', (starting.start_memo r x.n nl has has' i.requires.1.1.1.1.0 i.requires.1.1.1.1.1, i.requires.1.1.1.1.1))
 
-returns-2 : tie.Need-returns-2
+returns-2 : tie.Need-returns-else-is_past
 returns-2 c =
-    let o = c.before.before.before in
-    let i = start (found o) in
-    let p = sym (past_is c.before) ∙ c.if2.false in
-    (starting.start_none i.pre.0.0 i.args.n i.pre.1.1.0.0 p i.pre.1.1.1.0, i.pre.1.1.1.1)
+    let o = c in
+    let i = start (found o.before.before.before) in
+    let p = sym (past_is c.before) ∙ c.if-is_past.false in
+    (starting.start_none i.requires.0.0 i.args.n i.requires.1.1.0.0 p i.requires.1.1.1.0, i.requires.1.1.1.1)
 
-returns-3 : tie.Need-returns-3
+returns-3 : tie.Need-returns-else-k-entries
 returns-3 c =
-    let s = c.before.before.before.before.before.before.before.before in
-    let o = s.before.before.before.before.before in
-    let w = o.before.before in
-    let i = start w in
-    let le : (terms_of i.args.old.now).entries ≤ w.word.result = omega (arith, o.if1.false, o.before.entries.ensures.0) in (
-      starting.start_anew i.pre.0.0 i.args.n i.pre.1.1.0.0
-          (subst (λ (j : ℕ). (terms_of i.args.old.now).entries ≤ j) (class w) le) i.pre.1.1.1.0 s.since-turn.ensures.0,
-      s.since-turn.ensures.1,
+    let s = c in
+    let o = s in
+    let w = o in
+    let i = start w.before.before.before.before.before.before.before.before.before.before.before.before.before.before.before in
+    let le : (terms_of i.args.old.now).entries ≤ w.word-k.result = omega (arith, o.if-k-entries.false, o.entries.ensures.0) in (
+      starting.start_anew i.requires.0.0 i.args.n i.requires.1.1.0.0
+          (subst (λ (j : ℕ). (terms_of i.args.old.now).entries ≤ j) (class w.before.before.before.before.before.before.before.before.before.before.before.before.before.before.before) le) i.requires.1.1.1.0 s.since_turn.ensures.0,
+      s.since_turn.ensures.1,
     )
 
-take-table-requires : tie.Need-take-table-requires
+take-table-requires : tie.Need-take_table-requires
 take-table-requires c κs =
-    let t = c.before in
-    let o = t.before.before.before in
-    let i = start (found o) in
+    let t = c in
+    let o = t in
+    let i = start (found o.before.before.before.before) in
     let x = i.args in
-    let p = sym (past_is t.before) ∙ t.if2.true in (
-      fits x.relations.now x.own.now i.pre.0.0 i.pre.1.0.0 x.n _ i.pre.1.1.0.0 (class (found o)) p (found-lower o),
-      second_fits x.relations.now x.own.now i.pre.0.0 i.pre.1.0.0 x.n _ i.pre.1.1.0.0 (class (found o)) p (found-lower o)
-          x.second.now i.pre.1.1.1.0 i.pre.1.0.2,
+    let p = sym (past_is t.before.before) ∙ t.if-is_past.true in (
+      fits x.relations.now x.own.now i.requires.0.0 i.requires.1.0.0 x.n _ i.requires.1.1.0.0 (class (found o.before.before.before.before)) p (found-lower o.before.before.before.before),
+      second_fits x.relations.now x.own.now i.requires.0.0 i.requires.1.0.0 x.n _ i.requires.1.1.0.0 (class (found o.before.before.before.before)) p (found-lower o.before.before.before.before)
+          x.second.now i.requires.1.1.1.0 i.requires.1.0.2,
     )
 
-since-turn-requires : tie.Need-since-turn-requires
+since-turn-requires : tie.Need-since_turn-requires
 since-turn-requires c κs =
-    let i = c.before.before.before.before.before.before.before.before.before.before.before.before.before.before.before.before.before.before in
+    let i = c in
     ((starting.begun_movable i.requires.0.0 i.args.n i.requires.1.1.1.0, i.requires.1.0.0, i.requires.1.0.2), (i.requires.1.1.0, i.requires.1.1.1.1))
 
-pub start-turn-spec : {M : Type 1} → statement M
-start-turn-spec =
+pub start_turn_spec : {M : Type 1} → statement M
+start_turn_spec =
     tie.close
     (tie.spec
     (λ c κs. search rules)

@@ -11,18 +11,18 @@ use Rattle.monitor.proofs.revise.take_table.Tie as tie
 
 returns : tie.Need-returns
 returns c =
-    let x = c.before.before.before.before.before.before.before.before.before.before.before.args in
-    let u = c.before.before.before.before.before.table_of in
-    let w = c.before.before.before.before.before.before.word in
+    let x = c.args in
+    let u = c.table_of-t in
+    let w = c.word in
     let t : ℕ = 64 * u.result in
     let size : t + 64 - t ≡ 64 = omega arith in
     let place : ℕ = 64 * index_table (get_or x.index.now x.n 0) in
-    c.before.before.put-table.ensures
+    c.put_table.ensures
     ∙ ap (λ (z : ℕ). put place (take z (drop t x.own.now)) x.second.now) size
     ∙ ap (λ (z : ℕ). put place (take 64 (drop (64 * z) x.own.now)) x.second.now) (u.ensures ∙ ap index_table w.ensures.0)
 
-pub take-table-spec : {M : Type 1} → statement M
-take-table-spec =
+pub take_table_spec : {M : Type 1} → statement M
+take_table_spec =
     tie.close
     (tie.spec
     (λ c κs. search rules)

@@ -4,11 +4,11 @@ use mathlib.Core.Path.{refl}
 use Rattle.monitor.proofs.set_list.inspect_list.Statement.{statement}
 use Rattle.monitor.proofs.set_list.inspect_list.Tie as tie
 
-pub inspect-list-spec : {M : Type 1} → statement M
-inspect-list-spec =
+pub inspect_list_spec : {M : Type 1} → statement M
+inspect_list_spec =
     tie.close
     (tie.spec
     (λ c κs. search rules)
     (λ c. search rules)
     (λ c. search rules)
-    (λ c. (record { outcome = c.inspect-call.ensures.0; indexed = c.inspect-call.ensures.1 }, refl, refl)))
+    (λ c. (record { outcome = c.inspect_call-outcome.ensures.0; indexed = c.inspect_call-outcome.ensures.1 }, refl, refl)))

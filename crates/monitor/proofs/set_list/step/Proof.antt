@@ -8,15 +8,15 @@ use Rattle.calls.proofs.OneByOne.{number_small}
 use Rattle.monitor.proofs.set_list.step.Statement.{statement}
 use Rattle.monitor.proofs.set_list.step.Tie as tie
 
-number-of-requires : tie.Need-number-of-requires
+number-of-requires : tie.Need-number_of-requires
 number-of-requires c κs =
-    let k = c.before.before.before.before in
-    subst (λ (a : Answer). answer_number a < 2 ^ 32) (sym k.request.ensures.0) (number_small _ _ _ _ _ _)
+    let k = c in
+    subst (λ (a : Answer). answer_number a < 2 ^ 32) (sym k.request-a.ensures.0) (number_small _ _ _ _ _ _)
 
 returns : tie.Need-returns
 returns c =
-    let e = c.before.before.before.before.before.request.ensures in
-    (c.number_of_lem.ensures ∙ ap answer_number e.0, e.1.0, e.1.1)
+    let e = c.request-a.ensures in
+    (c.number_of.ensures ∙ ap answer_number e.0, e.1.0, e.1.1)
 
 pub step_spec : {M : Type 1} → statement M
 step_spec =
@@ -26,7 +26,7 @@ step_spec =
     (λ c. search rules)
     (λ c. search rules)
     (λ c. search rules)
-    (λ c κs. c.before.before.before.before.before.before.before.before.before.before.requires)
+    (λ c κs. c.requires)
     number-of-requires
     (λ c. search rules)
     (λ c. search rules)

@@ -10,14 +10,16 @@ use Rattle.plans.proofs.checks.is_game.Tie as tie
 returns : tie.Need-returns
 unfolding every
 returns c =
-    let x = c.before.before.before.before.args in
+    let x = c.args in
     cc (
       and-true (not (eqb x.planner x.rival)),
-      leb-suc-suc c.before.members.result 8,
+      leb-suc-suc c.members.result 8,
       leb-suc-suc c.events.result 4,
-      c.before.members.ensures.0,
+      c.members.ensures.0,
       c.events.ensures.0,
     )
 
-pub is-game-spec : {M : Type 1} → statement M
-is-game-spec = tie.close (tie.spec (λ c κs. search rules) (λ c κs. search rules) returns)
+pub is_game_spec : {M : Type 1} → statement M
+is_game_spec = tie.close (tie.spec (λ c κs. search rules)
+    (λ c κs. search rules)
+    returns)

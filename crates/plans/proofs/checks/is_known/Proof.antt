@@ -5,10 +5,10 @@ use borrow.Author.Rules.{rules}
 use Rattle.plans.proofs.checks.is_known.Statement.{statement}
 use Rattle.plans.proofs.checks.is_known.Tie as tie
 
-pub is-known-spec : {M : Type 1} → statement M
-is-known-spec =
+pub is_known_spec : {M : Type 1} → statement M
+is_known_spec =
     tie.close
     (tie.spec
     (λ c κs. search rules)
     (λ c κs. search rules)
-    (λ c. unfold every in rw (c.before.members.ensures.0, c.plan-named.ensures, and-true)))
+    (λ c. unfold every in rw (c.members-n.ensures.0, c.plan_named.ensures, and-true)))

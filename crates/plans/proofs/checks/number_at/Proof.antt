@@ -5,11 +5,11 @@ use mathlib.Core.Path.{sym}
 use Rattle.plans.proofs.checks.number_at.Statement.{statement}
 use Rattle.plans.proofs.checks.number_at.Tie as tie
 
-pub number-at-spec : {M : Type 1} → statement M
-number-at-spec =
+pub number_at_spec : {M : Type 1} → statement M
+number_at_spec =
     tie.close
     (tie.spec
     (λ c. search rules)
     (λ c. search rules)
     (λ c. search rules)
-    (λ c. sym (get_or-eq_default c.before.args.plan.now 0 c.if1.false)))
+    (λ c. sym (get_or-eq_default c.args.plan.now 0 c.if-i-plan.false)))

@@ -9,8 +9,10 @@ use Rattle.plans.proofs.game.is_offered.Tie as tie
 
 returns : tie.Need-returns
 returns c =
-    let i = c.before.before.before.args.i in
-    ap₂ (λ (e n : ℕ). eqb i 32 || (ltb (i / 8) e && ltb (i % 8) n)) c.before.events.ensures.0 c.members.ensures.0
+    let i = c.args.i in
+    ap₂ (λ (e n : ℕ). eqb i 32 || (ltb (i / 8) e && ltb (i % 8) n)) c.events.ensures.0 c.members.ensures.0
 
-pub is-offered-spec : {M : Type 1} → statement M
-is-offered-spec = tie.close (tie.spec (λ c κs. search rules) (λ c κs. search rules) returns)
+pub is_offered_spec : {M : Type 1} → statement M
+is_offered_spec = tie.close (tie.spec (λ c κs. search rules)
+    (λ c κs. search rules)
+    returns)

@@ -15,51 +15,51 @@ use Rattle.plans.proofs.game.play.Statement.{statement}
 use Rattle.plans.proofs.game.play.Tie as tie
 
 -- The state is copied to the front, and stands there.
-abbrev start : tie.After-copy-words → tie.Start
+abbrev start : tie.After-copy_words → tie.Start
 start c = c.before.before.before.before.before.before.before
 
-abbrev words : tie.After-copy-words → List ℕ
-words c = put_mid 0 state_words (start c).args.words.now c.copy-words.new.0
+abbrev words : tie.After-copy_words → List ℕ
+words c = put_mid 0 state_words (start c).args.words.now c.copy_words.new.part
 
-copied : (c : tie.After-copy-words) → Placed 0 (take state_words (start c).args.state.now) (start c).args.words.now (words c)
+copied : (c : tie.After-copy_words) → Placed 0 (take state_words (start c).args.state.now) (start c).args.words.now (words c)
 copied c =
     let i = start c in
-    placed_part 0 i.args.words.now c.copy-words.new.0 (take state_words i.args.state.now) (omega (arith, i.pre.1.1)) c.copy-words.ensures
-    (length-take-le state_words i.args.state.now i.pre.1.0)
+    placed_part 0 i.args.words.now c.copy_words.new.part (take state_words i.args.state.now) (omega (arith, i.requires.1.1)) c.copy_words.ensures
+    (length-take-le state_words i.args.state.now i.requires.1.0)
 
-attempt-requires : tie.Need-attempt-requires
+attempt-requires : tie.Need-attempt-won-requires
 attempt-requires c κs =
-    let k = c.before.before.before in
-    (omega arith, omega (arith, (copied k).spared.long, (start k).requires.1.1))
+    let k = c in
+    (omega arith, omega (arith, (copied k.before.before.before).spared.long, (start k.before.before.before).requires.1.1))
 
-always-requires : tie.Need-always-requires
+always-requires : tie.Need-always-r-requires
 always-requires c κs =
-    let k = c.before.before.before.before.before.before.before in
-    let i = start k in
-    let q = c.before.before.before.attempt.ensures.1 in
-    (i.pre.0, (omega arith, omega (arith, q.spared.long, (copied k).spared.long, i.pre.1.1), omega (arith, q.spared.long, (copied k).spared.long, i.pre.1.1)))
+    let k = c in
+    let i = start k.before.before.before.before.before.before.before in
+    let q = c.attempt-won.ensures.1 in
+    (i.requires.0, (omega arith, omega (arith, q.spared.long, (copied k.before.before.before.before.before.before.before).spared.long, i.requires.1.1), omega (arith, q.spared.long, (copied k.before.before.before.before.before.before.before).spared.long, i.requires.1.1)))
 
 -- The words after the last of the planner's moves are as many.
-long : (c : tie.After-always) → length c.always.new.1.0 ≡ game_words
+long : (c : tie.After-always-r) → length c.always-r.new.words ≡ game_words
 long c =
-    let k = c.before.before.before.before.before.before.before.before in
-    c.always.ensures.1.long ∙ c.before.before.before.before.attempt.ensures.1.spared.long ∙ (copied k).spared.long ∙ (start k).requires.1.1
+    let k = c in
+    c.always-r.ensures.1.long ∙ c.attempt-won.ensures.1.spared.long ∙ (copied k.before.before.before.before.before.before.before.before).spared.long ∙ (start k.before.before.before.before.before.before.before.before).requires.1.1
 
 returns : tie.Need-returns
 returns c =
-    let e = c.before.before.before.before.before.before in
-    let a = e.always in
-    let t = e.before.before.before.before.attempt in
-    let k = e.before.before.before.before.before.before.before.before in
-    let i = start k in
+    let e = c in
+    let a = e.always-r in
+    let t = e.attempt-won in
+    let k = e in
+    let i = start k.before.before.before.before.before.before.before.before.before.before.before.before.before.before in
     let x = i.args in (
-      played x.terms.now x.state.now x.plan.now x.planner x.rival x.goal x.u x.v (standing 0 (words k)) (standing 0 t.new.1.0)
-          t.result a.result i.pre.0.some_move (copied k).here t.ensures.0 t.ensures.1.here a.ensures.0,
-      game_cleared a.new.1.0 c.before.before.clear.new.0 (long e) c.before.before.clear.ensures,
+      played x.terms.now x.state.now x.plan.now x.planner x.rival x.goal x.u x.v (standing 0 (words k.before.before.before.before.before.before.before.before.before.before.before.before.before.before)) (standing 0 t.new.words)
+          t.result a.result i.requires.0.some_move (copied k.before.before.before.before.before.before.before.before.before.before.before.before.before.before).here t.ensures.0 t.ensures.1.here a.ensures.0,
+      game_cleared a.new.words c.clear.new.words (long e.before.before.before.before.before.before) c.clear.ensures,
     )
 
-pub play-spec : {M : Type 1} → statement M
-play-spec =
+pub play_spec : {M : Type 1} → statement M
+play_spec =
     tie.close
     (tie.spec
     (λ c. search rules)

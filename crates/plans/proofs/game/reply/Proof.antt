@@ -9,27 +9,27 @@ use borrow.Author.Rules.{rules}
 use Rattle.plans.proofs.game.reply.Statement.{statement}
 use Rattle.plans.proofs.game.reply.Tie as tie
 
-step-at-requires : tie.Need-step-at-requires
+step-at-requires : tie.Need-step_at-requires
 step-at-requires c κs =
-    let i = c.before.before.before.before.before.before.before.before in
-    omega (arith, i.requires, c.before.before.before.before.copy-on.ensures.spared.long)
+    let i = c in
+    omega (arith, i.requires, c.copy_on.ensures.spared.long)
 
-returns : tie.Need-returns
+returns : tie.Need-returns-then-i-ne-PASS
 returns c =
-    let i = c.before.before.before.before.before.before.before.before.before.before.before in
+    let i = c in
     let x = i.args in
-    let p = c.before.before.before.before.before.before.before.copy-on.ensures in
-    let q = c.before.before.step-at.ensures in
-    rw (ne_eqb x.i 32 c.before.before.before.before.if1.true)
+    let p = c.copy_on.ensures in
+    let q = c.step_at.ensures in
+    rw (ne_eqb x.i 32 c.if-i-ne-PASS.true)
     (placed_on p (record { spared = q.spared; here = q.here ∙ ap (λ z. stepped x.terms.now z (x.i / 8) x.rival (x.i % 8)) p.here }))
 
-returns-2 : tie.Need-returns-2
+returns-2 : tie.Need-returns-else-i-ne-PASS
 returns-2 c =
-    let x = c.before.before.before.before.before.before.before.args in
-    rw (eq-eqb x.i 32 c.if1.false) c.before.before.before.copy-on.ensures
+    let x = c.args in
+    rw (eq-eqb x.i 32 c.if-i-ne-PASS.false) c.copy_on.ensures
 
-pub reply-spec : {M : Type 1} → statement M
-reply-spec =
+pub reply_spec : {M : Type 1} → statement M
+reply_spec =
     tie.close
     (tie.spec
     (λ c κs. search rules)

@@ -10,4 +10,4 @@ step_spec =
     (λ c. search rules)
     (λ c κs. search rules)
     (λ c. search rules)
-    (λ c. c.before.before.before.request.ensures.1.0))
+    (λ c. c.request.ensures.1.0))

@@ -10,16 +10,16 @@ use Rattle.plans.proofs.game.step_at.Tie as tie
 
 returns : tie.Need-returns
 returns c =
-    let i = c.before.before.before.before.before.before in
+    let i = c in
     let x = i.args in
     let s = standing x.at x.words.now in
     let long = stand_long x.at x.words.now i.requires in
-    placed_part x.at x.words.now c.before.before.step.new.1.0 (stepped x.terms.now s x.event x.from x.to) i.requires
-    (c.before.before.step.ensures ∙ ap (λ z. stepped x.terms.now z x.event x.from x.to) (part_stands x.at x.words.now))
+    placed_part x.at x.words.now c.step.new.state (stepped x.terms.now s x.event x.from x.to) i.requires
+    (c.step.ensures ∙ ap (λ z. stepped x.terms.now z x.event x.from x.to) (part_stands x.at x.words.now))
     (stepped_long x.terms.now s x.event x.from x.to (omega (arith, long)) ∙ long)
 
-pub step-at-spec : {M : Type 1} → statement M
-step-at-spec =
+pub step_at_spec : {M : Type 1} → statement M
+step_at_spec =
     tie.close
     (tie.spec
     (λ c. search rules)

@@ -27,21 +27,21 @@ no-set terms masks (EventEdge j u v) h = tt
 no-set terms masks (Mark j) h = tt
 no-set terms masks Malformed h = tt
 
-returns : tie.Need-returns
+returns : tie.Need-returns-in-Entry
 returns c =
-    rw c.before.before.before.before.before.line.given.1 (rw (
-      c.before.before.before.set_at.ensures,
-      c.before.before.set-at2.ensures,
-      c.before.set-at3.ensures,
-    ) at (free_entry _ _ _ _ _ _ c.Free-of.ensures))
+    rw c.in-Entry.is (rw (
+      c.set_at.ensures,
+      c.set_at-in-Entry.ensures,
+      c.set_at-in-Entry-2.ensures,
+    ) at (free_entry _ _ _ _ _ _ c.free_of.ensures))
 
-returns-5 : tie.Need-returns-5
+returns-5 : tie.Need-returns-in_default
 returns-5 c =
-    let x = c.before.before.before in
-    no-set x.args.terms.now x.args.masks.now x.args.line c.match.keys5
+    let x = c in
+    no-set x.args.terms.now x.args.masks.now x.args.line c.in_default.in_default-own.keys5
 
-pub free-in-spec : {M : Type 1} → statement M
-free-in-spec =
+pub free_in_spec : {M : Type 1} → statement M
+free_in_spec =
     tie.close
     (tie.spec
     (λ c. search rules)
@@ -52,11 +52,11 @@ free-in-spec =
     (λ c. search rules)
     (λ c κs. search rules)
     (λ c. search rules)
-    (λ c κs. c.before.before.before.before.before.requires)
+    (λ c κs. c.requires)
     (λ c. search rules)
-    (λ c κs. c.before.before.before.before.before.requires)
+    (λ c κs. c.requires)
     returns
-    (λ c. rw c.before.before.line2.given.1 c.set-at4.ensures)
-    (λ c. rw c.before.before.line3.given.1 c.table-set.ensures)
-    (λ c. rw c.before.before.line4.given.1 c.table-set2.ensures)
+    (λ c. rw c.in-Policy.is c.set_at-in-Policy.ensures)
+    (λ c. rw c.in-TableBit.is c.table_set.ensures)
+    (λ c. rw c.in-PairBit.is c.table_set-in-PairBit.ensures)
     returns-5)

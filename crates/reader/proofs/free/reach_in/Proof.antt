@@ -28,18 +28,18 @@ no-entry masks (EventEdge j u v) h = refl
 no-entry masks (Mark j) h = refl
 no-entry masks Malformed h = refl
 
-returns : tie.Need-returns
+returns : tie.Need-returns-in-Entry
 returns c =
-    rw c.before.before.before.before.line.given.1 (rw (
-      c.before.before.set_at.ensures,
-      c.before.set-at2.ensures,
-    ) at c.reach-fits.ensures)
+    rw c.in-Entry.is (rw (
+      c.set_at.ensures,
+      c.set_at-in-Entry.ensures,
+    ) at c.reach_fits.ensures)
 
-returns-2 : tie.Need-returns-2
-returns-2 c = no-entry c.before.before.args.masks.now c.before.before.args.line c.match.keys2
+returns-2 : tie.Need-returns-in_default
+returns-2 c = no-entry c.args.masks.now c.args.line c.in_default.in_default-own.keys2
 
-pub reach-in-spec : {M : Type 1} → statement M
-reach-in-spec =
+pub reach_in_spec : {M : Type 1} → statement M
+reach_in_spec =
     tie.close
     (tie.spec
     (λ c. search rules)

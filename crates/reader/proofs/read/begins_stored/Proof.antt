@@ -30,26 +30,26 @@ no_form (EventEdge j u v) h = refl
 no_form (Mark j) h = refl
 no_form Malformed h = refl
 
-returns-2 : tie.Need-returns-2
+returns-2 : tie.Need-returns-in-Form
 returns-2 c =
-    let k1 = c.before.before in
-    let k2 = k1.before.before in
-    sym (ap (λ (l : Line). form_in l false) c.enum_told.given.1)
-    ∙ begins_line _ _ k2.before.find.ensures k2.if1.false _ k1.parse-line.ensures
+    let k1 = c in
+    let k2 = k1 in
+    sym (ap (λ (l : Line). form_in l false) c.in-Form.is)
+    ∙ begins_line _ _ k2.find-e.ensures k2.if-text-e.false _ k1.parse_line-line.ensures
 
-returns-3 : tie.Need-returns-3
+returns-3 : tie.Need-returns
 returns-3 c =
-    let k1 = c.before in
-    let k2 = k1.before.before in
-    no_form k1.parse-line.result c.match.keys2
-    ∙ begins_line _ _ k2.before.find.ensures k2.if1.false _ k1.parse-line.ensures
+    let k1 = c in
+    let k2 = k1 in
+    no_form k1.parse_line-line.result c.in_default.in_default-own.keys2
+    ∙ begins_line _ _ k2.find-e.ensures k2.if-text-e.false _ k1.parse_line-line.ensures
 
-pub begins-stored-spec : {M : Type 1} → statement M
-begins-stored-spec =
+pub begins_stored_spec : {M : Type 1} → statement M
+begins_stored_spec =
     tie.close
     (tie.spec
     (λ c κs. search rules)
-    (λ c. begins_cut _ _ c.before.find.ensures c.if1.true)
+    (λ c. begins_cut _ _ c.find-e.ensures c.if-text-e.true)
     (λ c. sym (length-take-le _ _ (omega arith)))
     (λ c κs. search rules)
     (λ c. search rules)

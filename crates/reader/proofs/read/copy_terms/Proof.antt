@@ -9,28 +9,28 @@ use Rattle.reader.proofs.Copied.{copied, copied_next, copied_all}
 use Rattle.reader.proofs.read.copy_terms.Statement.{statement}
 use Rattle.reader.proofs.read.copy_terms.Tie as tie
 
-abbrev invariant-loop : tie.invariant-loop
+abbrev invariant-loop : tie.invariant-loop-i
 invariant-loop dst₀ src i₀ dst i = (i ≤ length src) × (length dst ≡ length dst₀) × (dst ≡ copied dst₀ src i)
 
-abbrev decreases-loop : tie.decreases-loop
+abbrev decreases-loop : tie.decreases-loop-i
 decreases-loop dst₀ src i₀ dst i = length src - i
 
-loop-again : tie.Need-loop-preserved invariant-loop decreases-loop
+loop-again : tie.Need-loop-i-preserved invariant-loop decreases-loop
 loop-again c =
-    let d = c.before.before.before.args.dst.now in
-    let s = c.before.before.before.args.src.now in
-    let l = c.before.before.loop in (
+    let d = c.args.dst.now in
+    let s = c.args.src.now in
+    let l = c.loop-i in (
       omega arith,
       length-set l.dst l.i _ ∙ l.invariant.1,
       ap (λ (w : List ℕ). set w l.i (get_or s l.i 0)) l.invariant.2
-          ∙ copied_next d s c.before.before.before.requires l.i c.before.loop-test.true,
+          ∙ copied_next d s c.requires l.i c.loop-i-test.true,
     )
 
 returns : tie.Need-returns invariant-loop decreases-loop
-returns c = c.before.loop.invariant.2 ∙ copied_all _ _ c.before.before.requires _ c.before.loop.invariant.0 c.loop-test.false
+returns c = c.loop-i.invariant.2 ∙ copied_all _ _ c.requires _ c.loop-i.invariant.0 c.loop-i-test.false
 
-pub copy-terms-spec : {M : Type 1} → statement M
-copy-terms-spec =
+pub copy_terms_spec : {M : Type 1} → statement M
+copy_terms_spec =
     tie.close
     (tie.spec
     invariant-loop

@@ -6,40 +6,40 @@ use borrow.Author.Rules.{rules}
 use Rattle.reader.proofs.read.fill.Statement.{statement}
 use Rattle.reader.proofs.read.fill.Tie as tie
 
-returns-3 : tie.Need-returns-3
+returns-3 : tie.Need-returns-in-Refused
 returns-3 c =
-    let k1 = c.before in
-    let k2 = k1.before.before.before.before.before in
-    let k3 = k2.before.before.before.before in
-    text_refused _ _ _ k3.before.if1.false k3.if2.false _ _ (sym (ap filling_of k1.filled.given.1) ∙ k2.read-lines.ensures.given)
+    let k1 = c in
+    let k2 = k1 in
+    let k3 = k2 in
+    text_refused _ _ _ k3.if-terms-lt-TERMS.false k3.if-state-lt-STATE.false _ _ (sym (ap filling_of k1.in-Refused.is) ∙ k2.read_lines-filled.ensures.given)
 
-returns-4 : tie.Need-returns-4
+returns-4 : tie.Need-returns-then-line-gt0
 returns-4 c =
-    let k1 = c.before in
-    let k2 = k1.before.before.before.before in
-    let k3 = k2.before.before.before.before in
-    let k4 = k3.before.before.before.before in
-    text_partly _ _ _ k4.before.if1.false k4.if2.false _ _ _ _ k3.read-lines.ensures (unrefused k3.read-lines.result k2.match.keys2) _
-    k1.partly-at.ensures c.if3.true
+    let k1 = c in
+    let k2 = k1 in
+    let k3 = k2 in
+    let k4 = k3 in
+    text_partly _ _ _ k4.if-terms-lt-TERMS.false k4.if-state-lt-STATE.false _ _ _ _ k3.read_lines-filled.ensures (unrefused k3.read_lines-filled.result k2.in_default.in_default-own.keys2) _
+    k1.partly_at-line.ensures c.if-line-gt0.true
 
-returns-5 : tie.Need-returns-5
+returns-5 : tie.Need-returns
 returns-5 c =
-    let k1 = c.before.before in
-    let k2 = k1.before.before.before.before.before in
-    let k3 = k2.before.before.before in
-    let k4 = k3.before in
-    let k5 = k4.before.before.before.before in
-    let k6 = k5.before.before.before.before in
-    let k7 = k6.before.before.before.before in
-    text_accepted _ _ _ k7.before.if1.false k7.if2.false _ _ _ _ k6.read-lines.ensures (unrefused k6.read-lines.result k5.match.keys2) _
-    k4.partly-at.ensures k3.if3.false _ _ k2.copy-terms.ensures k1.copy-state.ensures
+    let k1 = c in
+    let k2 = k1 in
+    let k3 = k2 in
+    let k4 = k3 in
+    let k5 = k4 in
+    let k6 = k5 in
+    let k7 = k6 in
+    text_accepted _ _ _ k7.if-terms-lt-TERMS.false k7.if-state-lt-STATE.false _ _ _ _ k6.read_lines-filled.ensures (unrefused k6.read_lines-filled.result k5.in_default.in_default-own.keys2) _
+    k4.partly_at-line.ensures k3.if-line-gt0.false _ _ k2.copy_terms.ensures k1.copy_state.ensures
 
 pub fill_spec : {M : Type 1} → statement M
 fill_spec =
     tie.close
     (tie.spec
-    (λ c. short_terms _ _ _ c.if1.true)
-    (λ c. short_state _ _ _ c.before.if1.false c.if2.true)
+    (λ c. short_terms _ _ _ c.if-terms-lt-TERMS.true)
+    (λ c. short_state _ _ _ c.if-terms-lt-TERMS.false c.if-state-lt-STATE.true)
     (λ c. search rules)
     (λ c. search rules)
     (λ c. search rules)

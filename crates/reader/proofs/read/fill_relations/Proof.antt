@@ -19,39 +19,39 @@ blank = replicate state_words 0
 blank-long : state_words ≤ length blank
 blank-long = omega (arith, length-replicate {A = ℕ} state_words 0)
 
-returns-3 : tie.Need-returns-3
+returns-3 : tie.Need-returns-then-begins_stored
 returns-3 c =
-    let k1 = c.before in
-    let k2 = k1.before in
-    form_refused _ _ _ k2.before.if1.false k2.if2.false (sym c.if3.true ∙ k1.begins-stored.ensures)
+    let k1 = c in
+    let k2 = k1 in
+    form_refused _ _ _ k2.if-terms-lt-TERMS.false k2.if-relations-lt-TABLES_AT.false (sym c.if-begins_stored.true ∙ k1.begins_stored.ensures)
 
-returns-4 : tie.Need-returns-4
+returns-4 : tie.Need-returns-in-Refused
 returns-4 c =
-    let k1 = c.before in
-    let k2 = k1.before.before.before.before.before in
-    let k3 = k2.before.before.before in
-    let k4 = k3.before in
-    let k5 = k4.before in
-    text_refused _ _ _ k5.before.if1.false k5.if2.false blank blank-long (sym k3.if3.false ∙ k4.begins-stored.ensures) _ _
-    (sym (ap filling_of k1.filled.given.1) ∙ k2.fill.ensures.0) _ k2.fill.ensures.1.0
+    let k1 = c in
+    let k2 = k1 in
+    let k3 = k2 in
+    let k4 = k3 in
+    let k5 = k4 in
+    text_refused _ _ _ k5.if-terms-lt-TERMS.false k5.if-relations-lt-TABLES_AT.false blank blank-long (sym k3.if-begins_stored.false ∙ k4.begins_stored.ensures) _ _
+    (sym (ap filling_of k1.in-Refused.is) ∙ k2.fill-filled.ensures.0) _ k2.fill-filled.ensures.1.0
 
-returns-5 : tie.Need-returns-5
+returns-5 : tie.Need-returns
 returns-5 c =
-    let k1 = c.before.before in
-    let k2 = k1.before.before.before.before in
-    let k3 = k2.before.before.before.before in
-    let k4 = k3.before.before.before in
-    let k5 = k4.before in
-    let k6 = k5.before in
-    text_accepted _ _ _ k6.before.if1.false k6.if2.false blank blank-long (sym k4.if3.false ∙ k5.begins-stored.ensures) _
-    k3.fill.ensures.0 (unrefused k3.fill.result k2.match.keys2) _ _ _ k3.fill.ensures.1.0 k3.fill.ensures.1.1 k1.copy-state.ensures
+    let k1 = c in
+    let k2 = k1 in
+    let k3 = k2 in
+    let k4 = k3 in
+    let k5 = k4 in
+    let k6 = k5 in
+    text_accepted _ _ _ k6.if-terms-lt-TERMS.false k6.if-relations-lt-TABLES_AT.false blank blank-long (sym k4.if-begins_stored.false ∙ k5.begins_stored.ensures) _
+    k3.fill-filled.ensures.0 (unrefused k3.fill-filled.result k2.in_default.in_default-own.keys2) _ _ _ k3.fill-filled.ensures.1.0 k3.fill-filled.ensures.1.1 k1.copy_state.ensures
 
-pub fill-relations-spec : {M : Type 1} → statement M
-fill-relations-spec =
+pub fill_relations_spec : {M : Type 1} → statement M
+fill_relations_spec =
     tie.close
     (tie.spec
-    (λ c. short_terms _ _ _ c.if1.true)
-    (λ c. short-relations _ _ _ c.before.if1.false c.if2.true)
+    (λ c. short_terms _ _ _ c.if-terms-lt-TERMS.true)
+    (λ c. short-relations _ _ _ c.if-terms-lt-TERMS.false c.if-relations-lt-TABLES_AT.true)
     (λ c κs. search rules)
     returns-3
     (λ c. search rules)

@@ -7,26 +7,26 @@ use Rattle.reader.proofs.refusal.event_number.Tie as tie
 returns : tie.Need-returns
 unfolding number_from context_tests
 returns c =
-    let k1 = c.before.before in
-    let k2 = k1.before.before in
-    let k3 = k2.before.before in
-    let k4 = k3.before in
-    let k5 = k4.before.before in
-    let k6 = k5.before in
-    let k7 = k6.before in
+    let k1 = c in
+    let k2 = k1 in
+    let k3 = k2 in
+    let k4 = k3 in
+    let k5 = k4 in
+    let k6 = k5 in
+    let k7 = k6 in
     rw (
-      c.first6.ensures,
-      k1.first5.ensures,
-      k2.first4.ensures,
-      k4.first3.ensures,
-      k5.first2.ensures,
-      k7.first.ensures,
-      k6.is-complete.ensures,
+      c.first.ensures,
+      k1.first-p-5.ensures,
+      k2.first-p-4.ensures,
+      k4.first-p-3.ensures,
+      k5.first-p-2.ensures,
+      k7.first-p.ensures,
+      k6.is_complete.ensures,
       k3.named.ensures,
     )
 
-pub event-number-spec : {M : Type 1} → statement M
-event-number-spec =
+pub event_number_spec : {M : Type 1} → statement M
+event_number_spec =
     tie.close
     (tie.spec
     (λ c κs. search rules)

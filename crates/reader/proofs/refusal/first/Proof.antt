@@ -8,6 +8,6 @@ pub first_spec : {M : Type 1} → statement M
 first_spec =
     tie.close
     (tie.spec
-    (λ c. unfold refused_by in rw (eq-eqb _ _ c.before.if1.true, c.if2.true))
-    (λ c. unfold refused_by in rw (eq-eqb _ _ c.before.if1.true, c.if2.false))
-    (λ c. unfold refused_by in rw (ne_eqb _ _ c.if1.false)))
+    (λ c. unfold refused_by in rw (eq-eqb _ _ c.if-k-eq0.true, c.if-passes.true))
+    (λ c. unfold refused_by in rw (eq-eqb _ _ c.if-k-eq0.true, c.if-passes.false))
+    (λ c. unfold refused_by in rw (ne_eqb _ _ c.if-k-eq0.false)))

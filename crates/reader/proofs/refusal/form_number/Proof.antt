@@ -7,12 +7,12 @@ use Rattle.reader.proofs.refusal.form_number.Tie as tie
 returns : tie.Need-returns
 unfolding number_from context_tests
 returns c =
-    let k1 = c.before in
-    let k2 = k1.before.before in
-    rw (c.first3.ensures, k1.first2.ensures, k2.first.ensures)
+    let k1 = c in
+    let k2 = k1 in
+    rw (c.first.ensures, k1.first-k-2.ensures, k2.first-k.ensures)
 
-pub form-number-spec : {M : Type 1} → statement M
-form-number-spec =
+pub form_number_spec : {M : Type 1} → statement M
+form_number_spec =
     tie.close
     (tie.spec
     (λ c κs. search rules)

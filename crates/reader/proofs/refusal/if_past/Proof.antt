@@ -8,7 +8,8 @@ use Rattle.reader.proofs.refusal.if_past.Statement.{statement}
 use Rattle.reader.proofs.refusal.if_past.Tie as tie
 
 returns : tie.Need-returns
-returns c = or_implies c.is-past.result c.before.args.passes ∙ ap (λ (p : Bool). p ⇒ c.before.args.passes) c.is-past.ensures
+returns c = or_implies c.is_past.result c.args.passes ∙ ap (λ (p : Bool). p ⇒ c.args.passes) c.is_past.ensures
 
-pub if-past-spec : {M : Type 1} → statement M
-if-past-spec = tie.close (tie.spec (λ c κs. search rules) returns)
+pub if_past_spec : {M : Type 1} → statement M
+if_past_spec = tie.close (tie.spec (λ c κs. search rules)
+    returns)

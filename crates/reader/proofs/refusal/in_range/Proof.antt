@@ -4,8 +4,8 @@ use Rattle.file.specs.Reading.{in_range}
 use Rattle.reader.proofs.refusal.in_range.Statement.{statement}
 use Rattle.reader.proofs.refusal.in_range.Tie as tie
 
-pub in-range-spec : {M : Type 1} → statement M
-in-range-spec =
+pub in_range_spec : {M : Type 1} → statement M
+in_range_spec =
     tie.close
     (tie.spec
     (λ c. search rules)
@@ -15,9 +15,9 @@ in-range-spec =
     (λ c κs. search rules)
     (λ c. search rules)
     (λ c. search rules)
-    (λ c. unfold in_range in rw c.enum_told.given.1)
-    (λ c. unfold in_range in rw c.enum-told2.given.1)
-    (λ c. unfold in_range in rw c.enum-told3.given.1)
-    (λ c. unfold in_range in rw c.before.enum-told4.given.1 c.is-label.ensures)
-    (λ c. unfold in_range in rw c.enum-told5.given.1)
-    (λ c. unfold in_range in rw c.enum-told6.given.1))
+    (λ c. unfold in_range in rw c.in-Unused.is)
+    (λ c. unfold in_range in rw c.in-Variable.is)
+    (λ c. unfold in_range in rw c.in-Binder.is)
+    (λ c. unfold in_range in rw c.in-Label.is c.is_label.ensures)
+    (λ c. unfold in_range in rw c.in-Entry.is)
+    (λ c. unfold in_range in rw c.in-Count.is))

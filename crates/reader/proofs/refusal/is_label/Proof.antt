@@ -3,9 +3,9 @@ use Rattle.reader.proofs.Operands.{label_relation, label_event}
 use Rattle.reader.proofs.refusal.is_label.Statement.{statement}
 use Rattle.reader.proofs.refusal.is_label.Tie as tie
 
-pub is-label-spec : {M : Type 1} → statement M
-is-label-spec =
+pub is_label_spec : {M : Type 1} → statement M
+is_label_spec =
     tie.close
     (tie.spec
-    (λ c. label_relation _ c.before.args.e _ c.if1.true)
-    (λ c. label_event _ c.before.args.e _ c.if1.false))
+    (λ c. label_relation _ c.args.e _ c.if-v-r.true)
+    (λ c. label_event _ c.args.e _ c.if-v-r.false))

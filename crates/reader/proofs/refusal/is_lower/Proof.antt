@@ -4,8 +4,8 @@ use Rattle.file.specs.Reading.{is_lower}
 use Rattle.reader.proofs.refusal.is_lower.Statement.{statement}
 use Rattle.reader.proofs.refusal.is_lower.Tie as tie
 
-pub is-lower-spec : {M : Type 1} → statement M
-is-lower-spec =
+pub is_lower_spec : {M : Type 1} → statement M
+is_lower_spec =
     tie.close
     (tie.spec
     (λ c. search rules)
@@ -14,9 +14,9 @@ is-lower-spec =
     (λ c. search rules)
     (λ c. search rules)
     (λ c. search rules)
-    (λ c. unfold is_lower in rw c.enum_told.given.1)
-    (λ c. unfold is_lower in rw c.enum-told2.given.1)
-    (λ c. unfold is_lower in rw c.enum-told3.given.1)
-    (λ c. unfold is_lower in rw c.enum-told4.given.1)
-    (λ c. unfold is_lower in rw c.enum-told5.given.1)
-    (λ c. unfold is_lower in rw c.enum-told6.given.1))
+    (λ c. unfold is_lower in rw c.in-Entry.is)
+    (λ c. unfold is_lower in rw c.in-Unused.is)
+    (λ c. unfold is_lower in rw c.in-Variable.is)
+    (λ c. unfold is_lower in rw c.in-Binder.is)
+    (λ c. unfold is_lower in rw c.in-Label.is)
+    (λ c. unfold is_lower in rw c.in-Count.is))

@@ -3,5 +3,5 @@ use mathlib.Core.Path.{refl}
 use Rattle.reader.proofs.refusal.is_rising.Statement.{statement}
 use Rattle.reader.proofs.refusal.is_rising.Tie as tie
 
-pub is-rising-spec : {M : Type 1} → statement M
-is-rising-spec = tie.close (tie.spec (λ c. refl))
+pub is_rising_spec : {M : Type 1} → statement M
+is_rising_spec = tie.close (tie.spec (λ c. refl))

@@ -3,9 +3,9 @@ use borrow.Author.Rules.{rules}
 use Rattle.reader.proofs.refusal.is_rising_pair.Statement.{statement}
 use Rattle.reader.proofs.refusal.is_rising_pair.Tie as tie
 
-pub is-rising-pair-spec : {M : Type 1} → statement M
-is-rising-pair-spec =
+pub is_rising_pair_spec : {M : Type 1} → statement M
+is_rising_pair_spec =
     tie.close
     (tie.spec
     (λ c κs. search rules)
-    (λ c. rw c.before.before.before.before.column-of.ensures))
+    (λ c. rw c.column_of-f.ensures))

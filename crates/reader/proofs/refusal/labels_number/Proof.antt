@@ -9,11 +9,11 @@ use Rattle.reader.proofs.refusal.labels_number.Tie as tie
 returns : tie.Need-returns
 unfolding number_from context_tests
 returns c =
-    let x = c.before.before.before.before.before.args in
-    rw (c.first4.ensures, c.before.first3.ensures, c.before.before.first2.ensures, c.before.before.before.first.ensures, leb-suc-suc x.r max_relations, leb-suc-suc x.e max_events)
+    let x = c.args in
+    rw (c.first.ensures, c.first-k-3.ensures, c.first-k-2.ensures, c.first-k.ensures, leb-suc-suc x.r max_relations, leb-suc-suc x.e max_events)
 
-pub labels-number-spec : {M : Type 1} → statement M
-labels-number-spec =
+pub labels_number_spec : {M : Type 1} → statement M
+labels_number_spec =
     tie.close
     (tie.spec
     (λ c κs. search rules)

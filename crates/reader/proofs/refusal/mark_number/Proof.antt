@@ -7,14 +7,14 @@ use Rattle.reader.proofs.refusal.mark_number.Tie as tie
 returns : tie.Need-returns
 unfolding number_from context_tests
 returns c =
-    let k1 = c.before.before in
-    let k2 = k1.before.before in
-    let k3 = k2.before.before in
-    let k4 = k3.before in
-    rw (c.first4.ensures, k1.first3.ensures, k2.first2.ensures, k3.first.ensures, k4.is-complete.ensures)
+    let k1 = c in
+    let k2 = k1 in
+    let k3 = k2 in
+    let k4 = k3 in
+    rw (c.first.ensures, k1.first-p-3.ensures, k2.first-p-2.ensures, k3.first-p.ensures, k4.is_complete.ensures)
 
-pub mark-number-spec : {M : Type 1} → statement M
-mark-number-spec =
+pub mark_number_spec : {M : Type 1} → statement M
+mark_number_spec =
     tie.close
     (tie.spec
     (λ c κs. search rules)

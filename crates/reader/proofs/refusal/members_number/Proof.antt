@@ -9,10 +9,10 @@ use Rattle.reader.proofs.refusal.members_number.Tie as tie
 returns : tie.Need-returns
 unfolding number_from context_tests
 returns c =
-    rw (c.first3.ensures, c.before.first2.ensures, c.before.before.first.ensures, leb-suc-suc c.before.before.before.before.args.n max_members)
+    rw (c.first.ensures, c.first-k-2.ensures, c.first-k.ensures, leb-suc-suc c.args.n max_members)
 
-pub members-number-spec : {M : Type 1} → statement M
-members-number-spec =
+pub members_number_spec : {M : Type 1} → statement M
+members_number_spec =
     tie.close
     (tie.spec
     (λ c κs. search rules)

@@ -7,32 +7,32 @@ use Rattle.reader.proofs.refusal.pair_number.Tie as tie
 returns : tie.Need-returns
 unfolding number_from context_tests
 returns c =
-    let k0 = c.before.before in
-    let k1 = k0.before.before in
-    let k2 = k1.before.before in
-    let j2 = k2.before in
-    let k3 = j2.before in
-    let k4 = k3.before in
-    let k5 = k4.before in
-    let k6 = k5.before.before in
-    let k7 = k6.before in
-    let k8 = k7.before in
+    let k0 = c in
+    let k1 = k0 in
+    let k2 = k1 in
+    let j2 = k2 in
+    let k3 = j2 in
+    let k4 = k3 in
+    let k5 = k4 in
+    let k6 = k5 in
+    let k7 = k6 in
+    let k8 = k7 in
     rw (
-      c.first8.ensures,
-      k0.first7.ensures,
-      k1.first6.ensures,
-      k2.first5.ensures,
-      j2.is-pair.ensures,
-      k3.first4.ensures,
-      k5.first3.ensures,
-      k6.first2.ensures,
-      k8.first.ensures,
-      k7.is-complete.ensures,
-      k4.is-rising-pair.ensures,
+      c.first.ensures,
+      k0.first-p-7.ensures,
+      k1.first-p-6.ensures,
+      k2.first-p-5.ensures,
+      j2.is_pair.ensures,
+      k3.first-p-4.ensures,
+      k5.first-p-3.ensures,
+      k6.first-p-2.ensures,
+      k8.first-p.ensures,
+      k7.is_complete.ensures,
+      k4.is_rising_pair.ensures,
     )
 
-pub pair-number-spec : {M : Type 1} → statement M
-pair-number-spec =
+pub pair_number_spec : {M : Type 1} → statement M
+pair_number_spec =
     tie.close
     (tie.spec
     (λ c κs. search rules)

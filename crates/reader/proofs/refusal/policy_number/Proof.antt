@@ -7,14 +7,14 @@ use Rattle.reader.proofs.refusal.policy_number.Tie as tie
 returns : tie.Need-returns
 unfolding number_from context_tests
 returns c =
-    let k1 = c.before in
-    let k2 = k1.before.before in
-    let k3 = k2.before.before in
-    let k4 = k3.before.before in
-    rw (c.first5.ensures, k1.first4.ensures, k2.first3.ensures, k3.first2.ensures, k4.first.ensures)
+    let k1 = c in
+    let k2 = k1 in
+    let k3 = k2 in
+    let k4 = k3 in
+    rw (c.first.ensures, k1.first-k-4.ensures, k2.first-k-3.ensures, k3.first-k-2.ensures, k4.first-k.ensures)
 
-pub policy-number-spec : {M : Type 1} → statement M
-policy-number-spec =
+pub policy_number_spec : {M : Type 1} → statement M
+policy_number_spec =
     tie.close
     (tie.spec
     (λ c κs. search rules)

@@ -30,20 +30,20 @@ no-bit terms state masks full (EventEdge j u v) h = refl
 no-bit terms state masks full (Mark j) h = refl
 no-bit terms state masks full Malformed h = refl
 
-returns : tie.Need-returns
+returns : tie.Need-returns-in-TableBit
 unfolding partly_in
 returns c =
-    let k1 = c.before in
-    let k2 = k1.before in
-    rw (k2.before.before.line.given.1, k1.set_at.ensures, k2.past-entry.ensures, c.table-word.ensures)
+    let k1 = c in
+    let k2 = k1 in
+    rw (k2.in-TableBit.is, k1.set_at.ensures, k2.past_entry.ensures, c.table_word.ensures)
 
-returns-2 : tie.Need-returns-2
+returns-2 : tie.Need-returns-in_default
 returns-2 c =
-    let x = c.before.before.before.before.args in
-    no-bit x.terms.now x.state.now x.masks.now x.full x.line c.match.keys2
+    let x = c.args in
+    no-bit x.terms.now x.state.now x.masks.now x.full x.line c.in_default.in_default-own.keys2
 
-pub is-partly-spec : {M : Type 1} → statement M
-is-partly-spec =
+pub is_partly_spec : {M : Type 1} → statement M
+is_partly_spec =
     tie.close
     (tie.spec
     (λ c. search rules)

@@ -6,14 +6,14 @@ use Rattle.reader.proofs.PartlyFilled.{found_none}
 use Rattle.reader.proofs.refusal_11.partly_at.Statement.{statement}
 use Rattle.reader.proofs.refusal_11.partly_at.Tie as tie
 
-enum_told : tie.Need-enum-told
+enum_told : tie.Need-enum_told-1
 enum_told c = search rules
 
-returns : tie.Need-returns
-returns c = found_none _ _ _ _ (sym (ap outcome_of c.enum_told.given.1) ∙ c.before.before.check.ensures)
+returns : tie.Need-returns-in-Done
+returns c = found_none _ _ _ _ (sym (ap outcome_of c.in-Done.is) ∙ c.check-outcome.ensures)
 
-pub partly-at-spec : {M : Type 1} → statement M
-partly-at-spec =
+pub partly_at_spec : {M : Type 1} → statement M
+partly_at_spec =
     tie.close
     (tie.spec
     (λ c κs. search rules)
@@ -21,4 +21,4 @@ partly-at-spec =
     (λ c. search rules)
     (λ c κs. search rules)
     returns
-    (λ c. c.find-partly.ensures))
+    (λ c. c.find_partly.ensures))

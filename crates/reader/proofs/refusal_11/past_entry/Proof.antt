@@ -21,46 +21,46 @@ highest-next : (p : ℕ → Bool) {c : Bool} (n : ℕ) → p n ≡ c → highest
 unfolding highest
 highest-next p n e = ap (λ (k : ℕ). highest k p) (add-one n) ∙ rw e
 
-abbrev invariant-loop : tie.invariant-loop
+abbrev invariant-loop : tie.invariant-loop-n
 invariant-loop terms t count found₀ k₀ n₀ found k n =
     (n ≤ count) × (k ≤ n) × (k ≡ number (terms_of terms).entry n)
     × (found ≡ highest n (chosen (terms_of terms).entry t))
 
-abbrev decreases-loop : tie.decreases-loop
+abbrev decreases-loop : tie.decreases-loop-n
 decreases-loop terms t count found₀ k₀ n₀ found k n = count - n
 
-loop-again : tie.Need-loop-preserved invariant-loop decreases-loop
+loop-again : tie.Need-loop-n-preserved invariant-loop decreases-loop
 loop-again c =
-    let h = c.before.before in
-    let l = h.before.before.before.loop in
-    let x = h.before.before.before.before.before.before.args in
+    let h = c in
+    let l = h.loop-n in
+    let x = h.args in
     let entry = (terms_of x.terms.now).entry in
-    let past : h.is-past.result ≡ is_past (entry l.n).op = h.is-past.ensures ∙ ap is_past h.before.op-of.ensures.0 in
-    let here : chosen entry x.t l.n ≡ (h.is-past.result && eqb l.k x.t) =
+    let past : h.is_past-past.result ≡ is_past (entry l.n).op = h.is_past-past.ensures ∙ ap is_past h.op_of.ensures.0 in
+    let here : chosen entry x.t l.n ≡ (h.is_past-past.result && eqb l.k x.t) =
     ap₂ (λ (b : Bool) (k : ℕ). b && eqb k x.t) (sym past) (sym l.invariant.2) in
-    let counts : (c.if2.k ≤ l.n + 1) × (c.if2.k ≡ number entry (l.n + 1)) =
+    let counts : (c.if-past.k ≤ l.n + 1) × (c.if-past.k ≡ number entry (l.n + 1)) =
     ⊎_elim
-    (λ w. omega (arith, number_past entry l.n (sym past ∙ w.0.taken)))
-    (λ w. omega (arith, number_other entry l.n (sym past ∙ w.0.left)))
-    c.if2.branch in (
+    (λ w. omega (arith, number_past entry l.n (sym past ∙ w.if-past.true)))
+    (λ w. omega (arith, number_other entry l.n (sym past ∙ w.if-past.false)))
+    c.if-past.branch-raw in (
       omega arith,
       counts.0,
       counts.1,
       ⊎_elim
-          (λ w. w.1 ∙ sym (highest-next (chosen entry x.t) l.n (here ∙ w.0.taken)))
-          (λ w. w.1 ∙ l.invariant.3 ∙ sym (highest-next (chosen entry x.t) l.n (here ∙ w.0.left)))
-          c.before.if1.branch,
+          (λ w. w.found-is ∙ sym (highest-next (chosen entry x.t) l.n (here ∙ w.if-past-k.true)))
+          (λ w. w.found-is ∙ l.invariant.3 ∙ sym (highest-next (chosen entry x.t) l.n (here ∙ w.if-past-k.false)))
+          c.if-past-k.branch-raw,
     )
 
 returns : tie.Need-returns invariant-loop decreases-loop
 returns c =
-    let l = c.before.loop in
-    let k = c.before.before in
-    let x = k.before.before.args in
-    l.invariant.3 ∙ ap (λ (n : ℕ). highest n (chosen (terms_of x.terms.now).entry x.t)) (let e : l.n ≡ k.entries.result = omega arith in e ∙ k.entries.ensures.0)
+    let l = c.loop-n in
+    let k = c in
+    let x = k.args in
+    l.invariant.3 ∙ ap (λ (n : ℕ). highest n (chosen (terms_of x.terms.now).entry x.t)) (let e : l.n ≡ k.entries-count.result = omega arith in e ∙ k.entries-count.ensures.0)
 
-pub past-entry-spec : {M : Type 1} → statement M
-past-entry-spec =
+pub past_entry_spec : {M : Type 1} → statement M
+past_entry_spec =
     tie.close
     (tie.spec
     invariant-loop

@@ -4,8 +4,8 @@ use borrow.Author.Rules.{rules}
 use Rattle.reader.proofs.store.set_bit.Statement.{statement}
 use Rattle.reader.proofs.store.set_bit.Tie as tie
 
-pub set-bit-spec : {M : Type 1} → statement M
-set-bit-spec =
+pub set_bit_spec : {M : Type 1} → statement M
+set_bit_spec =
     tie.close
     (tie.spec
     (λ c. search rules)
@@ -14,4 +14,4 @@ set-bit-spec =
     (λ c. search rules)
     (λ c. search rules)
     (λ c. search rules)
-    (λ c. rw (shl_one c.before.args.b c.before.requires.1)))
+    (λ c. rw (shl_one c.args.b c.requires.1)))

@@ -5,13 +5,13 @@ use Rattle.reader.proofs.store.store_entry.Tie as tie
 
 returns : tie.Need-returns
 returns c =
-    let k1 = c.before.before in
-    let k2 = k1.before.before.before.before in
-    let k3 = k2.before.before.before.before in
-    rw (k1.store2.ensures, k2.store-three.ensures, k3.store.ensures)
+    let k1 = c in
+    let k2 = k1 in
+    let k3 = k2 in
+    rw (k1.store-2.ensures, k2.store_three.ensures, k3.store.ensures)
 
-pub store-entry-spec : {M : Type 1} → statement M
-store-entry-spec =
+pub store_entry_spec : {M : Type 1} → statement M
+store_entry_spec =
     tie.close
     (tie.spec
     (λ c. search rules)

@@ -5,12 +5,12 @@ use Rattle.reader.proofs.store.store_labels.Tie as tie
 
 returns : tie.Need-returns
 returns c =
-    let k1 = c.before.before in
-    let k2 = k1.before.before.before.before in
-    rw (k1.store2.ensures, k2.store.ensures)
+    let k1 = c in
+    let k2 = k1 in
+    rw (k1.store-2.ensures, k2.store.ensures)
 
-pub store-labels-spec : {M : Type 1} → statement M
-store-labels-spec =
+pub store_labels_spec : {M : Type 1} → statement M
+store_labels_spec =
     tie.close
     (tie.spec
     (λ c κs. search rules)

@@ -30,32 +30,32 @@ no-entry (EventEdge j u v) m w h = refl
 no-entry (Mark j) m w h = refl
 no-entry Malformed m w h = refl
 
-mul-masks : tie.Need-overflow-mul-masks
+mul-masks : tie.Need-offset_bounds-masks-n
 mul-masks c =
     omega (
       arith,
-      (subst (Ranges c.before.before.before.args.c) c.before.line.given.1 c.before.before.before.requires.0).0,
-      c.before.before.before.requires.1,
+      (subst (Ranges c.args.c) c.in-Entry.is c.requires.0).0,
+      c.requires.1,
     )
 
-slice-write-masks : tie.Need-slice-write-masks
+slice-write-masks : tie.Need-bounds-masks-n
 slice-write-masks c =
     omega (
       arith,
-      (subst (Ranges c.before.before.before.args.c) c.before.line.given.1 c.before.before.before.requires.0).0,
-      c.before.before.before.requires.1,
+      (subst (Ranges c.args.c) c.in-Entry.is c.requires.0).0,
+      c.requires.1,
     )
 
-returns-2 : tie.Need-returns-2
-returns-2 c = no-entry c.before.args.line c.before.args.m c.before.args.masks.now c.match.keys2
+returns-2 : tie.Need-returns-in_default
+returns-2 c = no-entry c.args.line c.args.m c.args.masks.now c.in_default.in_default-own.keys2
 
-pub store-set-spec : {M : Type 1} → statement M
-store-set-spec =
+pub store_set_spec : {M : Type 1} → statement M
+store_set_spec =
     tie.close
     (tie.spec
     (λ c. search rules)
     mul-masks
     slice-write-masks
     (λ c. search rules)
-    (λ c. unfold stored_sets in rw c.before.line.given.1)
+    (λ c. unfold stored_sets in rw c.in-Entry.is)
     returns-2)

@@ -30,80 +30,80 @@ no_word (EventEdge j u v) w h = absurd (miss (0 ∷ 1 ∷ 2 ∷ 3 ∷ 4 ∷ 6 �
 no_word (Mark j) w h = refl
 no_word Malformed w h = refl
 
-store-edge-requires : tie.Need-store-edge-requires
+store-edge-requires : tie.Need-store_edge-requires
 store-edge-requires c κs =
-    let k1 = c.before.before in
-    let k2 = k1.before.before.before in
-    (subst (Ranges k2.args.c) k1.line.given.1 k2.requires.0, k2.requires.1)
+    let k1 = c in
+    let k2 = k1 in
+    (subst (Ranges k2.args.c) k1.in-Edge.is k2.requires.0, k2.requires.1)
 
-store-bit-requires : tie.Need-store-bit-requires
+store-bit-requires : tie.Need-store_bit-requires
 store-bit-requires c κs =
-    let k1 = c.before.before in
-    let k2 = k1.before.before.before in
-    (subst (Ranges k2.args.c) k1.line2.given.1 k2.requires.0, k2.requires.1)
+    let k1 = c in
+    let k2 = k1 in
+    (subst (Ranges k2.args.c) k1.in-TableBit.is k2.requires.0, k2.requires.1)
 
-mul-store-bit : tie.Need-overflow-mul-store-bit
+mul-store-bit : tie.Need-overflow_mul-a
 mul-store-bit c =
-    let k2 = c.before.before.before.before.before in
-    omega (arith, (subst (Ranges k2.args.c) c.before.before.line3.given.1 k2.requires.0).1)
+    let k2 = c in
+    omega (arith, (subst (Ranges k2.args.c) c.in-PairBit.is k2.requires.0).1)
 
-add-store-bit : tie.Need-overflow-add-store-bit
+add-store-bit : tie.Need-overflow_add-a
 add-store-bit c =
-    let k2 = c.before.before.before.before.before in
-    let r = subst (Ranges k2.args.c) c.before.before.line3.given.1 k2.requires.0 in
+    let k2 = c in
+    let r = subst (Ranges k2.args.c) c.in-PairBit.is k2.requires.0 in
     omega (arith, r.1, r.2)
 
-add-store-bit-2 : tie.Need-overflow-add-store-bit-2
+add-store-bit-2 : tie.Need-overflow_add-b
 add-store-bit-2 c =
-    let k2 = c.before.before.before.before.before in
-    omega (arith, (subst (Ranges k2.args.c) c.before.before.line3.given.1 k2.requires.0).3)
+    let k2 = c in
+    omega (arith, (subst (Ranges k2.args.c) c.in-PairBit.is k2.requires.0).3)
 
-store-bit-requires-2 : tie.Need-store-bit-requires-2
+store-bit-requires-2 : tie.Need-store_bit-requires-in-PairBit
 store-bit-requires-2 c κs =
-    let k1 = c.before.before in
-    let k2 = k1.before.before.before in
-    let r = subst (Ranges k2.args.c) k1.line3.given.1 k2.requires.0 in
+    let k1 = c in
+    let k2 = k1 in
+    let r = subst (Ranges k2.args.c) k1.in-PairBit.is k2.requires.0 in
     ((r.0, omega (arith, r.1, r.2), omega (arith, r.3)), k2.requires.1)
 
-store-event-requires : tie.Need-store-event-requires
+store-event-requires : tie.Need-store_event-requires
 store-event-requires c κs =
-    let k1 = c.before.before in
-    let k2 = k1.before.before.before in
-    (subst (Ranges k2.args.c) k1.line4.given.1 k2.requires.0, k2.requires.1)
+    let k1 = c in
+    let k2 = k1 in
+    (subst (Ranges k2.args.c) k1.in-EventEdge.is k2.requires.0, k2.requires.1)
 
-returns : tie.Need-returns
+returns : tie.Need-returns-in-Edge
 unfolding stored_state
 returns c =
-    let k1 = c.before.before in
-    let k2 = k1.before.before.before in
-    rw k2.line.given.1 k1.store-edge.ensures
+    let k1 = c in
+    let k2 = k1 in
+    rw k2.in-Edge.is k1.store_edge.ensures
 
-returns-2 : tie.Need-returns-2
+returns-2 : tie.Need-returns-in-TableBit
 unfolding stored_state
 returns-2 c =
-    let k1 = c.before.before in
-    let k2 = k1.before.before.before in
-    rw k2.line2.given.1 k1.store-bit.ensures
+    let k1 = c in
+    let k2 = k1 in
+    rw k2.in-TableBit.is k1.store_bit.ensures
 
-returns-3 : tie.Need-returns-3
+returns-3 : tie.Need-returns-in-PairBit
 unfolding stored_state
 returns-3 c =
-    let k1 = c.before.before in
-    let k2 = k1.before.before.before in
-    rw k2.line3.given.1 k1.store-bit2.ensures
+    let k1 = c in
+    let k2 = k1 in
+    rw k2.in-PairBit.is k1.store_bit-in-PairBit.ensures
 
-returns-4 : tie.Need-returns-4
+returns-4 : tie.Need-returns-in-EventEdge
 unfolding stored_state
 returns-4 c =
-    let k1 = c.before.before in
-    let k2 = k1.before.before.before in
-    rw k2.line4.given.1 k1.store-event.ensures
+    let k1 = c in
+    let k2 = k1 in
+    rw k2.in-EventEdge.is k1.store_event.ensures
 
-returns-5 : tie.Need-returns-5
-returns-5 c = no_word c.before.before.args.line c.before.before.args.state.now c.match.keys5
+returns-5 : tie.Need-returns-in_default
+returns-5 c = no_word c.args.line c.args.state.now c.in_default.in_default-own.keys5
 
-pub store-state-spec : {M : Type 1} → statement M
-store-state-spec =
+pub store_state_spec : {M : Type 1} → statement M
+store_state_spec =
     tie.close
     (tie.spec
     (λ c. search rules)

@@ -30,90 +30,90 @@ no_word c (EventEdge j u v) w h = refl
 no_word c (Mark j) w h = absurd (miss (5 ∷ 6 ∷ 7 ∷ 8 ∷ 9 ∷ 11 ∷ []) 10 tt h)
 no_word c Malformed w h = refl
 
-store-members-requires : tie.Need-store-members-requires
+store-members-requires : tie.Need-store_members-requires
 store-members-requires c κs =
-    let k1 = c.before.before in
-    let k2 = k1.before.before.before in
-    (subst (Ranges k2.args.c) k1.line.given.1 k2.requires.0, k2.requires.1)
+    let k1 = c in
+    let k2 = k1 in
+    (subst (Ranges k2.args.c) k1.in-Members.is k2.requires.0, k2.requires.1)
 
-store-labels-requires : tie.Need-store-labels-requires
+store-labels-requires : tie.Need-store_labels-requires
 store-labels-requires c κs =
-    let k1 = c.before.before in
-    let k2 = k1.before.before.before in
-    (subst (Ranges k2.args.c) k1.line2.given.1 k2.requires.0, k2.requires.1)
+    let k1 = c in
+    let k2 = k1 in
+    (subst (Ranges k2.args.c) k1.in-Labels.is k2.requires.0, k2.requires.1)
 
-store-entry-requires : tie.Need-store-entry-requires
+store-entry-requires : tie.Need-store_entry-requires
 store-entry-requires c κs =
-    let k1 = c.before.before in
-    let k2 = k1.before.before.before in
-    (subst (Ranges k2.args.c) k1.line3.given.1 k2.requires.0, k2.requires.1)
+    let k1 = c in
+    let k2 = k1 in
+    (subst (Ranges k2.args.c) k1.in-Entry.is k2.requires.0, k2.requires.1)
 
-store-policy-requires : tie.Need-store-policy-requires
+store-policy-requires : tie.Need-store_policy-requires
 store-policy-requires c κs =
-    let k1 = c.before.before in
-    let k2 = k1.before.before.before in
-    (subst (Ranges k2.args.c) k1.line4.given.1 k2.requires.0, k2.requires.1)
+    let k1 = c in
+    let k2 = k1 in
+    (subst (Ranges k2.args.c) k1.in-Policy.is k2.requires.0, k2.requires.1)
 
-store-effect-requires : tie.Need-store-effect-requires
+store-effect-requires : tie.Need-store_effect-requires
 store-effect-requires c κs =
-    let k1 = c.before.before.before in
-    let k2 = k1.before.before.before in
-    (rw c.slot_of.ensures (subst (Ranges k2.args.c) k1.line5.given.1 k2.requires.0), k2.requires.1)
+    let k1 = c in
+    let k2 = k1 in
+    (rw c.slot_of.ensures (subst (Ranges k2.args.c) k1.in-Effect.is k2.requires.0), k2.requires.1)
 
-store-mark-requires : tie.Need-store-mark-requires
+store-mark-requires : tie.Need-store_mark-requires
 store-mark-requires c κs =
-    let k1 = c.before.before in
-    let k2 = k1.before.before.before in
-    (subst (Ranges k2.args.c) k1.line6.given.1 k2.requires.0, k2.requires.1)
+    let k1 = c in
+    let k2 = k1 in
+    (subst (Ranges k2.args.c) k1.in-Mark.is k2.requires.0, k2.requires.1)
 
-returns : tie.Need-returns
+returns : tie.Need-returns-in-Members
 unfolding stored_terms
 returns c =
-    let k1 = c.before.before in
-    let k2 = k1.before.before.before in
-    rw k2.line.given.1 k1.store-members.ensures
+    let k1 = c in
+    let k2 = k1 in
+    rw k2.in-Members.is k1.store_members.ensures
 
-returns-2 : tie.Need-returns-2
+returns-2 : tie.Need-returns-in-Labels
 unfolding stored_terms
 returns-2 c =
-    let k1 = c.before.before in
-    let k2 = k1.before.before.before in
-    rw k2.line2.given.1 k1.store-labels.ensures
+    let k1 = c in
+    let k2 = k1 in
+    rw k2.in-Labels.is k1.store_labels.ensures
 
-returns-3 : tie.Need-returns-3
+returns-3 : tie.Need-returns-in-Entry
 unfolding stored_terms
 returns-3 c =
-    let k1 = c.before.before in
-    let k2 = k1.before.before.before in
-    rw k2.line3.given.1 k1.store_entry.ensures
+    let k1 = c in
+    let k2 = k1 in
+    rw k2.in-Entry.is k1.store_entry.ensures
 
-returns-4 : tie.Need-returns-4
+returns-4 : tie.Need-returns-in-Policy
 unfolding stored_terms
 returns-4 c =
-    let k1 = c.before.before in
-    let k2 = k1.before.before.before in
-    rw k2.line4.given.1 k1.store-policy.ensures
+    let k1 = c in
+    let k2 = k1 in
+    rw k2.in-Policy.is k1.store_policy.ensures
 
-returns-5 : tie.Need-returns-5
+returns-5 : tie.Need-returns-in-Effect
 unfolding stored_terms
 returns-5 c =
-    let k1 = c.before.before in
-    let k2 = k1.before in
-    let k3 = k2.before.before.before in
-    rw (k3.line5.given.1, ← k2.slot_of.ensures) k1.store-effect.ensures
+    let k1 = c in
+    let k2 = k1 in
+    let k3 = k2 in
+    rw (k3.in-Effect.is, ← k2.slot_of.ensures) k1.store_effect.ensures
 
-returns-6 : tie.Need-returns-6
+returns-6 : tie.Need-returns-in-Mark
 unfolding stored_terms
 returns-6 c =
-    let k1 = c.before.before in
-    let k2 = k1.before.before.before in
-    rw k2.line6.given.1 k1.store-mark.ensures
+    let k1 = c in
+    let k2 = k1 in
+    rw k2.in-Mark.is k1.store_mark.ensures
 
-returns-7 : tie.Need-returns-7
-returns-7 c = no_word c.before.before.args.c c.before.before.args.line c.before.before.args.terms.now c.match.keys7
+returns-7 : tie.Need-returns-in_default
+returns-7 c = no_word c.args.c c.args.line c.args.terms.now c.in_default.in_default-own.keys7
 
-pub store-terms-spec : {M : Type 1} → statement M
-store-terms-spec =
+pub store_terms_spec : {M : Type 1} → statement M
+store_terms_spec =
     tie.close
     (tie.spec
     (λ c. search rules)

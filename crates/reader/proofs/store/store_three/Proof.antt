@@ -5,13 +5,13 @@ use Rattle.reader.proofs.store.store_three.Tie as tie
 
 returns : tie.Need-returns
 returns c =
-    let k1 = c.before.before in
-    let k2 = k1.before.before.before.before in
-    let k3 = k2.before.before.before.before in
-    rw (k1.store3.ensures, k2.store2.ensures, k3.store.ensures)
+    let k1 = c in
+    let k2 = k1 in
+    let k3 = k2 in
+    rw (k1.store-3.ensures, k2.store-2.ensures, k3.store.ensures)
 
-pub store-three-spec : {M : Type 1} → statement M
-store-three-spec =
+pub store_three_spec : {M : Type 1} → statement M
+store_three_spec =
     tie.close
     (tie.spec
     (λ c κs. search rules)

@@ -8,20 +8,20 @@ use Rattle.writer.proofs.PutLines.{Running, running_start, running_more, running
 use Rattle.writer.proofs.bits.put_bits.Statement.{statement}
 use Rattle.writer.proofs.bits.put_bits.Tie as tie
 
-abbrev invariant-loop : tie.invariant-loop
+abbrev invariant-loop : tie.invariant-loop-b
 invariant-loop out₀ at table pairs w i b₀ next₀ out b next = Running out₀ out at next 32 64 b (bit_of table pairs w i)
 
-abbrev decreases-loop : tie.decreases-loop
+abbrev decreases-loop : tie.decreases-loop-b
 decreases-loop out₀ at table pairs w i b₀ next₀ out b next = 64 - b
 
-loop-again : tie.Need-loop-preserved invariant-loop decreases-loop
+loop-again : tie.Need-loop-b-preserved invariant-loop decreases-loop
 loop-again c =
-    let t = c.before.before.before.before in
-    let e = c.before.before.put-bit.ensures in
-    running_more (omega arith) t.before.loop.invariant e.0 e.1
+    let t = c in
+    let e = c.put_bit-next.ensures in
+    running_more (omega arith) t.loop-b.invariant e.0 e.1
 
-pub put-bits-spec : {M : Type 1} → statement M
-put-bits-spec =
+pub put_bits_spec : {M : Type 1} → statement M
+put_bits_spec =
     tie.close
     (tie.spec
     invariant-loop
@@ -31,5 +31,5 @@ put-bits-spec =
     (λ c. search rules)
     (λ c. search rules)
     loop-again
-    (λ c. put_long c.before.loop.invariant.put)
-    (λ c. (running_end (omega arith) c.before.loop.invariant, search rules)))
+    (λ c. put_long c.loop-b.invariant.put)
+    (λ c. (running_end (omega arith) c.loop-b.invariant, search rules)))

@@ -5,13 +5,13 @@ use Rattle.writer.proofs.PutLines.{put_row_none, put_skipped}
 use Rattle.writer.proofs.bits.put_row.Statement.{statement}
 use Rattle.writer.proofs.bits.put_row.Tie as tie
 
-pub put-row-spec : {M : Type 1} → statement M
-put-row-spec =
+pub put_row_spec : {M : Type 1} → statement M
+put_row_spec =
     tie.close
     (tie.spec
-    (λ c. (put_row_none _ _ c.before.before.args.table _ _ _ c.if1.true, omega arith))
+    (λ c. (put_row_none _ _ c.args.table _ _ _ c.if-w-eq0.true, omega arith))
     (λ c κs. search rules)
-    (λ c. let e = c.skip-row.ensures in (put_skipped _ c.before.if2.true e.0, e.1))
+    (λ c. let e = c.skip_row.ensures in (put_skipped _ c.if-out-at.true e.0, e.1))
     (λ c κs. search rules)
     (λ c. search rules)
     (λ c. search rules))

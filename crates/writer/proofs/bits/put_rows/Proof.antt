@@ -8,20 +8,20 @@ use Rattle.writer.proofs.PutLines.{Running, running_start, running_more, running
 use Rattle.writer.proofs.bits.put_rows.Statement.{statement}
 use Rattle.writer.proofs.bits.put_rows.Tie as tie
 
-abbrev invariant-loop : tie.invariant-loop
+abbrev invariant-loop : tie.invariant-loop-i
 invariant-loop state out₀ at table pairs first count i₀ next₀ out i next = Running out₀ out at next (32 * 64) count i (λ k. row_of table pairs (get_or state (first + k) 0) k)
 
-abbrev decreases-loop : tie.decreases-loop
+abbrev decreases-loop : tie.decreases-loop-i
 decreases-loop state out₀ at table pairs first count i₀ next₀ out i next = count - i
 
-loop-again : tie.Need-loop-preserved invariant-loop decreases-loop
+loop-again : tie.Need-loop-i-preserved invariant-loop decreases-loop
 loop-again c =
-    let t = c.before.before.before.before.before in
-    let e = c.before.before.put-row.ensures in
-    running_more t.loop-test.true t.before.loop.invariant e.0 e.1
+    let t = c in
+    let e = c.put_row-next.ensures in
+    running_more t.loop-i-test.true t.loop-i.invariant e.0 e.1
 
-pub put-rows-spec : {M : Type 1} → statement M
-put-rows-spec =
+pub put_rows_spec : {M : Type 1} → statement M
+put_rows_spec =
     tie.close
     (tie.spec
     invariant-loop
@@ -34,5 +34,5 @@ put-rows-spec =
     (λ c. search rules)
     (λ c. search rules)
     loop-again
-    (λ c. put_long c.before.loop.invariant.put)
-    (λ c. (running_end c.loop-test.false c.before.loop.invariant, search rules)))
+    (λ c. put_long c.loop-i.invariant.put)
+    (λ c. (running_end c.loop-i-test.false c.loop-i.invariant, search rules)))

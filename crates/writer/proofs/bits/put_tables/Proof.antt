@@ -4,10 +4,10 @@ use Rattle.writer.proofs.PutLines.{put_all_tables}
 use Rattle.writer.proofs.bits.put_tables.Statement.{statement}
 use Rattle.writer.proofs.bits.put_tables.Tie as tie
 
-pub put-tables-spec : {M : Type 1} → statement M
-put-tables-spec =
+pub put_tables_spec : {M : Type 1} → statement M
+put_tables_spec =
     tie.close
     (tie.spec
     (λ c κs. search rules)
     (λ c. search rules)
-    (λ c. let e = c.before.before.put-rows.ensures in (put_all_tables _ _ e.0, e.1)))
+    (λ c. let e = c.put_rows.ensures in (put_all_tables _ _ e.0, e.1)))

@@ -10,18 +10,18 @@ use Rattle.writer.proofs.FreshStart.{copied_to, copied_more}
 use Rattle.writer.proofs.fresh.copy_state.Statement.{statement}
 use Rattle.writer.proofs.fresh.copy_state.Tie as tie
 
-abbrev invariant-loop : tie.invariant-loop
+abbrev invariant-loop : tie.invariant-loop-i
 invariant-loop copy₀ state i₀ copy i = (i ≤ state_words) × (length copy ≡ state_words) × (copy ≡ copied_to copy₀ state i)
 
-abbrev decreases-loop : tie.decreases-loop
+abbrev decreases-loop : tie.decreases-loop-i
 decreases-loop copy₀ state i₀ copy i = state_words - i
 
-loop-again : tie.Need-loop-preserved invariant-loop decreases-loop
+loop-again : tie.Need-loop-i-preserved invariant-loop decreases-loop
 loop-again c =
-    let d = c.before.before.before.args.copy.now in
-    let s = c.before.before.before.args.state.now in
-    let l = c.before.before.loop in
-    let p = c.before.before.before.requires in (
+    let d = c.args.copy.now in
+    let s = c.args.state.now in
+    let l = c.loop-i in
+    let p = c.requires in (
       omega arith,
       length-set l.copy l.i _ ∙ l.invariant.1,
       ap (λ (w : List ℕ). set w l.i (get_or s l.i 0)) l.invariant.2 ∙ copied_more d s l.i (omega arith) (omega arith),
@@ -29,16 +29,16 @@ loop-again c =
 
 returns : tie.Need-returns invariant-loop decreases-loop
 returns c =
-    let d = c.before.before.args.copy.now in
-    let s = c.before.before.args.state.now in
-    let l = c.before.loop in
-    let p = c.before.before.requires in
+    let d = c.args.copy.now in
+    let s = c.args.state.now in
+    let l = c.loop-i in
+    let p = c.requires in
     let end : l.i ≡ state_words = omega arith in
     l.invariant.2 ∙ ap (copied_to d s) end
     ∙ ap (λ (r : List ℕ). take state_words s ++ r) (drop_of_length-le d {i = state_words} (omega arith)) ∙ append-nil (take state_words s)
 
-pub copy-state-spec : {M : Type 1} → statement M
-copy-state-spec =
+pub copy_state_spec : {M : Type 1} → statement M
+copy_state_spec =
     tie.close
     (tie.spec
     invariant-loop

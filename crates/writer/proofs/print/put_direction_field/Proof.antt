@@ -8,13 +8,13 @@ use Rattle.writer.proofs.print.put_direction_field.Tie as tie
 
 returns : tie.Need-returns
 returns c =
-    let w = c.before.before.put-direction.ensures in
-    let a = c.before.before.before.before.before.before in
-    let t = a.put_byte.ensures.0.all (omega arith) in
-    (put_then t w, omega (arith, t.next, w.next, direction_short a.before.before.before.args.direction))
+    let w = c.put_direction.ensures in
+    let a = c in
+    let t = a.put_byte-next.ensures.0.all (omega arith) in
+    (put_then t w, omega (arith, t.next, w.next, direction_short a.args.direction))
 
-pub put-direction-field-spec : {M : Type 1} → statement M
-put-direction-field-spec =
+pub put_direction_field_spec : {M : Type 1} → statement M
+put_direction_field_spec =
     tie.close
     (tie.spec
     (λ c κs. search rules)

@@ -7,36 +7,36 @@ use Rattle.writer.proofs.Placed.{put_next}
 use Rattle.writer.proofs.print.put_entry.Statement.{statement}
 use Rattle.writer.proofs.print.put_entry.Tie as tie
 
-returns : tie.Need-returns
+returns : tie.Need-returns-then-op
 unfolding fields_of
 returns c =
-    let c6 = c.before.before in
-    let c5 = c6.before.before.before.before in
-    let c4 = c5.before.before.before.before.before in
-    let c3 = c4.before.before.before.before in
-    let c2 = c3.before.before.before.before in
-    let c1 = c2.before.before.before.before in
-    let f2 = put_next _ _ _ c1.put-head.ensures.0 c2.put-operator-field.ensures.0 in
-    let f3 = put_next _ _ _ (f2) c3.put-field.ensures.0 in
-    let f4 = put_next _ _ _ (f3) c4.put-field2.ensures.0 in
-    let f5 = put_next _ _ _ (f4) c5.put-field3.ensures.0 in
-    (rw c5.before.before.if1.true (put_then f5 (c6.put_byte.ensures.0.all (omega arith))), search rules)
+    let c6 = c in
+    let c5 = c6 in
+    let c4 = c5 in
+    let c3 = c4 in
+    let c2 = c3 in
+    let c1 = c2 in
+    let f2 = put_next _ _ _ c1.put_head-first.ensures.0 c2.put_operator_field-second.ensures.0 in
+    let f3 = put_next _ _ _ (f2) c3.put_field-third.ensures.0 in
+    let f4 = put_next _ _ _ (f3) c4.put_field-fourth.ensures.0 in
+    let f5 = put_next _ _ _ (f4) c5.put_field-fifth.ensures.0 in
+    (rw c5.if-op.true (put_then f5 (c6.put_byte.ensures.0.all (omega arith))), search rules)
 
-returns-2 : tie.Need-returns-2
+returns-2 : tie.Need-returns
 unfolding fields_of
 returns-2 c =
-    let c5 = c.before.before in
-    let c4 = c5.before.before.before.before.before in
-    let c3 = c4.before.before.before.before in
-    let c2 = c3.before.before.before.before in
-    let c1 = c2.before.before.before.before in
-    let f2 = put_next _ _ _ c1.put-head.ensures.0 c2.put-operator-field.ensures.0 in
-    let f3 = put_next _ _ _ (f2) c3.put-field.ensures.0 in
-    let f4 = put_next _ _ _ (f3) c4.put-field2.ensures.0 in
-    (rw c5.before.before.if1.false (put_then f4 (c5.put-byte2.ensures.0.all (omega arith))), search rules)
+    let c5 = c in
+    let c4 = c5 in
+    let c3 = c4 in
+    let c2 = c3 in
+    let c1 = c2 in
+    let f2 = put_next _ _ _ c1.put_head-first.ensures.0 c2.put_operator_field-second.ensures.0 in
+    let f3 = put_next _ _ _ (f2) c3.put_field-third.ensures.0 in
+    let f4 = put_next _ _ _ (f3) c4.put_field-fourth.ensures.0 in
+    (rw c5.if-op.false (put_then f4 (c5.put_byte-2.ensures.0.all (omega arith))), search rules)
 
-pub put-entry-spec : {M : Type 1} → statement M
-put-entry-spec =
+pub put_entry_spec : {M : Type 1} → statement M
+put_entry_spec =
     tie.close
     (tie.spec
     (λ c κs. search rules)

@@ -8,13 +8,13 @@ use Rattle.writer.proofs.print.put_field.Tie as tie
 
 returns : tie.Need-returns
 returns c =
-    let a = c.before.before.before.before.before.before in
-    let t = a.put_byte.ensures.0.all (omega arith) in
-    let w = c.before.before.put-decimal.ensures.all (omega arith, omega (arith, t.next)) in
-    (put_then t w, omega (arith, t.next, w.next, digits_short a.before.before.before.args.n))
+    let a = c in
+    let t = a.put_byte-next.ensures.0.all (omega arith) in
+    let w = c.put_decimal.ensures.all (omega arith, omega (arith, t.next)) in
+    (put_then t w, omega (arith, t.next, w.next, digits_short a.args.n))
 
-pub put-field-spec : {M : Type 1} → statement M
-put-field-spec =
+pub put_field_spec : {M : Type 1} → statement M
+put_field_spec =
     tie.close
     (tie.spec
     (λ c κs. search rules)

@@ -7,21 +7,21 @@ use Rattle.writer.proofs.Placed.{kind_short}
 use Rattle.writer.proofs.print.put_head.Statement.{statement}
 use Rattle.writer.proofs.print.put_head.Tie as tie
 
-put-field-requires : tie.Need-put-field-requires
+put-field-requires : tie.Need-put_field-requires
 put-field-requires c κs =
-    let a = c.before.before.before in
-    omega (arith, a.put-kind.ensures.next, kind_short a.before.before.before.args.kind)
+    let a = c in
+    omega (arith, a.put_kind-next.ensures.next, kind_short a.args.kind)
 
 returns : tie.Need-returns
 unfolding join
 returns c =
-    let f = c.before.before.put-field.ensures in
-    let a = c.before.before.before.before.before.before in
-    let k = a.put-kind.ensures in
-    (put_then k f.0, omega (arith, k.next, kind_short a.before.before.before.args.kind))
+    let f = c.put_field.ensures in
+    let a = c in
+    let k = a.put_kind-next.ensures in
+    (put_then k f.0, omega (arith, k.next, kind_short a.args.kind))
 
-pub put-head-spec : {M : Type 1} → statement M
-put-head-spec =
+pub put_head_spec : {M : Type 1} → statement M
+put_head_spec =
     tie.close
     (tie.spec
     (λ c κs. search rules)

@@ -8,13 +8,13 @@ use Rattle.writer.proofs.print.put_operator_field.Tie as tie
 
 returns : tie.Need-returns
 returns c =
-    let w = c.before.before.put-operator.ensures in
-    let a = c.before.before.before.before.before.before in
-    let t = a.put_byte.ensures.0.all (omega arith) in
-    (put_then t w, omega (arith, t.next, w.next, operator_short a.before.before.before.args.op))
+    let w = c.put_operator.ensures in
+    let a = c in
+    let t = a.put_byte-next.ensures.0.all (omega arith) in
+    (put_then t w, omega (arith, t.next, w.next, operator_short a.args.op))
 
-pub put-operator-field-spec : {M : Type 1} → statement M
-put-operator-field-spec =
+pub put_operator_field_spec : {M : Type 1} → statement M
+put_operator_field_spec =
     tie.close
     (tie.spec
     (λ c κs. search rules)

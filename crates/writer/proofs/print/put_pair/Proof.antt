@@ -8,13 +8,13 @@ use Rattle.writer.proofs.print.put_pair.Tie as tie
 
 returns : tie.Need-returns
 returns c =
-    let c3 = c.before.before in
-    let c2 = c3.before.before.before.before in
-    let c1 = c2.before.before.before.before in
-    (put_then (put_next _ _ _ c1.put-head.ensures.0 c2.put-field.ensures.0) (c3.put_byte.ensures.0.all (omega arith)), search rules)
+    let c3 = c in
+    let c2 = c3 in
+    let c1 = c2 in
+    (put_then (put_next _ _ _ c1.put_head-first.ensures.0 c2.put_field-second.ensures.0) (c3.put_byte.ensures.0.all (omega arith)), search rules)
 
-pub put-pair-spec : {M : Type 1} → statement M
-put-pair-spec =
+pub put_pair_spec : {M : Type 1} → statement M
+put_pair_spec =
     tie.close
     (tie.spec
     (λ c κs. search rules)

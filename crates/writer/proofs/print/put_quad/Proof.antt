@@ -8,18 +8,18 @@ use Rattle.writer.proofs.print.put_quad.Tie as tie
 
 returns : tie.Need-returns
 returns c =
-    let c5 = c.before.before in
-    let c4 = c5.before.before.before.before in
-    let c3 = c4.before.before.before.before in
-    let c2 = c3.before.before.before.before in
-    let c1 = c2.before.before.before.before in
-    let f2 = put_next _ _ _ c1.put-head.ensures.0 c2.put-field.ensures.0 in
-    let f3 = put_next _ _ _ (f2) c3.put-field2.ensures.0 in
-    let f4 = put_next _ _ _ (f3) c4.put-field3.ensures.0 in
+    let c5 = c in
+    let c4 = c5 in
+    let c3 = c4 in
+    let c2 = c3 in
+    let c1 = c2 in
+    let f2 = put_next _ _ _ c1.put_head-first.ensures.0 c2.put_field-second.ensures.0 in
+    let f3 = put_next _ _ _ (f2) c3.put_field-third.ensures.0 in
+    let f4 = put_next _ _ _ (f3) c4.put_field-fourth.ensures.0 in
     (put_then f4 (c5.put_byte.ensures.0.all (omega arith)), search rules)
 
-pub put-quad-spec : {M : Type 1} → statement M
-put-quad-spec =
+pub put_quad_spec : {M : Type 1} → statement M
+put_quad_spec =
     tie.close
     (tie.spec
     (λ c κs. search rules)

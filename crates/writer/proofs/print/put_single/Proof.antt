@@ -7,12 +7,12 @@ use Rattle.writer.proofs.print.put_single.Tie as tie
 
 returns : tie.Need-returns
 returns c =
-    let c2 = c.before.before in
-    let c1 = c2.before.before.before.before in
-    (put_then c1.put-head.ensures.0 (c2.put_byte.ensures.0.all (omega arith)), search rules)
+    let c2 = c in
+    let c1 = c2 in
+    (put_then c1.put_head-first.ensures.0 (c2.put_byte.ensures.0.all (omega arith)), search rules)
 
-pub put-single-spec : {M : Type 1} → statement M
-put-single-spec =
+pub put_single_spec : {M : Type 1} → statement M
+put_single_spec =
     tie.close
     (tie.spec
     (λ c κs. search rules)

@@ -8,16 +8,16 @@ use Rattle.writer.proofs.print.put_triple.Tie as tie
 
 returns : tie.Need-returns
 returns c =
-    let c4 = c.before.before in
-    let c3 = c4.before.before.before.before in
-    let c2 = c3.before.before.before.before in
-    let c1 = c2.before.before.before.before in
-    let f2 = put_next _ _ _ c1.put-head.ensures.0 c2.put-field.ensures.0 in
-    let f3 = put_next _ _ _ (f2) c3.put-field2.ensures.0 in
+    let c4 = c in
+    let c3 = c4 in
+    let c2 = c3 in
+    let c1 = c2 in
+    let f2 = put_next _ _ _ c1.put_head-first.ensures.0 c2.put_field-second.ensures.0 in
+    let f3 = put_next _ _ _ (f2) c3.put_field-third.ensures.0 in
     (put_then f3 (c4.put_byte.ensures.0.all (omega arith)), search rules)
 
-pub put-triple-spec : {M : Type 1} → statement M
-put-triple-spec =
+pub put_triple_spec : {M : Type 1} → statement M
+put_triple_spec =
     tie.close
     (tie.spec
     (λ c κs. search rules)

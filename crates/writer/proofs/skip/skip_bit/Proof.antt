@@ -21,61 +21,61 @@ table-letter : length (get_or kind_words 7 []) ≡ 1
 unfolding kind_words
 table-letter = refl
 
-returns : tie.Need-returns
+returns : tie.Need-returns-then-not-has
 returns c =
-    let a = c.before.before in (
+    let a = c in (
       put_bit_none a.args.table a.args.pairs a.args.w a.args.i a.args.b a.requires.1 _ _ _
-          c.before.has.ensures (not-true _ c.if1.true),
+          c.has.ensures (not-true _ c.if-not-has.true-raw),
       omega arith,
     )
 
-returns-2 : tie.Need-returns-2
+returns-2 : tie.Need-returns-then-not-table
 unfolding fields_of
 returns-2 c =
-    let e = c.skip-triple.ensures in
-    let k = c.before in
-    let t = k.before in
-    let a = t.before.before in (
-      rw (not-true a.args.table k.if2.true)
+    let e = c.skip_triple.ensures in
+    let k = c in
+    let t = k in
+    let a = t in (
+      rw (not-true a.args.table k.if-not-table.true-raw)
           (put_bit_there false a.args.pairs a.args.w a.args.i a.args.b a.requires.1 _
-          t.before.has.ensures (not-false _ t.if1.false) (e.0 _ edge-letter)),
+          t.has.ensures (not-false _ t.if-not-has.false-raw) (e.0 _ edge-letter)),
       e.1,
     )
 
-returns-3 : tie.Need-returns-3
+returns-3 : tie.Need-returns-then-has
 unfolding fields_of
 returns-3 c =
-    let e = c.skip-quad.ensures in
-    let j = c.before in
-    let k = j.before.before in
-    let t = k.before in
-    let a = t.before.before in (
-      rw (not-false a.args.table k.if2.false)
+    let e = c.skip_quad.ensures in
+    let j = c in
+    let k = j in
+    let t = k in
+    let a = t in (
+      rw (not-false a.args.table k.if-not-table.false-raw)
           (put_bit_there true a.args.pairs a.args.w a.args.i a.args.b a.requires.1 _
-          t.before.has.ensures (not-false _ t.if1.false)
-          (put_two_said a.args.pairs _ (a.args.i % 64) a.args.b _ j.before.has2.ensures j.if3.true
+          t.has.ensures (not-false _ t.if-not-has.false-raw)
+          (put_two_said a.args.pairs _ (a.args.i % 64) a.args.b _ j.has-2.ensures j.if-has.true
           (e.0 _ table-letter))),
       e.1,
     )
 
-returns-4 : tie.Need-returns-4
+returns-4 : tie.Need-returns
 unfolding fields_of
 returns-4 c =
-    let e = c.skip-triple2.ensures in
-    let j = c.before in
-    let k = j.before.before in
-    let t = k.before in
-    let a = t.before.before in (
-      rw (not-false a.args.table k.if2.false)
+    let e = c.skip_triple-2.ensures in
+    let j = c in
+    let k = j in
+    let t = k in
+    let a = t in (
+      rw (not-false a.args.table k.if-not-table.false-raw)
           (put_bit_there true a.args.pairs a.args.w a.args.i a.args.b a.requires.1 _
-          t.before.has.ensures (not-false _ t.if1.false)
-          (put_one_said a.args.pairs _ (a.args.i % 64) a.args.b _ j.before.has2.ensures j.if3.false
+          t.has.ensures (not-false _ t.if-not-has.false-raw)
+          (put_one_said a.args.pairs _ (a.args.i % 64) a.args.b _ j.has-2.ensures j.if-has.false
           (e.0 _ table-letter))),
       e.1,
     )
 
-pub skip-bit-spec : {M : Type 1} → statement M
-skip-bit-spec =
+pub skip_bit_spec : {M : Type 1} → statement M
+skip_bit_spec =
     tie.close
     (tie.spec
     (λ c κs. search rules)

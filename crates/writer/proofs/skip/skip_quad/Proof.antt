@@ -5,8 +5,8 @@ use Rattle.writer.proofs.PutLines.{skip_four}
 use Rattle.writer.proofs.skip.skip_quad.Statement.{statement}
 use Rattle.writer.proofs.skip.skip_quad.Tie as tie
 
-pub skip-quad-spec : {M : Type 1} → statement M
-skip-quad-spec =
+pub skip_quad_spec : {M : Type 1} → statement M
+skip_quad_spec =
     tie.close
     (tie.spec
     (λ c. search rules)

@@ -8,19 +8,19 @@ use Rattle.writer.proofs.PutLines.{Running, running_start, running_more, running
 use Rattle.writer.proofs.skip.skip_row.Statement.{statement}
 use Rattle.writer.proofs.skip.skip_row.Tie as tie
 
-abbrev invariant-loop : tie.invariant-loop
+abbrev invariant-loop : tie.invariant-loop-b
 invariant-loop at table pairs w i b₀ next₀ b next = Running [] [] at next 32 64 b (bit_of table pairs w i)
 
-abbrev decreases-loop : tie.decreases-loop
+abbrev decreases-loop : tie.decreases-loop-b
 decreases-loop at table pairs w i b₀ next₀ b next = 64 - b
 
-loop-again : tie.Need-loop-preserved invariant-loop decreases-loop
+loop-again : tie.Need-loop-b-preserved invariant-loop decreases-loop
 loop-again c =
-    let e = c.skip-bit.ensures in
-    running_more (omega arith) c.before.before.loop.invariant e.0 e.1
+    let e = c.skip_bit-next.ensures in
+    running_more (omega arith) c.loop-b.invariant e.0 e.1
 
-pub skip-row-spec : {M : Type 1} → statement M
-skip-row-spec =
+pub skip_row_spec : {M : Type 1} → statement M
+skip_row_spec =
     tie.close
     (tie.spec
     invariant-loop
@@ -30,4 +30,4 @@ skip-row-spec =
     (λ c. search rules)
     (λ c. search rules)
     loop-again
-    (λ c. (running_end (omega arith) c.before.loop.invariant, search rules)))
+    (λ c. (running_end (omega arith) c.loop-b.invariant, search rules)))

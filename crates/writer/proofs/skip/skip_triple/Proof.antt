@@ -5,8 +5,8 @@ use Rattle.writer.proofs.PutLines.{skip_three}
 use Rattle.writer.proofs.skip.skip_triple.Statement.{statement}
 use Rattle.writer.proofs.skip.skip_triple.Tie as tie
 
-pub skip-triple-spec : {M : Type 1} → statement M
-skip-triple-spec =
+pub skip_triple_spec : {M : Type 1} → statement M
+skip_triple_spec =
     tie.close
     (tie.spec
     (λ c. search rules)

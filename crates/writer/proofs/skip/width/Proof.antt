@@ -10,5 +10,5 @@ pub width_spec : {M : Type 1} → statement M
 width_spec =
     tie.close
     (tie.spec
-    (λ c. (ap length (digits_single _ c.if1.true), omega arith))
-    (λ c. (ap length (digits_double _ c.if1.false c.before.requires), omega arith)))
+    (λ c. (ap length (digits_single _ c.if-n-lt10.true), omega arith))
+    (λ c. (ap length (digits_double _ c.if-n-lt10.false c.requires), omega arith)))

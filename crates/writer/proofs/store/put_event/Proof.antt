@@ -6,18 +6,18 @@ use Rattle.writer.proofs.PutLines.{put_event_none, put_event_there}
 use Rattle.writer.proofs.store.put_event.Statement.{statement}
 use Rattle.writer.proofs.store.put_event.Tie as tie
 
-returns-2 : tie.Need-returns-2
+returns-2 : tie.Need-returns
 unfolding fields_of
 returns-2 c =
-    let e = c.before.before.put-triple.ensures in
-    let t = c.before.before.before.before in
-    (put_event_there _ t.if1.false e.0, e.1)
+    let e = c.put_triple.ensures in
+    let t = c in
+    (put_event_there _ t.if-w-eq0.false e.0, e.1)
 
-pub put-event-spec : {M : Type 1} → statement M
-put-event-spec =
+pub put_event_spec : {M : Type 1} → statement M
+put_event_spec =
     tie.close
     (tie.spec
-    (λ c. (put_event_none _ _ c.before.before.args.w (omega arith), omega arith))
+    (λ c. (put_event_none _ _ c.args.w (omega arith), omega arith))
     (λ c. search rules)
     (λ c κs. search rules)
     (λ c. search rules)

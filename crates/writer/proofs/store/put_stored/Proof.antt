@@ -13,18 +13,18 @@ use Rattle.writer.proofs.store.put_stored.Tie as tie
 returns : tie.Need-returns
 unfolding stored_text stored stored_lines written_text written state_of fields_of
 returns c =
-    let c4 = c.before.before in
-    let c3 = c4.before.before.before.before.before in
-    let c2 = c3.before.before.before.before in
-    let c1 = c2.before.before.before.before in (
-      put_lines (Form 2 ∷ []) _ (put_line (Form 2) c1.put-single.ensures.0)
-          (put_lines _ _ c2.put-text.ensures.0
-          (put_lines _ _ (c3.put-tables.ensures.0 (terms_of c1.before.before.before.before.before.args.terms.now) c1.before.before.before.before.before.requires.0) c4.put-event.ensures.0)),
+    let c4 = c in
+    let c3 = c4 in
+    let c2 = c3 in
+    let c1 = c2 in (
+      put_lines (Form 2 ∷ []) _ (put_line (Form 2) c1.put_single-text.ensures.0)
+          (put_lines _ _ c2.put_text-tables.ensures.0
+          (put_lines _ _ (c3.put_tables-event.ensures.0 (terms_of c1.args.terms.now) c1.requires.0) c4.put_event.ensures.0)),
       search rules,
     )
 
-pub put-stored-spec : {M : Type 1} → statement M
-put-stored-spec =
+pub put_stored_spec : {M : Type 1} → statement M
+put_stored_spec =
     tie.close
     (tie.spec
     (λ c κs. search rules)

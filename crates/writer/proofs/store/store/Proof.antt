@@ -9,30 +9,30 @@ use Rattle.writer.proofs.Fitting.{ends_unchecked}
 use Rattle.writer.proofs.store.store.Statement.{statement}
 use Rattle.writer.proofs.store.store.Tie as tie
 
-enum_told : tie.Need-enum-told
+enum_told : tie.Need-enum_told-1
 enum_told c = search rules
 
-slice-aggregate-pair-tables : tie.Need-slice-aggregate-pair-tables
+slice-aggregate-pair-tables : tie.Need-slice_bounds-pair_tables-end
 slice-aggregate-pair-tables c =
-    let k = c.before.before in
-    sym (k.before.before.inspect.ensures.1.0 (ap has_passed (ap outcome_of k.enum_told.given.1))).long
+    let k = c in
+    sym (k.inspect.ensures.1.0 (ap has_passed (ap outcome_of k.in-Done.is))).long
 
-pair-tables-requires : tie.Need-pair-tables-requires
+pair-tables-requires : tie.Need-pair_tables-requires
 pair-tables-requires c κs =
-    let k = c.before.before in
-    let i = k.before.before in
-    let e : passed ≡ checks _ _ = sym (ap outcome_of k.enum_told.given.1) ∙ i.inspect.ensures.0 in
+    let k = c in
+    let i = k in
+    let e : passed ≡ checks _ _ = sym (ap outcome_of k.in-Done.is) ∙ i.inspect.ensures.0 in
     let p = passed_checked _ _ e in
-    (p.long_terms, p.good_terms, i.inspect.ensures.1.0 (ap has_passed (ap outcome_of k.enum_told.given.1)))
+    (p.long_terms, p.good_terms, i.inspect.ensures.1.0 (ap has_passed (ap outcome_of k.in-Done.is)))
 
-store-checked-requires : tie.Need-store-checked-requires
+store-checked-requires : tie.Need-store_checked-requires
 store-checked-requires c κs =
-    let k = c.before.before.before in
-    (sym (ap outcome_of k.enum_told.given.1) ∙ k.before.before.inspect.ensures.0, c.pair-tables.ensures)
+    let k = c in
+    (sym (ap outcome_of k.in-Done.is) ∙ k.inspect.ensures.0, c.pair_tables.ensures)
 
-returns-2 : tie.Need-returns-2
+returns-2 : tie.Need-returns-in-Refused
 unfolding store_gives store_leaves
-returns-2 c = ends_unchecked _ (stored_text _ _) _ _ _ (sym (ap outcome_of c.before.n.given.1) ∙ c.before.before.before.inspect.ensures.0)
+returns-2 c = ends_unchecked _ (stored_text _ _) _ _ _ (sym (ap outcome_of c.in-Refused.is) ∙ c.inspect.ensures.0)
 
 pub store_spec : {M : Type 1} → statement M
 store_spec =

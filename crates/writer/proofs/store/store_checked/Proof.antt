@@ -7,29 +7,29 @@ use Rattle.writer.proofs.Fitting.{event_small, ends_short, ends_whole}
 use Rattle.writer.proofs.store.store_checked.Statement.{statement}
 use Rattle.writer.proofs.store.store_checked.Tie as tie
 
-count-requires : tie.Need-count-requires
-count-requires c κs = let s = c.before.before.before in (s.requires.1, (passed_checked _ _ s.requires.0).long_state, event_small _ _ s.requires.0)
+count-requires : tie.Need-count-n-requires
+count-requires c κs = let s = c in (s.requires.1, (passed_checked _ _ s.requires.0).long_state, event_small _ _ s.requires.0)
 
-returns : tie.Need-returns
+returns : tie.Need-returns-then-out-n
 unfolding store_gives store_leaves
 returns c =
-    let k = c.before in ends_short _ (stored_text _ _) _ k.before.before.before.before.requires.0 _ k.count.ensures c.if1.true
+    let k = c in ends_short _ (stored_text _ _) _ k.requires.0 _ k.count-n.ensures c.if-out-n.true
 
-put-stored-requires : tie.Need-put-stored-requires
+put-stored-requires : tie.Need-put_stored-requires
 put-stored-requires c κs =
-    let s = c.before.before.before.before.before.before in
+    let s = c in
     (s.requires.1, (passed_checked _ _ s.requires.0).long_state, event_small _ _ s.requires.0, omega arith)
 
-returns-2 : tie.Need-returns-2
+returns-2 : tie.Need-returns
 unfolding store_gives store_leaves
 returns-2 c =
-    let p = c.before.before in
-    let i = p.before.before in
-    let k = i.before in
-    ends_whole _ (stored_text _ _) _ k.before.before.before.before.requires.0 _ k.count.ensures i.if1.false _ _ p.put-stored.ensures.0
+    let p = c in
+    let i = p in
+    let k = i in
+    ends_whole _ (stored_text _ _) _ k.requires.0 _ k.count-n.ensures i.if-out-n.false _ _ p.put_stored.ensures.0
 
-pub store-checked-spec : {M : Type 1} → statement M
-store-checked-spec =
+pub store_checked_spec : {M : Type 1} → statement M
+store_checked_spec =
     tie.close
     (tie.spec
     count-requires

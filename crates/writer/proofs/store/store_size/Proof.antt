@@ -9,40 +9,40 @@ use Rattle.writer.proofs.Fitting.{event_small, size_unchecked, size_whole}
 use Rattle.writer.proofs.store.store_size.Statement.{statement}
 use Rattle.writer.proofs.store.store_size.Tie as tie
 
-enum_told : tie.Need-enum-told
+enum_told : tie.Need-enum_told-1
 enum_told c = search rules
 
-slice-aggregate-pair-tables : tie.Need-slice-aggregate-pair-tables
+slice-aggregate-pair-tables : tie.Need-slice_bounds-pair_tables-end
 slice-aggregate-pair-tables c =
-    let k = c.before in
-    sym (k.before.before.inspect.ensures.1.0 (ap has_passed (ap outcome_of k.enum_told.given.1))).long
+    let k = c in
+    sym (k.inspect.ensures.1.0 (ap has_passed (ap outcome_of k.in-Done.is))).long
 
-pair-tables-requires : tie.Need-pair-tables-requires
+pair-tables-requires : tie.Need-pair_tables-requires
 pair-tables-requires c κs =
-    let k = c.before in
-    let i = k.before.before in
-    let e : passed ≡ checks _ _ = sym (ap outcome_of k.enum_told.given.1) ∙ i.inspect.ensures.0 in
+    let k = c in
+    let i = k in
+    let e : passed ≡ checks _ _ = sym (ap outcome_of k.in-Done.is) ∙ i.inspect.ensures.0 in
     let p = passed_checked _ _ e in
-    (p.long_terms, p.good_terms, i.inspect.ensures.1.0 (ap has_passed (ap outcome_of k.enum_told.given.1)))
+    (p.long_terms, p.good_terms, i.inspect.ensures.1.0 (ap has_passed (ap outcome_of k.in-Done.is)))
 
 count-requires : tie.Need-count-requires
 count-requires c κs =
-    let k = c.before.before in
-    let e : passed ≡ checks _ _ = sym (ap outcome_of k.enum_told.given.1) ∙ k.before.before.inspect.ensures.0 in
-    (c.pair-tables.ensures, (passed_checked _ _ e).long_state, event_small _ _ e)
+    let k = c in
+    let e : passed ≡ checks _ _ = sym (ap outcome_of k.in-Done.is) ∙ k.inspect.ensures.0 in
+    (c.pair_tables.ensures, (passed_checked _ _ e).long_state, event_small _ _ e)
 
-returns : tie.Need-returns
+returns : tie.Need-returns-in-Done
 unfolding store_size_gives
 returns c =
-    let k = c.before.before.before in
-    size_whole _ (stored_text _ _) (sym (ap outcome_of k.enum_told.given.1) ∙ k.before.before.inspect.ensures.0) _ c.count.ensures
+    let k = c in
+    size_whole _ (stored_text _ _) (sym (ap outcome_of k.in-Done.is) ∙ k.inspect.ensures.0) _ c.count.ensures
 
-returns-2 : tie.Need-returns-2
+returns-2 : tie.Need-returns-in-Refused
 unfolding store_size_gives
-returns-2 c = size_unchecked _ (stored_text _ _) _ _ (sym (ap outcome_of c.before.n.given.1) ∙ c.before.before.before.inspect.ensures.0)
+returns-2 c = size_unchecked _ (stored_text _ _) _ _ (sym (ap outcome_of c.in-Refused.is) ∙ c.inspect.ensures.0)
 
-pub store-size-spec : {M : Type 1} → statement M
-store-size-spec =
+pub store_size_spec : {M : Type 1} → statement M
+store_size_spec =
     tie.close
     (tie.spec
     (λ c κs. search rules)

@@ -18,17 +18,15 @@ no-action (suc zero) h k = absurd (h refl)
 no-action (suc (suc zero)) h k = absurd (k refl)
 no-action (suc (suc (suc n))) h k = refl
 
-pub put-action-spec : {M : Type 1} → statement M
+pub put_action_spec : {M : Type 1} → statement M
 unfolding action_words
-put-action-spec =
+put_action_spec =
     tie.close
     (tie.spec
-    (λ c. search rules)
+    (λ c κs. search rules)
     (λ c κs. search rules)
     (λ c. search rules)
-    (λ c κs. search rules)
+    (λ c. put_at ([] ∷ action_words) 1 _ c.in-1.is (c.put_bytes.ensures.all (omega arith)))
     (λ c. search rules)
-    (λ c. put_at ([] ∷ action_words) 1 _ c.before.before.before.before.before.match.keys1 (c.before.before.put-bytes.ensures.all (omega arith)))
-    (λ c. search rules)
-    (λ c. put_at ([] ∷ action_words) 2 _ c.before.before.before.before.before.match.keys2 (c.before.before.put-bytes2.ensures.all (omega arith)))
-    (λ c. rw (no-action _ c.match.rest.0.1 c.match.rest.1) (put_none _ _)))
+    (λ c. put_at ([] ∷ action_words) 2 _ c.in-2.is (c.put_bytes-in-2.ensures.all (omega arith)))
+    (λ c. rw (no-action _ c.in_default.in_default-own.rest.0.1 c.in_default.in_default-own.rest.1) (put_none _ _)))

@@ -6,19 +6,19 @@ use Rattle.writer.proofs.write.put_entry_of.Tie as tie
 
 returns : tie.Need-returns
 returns c =
-    let e = c.before.before.put-entry.ensures in
-    let w = c.before.before.before.before in (
+    let e = c.put_entry.ensures in
+    let w = c in (
       rw (
-        ← w.before.before.before.op-of.ensures.0,
-        ← w.before.before.first_of.ensures.0,
-        ← w.before.second-of.ensures.0,
-        ← w.third_of.ensures.0,
+        ← w.op_of-op.ensures.0,
+        ← w.first_of-a.ensures.0,
+        ← w.second_of-b.ensures.0,
+        ← w.third_of-c.ensures.0,
       ) (put_line _ e.0),
       e.1,
     )
 
-pub put-entry-of-spec : {M : Type 1} → statement M
-put-entry-of-spec =
+pub put_entry_of_spec : {M : Type 1} → statement M
+put_entry_of_spec =
     tie.close
     (tie.spec
     (λ c κs. search rules)

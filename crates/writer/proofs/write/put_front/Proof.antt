@@ -11,16 +11,16 @@ use Rattle.writer.proofs.write.put_front.Tie as tie
 returns : tie.Need-returns
 unfolding terms_of fields_of
 returns c =
-    let w = c.before.before.before in
-    let m = w.before.before.before.before.before in (
+    let w = c in
+    let m = w in (
       put_lines (Members _ ∷ []) (Labels _ _ ∷ [])
-          (put_line (Members _) (rw m.before.members.ensures.0 at m.put-single.ensures.0))
-          (put_line (Labels _ _) (rw (w.before.relations.ensures.0, w.events.ensures.0) at c.before.before.put-pair.ensures.0)),
+          (put_line (Members _) (rw m.members.ensures.0 at m.put_single-next.ensures.0))
+          (put_line (Labels _ _) (rw (w.relations.ensures.0, w.events.ensures.0) at c.put_pair.ensures.0)),
       search rules,
     )
 
-pub put-front-spec : {M : Type 1} → statement M
-put-front-spec =
+pub put_front_spec : {M : Type 1} → statement M
+put_front_spec =
     tie.close
     (tie.spec
     (λ c κs. search rules)

@@ -8,21 +8,21 @@ use Rattle.writer.proofs.PutLines.{put_mark_there, put_mark_none}
 use Rattle.writer.proofs.write.put_mark_of.Statement.{statement}
 use Rattle.writer.proofs.write.put_mark_of.Tie as tie
 
-returns : tie.Need-returns
+returns : tie.Need-returns-then-not-is_kept
 returns c =
-    let a = c.before.before.before.before in
-    (put_mark_none (terms_of a.args.terms.now) a.args.j _ c.before.is-kept.ensures _ _ (not-true _ c.if1.true), omega arith)
+    let a = c in
+    (put_mark_none (terms_of a.args.terms.now) a.args.j _ c.is_kept.ensures _ _ (not-true _ c.if-not-is_kept.true-raw), omega arith)
 
-returns-2 : tie.Need-returns-2
+returns-2 : tie.Need-returns
 unfolding fields_of
 returns-2 c =
-    let e = c.before.before.put-single.ensures in
-    let t = c.before.before.before.before in
-    let a = t.before.before.before.before in
-    (put_mark_there (terms_of a.args.terms.now) a.args.j _ t.before.is-kept.ensures (not-false _ t.if1.false) e.0, e.1)
+    let e = c.put_single.ensures in
+    let t = c in
+    let a = t in
+    (put_mark_there (terms_of a.args.terms.now) a.args.j _ t.is_kept.ensures (not-false _ t.if-not-is_kept.false-raw) e.0, e.1)
 
-pub put-mark-of-spec : {M : Type 1} → statement M
-put-mark-of-spec =
+pub put_mark_of_spec : {M : Type 1} → statement M
+put_mark_of_spec =
     tie.close
     (tie.spec
     (λ c κs. search rules)

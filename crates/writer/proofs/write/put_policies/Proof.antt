@@ -8,26 +8,26 @@ use Rattle.writer.proofs.PutLines.{Running, running_start, running_more, running
 use Rattle.writer.proofs.write.put_policies.Statement.{statement}
 use Rattle.writer.proofs.write.put_policies.Tie as tie
 
-abbrev invariant-loop : tie.invariant-loop
+abbrev invariant-loop : tie.invariant-loop-j
 invariant-loop terms out₀ at count j₀ next₀ out j next = Running out₀ out at next 32 count j (policy_of (terms_of terms))
 
-abbrev decreases-loop : tie.decreases-loop
+abbrev decreases-loop : tie.decreases-loop-j
 decreases-loop terms out₀ at count j₀ next₀ out j next = count - j
 
-loop-again : tie.Need-loop-preserved invariant-loop decreases-loop
+loop-again : tie.Need-loop-j-preserved invariant-loop decreases-loop
 loop-again c =
-    let t = c.before.before.before.before in
-    let e = c.before.before.put-policy-of.ensures in
-    running_more t.loop-test.true t.before.loop.invariant e.0 e.1
+    let t = c in
+    let e = c.put_policy_of-next.ensures in
+    running_more t.loop-j-test.true t.loop-j.invariant e.0 e.1
 
 returns : tie.Need-returns invariant-loop decreases-loop
 unfolding terms_of
 returns c =
-    let l = c.before in
-    (rw (← l.before.events.ensures.0) (running_end c.loop-test.false l.loop.invariant), search rules)
+    let l = c in
+    (rw (← l.events-count.ensures.0) (running_end c.loop-j-test.false l.loop-j.invariant), search rules)
 
-pub put-policies-spec : {M : Type 1} → statement M
-put-policies-spec =
+pub put_policies_spec : {M : Type 1} → statement M
+put_policies_spec =
     tie.close
     (tie.spec
     invariant-loop
@@ -38,5 +38,5 @@ put-policies-spec =
     (λ c. search rules)
     (λ c. search rules)
     loop-again
-    (λ c. put_long c.before.loop.invariant.put)
+    (λ c. put_long c.loop-j.invariant.put)
     returns)

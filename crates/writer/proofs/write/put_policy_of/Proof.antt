@@ -9,11 +9,11 @@ use Rattle.writer.proofs.write.put_policy_of.Tie as tie
 returns : tie.Need-returns
 unfolding fields_of
 returns c =
-    let e = c.before.before.put-pair.ensures in
-    (rw (← c.before.before.before.before.policy-of.ensures.0) (put_line (Policy _ _) e.0), e.1)
+    let e = c.put_pair.ensures in
+    (rw (← c.policy_of-n.ensures.0) (put_line (Policy _ _) e.0), e.1)
 
-pub put-policy-of-spec : {M : Type 1} → statement M
-put-policy-of-spec =
+pub put_policy_of_spec : {M : Type 1} → statement M
+put_policy_of_spec =
     tie.close
     (tie.spec
     (λ c κs. search rules)

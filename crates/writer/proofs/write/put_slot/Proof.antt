@@ -6,19 +6,19 @@ use Rattle.writer.proofs.write.put_slot.Tie as tie
 
 returns : tie.Need-returns
 returns c =
-    let e = c.before.before.put-effect.ensures in
-    let d = c.before.before.before.before in
-    let v = d.before in
-    let r = v.before in
-    let a = r.before in
-    let w = a.before in (
-      rw (← w.word.ensures.0, ← a.one-or.ensures, ← r.word2.ensures.0, ← v.word3.ensures.0, ← d.one-or2.ensures)
+    let e = c.put_effect.ensures in
+    let d = c in
+    let v = d in
+    let r = v in
+    let a = r in
+    let w = a in (
+      rw (← w.word.ensures.0, ← a.one_or-action.ensures, ← r.word-relation.ensures.0, ← v.word-2.ensures.0, ← d.one_or-direction.ensures)
           (put_line _ e.0),
       e.1,
     )
 
-pub put-slot-spec : {M : Type 1} → statement M
-put-slot-spec =
+pub put_slot_spec : {M : Type 1} → statement M
+put_slot_spec =
     tie.close
     (tie.spec
     (λ c κs. search rules)

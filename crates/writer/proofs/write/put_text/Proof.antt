@@ -9,22 +9,22 @@ use Rattle.writer.proofs.write.put_text.Tie as tie
 returns : tie.Need-returns
 unfolding written_text written all_lines
 returns c =
-    let c6 = c.before.before in
-    let c5 = c6.before.before.before.before in
-    let c4 = c5.before.before.before.before in
-    let c3 = c4.before.before.before.before in
-    let c2 = c3.before.before.before.before in
-    let c1 = c2.before.before.before.before in (
-      put_lines _ _ c1.put_front.ensures.0
-          (put_lines _ _ c2.put_entries.ensures.0
-          (put_lines _ _ c3.put-policies.ensures.0
-          (put_lines _ _ c4.put-marks.ensures.0
-          (put_lines _ _ c5.put-effects.ensures.0 c6.put-edges.ensures.0)))),
+    let c6 = c in
+    let c5 = c6 in
+    let c4 = c5 in
+    let c3 = c4 in
+    let c2 = c3 in
+    let c1 = c2 in (
+      put_lines _ _ c1.put_front-entries.ensures.0
+          (put_lines _ _ c2.put_entries-policies.ensures.0
+          (put_lines _ _ c3.put_policies-marks.ensures.0
+          (put_lines _ _ c4.put_marks-effects.ensures.0
+          (put_lines _ _ c5.put_effects-edges.ensures.0 c6.put_edges.ensures.0)))),
       search rules,
     )
 
-pub put-text-spec : {M : Type 1} → statement M
-put-text-spec =
+pub put_text_spec : {M : Type 1} → statement M
+put_text_spec =
     tie.close
     (tie.spec
     (λ c κs. search rules)

@@ -6,18 +6,18 @@ use Rattle.writer.proofs.OldForm.{size_failed}
 use Rattle.writer.proofs.write.size.Statement.{statement}
 use Rattle.writer.proofs.write.size.Tie as tie
 
-returns-2 : tie.Need-returns-2
+returns-2 : tie.Need-returns-in-Refused
 returns-2 c =
-    let k = c.before.before.before in
-    size_failed _ _ _ _ (sym (ap outcome_of c.before.n.given.1) ∙ k.check.ensures)
+    let k = c in
+    size_failed _ _ _ _ (sym (ap outcome_of c.in-Refused.is) ∙ k.check.ensures)
 
-pub size-spec : {M : Type 1} → statement M
-size-spec =
+pub size_spec : {M : Type 1} → statement M
+size_spec =
     tie.close
     (tie.spec
     (λ c κs. search rules)
     (λ c. search rules)
-    (λ c κs. sym (ap outcome_of c.enum_told.given.1) ∙ c.before.before.check.ensures)
+    (λ c κs. sym (ap outcome_of c.in-Done.is) ∙ c.check.ensures)
     (λ c. search rules)
     (λ c. search rules)
     returns-2)

@@ -6,14 +6,14 @@ use Rattle.writer.proofs.OldForm.{ends_failed}
 use Rattle.writer.proofs.write.write.Statement.{statement}
 use Rattle.writer.proofs.write.write.Tie as tie
 
-write-checked-requires : tie.Need-write-checked-requires
+write-checked-requires : tie.Need-write_checked-requires
 write-checked-requires c κs =
-    sym (ap outcome_of c.before.enum_told.given.1) ∙ c.before.before.before.check.ensures
+    sym (ap outcome_of c.in-Done.is) ∙ c.check.ensures
 
-returns-2 : tie.Need-returns-2
+returns-2 : tie.Need-returns-in-Refused
 returns-2 c =
-    let k = c.before.before.before in
-    ends_failed _ _ _ _ _ (sym (ap outcome_of c.before.n.given.1) ∙ k.check.ensures)
+    let k = c in
+    ends_failed _ _ _ _ _ (sym (ap outcome_of c.in-Refused.is) ∙ k.check.ensures)
 
 pub write_spec : {M : Type 1} → statement M
 write_spec =

@@ -15,33 +15,33 @@ use Rattle.writer.proofs.write.write_checked.Tie as tie
 long_enough : (c : tie.Start) → (1024 ≤ length c.args.state.now) × (0 < 2 ^ 55)
 long_enough c = (omega (arith, (passed_checked _ _ c.requires).long_state), omega arith)
 
-returns : tie.Need-returns
+returns : tie.Need-returns-then-not-is_fresh
 returns c =
-    let f = c.before in
-    ends_past _ _ _ f.before.before.before.before.requires (found _ _ (not-true _ c.if1.true) f.is-fresh.ensures)
+    let f = c in
+    ends_past _ _ _ f.requires (found _ _ (not-true _ c.if-not-is_fresh.true-raw) f.is_fresh.ensures)
 
-returns-2 : tie.Need-returns-2
+returns-2 : tie.Need-returns-then-out-n
 unfolding write_gives
 returns-2 c =
-    let k = c.before in
-    let f = k.before in
-    let e = f.before.before.before.before.before.requires in
-    ends_fresh _ _ _ e (found _ _ (not-false _ f.if1.false) f.before.is-fresh.ensures) _ _
-    (ends_short _ (written_text _ _) _ e _ k.count.ensures c.if2.true)
+    let k = c in
+    let f = k in
+    let e = f.requires in
+    ends_fresh _ _ _ e (found _ _ (not-false _ f.if-not-is_fresh.false-raw) f.is_fresh.ensures) _ _
+    (ends_short _ (written_text _ _) _ e _ k.count-n.ensures c.if-out-n.true)
 
-returns-3 : tie.Need-returns-3
+returns-3 : tie.Need-returns
 unfolding write_gives
 returns-3 c =
-    let p = c.before.before in
-    let i = p.before.before in
-    let k = i.before in
-    let f = k.before in
-    let e = f.before.before.before.before.before.requires in
-    ends_fresh _ _ _ e (found _ _ (not-false _ f.if1.false) f.before.is-fresh.ensures) _ _
-    (ends_whole _ (written_text _ _) _ e _ k.count.ensures i.if2.false _ _ p.put-text.ensures.0)
+    let p = c in
+    let i = p in
+    let k = i in
+    let f = k in
+    let e = f.requires in
+    ends_fresh _ _ _ e (found _ _ (not-false _ f.if-not-is_fresh.false-raw) f.is_fresh.ensures) _ _
+    (ends_whole _ (written_text _ _) _ e _ k.count-n.ensures i.if-out-n.false _ _ p.put_text.ensures.0)
 
-pub write-checked-spec : {M : Type 1} → statement M
-write-checked-spec =
+pub write_checked_spec : {M : Type 1} → statement M
+write_checked_spec =
     tie.close
     (tie.spec
     (λ c κs. search rules)
