@@ -134,7 +134,7 @@ module _ {M : Type 1} {𝓤 : Ura M} (𝓛 : Logic 𝓤) (mem : Memory → SProp
   to-list = ((κlist, (qt, (qs, (qc, (qr, tt)))), tt, asked, (mt ∷ [], (ms ∷ [], (mc ∷ [], (mr ∷ [], tt))))), tt)
 
   goes-list : ent 𝓤 (sep 𝓤 (sep 𝓤 (A.lft κt qt) (sep 𝓤 (A.lft κs qs) (sep 𝓤 (A.lft κc qc) (sep 𝓤 (A.lft κr qr) (sem 𝓛 ftrue))))) (sem 𝓛 (owns (ShrSlice (named 0) κt u16 ∷ MutSlice (named 1) κs u64 ∷ MutSlice (named 2) κc u64 ∷ MutSlice (named 3) κr R ∷ []) asked (mt ∷ [], (ms ∷ [], (mc ∷ [], (mr ∷ [], tt)))))))
-      ((Whole 𝓛 mem run).pre to-list)
+      ((Whole 𝓛 mem run).requires to-list)
   goes-list = beside 𝓤 _ (emp 𝓤) (id⊢ 𝓤 (emp 𝓤))
 
   abbrev Said : Listed → List ℕ → List ℕ → List Record → Type 0
@@ -144,7 +144,7 @@ module _ {M : Type 1} {𝓤 : Ura M} (𝓛 : Logic 𝓤) (mem : Memory → SProp
   abbrev to-tell : Listed → Val → (Tell 𝓛 mem run).Ghost
   to-tell r w = (((κn, tt), (qn, tt), tt, (r, (xn, tt)), (w ∷ [], (mn ∷ [], tt))), tt)
 
-  goes-tell : (r : Listed) (w : Val) → ent 𝓤 (sep 𝓤 (sep 𝓤 (A.lft κn qn) (sem 𝓛 ftrue)) (sem 𝓛 (owns (S.the_row ∷ MutRef (named 4) κn usize ∷ []) (r, (xn, tt)) (w ∷ [], (mn ∷ [], tt))))) ((Tell 𝓛 mem run).pre (to-tell r w))
+  goes-tell : (r : Listed) (w : Val) → ent 𝓤 (sep 𝓤 (sep 𝓤 (A.lft κn qn) (sem 𝓛 ftrue)) (sem 𝓛 (owns (S.the_row ∷ MutRef (named 4) κn usize ∷ []) (r, (xn, tt)) (w ∷ [], (mn ∷ [], tt))))) ((Tell 𝓛 mem run).requires (to-tell r w))
   goes-tell r w = beside 𝓤 _ (emp 𝓤) (id⊢ 𝓤 (emp 𝓤))
 
   abbrev Told : Listed → ℕ → ℕ → Type 0
@@ -183,7 +183,7 @@ module _ {M : Type 1} {𝓤 : Ura M} (𝓛 : Logic 𝓤) (mem : Memory → SProp
         -- scratch; state; terms; _13; …].
         nothing ! $ move ! (2 ∷ 0 ∷ []) $ join ! $ move ! (2 ∷ 0 ∷ []) $ join ! $ move ! (2 ∷ 0 ∷ []) $ join ! $ move ! (2 ∷ 0 ∷ []) $ join ! $
         nothing ! $ move ! (4 ∷ 0 ∷ []) $ fjoin ! $ move ! (4 ∷ 0 ∷ []) $ fjoin ! $ move ! (4 ∷ 0 ∷ []) $ fjoin ! $ move ! (4 ∷ 0 ∷ []) $ fjoin ! $ move ! (1 ∷ 0 ∷ []) $
-        use2 𝓛 (raw ((Whole 𝓛 mem run).pre to-list)) goes-list $
+        use2 𝓛 (raw ((Whole 𝓛 mem run).requires to-list)) goes-list $
         calls_at ! fm (Whole 𝓛 mem run) known-list to-list (and_then ! (load ! (from ! (stop !)) (look ! 27 refl)) (and_then ! (load ! (from ! (stop !)) (look ! 13 refl)) (and_then ! (load ! (from ! (stop !)) (look ! 9 refl)) (and_then ! (load ! (from ! (stop !)) (look ! 5 refl)) (no_more !))))) (λ w.
         use1 𝓛 (later (some (λ (r : Listed). ((‵ (flft κt qt) ⊛ ‵ (flft κs qs) ⊛ ‵ (flft κc qc) ⊛ ‵ (flft κr qr) ⊛ ‵ ftrue) ⊛ ‵ ((S.the_row).own_val r (w ∷ []))) ⊛ raw (ensured 𝓛 list.ended (list.clauses 𝓛 mem run) κlist asked tt r)))) (id⊢ 𝓤 _) $ await ! tt $ pick ! (λ r. split ! $ move ! (1 ∷ []) $
         use1 𝓛 (some (λ (zs : Unit {0} × (List ℕ × (List ℕ × (List Record × Unit {0})))). ‵ (lasts list.ended κlist asked zs) ⊛ raw (fact 𝓤 (Said r zs.1.0 zs.1.1.0 zs.1.1.1.0)))) (id⊢ 𝓤 _) $ pick ! (λ zs. split ! $ move ! (1 ∷ []) $ heard ! (Said r zs.1.0 zs.1.1.0 zs.1.1.1.0) (λ e.
@@ -193,7 +193,7 @@ module _ {M : Type 1} {𝓤 : Ura M} (𝓛 : Logic 𝓤) (mem : Memory → SProp
         move ! (3 ∷ []) $ split ! $ move ! (1 ∷ []) $ peeks ! S.the_row (Is S.the_row) (shows 𝓛 S.the_row) r (w ∷ []) (λ is. land ! (from ! (stop !)) (init ! 21 refl ((EL.lawful S.the_type S'.the_laws 𝓛 tt).typed r _ is).0) $
         assigns ! (addr ! (from ! (hop ! (look ! 23 refl) (stop !)))) (from ! (stop !)) (init ! 7 refl (tt, tt)) $
         nothing ! $ move ! (6 ∷ 0 ∷ []) $ join ! $ nothing ! $ move ! (7 ∷ 0 ∷ []) $ fjoin ! $ move ! (2 ∷ 0 ∷ []) $ fjoin ! $ move ! (1 ∷ 0 ∷ []) $
-        use2 𝓛 (raw ((Tell 𝓛 mem run).pre (to-tell r w))) (goes-tell r w) $
+        use2 𝓛 (raw ((Tell 𝓛 mem run).requires (to-tell r w))) (goes-tell r w) $
         calls_at ! fm (Tell 𝓛 mem run) known-tell (to-tell r w) (and_then ! (load ! (from ! (stop !)) (look ! 19 refl)) (and_then ! (load ! (from ! (stop !)) (look ! 5 refl)) (no_more !))) (λ w'.
         use1 𝓛 (later (some (λ (k : ℕ). ((‵ (flft κn qn) ⊛ ‵ ftrue) ⊛ ‵ (usize.own_val k (w' ∷ []))) ⊛ raw (ensured 𝓛 tell.ended (tell.clauses 𝓛 mem run) (κn, tt) (r, (xn, tt)) tt k)))) (id⊢ 𝓤 _) $ await ! tt $ pick ! (λ k. split ! $ move ! (1 ∷ []) $
         use1 𝓛 (some (λ (ns : Unit {0} × (ℕ × Unit {0})). ‵ (lasts tell.ended (κn, tt) (r, (xn, tt)) ns) ⊛ raw (fact 𝓤 (Told r k ns.1.0)))) (id⊢ 𝓤 _) $ pick ! (λ ns. split ! $ move ! (1 ∷ []) $ heard ! (Told r k ns.1.0) (λ e'. fsplit ! $ drop ! $ fsplit ! $ move ! (1 ∷ []) $ drop ! $
@@ -219,9 +219,9 @@ module _ {M : Type 1} {𝓤 : Ura M} (𝓛 : Logic 𝓤) (mem : Memory → SProp
   meets = walk_Meets 𝓛 f.ended stayed (Goes-dropped 𝓛 5 (shr_slice_of (0 ∷ []) tt (plain (λ _. u16))) yes (λ κs x f. refl), (Goes-gave_slice 𝓛 5 1 tt (plain (λ _. u64)), (Goes-gave_slice 𝓛 5 2 tt (plain (λ _. u64)), (Goes-gave_slice 𝓛 5 3 tt (plain (λ _. R)), (Goes-gave_ref 𝓛 5 4 tt (plain (λ _. usize)), tt))))) (f.clauses 𝓛 mem run)
       (WpFn 𝓤 H 𝓣.C 𝓣.Λ code.function) (WpFn-mono 𝓤 H 𝓛.laws 𝓣 code.function) walks
 
-pub cuckooormolu-raw-set-list-spec : {M : Type 1} → stated.statement M
+pub cuckooormolu_raw_set_list_spec : {M : Type 1} → stated.statement M
 unfolding code.routine tables_of
-cuckooormolu-raw-set-list-spec 𝓤 𝓛 𝓜 𝓡 =
+cuckooormolu_raw_set_list_spec 𝓤 𝓛 𝓜 𝓡 =
     entered 𝓤 𝓛.H (triple_of 𝓛 f.signature (f.spec 𝓛 𝓜.mem 𝓡.run))
     (tables 𝓤 𝓛.H 𝓜 𝓡 code.env).C (tables 𝓤 𝓛.H 𝓜 𝓡 code.env).Λ #cuckooormolu-raw-set-list code.function (code.unfolded 𝓤 𝓛.H 𝓜 𝓡)
     (meets 𝓛 𝓜.mem 𝓡.run (tables_of 𝓤 𝓛.H 𝓜 (tables 𝓤 𝓛.H 𝓜 𝓡 code.env))

@@ -150,7 +150,7 @@ module _ {M : Type 1} {𝓤 : Ura M} (𝓛 : Logic 𝓤) (mem : Memory → SProp
       (fsep ((MutSlice (named 3) L₃.κ u64).own_val (ref L₃ L₃.γ m.1.1.0) (val L₃ ∷ [])) (fsep ((MutSlice (named 4) L₄.κ u64).own_val (ref L₄ L₄.γ m.1.1.1.0) (val L₄ ∷ []))
       (fsep ((MutSlice (named 5) L₅.κ u64).own_val (ref L₅ L₅.γ m.1.1.1.1.0) (val L₅ ∷ [])) (fsep ((MutSlice (named 6) P.κ R).own_val xr (val P ∷ [])) (fsep own-n ftrue)))))))) ∷ []
 
-  goes-list : ent 𝓤 (⋆ 𝓛 Given₀) (sep 𝓤 ((Whole 𝓛 mem run).pre to-list) (sep 𝓤 (A.lft N.κ N.q) (sem 𝓛 own-n)))
+  goes-list : ent 𝓤 (⋆ 𝓛 Given₀) (sep 𝓤 ((Whole 𝓛 mem run).requires to-list) (sep 𝓤 (A.lft N.κ N.q) (sem 𝓛 own-n)))
   goes-list =
       qed 𝓛 Given₀ ∵
       split ! $ move ! (1 ∷ []) $ split ! $ move ! (1 ∷ []) $ split ! $ move ! (1 ∷ []) $ split ! $ move ! (1 ∷ []) $ split ! $ move ! (1 ∷ []) $ split ! $
@@ -212,7 +212,7 @@ module _ {M : Type 1} {𝓤 : Ura M} (𝓛 : Logic 𝓤) (mem : Memory → SProp
   abbrev to-tell : Listed → Val → (Tell 𝓛 mem run).Ghost
   to-tell r w = (((N.κ, tt), (N.q, tt), tt, (r, (xn, tt)), (w ∷ [], (mn ∷ [], tt))), tt)
 
-  goes-tell : (r : Listed) (w : Val) → ent 𝓤 (sep 𝓤 (sem 𝓛 ((S.the_row).own_val r (w ∷ []))) (sep 𝓤 (A.lft N.κ N.q) (sem 𝓛 own-n))) ((Tell 𝓛 mem run).pre (to-tell r w))
+  goes-tell : (r : Listed) (w : Val) → ent 𝓤 (sep 𝓤 (sem 𝓛 ((S.the_row).own_val r (w ∷ []))) (sep 𝓤 (A.lft N.κ N.q) (sem 𝓛 own-n))) ((Tell 𝓛 mem run).requires (to-tell r w))
   goes-tell r w =
       qed 𝓛 (‵ ((S.the_row).own_val r (w ∷ [])) ∷ ‵ (flft N.κ N.q) ∷ ‵ own-n ∷ []) ∵ nothing ! $ move ! (3 ∷ 0 ∷ []) $ fjoin ! $ move ! (1 ∷ 0 ∷ []) $ fjoin ! $
       nothing ! $ move ! (2 ∷ 0 ∷ []) $ join ! $ join ! $ frame ! $ done !
@@ -272,12 +272,12 @@ module _ {M : Type 1} {𝓤 : Ura M} (𝓛 : Logic 𝓤) (mem : Memory → SProp
         assigns ! (agg ! (and_then ! (load ! (from ! (stop !)) (look ! 18 refl)) (and_then ! (load ! (from ! (fld ! refl (stop !))) (look_in ! 6 (sub ! 1 refl (whole !)))) (no_more !)))) (from ! (stop !)) (init ! 19 refl (tt, (tt, (record { fits = rms.1.1.1.1.0.0 }, tt)))) $
         assigns ! (addr ! (from ! (fld ! refl (hop ! (look_in ! 7 (sub ! 0 refl (whole !))) (stop !))))) (from ! (stop !)) (init ! 20 refl (tt, tt)) $
         assigns ! (agg ! (and_then ! (load ! (from ! (stop !)) (look ! 20 refl)) (and_then ! (load ! (from ! (fld ! refl (stop !))) (look_in ! 7 (sub ! 1 refl (whole !)))) (no_more !)))) (from ! (stop !)) (init ! 21 refl (tt, (tt, (record { fits = room-r.0 }, tt)))) $
-        move ! (24 ∷ 25 ∷ []) $ use2 𝓛 (raw ((Whole 𝓛 mem run).pre to-list) ⊛ (‵ (flft N.κ N.q) ⊛ ‵ own-n)) goes-list $ split ! $
+        move ! (24 ∷ 25 ∷ []) $ use2 𝓛 (raw ((Whole 𝓛 mem run).requires to-list) ⊛ (‵ (flft N.κ N.q) ⊛ ‵ own-n)) goes-list $ split ! $
         calls_at ! fm (Whole 𝓛 mem run) known-list to-list (and_then ! (load ! (from ! (stop !)) (look ! 3 refl)) (and_then ! (load ! (from ! (stop !)) (look ! 13 refl)) (and_then ! (load ! (from ! (stop !)) (look ! 15 refl)) (and_then ! (load ! (from ! (stop !)) (look ! 17 refl)) (and_then ! (load ! (from ! (stop !)) (look ! 19 refl)) (and_then ! (load ! (from ! (stop !)) (look ! 21 refl)) (and_then ! (load ! (from ! (stop !)) (look ! 23 refl)) (no_more !)))))))) (λ w.
         use1 𝓛 (later (some (λ (h : Listed × Left). given (Said h.0 h.1 × Alike h.1) (‵ ((S.the_row).own_val h.0 (w ∷ [])) ⊛ (toks ⊛ ‵ (finals h.1)))))) (comes-list w) $ await ! tt $ pick ! (λ h. learn ! (λ s. split ! $
         peeks ! S.the_row (Is S.the_row) (shows 𝓛 S.the_row) h.0 (w ∷ []) (λ is. land ! (from ! (stop !)) (init ! 12 refl ((EL.lawful S.the_type S'.the_laws 𝓛 tt).typed h.0 _ is).0) $
         assigns ! (addr ! (from ! (hop ! (look ! 11 refl) (stop !)))) (from ! (stop !)) (init ! 25 refl (tt, tt)) $ move ! (0 ∷ 2 ∷ []) $
-        use2 𝓛 (raw ((Tell 𝓛 mem run).pre (to-tell h.0 w))) (goes-tell h.0 w) $
+        use2 𝓛 (raw ((Tell 𝓛 mem run).requires (to-tell h.0 w))) (goes-tell h.0 w) $
         calls_at ! fm (Tell 𝓛 mem run) known-tell (to-tell h.0 w) (and_then ! (load ! (from ! (stop !)) (look ! 11 refl)) (and_then ! (load ! (from ! (stop !)) (look ! 24 refl)) (no_more !))) (λ w'.
         use1 𝓛 (later (some (λ (k : ℕ × ℕ). given (Told h.0 k.0 k.1) (‵ (usize.own_val k.0 (w' ∷ [])) ⊛ (‵ (flft N.κ N.q) ⊛ ‵ (fres N.γ (usize.coded.code k.1))))))) (comes-tell h.0 w w') $ await ! tt $ pick ! (λ k. learn ! (λ t. split ! $
         peeks ! usize (Is usize) (shows 𝓛 usize) k.0 (w' ∷ []) (λ is'. land ! (from ! (stop !)) (init ! 3 refl ((uint_Lawful 𝓛 w64).typed k.0 _ is').0) $
@@ -352,9 +352,9 @@ module _ {M : Type 1} {𝓤 : Ura M} (𝓛 : Logic 𝓤) (mem : Memory → SProp
   ) (f.clauses 𝓛 mem run)
       (WpFn 𝓤 H 𝓣.C 𝓣.Λ code.function) (WpFn-mono 𝓤 H 𝓛.laws 𝓣 code.function) walks
 
-pub cuckooormolu-raw-banks-set-list-spec : {M : Type 1} → stated.statement M
+pub cuckooormolu_raw_banks_set_list_spec : {M : Type 1} → stated.statement M
 unfolding code.routine tables_of
-cuckooormolu-raw-banks-set-list-spec 𝓤 𝓛 𝓜 𝓡 =
+cuckooormolu_raw_banks_set_list_spec 𝓤 𝓛 𝓜 𝓡 =
     entered 𝓤 𝓛.H (triple_of 𝓛 f.signature (f.spec 𝓛 𝓜.mem 𝓡.run))
     (tables 𝓤 𝓛.H 𝓜 𝓡 code.env).C (tables 𝓤 𝓛.H 𝓜 𝓡 code.env).Λ #banks-set-list code.function (code.unfolded 𝓤 𝓛.H 𝓜 𝓡)
     (meets 𝓛 𝓜.mem 𝓡.run (tables_of 𝓤 𝓛.H 𝓜 (tables 𝓤 𝓛.H 𝓜 𝓡 code.env))
