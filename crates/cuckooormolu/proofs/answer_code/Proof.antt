@@ -4,19 +4,19 @@ use Rattle.cuckooormolu.proofs.answer_code.Statement.{statement}
 use Rattle.cuckooormolu.proofs.answer_code.Tie as tie
 
 -- A grant.
-returns : tie.Need-returns
+returns : tie.Need-returns-in-Grant
 returns c = search rules
 
 -- A denial.
-returns-2 : tie.Need-returns-2
+returns-2 : tie.Need-returns-in-Deny
 returns-2 c = search rules
 
 -- A refusal.
-returns-3 : tie.Need-returns-3
+returns-3 : tie.Need-returns-in-Refused
 returns-3 c = search rules
 
-pub answer-code-spec : {M : Type 1} → statement M
-answer-code-spec =
+pub answer_code_spec : {M : Type 1} → statement M
+answer_code_spec =
     tie.close
     (tie.spec
     (λ c. search rules)

@@ -5,10 +5,10 @@ use Rattle.cuckooormolu.specs.Codes.{outcome_code}
 use Rattle.cuckooormolu.proofs.cuckooormolu_raw_check.Statement.{statement}
 use Rattle.cuckooormolu.proofs.cuckooormolu_raw_check.Tie as tie
 
-pub cuckooormolu-raw-check-spec : {M : Type 1} → statement M
-cuckooormolu-raw-check-spec =
+pub cuckooormolu_raw_check_spec : {M : Type 1} → statement M
+cuckooormolu_raw_check_spec =
     tie.close
     (tie.spec
     (λ c κs. search rules)
     (λ c κs. search rules)
-    (λ c. c.outcome-code.ensures ∙ ap outcome_code c.before.check.ensures))
+    (λ c. c.outcome_code.ensures ∙ ap outcome_code c.check.ensures))

@@ -7,11 +7,11 @@ use Rattle.cuckooormolu.proofs.cuckooormolu_raw_renumber.Tie as tie
 
 returns : tie.Need-returns
 returns c =
-    let k = c.before.before.before in
-    (c.outcome-code.ensures ∙ ap outcome_code k.renumber.ensures.0, k.renumber.ensures.1)
+    let k = c in
+    (c.outcome_code.ensures ∙ ap outcome_code k.renumber.ensures.0, k.renumber.ensures.1)
 
-pub cuckooormolu-raw-renumber-spec : {M : Type 1} → statement M
-cuckooormolu-raw-renumber-spec =
+pub cuckooormolu_raw_renumber_spec : {M : Type 1} → statement M
+cuckooormolu_raw_renumber_spec =
     tie.close
     (tie.spec
     (λ c κs. search rules)

@@ -7,14 +7,14 @@ use Rattle.cuckooormolu.proofs.cuckooormolu_raw_store.Tie as tie
 
 returns : tie.Need-returns
 returns c =
-    let l = c.before in
-    let k = l.before.before.before in (
-      c.writing-code.ensures ∙ ap writing_code k.store.ensures.0,
-      (l.writing-count.ensures ∙ ap writing_count k.store.ensures.0, k.store.ensures.1),
+    let l = c in
+    let k = l in (
+      c.writing_code.ensures ∙ ap writing_code k.store-w.ensures.0,
+      (l.writing_count.ensures ∙ ap writing_count k.store-w.ensures.0, k.store-w.ensures.1),
     )
 
-pub cuckooormolu-raw-store-spec : {M : Type 1} → statement M
-cuckooormolu-raw-store-spec =
+pub cuckooormolu_raw_store_spec : {M : Type 1} → statement M
+cuckooormolu_raw_store_spec =
     tie.close
     (tie.spec
     (λ c κs. search rules)

@@ -7,12 +7,12 @@ use Rattle.cuckooormolu.proofs.cuckooormolu_raw_store_size.Tie as tie
 
 returns : tie.Need-returns
 returns c =
-    let l = c.before in
-    let k = l.before in
-    (c.writing-code.ensures ∙ ap writing_code k.store-size.ensures, l.writing-count.ensures ∙ ap writing_count k.store-size.ensures)
+    let l = c in
+    let k = l in
+    (c.writing_code.ensures ∙ ap writing_code k.store_size-w.ensures, l.writing_count.ensures ∙ ap writing_count k.store_size-w.ensures)
 
-pub cuckooormolu-raw-store-size-spec : {M : Type 1} → statement M
-cuckooormolu-raw-store-size-spec =
+pub cuckooormolu_raw_store_size_spec : {M : Type 1} → statement M
+cuckooormolu_raw_store_size_spec =
     tie.close
     (tie.spec
     (λ c κs. search rules)

@@ -5,10 +5,10 @@ use Rattle.cuckooormolu.specs.Codes.{code_of}
 use Rattle.cuckooormolu.proofs.banks.cuckooormolu_raw_banks_look.Statement.{statement}
 use Rattle.cuckooormolu.proofs.banks.cuckooormolu_raw_banks_look.Tie as tie
 
-pub cuckooormolu-raw-banks-look-spec : {M : Type 1} → statement M
-cuckooormolu-raw-banks-look-spec =
+pub cuckooormolu_raw_banks_look_spec : {M : Type 1} → statement M
+cuckooormolu_raw_banks_look_spec =
     tie.close
     (tie.spec
     (λ c κs. search rules)
     (λ c κs. search rules)
-    (λ c. c.answer-code.ensures ∙ ap code_of c.before.look.ensures))
+    (λ c. c.answer_code.ensures ∙ ap code_of c.look.ensures))

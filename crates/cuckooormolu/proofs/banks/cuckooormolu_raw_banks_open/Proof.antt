@@ -7,11 +7,11 @@ use Rattle.cuckooormolu.proofs.banks.cuckooormolu_raw_banks_open.Tie as tie
 
 returns : tie.Need-returns
 returns c =
-    let k = c.before.before.before.before.before in
-    (c.outcome-code.ensures ∙ ap outcome_code k.open.ensures.0, k.open.ensures.1)
+    let k = c in
+    (c.outcome_code.ensures ∙ ap outcome_code k.open.ensures.0, k.open.ensures.1)
 
-pub cuckooormolu-raw-banks-open-spec : {M : Type 1} → statement M
-cuckooormolu-raw-banks-open-spec =
+pub cuckooormolu_raw_banks_open_spec : {M : Type 1} → statement M
+cuckooormolu_raw_banks_open_spec =
     tie.close
     (tie.spec
     (λ c κs. search rules)

@@ -7,14 +7,14 @@ use Rattle.cuckooormolu.proofs.banks.cuckooormolu_raw_banks_read.Tie as tie
 
 returns : tie.Need-returns
 returns c =
-    let l = c.before in
-    let k = l.before.before.before.before.before.before.before.before.before in (
-      c.outcome-code.ensures ∙ ap outcome_code k.read.ensures.0,
-      (l.outcome-line.ensures ∙ ap outcome_line k.read.ensures.0, k.read.ensures.1),
+    let l = c in
+    let k = l in (
+      c.outcome_code.ensures ∙ ap outcome_code k.read-o.ensures.0,
+      (l.outcome_line.ensures ∙ ap outcome_line k.read-o.ensures.0, k.read-o.ensures.1),
     )
 
-pub cuckooormolu-raw-banks-read-spec : {M : Type 1} → statement M
-cuckooormolu-raw-banks-read-spec =
+pub cuckooormolu_raw_banks_read_spec : {M : Type 1} → statement M
+cuckooormolu_raw_banks_read_spec =
     tie.close
     (tie.spec
     (λ c κs. search rules)

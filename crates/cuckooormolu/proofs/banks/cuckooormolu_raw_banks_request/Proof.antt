@@ -7,11 +7,11 @@ use Rattle.cuckooormolu.proofs.banks.cuckooormolu_raw_banks_request.Tie as tie
 
 returns : tie.Need-returns
 returns c =
-    let k = c.before.before.before.before.before.before.before.before.before.before.before in
-    (c.answer-code.ensures ∙ ap code_of k.request.ensures.0, k.request.ensures.1)
+    let k = c in
+    (c.answer_code.ensures ∙ ap code_of k.request.ensures.0, k.request.ensures.1)
 
-pub cuckooormolu-raw-banks-request-spec : {M : Type 1} → statement M
-cuckooormolu-raw-banks-request-spec =
+pub cuckooormolu_raw_banks_request_spec : {M : Type 1} → statement M
+cuckooormolu_raw_banks_request_spec =
     tie.close
     (tie.spec
     (λ c κs. search rules)

@@ -7,11 +7,11 @@ use Rattle.cuckooormolu.proofs.banks.cuckooormolu_raw_banks_revise.Tie as tie
 
 returns : tie.Need-returns
 returns c =
-    let k = c.before.before.before.before.before.before.before in
-    (c.outcome-code.ensures ∙ ap outcome_code k.revise.ensures.0, k.revise.ensures.1)
+    let k = c in
+    (c.outcome_code.ensures ∙ ap outcome_code k.revise.ensures.0, k.revise.ensures.1)
 
-pub cuckooormolu-raw-banks-revise-spec : {M : Type 1} → statement M
-cuckooormolu-raw-banks-revise-spec =
+pub cuckooormolu_raw_banks_revise_spec : {M : Type 1} → statement M
+cuckooormolu_raw_banks_revise_spec =
     tie.close
     (tie.spec
     (λ c κs. search rules)

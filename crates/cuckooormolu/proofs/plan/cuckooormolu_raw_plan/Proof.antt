@@ -16,11 +16,11 @@ coded terms state scratch plan planner rival goal u v h e = h ∙ ap ruling_code
 
 returns : tie.Need-returns
 returns c =
-    let k = c.before.before.before in
-    (coded _ _ _ _ _ _ _ _ _ c.ruling-code.ensures k.forced.ensures.0, k.forced.ensures.1)
+    let k = c in
+    (coded _ _ _ _ _ _ _ _ _ c.ruling_code.ensures k.forced.ensures.0, k.forced.ensures.1)
 
-pub cuckooormolu-raw-plan-spec : {M : Type 1} → statement M
-cuckooormolu-raw-plan-spec =
+pub cuckooormolu_raw_plan_spec : {M : Type 1} → statement M
+cuckooormolu_raw_plan_spec =
     tie.close
     (tie.spec
     (λ c κs. search rules)

@@ -5,10 +5,10 @@ use Rattle.cuckooormolu.specs.Codes.{telling_code}
 use Rattle.cuckooormolu.proofs.plan.cuckooormolu_raw_tell.Statement.{statement}
 use Rattle.cuckooormolu.proofs.plan.cuckooormolu_raw_tell.Tie as tie
 
-pub cuckooormolu-raw-tell-spec : {M : Type 1} → statement M
-cuckooormolu-raw-tell-spec =
+pub cuckooormolu_raw_tell_spec : {M : Type 1} → statement M
+cuckooormolu_raw_tell_spec =
     tie.close
     (tie.spec
     (λ c κs. search rules)
     (λ c κs. search rules)
-    (λ c. c.telling-code.ensures ∙ ap telling_code c.before.tell.ensures))
+    (λ c. c.telling_code.ensures ∙ ap telling_code c.tell.ensures))
