@@ -493,7 +493,7 @@ said = Rattle.file.proofs.Said.said
 -- Where every start is moment 0, the meaning is the table of docs/SCOPE.md without starts.
 pub from-first : (N : ℕ) (γ : Record) →
     (f : Formula) (i : ℕ) (g : Assignment) (m : ℕ) → holds N from_first γ f i g m ≡ holds_throughout N γ f i g m
-from-first = Rattle.theory.proofs.FromFirst.from_first
+from-first = Rattle.theory.proofs.FromFirst.from-first
 
 -- Every case marked in docs/SCOPE.md: the computed runs, what holds always, and what holds of effects for all
 -- relations, directions and ends.
