@@ -19,8 +19,8 @@ loop-i-preserved c =
     let l = c.loop-i in (
       omega arith,
       rw c.tally-count.ensures (turn _ _ _ Free l.i l.count l.records (l.relations, (l.own, (l.other, (l.scratch, (l.spare, tt))))) c.step-answer.result
-      (s.relations, (s.own, (s.other, (s.scratch, (s.spare, tt))))) c.step-answer.ensures tt l.invariant.1
-      (within _ _ _ _ _ c.loop-i-test.true c.turns-n.ensures l.invariant.1.size)),
+          (s.relations, (s.own, (s.other, (s.scratch, (s.spare, tt))))) c.step-answer.ensures tt l.invariant.1
+          (within _ _ _ _ _ c.loop-i-test.true c.turns-n.ensures l.invariant.1.size)),
     )
 
 pub returns : goal.returns

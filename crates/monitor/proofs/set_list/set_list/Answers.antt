@@ -24,11 +24,11 @@ bounds-records-i c = within _ _ _ _ _ c.loop-i-test.true c.turns-n.ensures c.loo
 
 pub loop-i-preserved : goal.loop-i-preserved
 loop-i-preserved c = (
-      omega arith,
-      c.loop-i.invariant.1,
-      rw c.tally-count.ensures (turn _ _ _ _ _ c.loop-i.invariant.1 _ _ _ _ _ _ _ _ c.step-answer.ensures c.step-answer.auto.state c.step-answer.auto.scratch c.loop-i.invariant.2
+  omega arith,
+  c.loop-i.invariant.1,
+  rw c.tally-count.ensures (turn _ _ _ _ _ c.loop-i.invariant.1 _ _ _ _ _ _ _ _ c.step-answer.ensures c.step-answer.auto.state c.step-answer.auto.scratch c.loop-i.invariant.2
       (within _ _ _ _ _ c.loop-i-test.true c.turns-n.ensures c.loop-i.invariant.2.size)),
-    )
+)
 
 pub returns : goal.returns
 returns c =
