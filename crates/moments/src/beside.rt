@@ -129,8 +129,7 @@ fn move_shared(
 }
 
 // The same, without a memo where that is brief. The rows are the first words of scratch; where there are more, it calls
-// itself with the rows alone, and leaves all of them 0. (Since this calls itself, the compiler does not take the memo
-// of `move_shared` into its frame.)
+// itself with the rows alone, and leaves all of them 0.
 fn move_on(
     terms: &[u16],
     index: &[u16],
