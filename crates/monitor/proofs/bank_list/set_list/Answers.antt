@@ -1,5 +1,5 @@
 -- `BankListing` over the five banks of words, turn by turn.
-use Rattle.std.proofs.Common.{◌≡◌, ℕ, ◌<◌, ◌∙◌, subst, arith}
+use Rattle.std.proofs.Common.{◌≡◌, ℕ, ◌∙◌, subst, arith}
 use Rattle.monitor.proofs.Listing.{within}
 use Rattle.monitor.proofs.BankListing.{Mem, Facts, Free, begins, turn, ends}
 use Rattle.monitor.proofs.bank_list.set_list.Goals as goal
@@ -19,8 +19,8 @@ loop-i-preserved c =
     let l = c.loop-i in (
       omega arith,
       rw c.tally-count.ensures (turn _ _ _ Free l.i l.count l.records (l.relations, (l.own, (l.other, (l.scratch, (l.spare, tt))))) c.step-answer.result
-      (s.relations, (s.own, (s.other, (s.scratch, (s.spare, tt))))) c.step-answer.ensures tt l.invariant.1
-      (within _ _ _ _ _ c.loop-i-test.true c.turns-n.ensures l.invariant.1.size)),
+          (s.relations, (s.own, (s.other, (s.scratch, (s.spare, tt))))) c.step-answer.ensures tt l.invariant.1
+          (within _ _ _ _ _ c.loop-i-test.true c.turns-n.ensures l.invariant.1.size)),
     )
 
 pub returns : goal.returns

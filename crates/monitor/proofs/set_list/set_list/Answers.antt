@@ -1,8 +1,5 @@
 -- `Listing` over state and scratch, turn by turn.
-use Rattle.std.proofs.Common.{◌≡◌, ℕ, ◌+◌, ◌<◌, ◌≤◌, List, length, sym, ap, ◌∙◌, subst, arith, rules}
-use Rattle.memory.specs.Outcome.{Outcome, outcome_of}
-use Rattle.calls.specs.SetList.{listing_of, listing}
-use Rattle.calls.specs.private.Listing.{turns_of}
+use Rattle.std.proofs.Common.{◌≡◌, ℕ, ◌<◌, ◌∙◌, subst, arith}
 use Rattle.monitor.proofs.Listing.{within}
 use Rattle.monitor.proofs.SetListing.{Facts, begins, asks, turn, ends}
 use Rattle.monitor.proofs.set_list.set_list.Goals as goal
@@ -24,11 +21,11 @@ bounds-records-i c = within _ _ _ _ _ c.loop-i-test.true c.turns-n.ensures c.loo
 
 pub loop-i-preserved : goal.loop-i-preserved
 loop-i-preserved c = (
-      omega arith,
-      c.loop-i.invariant.1,
-      rw c.tally-count.ensures (turn _ _ _ _ _ c.loop-i.invariant.1 _ _ _ _ _ _ _ _ c.step-answer.ensures c.step-answer.auto.state c.step-answer.auto.scratch c.loop-i.invariant.2
+  omega arith,
+  c.loop-i.invariant.1,
+  rw c.tally-count.ensures (turn _ _ _ _ _ c.loop-i.invariant.1 _ _ _ _ _ _ _ _ c.step-answer.ensures c.step-answer.auto.state c.step-answer.auto.scratch c.loop-i.invariant.2
       (within _ _ _ _ _ c.loop-i-test.true c.turns-n.ensures c.loop-i.invariant.2.size)),
-    )
+)
 
 pub returns : goal.returns
 returns c =
