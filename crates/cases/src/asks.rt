@@ -2,7 +2,6 @@
 use crate::columns::{Call, call_at, label, number_at, term_at, word_at};
 use crate::lent::{looking, reading, requesting};
 use crate::show::show_answer;
-use fields::word::same;
 use memory::layout::{SCRATCH, STATE, TERMS};
 use std::io;
 
@@ -113,46 +112,25 @@ fn asks_damaged_state(rt: &impl Print, l: &[u8], head: &[u8]) -> io::Result<()> 
 
 // Runs a case of plain calls, and says whether it is one.
 pub(crate) fn run(rt: &impl Print, kind: &[u8], l: &[u8], head: &[u8]) -> io::Result<bool> {
-    if same(kind, b"asks") {
-        asks(rt, l, head)?;
-        return Ok(true);
+    match kind {
+        b"asks" => asks(rt, l, head)?,
+        b"looks" => looks(rt, l, head)?,
+        b"asks_after" => asks_after(rt, l, head)?,
+        b"asks_after_two" => asks_after_two(rt, l, head)?,
+        b"asks_after_look" => asks_after_look(rt, l, head)?,
+        _ => return Ok(false),
     }
-    if same(kind, b"looks") {
-        looks(rt, l, head)?;
-        return Ok(true);
-    }
-    if same(kind, b"asks_after") {
-        asks_after(rt, l, head)?;
-        return Ok(true);
-    }
-    if same(kind, b"asks_after_two") {
-        asks_after_two(rt, l, head)?;
-        return Ok(true);
-    }
-    if same(kind, b"asks_after_look") {
-        asks_after_look(rt, l, head)?;
-        return Ok(true);
-    }
-    Ok(false)
+    Ok(true)
 }
 
 // Runs a case of calls with other lengths or other words, and says whether it is one.
 pub(crate) fn run_with(rt: &impl Print, kind: &[u8], l: &[u8], head: &[u8]) -> io::Result<bool> {
-    if same(kind, b"asks_with") {
-        asks_with(rt, l, head)?;
-        return Ok(true);
+    match kind {
+        b"asks_with" => asks_with(rt, l, head)?,
+        b"looks_with" => looks_with(rt, l, head)?,
+        b"asks_damaged_terms" => asks_damaged_terms(rt, l, head)?,
+        b"asks_damaged_state" => asks_damaged_state(rt, l, head)?,
+        _ => return Ok(false),
     }
-    if same(kind, b"looks_with") {
-        looks_with(rt, l, head)?;
-        return Ok(true);
-    }
-    if same(kind, b"asks_damaged_terms") {
-        asks_damaged_terms(rt, l, head)?;
-        return Ok(true);
-    }
-    if same(kind, b"asks_damaged_state") {
-        asks_damaged_state(rt, l, head)?;
-        return Ok(true);
-    }
-    Ok(false)
+    Ok(true)
 }

@@ -4,7 +4,6 @@ use crate::lent::{ROOM, reading, reading_front};
 use crate::show::show_outcome;
 use fields::emit::put_decimal;
 use fields::field::piece;
-use fields::word::same;
 use memory::layout::{STATE, TERMS};
 use std::io;
 
@@ -76,21 +75,12 @@ fn reads_into(rt: &impl Print, l: &[u8], head: &[u8]) -> io::Result<()> {
 
 // Runs a case of these kinds, and says whether it is one.
 pub(crate) fn run(rt: &impl Print, kind: &[u8], l: &[u8], head: &[u8]) -> io::Result<bool> {
-    if same(kind, b"reads") {
-        reads(rt, l)?;
-        return Ok(true);
+    match kind {
+        b"reads" => reads(rt, l)?,
+        b"reads_parts" => reads_parts(rt, l, head)?,
+        b"reads_lines" => reads_lines(rt, l, head)?,
+        b"reads_into" => reads_into(rt, l, head)?,
+        _ => return Ok(false),
     }
-    if same(kind, b"reads_parts") {
-        reads_parts(rt, l, head)?;
-        return Ok(true);
-    }
-    if same(kind, b"reads_lines") {
-        reads_lines(rt, l, head)?;
-        return Ok(true);
-    }
-    if same(kind, b"reads_into") {
-        reads_into(rt, l, head)?;
-        return Ok(true);
-    }
-    Ok(false)
+    Ok(true)
 }

@@ -5,7 +5,6 @@ use crate::columns::{call_at, label, number_at, term_at, word_at};
 use crate::lent::{reading, requesting, revising};
 use crate::show::{show_answer, show_outcome};
 use fields::field::piece;
-use fields::word::same;
 use memory::layout::{SCRATCH, STATE, TERMS};
 use std::io;
 
@@ -117,23 +116,14 @@ fn asks_revised_twice(rt: &impl Print, l: &[u8], head: &[u8]) -> io::Result<()> 
 
 // Runs a case of what a revision gives, and says whether it is one.
 fn run_outcome(rt: &impl Print, kind: &[u8], l: &[u8], head: &[u8]) -> io::Result<bool> {
-    if same(kind, b"revises") {
-        revises(rt, l, head)?;
-        return Ok(true);
+    match kind {
+        b"revises" => revises(rt, l, head)?,
+        b"revises_damaged_old" => revises_damaged_old(rt, l, head)?,
+        b"revises_damaged_new" => revises_damaged_new(rt, l, head)?,
+        b"revises_damaged_state" => revises_damaged_state(rt, l, head)?,
+        _ => return Ok(false),
     }
-    if same(kind, b"revises_damaged_old") {
-        revises_damaged_old(rt, l, head)?;
-        return Ok(true);
-    }
-    if same(kind, b"revises_damaged_new") {
-        revises_damaged_new(rt, l, head)?;
-        return Ok(true);
-    }
-    if same(kind, b"revises_damaged_state") {
-        revises_damaged_state(rt, l, head)?;
-        return Ok(true);
-    }
-    Ok(false)
+    Ok(true)
 }
 
 // Runs a case of new terms, and says whether it is one.
@@ -141,17 +131,11 @@ pub(crate) fn run(rt: &impl Print, kind: &[u8], l: &[u8], head: &[u8]) -> io::Re
     if run_outcome(rt, kind, l, head)? {
         return Ok(true);
     }
-    if same(kind, b"asks_revised") {
-        asks_revised(rt, l, head)?;
-        return Ok(true);
+    match kind {
+        b"asks_revised" => asks_revised(rt, l, head)?,
+        b"asks_revised_after" => asks_revised_after(rt, l, head)?,
+        b"asks_revised_twice" => asks_revised_twice(rt, l, head)?,
+        _ => return Ok(false),
     }
-    if same(kind, b"asks_revised_after") {
-        asks_revised_after(rt, l, head)?;
-        return Ok(true);
-    }
-    if same(kind, b"asks_revised_twice") {
-        asks_revised_twice(rt, l, head)?;
-        return Ok(true);
-    }
-    Ok(false)
+    Ok(true)
 }

@@ -138,56 +138,29 @@ fn asks_stored(rt: &impl Print, l: &[u8], head: &[u8]) -> io::Result<()> {
 
 // Runs a case that writes the old form, and says whether it is one.
 fn run_old(rt: &impl Print, kind: &[u8], l: &[u8], head: &[u8]) -> io::Result<bool> {
-    if same(kind, b"writes") {
-        writes(rt, l, head, false)?;
-        return Ok(true);
+    match kind {
+        b"writes" => writes(rt, l, head, false)?,
+        b"writes_damaged_terms" => writes_damaged_terms(rt, l, head, false)?,
+        b"writes_damaged_state" => writes_damaged_state(rt, l, head, false)?,
+        b"writes_back" => writes_back(rt, l, head, false)?,
+        b"writes_after" => writes_after(rt, l, head, false)?,
+        _ => return Ok(false),
     }
-    if same(kind, b"writes_damaged_terms") {
-        writes_damaged_terms(rt, l, head, false)?;
-        return Ok(true);
-    }
-    if same(kind, b"writes_damaged_state") {
-        writes_damaged_state(rt, l, head, false)?;
-        return Ok(true);
-    }
-    if same(kind, b"writes_back") {
-        writes_back(rt, l, head, false)?;
-        return Ok(true);
-    }
-    if same(kind, b"writes_after") {
-        writes_after(rt, l, head, false)?;
-        return Ok(true);
-    }
-    Ok(false)
+    Ok(true)
 }
 
 // Runs a case that writes the stored form, and says whether it is one.
 fn run_stored(rt: &impl Print, kind: &[u8], l: &[u8], head: &[u8]) -> io::Result<bool> {
-    if same(kind, b"stores") {
-        writes(rt, l, head, true)?;
-        return Ok(true);
+    match kind {
+        b"stores" => writes(rt, l, head, true)?,
+        b"stores_damaged_terms" => writes_damaged_terms(rt, l, head, true)?,
+        b"stores_damaged_state" => writes_damaged_state(rt, l, head, true)?,
+        b"stores_back" => writes_back(rt, l, head, true)?,
+        b"stores_after" => writes_after(rt, l, head, true)?,
+        b"asks_stored" => asks_stored(rt, l, head)?,
+        _ => return Ok(false),
     }
-    if same(kind, b"stores_damaged_terms") {
-        writes_damaged_terms(rt, l, head, true)?;
-        return Ok(true);
-    }
-    if same(kind, b"stores_damaged_state") {
-        writes_damaged_state(rt, l, head, true)?;
-        return Ok(true);
-    }
-    if same(kind, b"stores_back") {
-        writes_back(rt, l, head, true)?;
-        return Ok(true);
-    }
-    if same(kind, b"stores_after") {
-        writes_after(rt, l, head, true)?;
-        return Ok(true);
-    }
-    if same(kind, b"asks_stored") {
-        asks_stored(rt, l, head)?;
-        return Ok(true);
-    }
-    Ok(false)
+    Ok(true)
 }
 
 // Runs a case of these kinds, and says whether it is one.
