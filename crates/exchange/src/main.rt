@@ -3,6 +3,8 @@
 #![tactic(auto)]
 
 ghost use Rattle.std.specs.Prelude.{◌≡◌, ◌≤◌, length, take};
+ghost use Rattle.writer.specs.Write.{writing_of};
+ghost use Rattle.transcript.specs.Output.{transcript_gives, transcript_leaves};
 
 use std::rt::Files;
 use writer::Written;
@@ -46,7 +48,10 @@ fn print(rt: &(impl Print + Eprint), out: &[u8; OUTPUT], written: Written) {
 }
 
 // One call of the transcript, into an output that is long enough for every one.
-fn answer(terms: &[u8], requests: &[u8], out: &mut [u8; OUTPUT]) -> Written {
+fn answer(terms: &[u8], requests: &[u8], out: &mut [u8; OUTPUT]) -> Written
+    ensures result_value { writing_of result ≡ transcript_gives terms.now requests.now out.old }
+    ensures out_after { out.new ≡ transcript_leaves terms.now requests.now out.old }
+{
     transcript::transcript(terms, requests, out)
 }
 
