@@ -5,20 +5,20 @@ than 32 bits are widened to uint32_t, where C would take int. Memory is accessed
 declared with; a struct that is lent is the host's, so it is accessed field by field and copied by memcpy.
 """
 from kinds import LENT, declared, identifier
-from mir import Refused, show
+from mir import NO_GENERICS, Refused, show
 
-UNSIGNED = {"add": "+", "sub": "-", "mul": "*", "div": "/", "rem": "%", "shr": ">>", "lt": "<", "le": "<="}
-PLAIN = {"and": "&", "or": "|", "xor": "^", "shl": "<<", "eq": "==", "ne": "!="}
+UNSIGNED = {"Add": "+", "Sub": "-", "Mul": "*", "Div": "/", "Rem": "%", "Shr": ">>", "Lt": "<", "Le": "<="}
+PLAIN = {"And": "&", "Or": "|", "Xor": "^", "Shl": "<<", "Eq": "==", "Ne": "!="}
 COMPARISONS = {"<", "<=", "==", "!="}
-U8, U16, U32, U64 = ("tyInt", "8"), ("tyInt", "16"), ("tyInt", "32"), ("tyInt", "64")
+U8, U16, U32, U64 = ("Int", 8), ("Int", 16), ("Int", 32), ("Int", 64)
 
 
 class Body:
-    """The lines of a function's body."""
+    """The lines of a function's body, and its constants."""
 
     def __init__(self, types, functions, function):
         self.types, self.functions, self.function = types, functions, function
-        self.lines, self.labels, self.used = [], 0, set()
+        self.lines, self.constants, self.labels, self.used = [], [], 0, set()
         self.statement(function.body, 1, [])
 
     def line(self, depth, text):
@@ -26,46 +26,46 @@ class Body:
 
     def place(self, place):
         """A place as C, and its type."""
-        _, local, projections = place
-        text, kind = f"l{local}", self.function.kinds[int(local)]
-        rest = list(projections)
+        _, local, steps = place
+        text, kind = f"l{local}", self.function.kinds[local]
+        rest = list(steps)
         while rest:
             match rest.pop(0), kind:
-                case ("deref", ("tyNamed", _) as target), "tyPtr" | ("tyRef", *_) if rest:
+                case ("Deref", ("Named", *_) as target), "Ptr" | ("Ref", *_) if rest:
                     _, index = rest.pop(0)
-                    text, kind = f"(*(uint32_t *)((unsigned char *){text} + {4 * int(index)}))", U32
+                    text, kind = f"(*(uint32_t *)((unsigned char *){text} + {4 * index}))", U32
                     self.check_lent(target)
-                case ("deref", target), "tyPtr":
+                case ("Deref", target), "Ptr":
                     text, kind = f"(*({declared(self.types.of(target), '*')}){text})", target
-                case ("deref", target), ("tyRef", _, _, pointed) if target == pointed:
+                case ("Deref", target), ("Ref", _, _, pointed) if target == pointed:
                     text, kind = f"(*{text})", target
-                case ("deref", target), ("tyRef", _, _, ("tyArray", element, _)) if target == element:
+                case ("Deref", target), ("Ref", _, _, ("Array", element, _)) if target == element:
                     text, kind = f"(*{text}->at)", target
-                case ("field", index), _:
-                    name, kind = self.types.fields(kind)[int(index)]
+                case ("Field", index), _:
+                    name, kind = self.types.fields(kind)[index]
                     text = f"{text}.{name}"
-                case ("variant", variant), _:
+                case ("Variant", variant), _:
                     _, index = rest.pop(0)
-                    fields = [("tag", U8)] + self.types.variants(kind)[int(variant)]
-                    name, kind = fields[int(index)]
+                    fields = [("tag", U8)] + self.types.variants(kind)[variant]
+                    name, kind = fields[index]
                     text = f"{text}.tag" if name == "tag" else f"{text}.of.v{variant}.{name}"
                 case other:
-                    raise Refused(f"projection {show(other)}")
+                    raise Refused(f"step {show(other)}")
         return text, kind
 
     def check_lent(self, kind):
         """A lent struct is known, and all of its fields have 32 bits."""
-        if kind[1][1] not in LENT or any(inner != U32 for _, inner in self.types.fields(kind)):
+        if kind[1] not in LENT or any(inner != U32 for _, inner in self.types.fields(kind)):
             raise Refused(f"{show(kind)} is lent")
 
     def operand(self, operand):
         """An operand as C, and its type."""
         match operand:
-            case "true" | "false":
-                return operand, "tyBool"
-            case ("int", width, digits):
-                return f"UINT{width}_C({int(digits)})", ("tyInt", width)
-            case ("copy", place):
+            case "True" | "False":
+                return operand.lower(), "Bool"
+            case ("Int", width, number):
+                return f"UINT{width}_C({number})", ("Int", width)
+            case ("Copy", place):
                 return self.place(place)
         raise Refused(f"operand {show(operand)}")
 
@@ -73,7 +73,7 @@ class Body:
         """An operand where a type is wanted. The address of an array is taken for that of its first element."""
         text, kind = self.operand(operand)
         match kind, wanted:
-            case ("tyRef", _, _, ("tyArray", element, _)), ("tyRef", _, _, target) if element == target:
+            case ("Ref", _, _, ("Array", element, _)), ("Ref", _, _, target) if element == target:
                 return f"{text}->at"
         if self.types.of(kind) != self.types.of(wanted):
             raise Refused(f"{show(kind)} where {show(wanted)} is wanted")
@@ -84,17 +84,17 @@ class Body:
 
     def binary(self, operator, left, right, wanted):
         text, kind = self.operand(left)
-        if operator == "offset" and wanted == "tyPtr":
+        if operator == "Offset" and wanted == "Ptr":
             return f"(unsigned char *){text} + (size_t){self.given(right, U64)}"
         other = self.given(right, kind)
         match operator:
-            case (name, "unsigned") if kind[0] == "tyInt":
+            case (name, "Unsigned") if kind[0] == "Int":
                 symbol = UNSIGNED[name]
-            case str() if kind == "tyBool" or kind[0] == "tyInt":
+            case str() if kind == "Bool" or kind[0] == "Int":
                 symbol = PLAIN[operator]
             case _:
                 raise Refused(f"operator {show(operator)}")
-        if wanted != ("tyBool" if symbol in COMPARISONS else kind):
+        if wanted != ("Bool" if symbol in COMPARISONS else kind):
             raise Refused(f"{show(wanted)} of {show(kind)}")
         if wanted in (U8, U16):
             return f"({self.types.of(kind)})((uint32_t){text} {symbol} (uint32_t){other})"
@@ -103,36 +103,36 @@ class Body:
     def value(self, value, wanted):
         """What is assigned to a place of a type."""
         match value:
-            case ("rvOpd", operand):
+            case ("Opd", operand):
                 return self.given(operand, wanted)
-            case ("op2", operator, left, right):
+            case ("Op2", operator, left, right):
                 return self.binary(operator, left, right, wanted)
-            case ("op1", "not", operand) if wanted == "tyBool":
+            case ("Op1", "Not", operand) if wanted == "Bool":
                 return f"!{self.given(operand, wanted)}"
-            case ("op1", "trailingZeros", operand) if wanted == U32:
+            case ("Op1", "TrailingZeros", operand) if wanted == U32:
                 return f"trailing_zeros({self.given(operand, U64)})"
-            case ("op1", ("cast", "unsigned", "unsigned", width), operand) if wanted == ("tyInt", width):
+            case ("Op1", ("Cast", "Unsigned", "Unsigned", width), operand) if wanted == ("Int", width):
                 return f"({self.types.of(wanted)}){self.operand(operand)[0]}"
-            case ("addrOf", place):
+            case ("AddrOf", place):
                 text, kind = self.place(place)
-                if wanted == "tyPtr" or wanted[3] == kind:
+                if wanted == "Ptr" or wanted[3] == kind:
                     return f"&{text}"
-            case ("aggregate", operands):
+            case ("Aggregate", *operands):
                 return f"({self.types.of(wanted)}){{{self.initial(operands, wanted)}}}"
         raise Refused(f"value {show(value)}")
 
     def initial(self, operands, wanted):
-        if wanted[0] == "tyArray":
-            return f"{{{self.all_given(operands, [wanted[1]] * int(wanted[2][1]))}}}"
+        if wanted[0] == "Array":
+            return f"{{{self.all_given(operands, [wanted[1]] * wanted[2][1])}}}"
         if not self.types.has_variants(wanted):
             return self.all_given(operands, [kind for _, kind in self.types.fields(wanted)])
         (_, _, tag), *others = operands
-        inner = self.all_given(others, [kind for _, kind in self.types.variants(wanted)[int(tag)]])
+        inner = self.all_given(others, [kind for _, kind in self.types.variants(wanted)[tag]])
         return f".tag = {tag}" + (f", .of.v{tag} = {{{inner}}}" if inner else "")
 
     def statement(self, statement, depth, exits):
         """A statement. `exits` has the labels of the blocks and loops around it, the innermost first."""
-        while statement[0] == "seq":
+        while statement[0] == "Seq":
             self.statement(statement[1], depth, exits)
             statement = statement[2]
         try:
@@ -143,35 +143,36 @@ class Body:
 
     def single(self, statement, depth, exits):
         match statement:
-            case "skip":
+            case "Skip":
                 pass
-            case "return":
-                self.line(depth, "return;" if self.function.kinds[0] == "tyUnit" else "return l0;")
-            case ("assign", place, value):
+            case "Return":
+                self.line(depth, "return;" if self.function.kinds[0] == "Unit" else "return l0;")
+            case ("Assign", place, value):
                 self.assign(place, value, depth)
-            case ("call", ("direct", ("fnRef", name)), operands, place):
+            case ("LendStatic", place, kind, ("Ints", _, values)):
+                self.lend(place, kind, values, depth)
+            case ("Call", ("Fn", name, generics), operands, place) if generics == NO_GENERICS:
                 self.call(self.functions[name], operands, place, depth)
-            case ("if", operand, "skip", otherwise):
-                self.nested(f"if (!{self.given(operand, 'tyBool')}) {{", otherwise, depth, exits)
+            case ("If", operand, "Skip", otherwise):
+                self.nested(f"if (!{self.given(operand, 'Bool')}) {{", otherwise, depth, exits)
                 self.line(depth, "}")
-            case ("if", operand, then, otherwise):
-                self.nested(f"if ({self.given(operand, 'tyBool')}) {{", then, depth, exits)
-                if otherwise != "skip":
+            case ("If", operand, then, otherwise):
+                self.nested(f"if ({self.given(operand, 'Bool')}) {{", then, depth, exits)
+                if otherwise != "Skip":
                     self.nested("} else {", otherwise, depth, exits)
                 self.line(depth, "}")
-            case ("block", inner):
+            case ("Block", inner):
                 self.labelled("out", inner, depth, exits)
-            case ("loop", inner):
+            case ("Loop", inner):
                 self.line(depth, "for (;;) {")
                 self.labelled("next", inner, depth + 1, exits)
                 self.line(depth, "}")
-            case ("exit", count):
-                self.used.add(exits[int(count)])
-                self.line(depth, f"goto {exits[int(count)]};")
-            case ("switch", operand, arms):
+            case ("Exit", count):
+                self.used.add(exits[count])
+                self.line(depth, f"goto {exits[count]};")
+            case ("Switch", operand, arms, default):
                 self.line(depth, f"switch ({self.operand(operand)[0]}) {{")
-                while arms:
-                    arms = self.arm(arms, depth, exits)
+                self.arms(arms, default, depth, exits)
                 self.line(depth, "}")
             case _:
                 raise Refused("statement")
@@ -188,42 +189,53 @@ class Body:
         if label in self.used:
             self.line(depth, f"{label}:;")
 
-    def arm(self, arms, depth, exits):
-        """The first arm; gives the others. Where there is no default, the last arm is written as one: it is taken
-        where no other is."""
-        match arms:
-            case ("arm", _, inner, "noDefault") | ("default", inner):
-                labels, rest = ["default:"], None
-            case ("arm", values, inner, rest):
-                labels = [f"case {int(value)}:" for value in values]
-        self.nested(" ".join(labels), inner, depth, exits)
-        self.line(depth + 1, "break;")
-        return rest
+    def arms(self, arms, default, depth, exits):
+        """The arms of a switch. Where there is no default, the last arm is written as one: it is taken where no other
+        is."""
+        if default is None:
+            *arms, (_, default) = arms
+        for values, inner in [*arms, (None, default)]:
+            labels = "default:" if values is None else " ".join(f"case {value}:" for value in values)
+            self.nested(labels, inner, depth, exits)
+            self.line(depth + 1, "break;")
 
     def is_live(self, place):
-        return place[2] or int(place[1]) in self.function.live
+        return place[2] or place[1] in self.function.live
 
     def assign(self, place, value, depth):
         target, kind = self.place(place)
         match value, kind:
-            case ("rvOpd", "unit"), "tyUnit":
+            case ("Opd", "Unit"), "Unit":
                 pass
             case _ if not self.is_live(place):
                 pass
-            case ("repeat", ("int", _, "0"), count), ("tyArray", _, ("lenLit", length)) if count == length:
+            case ("Repeat", ("Int", _, 0), count), ("Array", _, length) if count == length:
                 self.line(depth, f"memset(&{target}, 0, sizeof {target});")
-            case ("rvOpd", ("copy", ("place", _, [*_, ("deref", ("tyNamed", _) as lent)]) as source)), _:
+            case ("Opd", ("Copy", ("place", _, [*_, ("Deref", ("Named", *_) as lent)]) as source)), _:
                 self.check_lent(lent)
                 self.line(depth, f"memcpy(&{target}, &{self.place(source)[0]}, sizeof {target});")
-            case _, ("tyNamed", _) if place[2] and place[2][-1][0] == "deref":
+            case _, ("Named", *_) if place[2] and place[2][-1][0] == "Deref":
                 raise Refused("a lent struct is written as a whole")
             case _:
                 self.line(depth, f"{target} = {self.value(value, kind)};")
+
+    def lend(self, place, kind, values, depth):
+        """A constant array is lent, for good and to be read only."""
+        target, wanted = self.place(place)
+        match kind, wanted:
+            case ("Array", ("Int", _), ("Lit", count)), ("Ref", _, "Imm", pointed) if pointed == kind and count:
+                if len(values) != count:
+                    raise Refused(f"{len(values)} values of {count}")
+            case _:
+                raise Refused(f"{show(wanted)} lends {show(kind)}")
+        name = f"c{len(self.constants) + 1}"
+        self.constants.append(f"    static const {self.types.of(kind)} {name} = {{{{{', '.join(map(str, values))}}}}};")
+        self.line(depth, f"{target} = ({self.types.of(wanted)})&{name};")
 
     def call(self, callee, operands, place, depth):
         target, kind = self.place(place)
         if self.types.of(kind) != self.types.of(callee.kinds[0]):
             raise Refused(f"result {show(callee.kinds[0])}")
         given = self.all_given(operands, [callee.kinds[i] for i in callee.arguments])
-        kept = "" if kind == "tyUnit" else f"{target} = " if self.is_live(place) else "(void)"
+        kept = "" if kind == "Unit" else f"{target} = " if self.is_live(place) else "(void)"
         self.line(depth, f"{kept}{identifier(callee.name)}({given});")

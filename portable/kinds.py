@@ -7,7 +7,7 @@ import re
 
 from mir import Refused, show
 
-SIMPLE = {"tyUnit": "void", "tyBool": "bool", "tyPtr": "void *"}
+SIMPLE = {"Unit": "void", "Bool": "bool", "Ptr": "void *"}
 
 # The structs that a host lends, by the names that they have in the header.
 LENT = {"calls::Record": "cuckooormolu_record"}
@@ -31,15 +31,15 @@ class Types:
         match kind:
             case str() if kind in SIMPLE:
                 return SIMPLE[kind]
-            case ("tyInt", "8" | "16" | "32" | "64" as width):
+            case ("Int", 8 | 16 | 32 | 64 as width):
                 return f"uint{width}_t"
-            case ("tyRef", _, _, target):
+            case ("Ref", _, _, target):
                 return declared(self.of(target), "*")
-            case ("tyArray", element, ("lenLit", count)):
+            case ("Array", element, ("Lit", count)):
                 name, members = f"array_{self.short(element)}_{count}", [declared(self.of(element), f"at[{count}]")]
-            case ("tyStruct", "&[]", [("tyRef", _, _, target), ("tyInt", "64")]):
+            case ("Struct", "&[]", [("Ref", _, _, target), ("Int", 64)]):
                 name, members = f"slice_{self.short(target)}", self.members(kind)
-            case ("tyNamed", ("pair", name, [])):
+            case ("Named", name, []):
                 name, members = identifier(name), self.members(kind)
             case _:
                 raise Refused(f"type {show(kind)}")
@@ -61,19 +61,19 @@ class Types:
         return ["uint8_t tag"] + ([f"union {{ {' '.join(structs)} }} of"] if structs else [])
 
     def has_variants(self, kind):
-        return kind[0] == "tyNamed" and self.named[kind[1][1]][0] == "variants"
+        return kind[0] == "Named" and self.named[kind[1]][0] == "Variants"
 
     def fields(self, kind):
         """The fields of a struct, each with its name and type."""
         match kind:
-            case ("tyStruct", "&[]", [pointer, length]):
+            case ("Struct", "&[]", [pointer, length]):
                 return [("at", pointer), ("length", length)]
-            case ("tyNamed", ("pair", name, [])) if self.named[name][0] == "fields":
-                return [(f"f{i}", inner) for i, inner in enumerate(self.named[name][1])]
+            case ("Named", name, []) if self.named[name][0] == "Fields":
+                return [(f"f{i}", inner) for i, inner in enumerate(self.named[name][1:])]
         raise Refused(f"fields of {show(kind)}")
 
     def variants(self, kind):
         """The same of each variant in turn; the tag counts as field 0."""
         if not self.has_variants(kind):
             raise Refused(f"variants of {show(kind)}")
-        return [[(f"f{i}", inner) for i, inner in enumerate(kinds, 1)] for kinds in self.named[kind[1][1]][1]]
+        return [[(f"f{i}", inner) for i, inner in enumerate(kinds, 1)] for kinds in self.named[kind[1]][1:]]

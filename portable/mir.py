@@ -1,6 +1,10 @@
-"""What `rt mir` prints, as Python values: a form `(seq a b)` is a tuple, what lcons, tcons or ttcons make is a list,
-and all else is a string."""
-import re
+"""The proved code of a library in the compiler's middle language, MIR, as Python values.
+
+`rt lib` writes it beside the library, as toolchain/mir.json: what a build above it links. There `{"Op2": [a, b]}` is
+the form `("Op2", a, b)` here, a list is a list, and a place is `("place", local, steps)`. A body is a list of
+statements, each before those that it holds; here it is a tree.
+"""
+import json
 
 
 class Refused(Exception):
@@ -8,35 +12,64 @@ class Refused(Exception):
 
 
 def show(value, depth=8):
-    """A value much as it was printed, cut where it is deep or long."""
-    if isinstance(value, str):
-        return value
+    """A value on one line, cut where it is deep or long."""
+    if not isinstance(value, (tuple, list)):
+        return str(value)
     text = " ".join(show(part, depth - 1) for part in value) if depth else "..."
     return f"({text})" if len(text) <= 200 else f"({text[:200]} ...)"
 
 
-def parse(text):
-    """The forms of a text."""
-    stack = [[]]
-    for token in re.findall(r'"[^"]*"|[()]|[^\s()"]+', text):
-        if token == "(":
-            stack.append([])
-        elif token == ")":
-            form = stack.pop()
-            stack[-1].append([form[1]] + form[2] if form[0] in ("lcons", "tcons", "ttcons") else tuple(form))
-        else:
-            stack[-1].append([] if token in ("lnil", "tnil", "ttnil") else token.strip('"'))
-    return stack[0]
+def form(value):
+    """A value of the JSON file as a form."""
+    match value:
+        case {"local": local, "steps": steps}:
+            return ("place", local, form(steps))
+        case {"name": name, "lifetimes": _}:
+            return name
+        case {"width": width, "value": of} | {"width": width, "values": of}:
+            return [width, of]
+        case dict() if len(value) == 1:
+            [(name, parts)] = value.items()
+            parts = form(parts)
+            return (name, *parts) if isinstance(parts, list) else (name, parts)
+        case dict():
+            return tuple((name, form(part)) for name, part in value.items())
+        case list():
+            return [form(part) for part in value]
+    return value
+
+
+NO_GENERICS = (("types", []), ("dicts", []))
+
+
+def tree(tokens):
+    """The statement that a list of statements is, each before those that it holds."""
+    done = []
+    for token in reversed([form(token) for token in tokens]):
+        match token:
+            case "Seq":
+                done.append((token, done.pop(), done.pop()))
+            case "Block" | "Loop":
+                done.append((token, done.pop()))
+            case ("If", *operand):
+                done.append(("If", *operand, done.pop(), done.pop()))
+            case ("Switch", operand, values, has_default):
+                arms = [(of, done.pop()) for of in values]
+                done.append(("Switch", operand, arms, done.pop() if has_default else None))
+            case _:
+                done.append(token)
+    [statement] = done
+    return statement
 
 
 def locals_of(value):
     """The locals whose places stand in a value."""
     match value:
-        case str():
-            return set()
         case ("place", local, _):
-            return {int(local)}
-    return set().union(*map(locals_of, value))
+            return {local}
+        case tuple() | list():
+            return set().union(*map(locals_of, value))
+    return set()
 
 
 class Function:
@@ -50,20 +83,25 @@ class Function:
         assigned, todo = {}, [body]
         while todo:
             match todo.pop():
-                case ("assign", ("place", local, []), value):
-                    assigned.setdefault(int(local), set()).update(locals_of(value))
-                case ("call", ("direct", ("fnRef", callee)), operands, ("place", _, projections) as place):
-                    self.calls.add(callee)
-                    self.live |= locals_of([operands, place] if projections else operands)
-                case ("assign", *parts):
-                    self.live |= locals_of(parts)
-                case ("if" | "switch", operand, *parts):
+                case ("Assign", ("place", local, []), value):
+                    assigned.setdefault(local, set()).update(locals_of(value))
+                case ("Call", callee, operands, ("place", _, steps) as place):
+                    match callee:
+                        case ("Fn", called, generics) if generics == NO_GENERICS:
+                            self.calls.add(called)
+                    self.live |= locals_of([operands, place] if steps else operands)
+                case ("If", operand, *parts):
                     self.live |= locals_of(operand)
                     todo += parts
-                case "return":
+                case ("Switch", operand, arms, default):
+                    self.live |= locals_of(operand)
+                    todo += [statement for _, statement in arms] + [default]
+                case "Return":
                     self.live.add(0)
-                case (_, *parts):
+                case ("Seq" | "Block" | "Loop", *parts):
                     todo += parts
+                case tuple() as other:
+                    self.live |= locals_of(other)
         todo = list(self.live)
         while todo:
             more = assigned.get(todo.pop(), set()) - self.live
@@ -72,30 +110,29 @@ class Function:
 
 
 class Program:
-    """The functions and the named types of a program."""
+    """The functions and the named types of some libraries, by the files of their MIR."""
 
-    def __init__(self, text):
+    def __init__(self, files):
         self.functions, self.types = {}, {}
-        match parse(text):
-            case ["program", items, ("fnRef", _)]:
-                for item in items:
-                    self.add(item)
-            case _:
-                raise Refused("the input is no program")
+        for file in files:
+            with open(file, encoding="utf-8") as opened:
+                for name, item in json.load(opened):
+                    self.add(name, item)
 
-    def add(self, item):
+    def add(self, name, item):
         match item:
-            case ("fn-def", name, ("fnItem", _, [], count, locals_, body), *types):
-                self.functions[name] = Function(name, int(count), [kind for _, kind, _ in locals_], body)
-                self.types |= {name: parts for pairs in types for _, name, parts in pairs}
-            case _:
-                raise Refused(f"no function: {show(item)}")
+            case {"params": count, "generics": {"types": []}, "types": types, "locals": locals_, "body": body}:
+                kinds = [form(local["ty"]) for local in locals_]
+                self.functions[name] = Function(name, count, kinds, tree(body))
+                self.types |= {kind["name"]: form(kind["shape"]) for kind in types if not kind["type_params"]}
 
     def reached(self, roots):
         """The functions that these call, with them, in the program's order."""
         seen, todo = set(), set(roots)
         while todo:
             name = todo.pop()
+            if name not in self.functions:
+                raise Refused(f"no function {name}, or one with type parameters")
             seen.add(name)
             todo |= self.functions[name].calls - seen
         return [function for name, function in self.functions.items() if name in seen]

@@ -16,7 +16,7 @@ case ${1:-} in
 --fuzz) ./amalgamate && exec sh portable/tests/fuzz.sh "$folder" "${2:-60}" ;;
 *) echo 'usage: test.sh [--machines | --fuzz [SECONDS]]' >&2 && exit 2 ;;
 esac
-if [ -z "${CUCKOOORMOLU_LIB:-}" ]; then rt staticlib cuckooormolu; fi
+if [ -z "${CUCKOOORMOLU_LIB:-}" ]; then ./archive; fi
 export CARGO_TARGET_DIR="$PWD/target/cargo" CARGO_NET_OFFLINE=true
 export CUCKOOORMOLU_LIB="${CUCKOOORMOLU_LIB:-$PWD/target/staticlib}"
 export CUCKOOORMOLU_EXCHANGE="${CUCKOOORMOLU_EXCHANGE:-$PWD/target/bin/exchange}"

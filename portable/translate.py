@@ -1,7 +1,7 @@
-"""translate.py ORIGIN <MIR >C: the library as one C file, beside the header `cuckooormolu.h`.
+"""translate.py ORIGIN MIR... >C: the library as one C file, beside the header `cuckooormolu.h`.
 
-It takes what `rt mir cuckooormolu` prints. ORIGIN says what that was made of, for the file's first lines. What is not
-known is refused, with the function and the statement.
+MIR are the files toolchain/mir.json of the library and of those below it. ORIGIN says what they were made of, for the
+file's first lines. What is not known is refused, with the function and the statement.
 """
 import pathlib
 import sys
@@ -23,14 +23,14 @@ def own_name(name):
 
 def is_large(kind):
     match kind:
-        case ("tyArray", ("tyInt", width), ("lenLit", count)):
-            return int(width) // 8 * int(count) >= LARGE
+        case ("Array", ("Int", width), ("Lit", count)):
+            return width // 8 * count >= LARGE
     return False
 
 
 def translated(types, functions, function):
     """A function's prototype and definition."""
-    body = Body(types, functions, function).lines
+    body = Body(types, functions, function)
     kinds = [types.of(kind) for kind in function.kinds]
     parameters = ", ".join(declared(kinds[i], f"l{i}") for i in function.arguments) or "void"
     own = [i for i in sorted(function.live) if i not in function.arguments and kinds[i] != "void"]
@@ -38,7 +38,7 @@ def translated(types, functions, function):
     head = f"{static} {declared(kinds[0], identifier(function.name))}({parameters})"
     lines = [f"    {declared(kinds[i], f'l{i}')};" for i in own]
     lines += [f"    (void)l{i};" for i in function.arguments if i not in function.live]
-    return f"{head};", "\n".join([f"/* {function.name} */", head, "{", *lines, *body, "}", ""])
+    return f"{head};", "\n".join([f"/* {function.name} */", head, "{", *body.constants, *lines, *body.lines, "}", ""])
 
 
 def exported(types, function):
@@ -47,17 +47,17 @@ def exported(types, function):
     parameters, given, before, after = [], [], [], []
     for i in function.arguments:
         match function.kinds[i]:
-            case ("tyStruct", "&[]", [("tyRef", _, mutable, target), _]) as kind:
+            case ("Struct", "&[]", [("Ref", _, mutable, target), _]) as kind:
                 pointer = declared(types.of(target), "*")
-                outside = f"struct {LENT[target[1][1]]} *" if target[0] == "tyNamed" else pointer
-                parameters += [("const " if mutable == "imm" else "") + f"{outside}p{i}", f"size_t n{i}"]
+                outside = f"struct {LENT[target[1]]} *" if target[0] == "Named" else pointer
+                parameters += [("const " if mutable == "Imm" else "") + f"{outside}p{i}", f"size_t n{i}"]
                 given.append(f"({types.of(kind)}){{({pointer})p{i}, n{i}}}")
-            case ("tyRef", _, "mut", ("tyInt", "64")):
+            case ("Ref", _, "Mut", ("Int", 64)):
                 parameters.append(f"size_t *p{i}")
                 before.append(f"    uint64_t w{i} = 0;")
                 given.append(f"&w{i}")
                 after.append(f"    *p{i} = (size_t)w{i};")
-            case ("tyInt", "64"):
+            case ("Int", 64):
                 parameters.append(f"size_t p{i}")
                 given.append(f"p{i}")
             case kind:
@@ -70,7 +70,7 @@ def exported(types, function):
 
 
 def main():
-    program = Program(sys.stdin.read())
+    program = Program(sys.argv[2:])
     types = Types(program.types)
     roots = [name for name in program.functions if name.startswith(LIBRARY) and own_name(name).startswith(EXPORTED)]
     functions = program.reached(roots)

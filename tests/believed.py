@@ -5,9 +5,9 @@ It starts from the statements in crates/demands/proofs/Demands.antt and the cont
 calls, and follows each name to its definition in specs/ and on to the names there. Counted are the lines of these
 definitions, without blank lines, comments and imports.
 
-With `--check` it prints nothing, unless a module of specs/private/ is reached or another one is not, or
-docs/GUARANTEES.md says other numbers, or lacks a statement of Demands.antt: each is named in the section of its title,
-in a paragraph that gives the file of its law.
+With `--check` it prints nothing, unless a module of specs/private/ is reached or another one is not, or the exports of
+the archive have other contracts than the functions that they call, or docs/GUARANTEES.md says other numbers, or lacks a
+statement of Demands.antt: each is named in the section of its title, in a paragraph that gives the file of its law.
 """
 import os
 import re
@@ -16,9 +16,11 @@ import sys
 ROOT = os.path.join(os.path.dirname(os.path.abspath(__file__)), "..")
 DEMANDS = "crates/demands/proofs/Demands.antt"
 PAGE = "docs/GUARANTEES.md"
+# The files of `cuckooormolu`, whose functions `cuckooormolu_c` hands on to hosts by the same names and contracts.
+EXPORTS = ["lib", "banks", "plan"]
 # The sources with functions that a host calls.
 SOURCES = [
-    "cuckooormolu/src/lib", "cuckooormolu/src/banks", "cuckooormolu/src/plan", "memory/src/lib:check",
+    *("cuckooormolu_c/src/" + name for name in EXPORTS), "memory/src/lib:check",
     "monitor/src/lib", "monitor/src/banks", "monitor/src/set_list", "monitor/src/bank_list", "monitor/src/revise",
     "renumber/src/lib", "plans/src/lib", "effort/src/lib:effort", "text/src/read", "text/src/banks",
     "writer/src/write", "writer/src/store", "transcript/src/lib",
@@ -51,7 +53,7 @@ def uses(text):
 
 def file_of(mod):
     """The file of a module of specs/, and None for any other."""
-    m = re.match(r"Rattle·(\w+?)(?:·specs)?\.specs\.(?!declared)(.+)$", mod.replace("·specs.specs", ".specs"))
+    m = re.match(r"Rattle\.(\w+)\.specs\.(?!declared)(.+)$", mod)
     if not m:
         return None
     parts = m.group(2).split(".")
@@ -108,7 +110,7 @@ class Module:
 def words(text):
     text = re.sub(r"--[^\n]*", "", text)
     found = set(re.findall(NAME, text))
-    return found | {"_%s_" % w for w in found} | {"%s_" % w for w in found} | {"_%s" % w for w in found}
+    return found | {"◌%s◌" % w for w in found} | {"%s◌" % w for w in found} | {"◌%s" % w for w in found}
 
 
 MODULES = {}
@@ -183,7 +185,7 @@ def statements():
         title = line[len("-- ======== "):] if line.startswith("-- ======== ") else title
         m = re.match(r"(\S+) = (.*)", line)
         if m:
-            law = re.sub(r"^Rattle·(\w+)\.proofs\.(\w+)\..*", r"\1/proofs/\2.antt", m.group(2))
+            law = re.sub(r"^Rattle\.(\w+)\.proofs\.(\w+)\..*", r"\1/proofs/\2.antt", m.group(2))
             yield title, m.group(1), law
 
 
@@ -218,6 +220,10 @@ def check(counts):
                 print(path, "is reached" if path in counts else "is not reached")
                 wrong = 1
     says = "{:,} for the base and Q-1 to Q-8, {:,} for Q-9 to Q-14".format(*totals(counts))
+    for name in EXPORTS:
+        if contracts("cuckooormolu/src/" + name)[1] != contracts("cuckooormolu_c/src/" + name)[1]:
+            print("crates/cuckooormolu_c/src/%s.rt has other contracts than that of cuckooormolu" % name)
+            wrong = 1
     for missing in ([] if says in " ".join(read(PAGE).split()) else [says]) + list(unnamed()):
         print(PAGE, "does not say:", missing)
         wrong = 1

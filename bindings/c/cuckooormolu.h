@@ -40,9 +40,9 @@
  *           share nothing. Two banks share memory: a call of either is over
  *           that of both.
  *
- * Link target/staticlib/libcuckooormolu.a, which `rt staticlib cuckooormolu`
- * writes, or compile cuckooormolu.c. They need nothing but memcpy and memset,
- * and as compilers compile the C file memmove.
+ * Link target/staticlib/libcuckooormolu.a, which `./archive` writes, or compile
+ * cuckooormolu.c. They need nothing but memcpy and memset, and as compilers
+ * compile the C file memmove.
  *
  *     static struct cuckooormolu m;
  *     size_t line;

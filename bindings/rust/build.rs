@@ -40,7 +40,7 @@ fn main() {
     if archive.is_file() {
         link(&folder);
     } else {
-        let text = "build it with `rt staticlib cuckooormolu`, or name its folder in";
+        let text = "build it with `./archive` at the top, or name its folder in";
         println!("cargo::error=no {} here: {text} {VARIABLE}", archive.display());
     }
 }

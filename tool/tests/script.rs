@@ -11,11 +11,12 @@ use std::path::{Path, PathBuf};
 use std::process::{Command, Output};
 
 const SCRIPT: &str = concat!(env!("CARGO_MANIFEST_DIR"), "/../cuckooormolu");
+const ARCHIVE: &str = concat!(env!("CARGO_MANIFEST_DIR"), "/../archive");
 
 /// What the script calls, besides rt and cargo.
-const CALLED: [&str; 13] = [
-    "sh", "cat", "chmod", "dirname", "find", "head", "mkdir", "mv", "printf", "pwd", "readlink",
-    "rm", "touch",
+const CALLED: [&str; 15] = [
+    "sh", "cat", "chmod", "cmp", "cp", "dirname", "find", "head", "mkdir", "mv", "printf", "pwd",
+    "readlink", "rm", "touch",
 ];
 
 /// A checkout with the script, and a path without rt and cargo.
@@ -25,6 +26,7 @@ fn checkout() -> Folder {
         fs::create_dir_all(folder.file(name)).unwrap();
     }
     fs::copy(SCRIPT, folder.file("cuckooormolu")).unwrap();
+    fs::copy(ARCHIVE, folder.file("archive")).unwrap();
     fs::copy(overview(), folder.file("tool/overview.txt")).unwrap();
     for name in ["Cargo.toml", "Cargo.lock", "tool/Cargo.toml"] {
         folder.write(name, "");
@@ -145,20 +147,22 @@ fn an_older_library_is_not_linked() {
         fs::set_permissions(&file, fs::Permissions::from_mode(0o755)).unwrap();
     };
     program("cargo", "exit 1");
-    for name in ["crates/sets", "target/staticlib"] {
+    for name in ["crates/cuckooormolu_c/out", "target/staticlib"] {
         fs::create_dir_all(folder.file(name)).unwrap();
     }
     folder.write("target/staticlib/libcuckooormolu.a", "");
-    folder.write("crates/sets/a.rt", "");
+    folder.write("crates/cuckooormolu_c/a.rt", "");
     let soon = std::time::SystemTime::now() + std::time::Duration::from_secs(60);
-    fs::File::open(folder.file("crates/sets/a.rt")).unwrap().set_modified(soon).unwrap();
+    fs::File::open(folder.file("crates/cuckooormolu_c/a.rt")).unwrap().set_modified(soon).unwrap();
     let (status, _, error) = said(&folder, &["run", "mine"]);
     assert_eq!(status, 3);
     assert!(error.contains("the proved library is older than the crates"), "{error}");
-    program("rt", "echo \"proved: $*\"");
+    program("rt", "echo \"proved: $*\" && echo new >out/libcuckooormolu_c.a");
     let (_, _, error) = said(&folder, &["run", "mine"]);
     assert!(error.contains("proving and building the library"), "{error}");
-    assert!(error.contains("proved: staticlib cuckooormolu\n"), "{error}");
+    assert!(error.contains("proved: lib --cpu x86-64\n"), "{error}");
+    let linked = fs::read_to_string(folder.file("target/staticlib/libcuckooormolu.a")).unwrap();
+    assert_eq!(linked, "new\n");
     // Without rt, what is built runs on.
     fs::remove_file(folder.file("bin/rt")).unwrap();
     let place = folder.file("target/cargo/release");

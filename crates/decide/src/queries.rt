@@ -45,7 +45,8 @@ pub(crate) fn holds_at(
     sets::has(f[u], v)
 }
 
-// The same, with a memo that has a slot for each entry.
+// The same, with a memo that has a slot for each entry; out of line, so that no caller has the memo in its frame.
+#[inline(never)]
 fn holds_shared(
     terms: &[u16],
     index: &[u16],
@@ -65,8 +66,7 @@ fn holds_shared(
 }
 
 // The same. An entry that is brief has no memo, and its not and or are settled operand by operand: the second
-// only if the first does not decide. (Since this calls itself, the compiler does not take the memo of
-// `holds_shared` into its frame.)
+// only if the first does not decide.
 pub fn settle(
     terms: &[u16],
     index: &[u16],

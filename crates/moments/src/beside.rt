@@ -102,7 +102,8 @@ fn move_both(
     apart::move_since(terms, index, relations, other, memo, rows);
 }
 
-// The same, with a memo that has a slot for each entry.
+// The same, with a memo that has a slot for each entry; out of line, so that no caller has the memo in its frame.
+#[inline(never)]
 fn move_shared(
     terms: &[u16],
     index: &[u16],
@@ -216,7 +217,8 @@ pub fn next_moments(
 }
 
 // The since sweep with a memo that has a slot for each entry. Where more words than the rows are lent, it calls itself
-// with the rows alone. (Since it calls itself, the compiler does not take the memo into the frame of a caller.)
+// with the rows alone. Out of line, so that no caller has the memo in its frame.
+#[inline(never)]
 fn open_shared(terms: &[u16], index: &[u16], relations: &[u64], own: &mut [u64], rows: &mut [u64])
     requires { Movable terms.now index.now (relations.now ++ own.old) × (length relations.now ≡ relation_words) × (length own.old ≡ own_words) × (block_words ≤ length rows.old) }
     ensures { Becomes terms.now since_moved (relations.now ++ own.old) (relations.now ++ own.new) }

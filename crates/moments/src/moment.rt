@@ -197,7 +197,8 @@ fn move_all(
 }
 
 // The same, with a memo that has a slot for each entry. Where more words than the rows are lent, it calls itself with
-// the rows alone. (Since it calls itself, the compiler does not take the memo into the frame of a caller.)
+// the rows alone. Out of line, so that no caller has the memo in its frame.
+#[inline(never)]
 fn move_shared(
     terms: &[u16],
     index: &[u16],
@@ -288,6 +289,7 @@ pub fn next_moment(
 
 // The since sweep with a memo that has a slot for each entry. As `move_shared`, it calls itself where more words than
 // the rows are lent.
+#[inline(never)]
 fn open_shared(terms: &[u16], index: &[u16], state: &mut [u64], rows: &mut [u64])
     requires { Movable terms.now index.now state.old × (block_words ≤ length rows.old) }
     ensures { Becomes terms.now since_moved state.old state.new }

@@ -112,6 +112,7 @@ fn start_tables(
 
 // The same, with a memo that has a slot for each entry. Where more words than the rows are lent, it calls itself with
 // the rows alone. (Since it calls itself, the compiler does not take the memo into the frame of a caller.)
+#[inline(never)]
 fn start_shared(
     old: &[u16],
     before: &[u16],
