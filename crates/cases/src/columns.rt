@@ -30,10 +30,8 @@ fn with_digit(v: u64, b: u8) -> u64 {
 
 fn value(digits: &[u8]) -> u64 {
     let mut v = 0;
-    let mut i = 0;
-    while i < digits.len() {
-        v = with_digit(v, digits[i]);
-        i += 1;
+    for b in digits {
+        v = with_digit(v, *b);
     }
     v
 }
@@ -92,10 +90,8 @@ fn put(out: &mut [u8], at: usize, b: u8) -> usize {
 // Puts the bytes that a text stands for, from a place on. The place after them.
 pub(crate) fn put_text(out: &mut [u8], at: usize, s: &[u8]) -> usize {
     let mut next = at;
-    let mut i = 0;
-    while i < s.len() {
-        next = put(out, next, meant(s[i]));
-        i += 1;
+    for b in s {
+        next = put(out, next, meant(*b));
     }
     next
 }

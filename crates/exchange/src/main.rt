@@ -2,9 +2,11 @@
 // folder (docs/SCOPE.md, The program).
 #![tactic(auto)]
 
-ghost use Rattle.io.specs.Counts.{IsPrefixLen};
+ghost use Rattle.std.specs.Prelude.{◌≡◌, ◌≤◌, length, take};
+ghost use Rattle.writer.specs.Write.{writing_of};
+ghost use Rattle.transcript.specs.Output.{transcript_gives, transcript_leaves};
 
-use libc::{STDERR_FILENO, STDOUT_FILENO};
+use std::rt::Files;
 use writer::Written;
 
 // As many bytes as a file may have, and one more: a longer file is noticed by it.
@@ -15,49 +17,50 @@ const OUTPUT: usize = 983040;
 
 // Reads what a file has, as far as buf reaches, and gives the count of bytes. A file that
 // cannot be opened counts as empty.
-fn contents(path: &[u8], buf: &mut [u8; TOO_MANY]) -> usize
-    ensures { IsPrefixLen result buf.new }
+fn contents(rt: &impl Files, path: &str, buf: &mut [u8; TOO_MANY]) -> usize
+    ensures within { result ≤ length buf.new }
+    ensures front { result ≡ length (take result buf.new) }
 {
-    let fd = os::open_read(path);
-    if fd < 0 {
-        return io::count(0, buf);
+    match system::contents(rt, path, buf) {
+        Ok(n) => n,
+        Err(_) => 0,
     }
-    let n = io::read_full(fd, buf);
-    libc::close(fd);
-    n
 }
 
 // Writes the first n bytes of out, or says that they cannot be written.
-fn print_front(out: &[u8], n: usize) {
+fn print_front(rt: &(impl Print + Eprint), out: &[u8], n: usize) {
     if out.len() < n {
-        io::write_all(STDERR_FILENO, b"output too long\n");
+        let _ = rt.eprintln("output too long");
         return;
     }
-    if !io::write_all(STDOUT_FILENO, &out[0..n]) {
-        os::fail(b"standard output");
+    if let Err(error) = rt.write_all(&out[..n]) {
+        system::say_failed(rt, "standard output", error);
     }
 }
 
 // Writes what was put into out, all of it at once. A refusal, which an output of this length
 // never gets, counts as too long.
-fn print(out: &[u8; OUTPUT], written: Written) {
+fn print(rt: &(impl Print + Eprint), out: &[u8; OUTPUT], written: Written) {
     match written {
-        Written::Bytes(n) => print_front(out, n),
-        Written::Refused(_, _) => print_front(out, OUTPUT + 1),
+        Written::Bytes(n) => print_front(rt, out, n),
+        Written::Refused(_, _) => print_front(rt, out, OUTPUT + 1),
     }
 }
 
 // One call of the transcript, into an output that is long enough for every one.
-fn answer(terms: &[u8], requests: &[u8], out: &mut [u8; OUTPUT]) -> Written {
+fn answer(terms: &[u8], requests: &[u8], out: &mut [u8; OUTPUT]) -> Written
+    ensures result_value { writing_of result ≡ transcript_gives terms.now requests.now out.old }
+    ensures out_after { out.new ≡ transcript_leaves terms.now requests.now out.old }
+{
     transcript::transcript(terms, requests, out)
 }
 
-fn main() {
+fn main(rt: HostRuntime) {
     let mut terms = [0u8; TOO_MANY];
     let mut requests = [0u8; TOO_MANY];
     let mut out = [0u8; OUTPUT];
-    let t = contents(b"terms.tsv", &mut terms);
-    let r = contents(b"requests.tsv", &mut requests);
+    let t = contents(&rt, "terms.tsv", &mut terms);
+    let r = contents(&rt, "requests.tsv", &mut requests);
     let written = answer(&terms[..t], &requests[..r], &mut out);
-    print(&out, written);
+    print(&rt, &out, written);
 }

@@ -1,5 +1,5 @@
 -- A line of a terms file and what it says (docs/SCOPE.md, The terms file): each kind's fields, read and written.
-use Rattle.std.specs.Prelude.{ℕ, zero, suc, Bool, cond, ◌||◌, List, [], ◌∷◌, eqb, ltb, length, get_or}
+use Rattle.std.specs.Prelude.{ℕ, Bool, cond, ◌||◌, List, [], ◌∷◌, eqb, ltb, length, get_or}
 use Rattle.theory.specs.Fit.{every}
 use Rattle.fields.specs.Split.{join}
 use Rattle.fields.specs.Number.{is_number, value_of, digits}

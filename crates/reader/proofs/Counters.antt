@@ -39,7 +39,6 @@ use Rattle.file.proofs.Invariant.{FileFits}
 use Rattle.file.proofs.Accepted.{going_good}
 use Rattle.reader.proofs.TermsMemory.{memory_alike}
 use Rattle.reader.proofs.PairTables.{pair_same}
-use Rattle.file.proofs.Printed.Ranged.{members, event}
 use Rattle.reader.proofs.FirstFailing.{Same, same_all, same_test}
 
 -- The counters of what has been said.

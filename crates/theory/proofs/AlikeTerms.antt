@@ -10,13 +10,13 @@ use Rattle.theory.specs.Formula.{Formula, Entry, node, first_operand, second_ope
 use Rattle.theory.specs.Meaning.{Graph, Starts, holds}
 use Rattle.theory.specs.Columns.{columns_fit, standing, member, inside}
 use Rattle.theory.specs.Terms.{Terms, Effect, labels, formula}
-use Rattle.theory.specs.Moment.{Moment, graph, affect_all, denied, first}
+use Rattle.theory.specs.Moment.{Moment, graph, affect_all, denied}
 use Rattle.theory.specs.Moment.Event.{happened}
 use Rattle.theory.specs.Limits.{scratch_words}
 use Rattle.theory.specs.Keeper.{Call, Answer, Book, record_of, last, last_moment, target, judge, keep, keep_all, revised_start}
 use Rattle.theory.specs.Keeper.Verdict.{grant, deny}
 use Rattle.theory.specs.Keeper.Answer.{decided, refused}
-use Rattle.theory.specs.Terms.{tables, past_entry, first_same, same_size, Alike}
+use Rattle.theory.specs.Terms.{past_entry, first_same, same_size, Alike}
 use Rattle.theory.specs.Fit.{operand_fits, only_free, reach_fits, Good, GoodEntry, Within}
 use Rattle.theory.specs.Tables.{Tables, State, store, holds_now, operand_now, since_tables, start_bits, start_step, start_tables, revised}
 use Rattle.theory.proofs.Good.{second_lower, third_lower}

@@ -14,7 +14,7 @@ use Rattle.sets.proofs.Finite.{or_left, or_right, or_cases, is_false}
 use Rattle.theory.specs.Formula.{is_past}
 use Rattle.theory.specs.Meaning.{Assignment}
 use Rattle.memory.specs.Layout.{terms_of}
-use Rattle.deciding.specs.private.Rows.{assigned, cell, ahead, behind}
+use Rattle.deciding.specs.private.Rows.{assigned, cell}
 use Rattle.deciding.specs.private.Memo.{Grown}
 use Rattle.memory.proofs.Accepted.{good}
 use Rattle.deciding.proofs.Loops as loops

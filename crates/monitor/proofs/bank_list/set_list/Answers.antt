@@ -1,5 +1,5 @@
 -- `BankListing` over the five banks of words, turn by turn.
-use Rattle.std.proofs.Common.{◌≡◌, ℕ, ◌<◌, ◌∙◌, subst, arith}
+use Rattle.std.proofs.Common.{◌≡◌, ℕ, ◌∙◌, subst, arith}
 use Rattle.monitor.proofs.Listing.{within}
 use Rattle.monitor.proofs.BankListing.{Mem, Facts, Free, begins, turn, ends}
 use Rattle.monitor.proofs.bank_list.set_list.Goals as goal

@@ -1,8 +1,5 @@
 -- `Listing` over state and scratch, turn by turn.
-use Rattle.std.proofs.Common.{◌≡◌, ℕ, ◌+◌, ◌<◌, ◌≤◌, List, length, sym, ap, ◌∙◌, subst, arith, rules}
-use Rattle.memory.specs.Outcome.{Outcome, outcome_of}
-use Rattle.calls.specs.SetList.{listing_of, listing}
-use Rattle.calls.specs.private.Listing.{turns_of}
+use Rattle.std.proofs.Common.{◌≡◌, ℕ, ◌<◌, ◌∙◌, subst, arith}
 use Rattle.monitor.proofs.Listing.{within}
 use Rattle.monitor.proofs.SetListing.{Facts, begins, asks, turn, ends}
 use Rattle.monitor.proofs.set_list.set_list.Goals as goal
