@@ -2,7 +2,7 @@
 -- is left of the memory at the loop's head, that a turn keeps it, and what it says at the end. It is over what an
 -- answer is (`ask`) and what it leaves (`after`).
 use mathlib.Core.Path.{◌≡◌, refl, sym, ap, ◌∙◌}
-use Prim.Native.Nat.{ℕ, suc, ◌+◌, ◌<◌, ◌≤◌, ◌^◌}
+use Prim.Native.Nat.{ℕ, suc, ◌+◌, ◌<◌, ◌≤◌}
 use native.Mathlib.Nat.{zero-add, add-zero, add_assoc}
 use native.Mathlib.Omega.{arith}
 use mathlib.Core.Bool.{Bool, true, false, cond}
@@ -49,12 +49,6 @@ gain_small r = at (eqb r 1)
     at : (t : Bool) → cond t 1 0 ≤ 1
     at true = lit≤ tt
     at false = lit≤ tt
-
-pub next_fits : (i n : ℕ) → i < n → n < 2 ^ 64 → i + 1 < 2 ^ 64
-next_fits i n l m = omega (arith, l, m)
-
-pub count-below : (g i n : ℕ) → g ≤ i → i < n → n < 2 ^ 64 → g + 1 < 2 ^ 64
-count-below g i n s l m = omega (arith, s, l, m)
 
 pub turns_within : (o : Outcome) (n : ℕ) → turns_of o n ≤ n
 unfolding turns_of
