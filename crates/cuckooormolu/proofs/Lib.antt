@@ -1,4 +1,3 @@
-pub mod Facts
 pub mod Told
 pub mod ToldBanks
 pub mod ToldPlans
