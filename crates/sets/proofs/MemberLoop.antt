@@ -6,7 +6,7 @@ use native.Mathlib.Omega.{arith}
 use lib.Dec.{eqb}
 use lib.Bits.{bit_and}
 use borrow.Author.Tests.{eqb-true}
-use Rattle.sets.specs.Sets.{bit, least}
+use Rattle.sets.specs.Sets.{bit, least, Taken}
 use Rattle.sets.proofs.Finite.{and_left}
 use Rattle.sets.proofs.Bits.{bit_zero}
 use Rattle.sets.proofs.Least.{Least, Rest, least_law, rest_law}
@@ -32,6 +32,16 @@ pub turn : {want rest a rest' : ℕ} → MembersLeft want rest → (rest ≡ 0 �
 turn {want} {rest} {a} {rest'} o n l r =
     let p : 0 < rest = omega arith in
     record { upon = o; next = least_law rest a p o.fits l; left = rest_law rest rest' p o.fits r }
+
+-- The same, where a is what a `Members` gives.
+pub turn_of : {want rest a rest' : ℕ} → MembersLeft want rest → Taken rest a rest' → Turn want rest a rest'
+turn_of o t = turn o t.some t.first t.others
+
+pub taken_small : {w a rest : ℕ} → Taken w a rest → a < 64
+taken_small {w} {a} t = (least_law w a (let n = t.some in let p : 0 < w = omega arith in p) t.fits t.first).small
+
+pub taken_wanted : {want rest a rest' : ℕ} → MembersLeft want rest → Taken rest a rest' → bit want a ≡ true
+taken_wanted o t = let u = turn_of o t in o.inside _ u.next.here
 
 pub least_small : {want rest a : ℕ} → MembersLeft want rest → (rest ≡ 0 → ⊥) → a ≡ least rest → a < 64
 least_small {want} {rest} {a} o n l = (least_law rest a (let p : 0 < rest = omega arith in p) o.fits l).small

@@ -2,6 +2,8 @@
 ghost use Rattle.std.specs.Prelude.{◌≡◌, cond, ◌&&◌, ℕ, ◌+◌, ◌%◌, ◌<◌, ltb, leb, length, get_or};
 ghost use Rattle.sets.specs.Sets.{bit, count_below, tally};
 
+use crate::members::Members;
+
 // Enough for the numbers up to 64.
 const PLANES: usize = 7;
 
@@ -49,10 +51,8 @@ pub fn shared(ws: &[u64], set: u64, k: usize) -> u64
     }
     let mut planes = [0u64; PLANES];
     let listed = set & crate::mask(ws.len());
-    let mut rest = listed;
-    while rest != 0 {
-        add(&mut planes, ws[crate::least_of(rest)]);
-        rest = crate::rest_of(rest);
+    for c in Members::of(listed) {
+        add(&mut planes, ws[c]);
     }
     at_least(&planes, k)
 }
