@@ -6,7 +6,8 @@ ghost use Rattle.memory.specs.TableIndex.{Indexed, Masked};
 ghost use Rattle.memory.specs.Outcome.{outcome_of, has_passed, short_banks, good_banks, banks_check, banks_open, banks_revise};
 
 use crate::limits::ENTRIES;
-use crate::{Outcome, check_state, check_terms, is_same_size, layout};
+use crate::refusal::Refusal;
+use crate::{check_state, check_terms, is_same_size, layout};
 
 // Whether terms, relations or one of the banks' own words are too few.
 fn is_short(terms: &[u16], relations: &[u64], own: &[u64], other: &[u64]) -> bool
@@ -42,24 +43,24 @@ pub fn inspect(
     own: &[u64],
     other: &[u64],
     index: &mut [u16; ENTRIES],
-) -> Outcome
+) -> Result<(), Refusal>
     ensures result_value { outcome_of result ≡ banks_check terms.now relations.now own.now other.now }
     ensures indexed { has_passed (outcome_of result) ≡ true → Indexed (terms_of terms.now) index.new }
     ensures index_unchanged { has_passed (outcome_of result) ≡ false → index.new ≡ index.old }
 {
     if is_short(terms, relations, own, other) {
-        return Outcome::Refused(6, 0);
+        return Err(Refusal::Short);
     }
     let mut masks = [0u64; ENTRIES];
     let mut made = [0u16; ENTRIES];
     if !check_terms::check_terms(terms, &mut masks, &mut made) {
-        return Outcome::Refused(7, 0);
+        return Err(Refusal::Terms);
     }
     if !check_banks(terms, &masks, &made, relations, own, other) {
-        return Outcome::Refused(8, 0);
+        return Err(Refusal::State);
     }
     *index = made;
-    Outcome::Done
+    Ok(())
 }
 
 // Checks terms and the relations of banks that are to be opened, and leaves the table index where they pass. Else the
@@ -70,24 +71,24 @@ pub fn inspect_opening(
     own: &[u64],
     other: &[u64],
     index: &mut [u16; ENTRIES],
-) -> Outcome
+) -> Result<(), Refusal>
     ensures result_value { outcome_of result ≡ banks_open terms.now relations.now own.now other.now }
     ensures indexed { has_passed (outcome_of result) ≡ true → Indexed (terms_of terms.now) index.new }
     ensures index_unchanged { has_passed (outcome_of result) ≡ false → index.new ≡ index.old }
 {
     if is_short(terms, relations, own, other) {
-        return Outcome::Refused(6, 0);
+        return Err(Refusal::Short);
     }
     let mut masks = [0u64; ENTRIES];
     let mut made = [0u16; ENTRIES];
     if !check_terms::check_terms(terms, &mut masks, &mut made) {
-        return Outcome::Refused(7, 0);
+        return Err(Refusal::Terms);
     }
     if !check_state::check_relations(terms, relations) {
-        return Outcome::Refused(8, 0);
+        return Err(Refusal::State);
     }
     *index = made;
-    Outcome::Done
+    Ok(())
 }
 
 // Checks old terms, both banks under them and new terms that come in their place, and leaves the indexes of both where
@@ -103,34 +104,34 @@ pub fn inspect_revision(
     fourth: &[u64],
     before: &mut [u16; ENTRIES],
     after: &mut [u16; ENTRIES],
-) -> Outcome
+) -> Result<(), Refusal>
     ensures result_value { outcome_of result ≡ banks_revise old.now relations.now own.now other.now new.now edges.now third.now fourth.now }
     ensures indexed { has_passed (outcome_of result) ≡ true → Indexed (terms_of old.now) before.new }
     ensures indexed_2 { has_passed (outcome_of result) ≡ true → Indexed (terms_of new.now) after.new }
     ensures before_unchanged { has_passed (outcome_of result) ≡ false → (before.new ≡ before.old) × (after.new ≡ after.old) }
 {
     if is_short(old, relations, own, other) {
-        return Outcome::Refused(6, 0);
+        return Err(Refusal::Short);
     }
     if is_short(new, edges, third, fourth) {
-        return Outcome::Refused(6, 0);
+        return Err(Refusal::Short);
     }
     let mut masks = [0u64; ENTRIES];
     let mut old_index = [0u16; ENTRIES];
     let mut new_index = [0u16; ENTRIES];
     if !check_terms::check_terms(new, &mut masks, &mut new_index) {
-        return Outcome::Refused(7, 0);
+        return Err(Refusal::Terms);
     }
     if !check_terms::check_terms(old, &mut masks, &mut old_index) {
-        return Outcome::Refused(7, 0);
+        return Err(Refusal::Terms);
     }
     if !check_banks(old, &masks, &old_index, relations, own, other) {
-        return Outcome::Refused(8, 0);
+        return Err(Refusal::State);
     }
     if !is_same_size(old, new) {
-        return Outcome::Refused(13, 0);
+        return Err(Refusal::Size);
     }
     *before = old_index;
     *after = new_index;
-    Outcome::Done
+    Ok(())
 }
