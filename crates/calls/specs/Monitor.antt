@@ -1,5 +1,5 @@
 -- What the public functions give and leave, for every lent memory. `demand_3` holds these against the keeper.
-use Rattle.std.specs.Prelude.{ℕ, Bool, true, false, cond, not, ◌||◌, List, ◌++◌, ltb, length, drop, replicate}
+use Rattle.std.specs.Prelude.{ℕ, Bool, true, false, cond, not, ◌||◌, List, ◌++◌, ltb, length, drop, replicate, Result, Ok, Err}
 use Rattle.theory.specs.Keeper.{Verdict, Answer}
 use Rattle.theory.specs.Keeper.Verdict.{grant, deny}
 use Rattle.theory.specs.Keeper.Answer.{decided, done, refused}
@@ -8,6 +8,8 @@ use Rattle.memory.specs.Layout.{terms_words, state_words, terms_of, state_of, wo
 use Rattle.memory.specs.Checks.{good_memory, good_state}
 use Rattle.memory.specs.Outcome.{has_passed, opens}
 use Rattle.theory.specs.Tables.{opening, named, decide_now, made, advance}
+use Rattle.memory.specs.declared.refusal.Refusal.{Refusal}
+use Rattle.memory.specs.Refusal.{refusal_number, refusal_line}
 use Rattle.calls.specs.declared.Verdict.{Verdict as VerdictCase}
 use Rattle.calls.specs.declared.Verdict.TheVariants.{Grant, Deny}
 use Rattle.calls.specs.declared.Answer.{Answer as AnswerCase}
@@ -23,6 +25,11 @@ verdict_of Deny = deny
 abbrev pub answer_of : AnswerCase → Answer
 answer_of (Decided v) = decided (verdict_of v)
 answer_of (Refused n l) = refused n l
+
+-- The same of a verdict, where the request is not refused.
+abbrev pub answer_to : Result VerdictCase Refusal → Answer
+answer_to (Ok v) = decided (verdict_of v)
+answer_to (Err r) = refused (refusal_number r) (refusal_line r)
 
 -- ---- look and request
 

@@ -1,6 +1,6 @@
 -- A set list (docs/SCOPE.md, Set lists): a lent list of request records, answered in order by
 -- single requests one after another.
-use Rattle.std.specs.Prelude.{ℕ, ◌+◌, cond, List, [], ◌∷◌, ltb, eqb, length, ◌≡◌, ◌⊎◌}
+use Rattle.std.specs.Prelude.{ℕ, ◌+◌, cond, List, [], ◌∷◌, ltb, eqb, length, Result, Ok, Err, ◌≡◌, ◌⊎◌}
 use Rattle.theory.specs.Keeper.{Answer}
 use Rattle.theory.specs.Keeper.Verdict.{grant, deny}
 use Rattle.theory.specs.Keeper.Answer.{decided, done, refused as refusedAnswer}
@@ -9,19 +9,19 @@ use Rattle.memory.specs.Outcome.{Outcome, has_passed, checks}
 use Rattle.memory.specs.Outcome.Outcome.{passed, refused as refusedOutcome}
 use Rattle.calls.specs.Monitor.{answer, granted, state_after, scratch_after}
 use Rattle.calls.specs.declared.Record.{Record}
-use Rattle.calls.specs.declared.Listed.{Listed}
-use Rattle.calls.specs.declared.Listed.TheVariants.{Granted, Refused}
+use Rattle.memory.specs.declared.refusal.Refusal.{Refusal}
+use Rattle.memory.specs.Refusal.{refusal_number, refusal_line}
 
--- ---- the enum's cases
+-- ---- the cases of what a list gives
 
 -- How many records were granted, or the refusal's number and line.
 pub data Listing : Type 0 where
   counted : (grants : ℕ) → Listing
   refused : (number line : ℕ) → Listing
 
-abbrev pub listing_of : Listed → Listing
-listing_of (Granted n) = counted n
-listing_of (Refused n l) = refused n l
+abbrev pub listing_of : Result ℕ Refusal → Listing
+listing_of (Ok n) = counted n
+listing_of (Err r) = refused (refusal_number r) (refusal_line r)
 
 -- ---- single requests one after another
 

@@ -1,6 +1,6 @@
 -- What telling an entry gives, for every lent memory: an entry is asked in place of an event's policy, and no moment
 -- is made. What is told is no answer to a request, so it has a type of its own.
-use Rattle.std.specs.Prelude.{ℕ, Bool, true, false, cond, not, ◌&&◌, ◌||◌, List, ltb, length}
+use Rattle.std.specs.Prelude.{ℕ, Bool, true, false, cond, not, ◌&&◌, ◌||◌, List, ltb, length, Result, Ok, Err}
 use Rattle.theory.specs.Meaning.{alone}
 use Rattle.theory.specs.Terms.{Terms, formula}
 use Rattle.theory.specs.Moment.{graph}
@@ -8,8 +8,8 @@ use Rattle.theory.specs.Tables.{State, holds_now}
 use Rattle.memory.specs.Layout.{terms_words, state_words, terms_of, state_of}
 use Rattle.memory.specs.Checks.{good_memory, good_state}
 use Rattle.memory.specs.Outcome.{askable}
-use Rattle.calls.specs.declared.Told.{Told}
-use Rattle.calls.specs.declared.Told.TheVariants.{Holds, Fails, Refused}
+use Rattle.memory.specs.declared.refusal.Refusal.{Refusal}
+use Rattle.memory.specs.Refusal.{refusal_number, refusal_line}
 
 -- An entry holds or fails, or its telling is refused with its number and line.
 pub data Telling : Type 0 where
@@ -17,10 +17,10 @@ pub data Telling : Type 0 where
   fails : Telling
   refused : (number line : ℕ) → Telling
 
-abbrev pub telling_of : Told → Telling
-telling_of Holds = holds
-telling_of Fails = fails
-telling_of (Refused n l) = refused n l
+abbrev pub telling_of : Result Bool Refusal → Telling
+telling_of (Ok true) = holds
+telling_of (Ok false) = fails
+telling_of (Err r) = refused (refusal_number r) (refusal_line r)
 
 -- It is told that the entry holds.
 abbrev pub affirms : Telling → Bool

@@ -1,6 +1,10 @@
-// What a call answers, a record of a set list, and what is told of an entry. The crate has
-// definitions and laws, and no function.
+// What a call answers, and a record of a set list; definitions and laws.
 #![tactic(auto)]
+
+ghost use Rattle.std.specs.Prelude.{◌≡◌};
+ghost use Rattle.calls.specs.Monitor.{answer_of, answer_to};
+
+use memory::refusal::Refusal;
 
 // What a decided request carries.
 #[derive(Clone, Copy)]
@@ -9,11 +13,23 @@ pub enum Verdict {
     Deny,
 }
 
-// A decided request carries its verdict, a refused one its number and line.
+// A decided request carries its verdict, a refused one its number and line. (Its form is prescribed: docs/SCOPE.md,
+// Forms.)
 #[derive(Clone, Copy)]
 pub enum Answer {
     Decided(Verdict),
     Refused(usize, usize),
+}
+
+impl From<Result<Verdict, Refusal>> for Answer {
+    ghost from_gives = { λ ruled a. answer_of a ≡ answer_to ruled };
+
+    fn from(ruled: Result<Verdict, Refusal>) -> Answer {
+        match ruled {
+            Ok(verdict) => Answer::Decided(verdict),
+            Err(refusal) => Answer::Refused(refusal.number(), refusal.line()),
+        }
+    }
 }
 
 // A request and its answer: 0 for deny, 1 for grant, 9 where event, from or to names nothing.
@@ -24,19 +40,4 @@ pub struct Record {
     pub from: u32,
     pub to: u32,
     pub answer: u32,
-}
-
-// How many records were granted, or the refusal's number and line.
-#[derive(Clone, Copy)]
-pub enum Listed {
-    Granted(usize),
-    Refused(usize, usize),
-}
-
-// What is told of an entry: it holds or it fails, or the refusal's number and line.
-#[derive(Clone, Copy)]
-pub enum Told {
-    Holds,
-    Fails,
-    Refused(usize, usize),
 }

@@ -1,5 +1,5 @@
 -- What `forced` gives and leaves, for every lent memory. `demand_3_plans` holds it against the keeper.
-use Rattle.std.specs.Prelude.{ℕ, Bool, true, false, cond, not, ◌||◌, List, ◌++◌, ltb, length, take, drop, replicate}
+use Rattle.std.specs.Prelude.{ℕ, Bool, true, false, cond, not, ◌||◌, List, ◌++◌, ltb, length, take, drop, replicate, Result, Ok, Err}
 use Rattle.theory.specs.Fit.{every}
 use Rattle.theory.specs.Limits.{scratch_words}
 use Rattle.memory.specs.Layout.{terms_words, state_words, terms_of}
@@ -8,8 +8,8 @@ use Rattle.calls.specs.Monitor.{state_after}
 use Rattle.calls.specs.Telling.{affirms, tells}
 use Rattle.plans.specs.Game.{wins, moves_of, Ruling, game_tests, known_tests, game_words}
 use Rattle.plans.specs.Game.Ruling.{accept, reject, refuse}
-use Rattle.plans.specs.declared.Ruling.{Ruling as RulingCase}
-use Rattle.plans.specs.declared.Ruling.TheVariants.{Accepted, Rejected, Refused}
+use Rattle.memory.specs.declared.refusal.Refusal.{Refusal}
+use Rattle.memory.specs.Refusal.{refusal_number, refusal_line}
 
 -- ---- the monitor's game: on the named words of a state, by what a request leaves and by what is told of the goal
 
@@ -27,10 +27,10 @@ accepted terms state plan planner rival goal u v =
 
 -- ---- what `forced` gives and leaves
 
-abbrev pub ruling_of : RulingCase → Ruling
-ruling_of Accepted = accept
-ruling_of Rejected = reject
-ruling_of (Refused n l) = refuse n l
+abbrev pub ruling_of : Result Bool Refusal → Ruling
+ruling_of (Ok true) = accept
+ruling_of (Ok false) = reject
+ruling_of (Err r) = refuse (refusal_number r) (refusal_line r)
 
 -- Lengths of terms, state and scratch (6), terms (7), state (8), the game (14), its numbers (9), else the verdict.
 unfoldable pub ruling : (terms state scratch plan : List ℕ) → (planner rival goal u v : ℕ) → Ruling

@@ -1,5 +1,5 @@
 -- What reading a text into lent memory gives and leaves, for every text and every lent memory.
-use Rattle.std.specs.Prelude.{ℕ, Bool, cond, ◌||◌, List, ◌++◌, ltb, length, drop}
+use Rattle.std.specs.Prelude.{ℕ, Bool, cond, ◌||◌, List, ◌++◌, ltb, length, drop, Result, Ok, Err}
 use Rattle.memory.specs.Layout.{terms_words, state_words, words_of}
 use Rattle.memory.specs.Outcome.{Outcome}
 use Rattle.memory.specs.Outcome.Outcome.{passed, refused as refusedOutcome}
@@ -7,8 +7,10 @@ use Rattle.file.specs.File.{state_said}
 use Rattle.file.specs.Reading.{Reading, reading}
 use Rattle.file.specs.Reading.Reading.{accepted, refused as refusedReading}
 use Rattle.reader.specs.Memory.{memory_of}
-use Rattle.reader.specs.declared.Filled.{Filled}
-use Rattle.reader.specs.declared.Filled.TheVariants.{Old, Stored, Refused}
+use Rattle.memory.specs.declared.refusal.Refusal.{Refusal}
+use Rattle.memory.specs.Refusal.{refusal_number, refusal_line}
+use Rattle.reader.specs.declared.Form.{Form}
+use Rattle.reader.specs.declared.Form.TheVariants.{Old, Stored}
 
 -- A text is of the old form or of the stored one, or it is refused with its number and line.
 pub data Filling : Type 0 where
@@ -16,10 +18,10 @@ pub data Filling : Type 0 where
   stored : Filling
   refused : (number line : ℕ) → Filling
 
-abbrev pub filling_of : Filled → Filling
-filling_of Old = old
-filling_of Stored = stored
-filling_of (Refused n l) = refused n l
+abbrev pub filling_of : Result Form Refusal → Filling
+filling_of (Ok Old) = old
+filling_of (Ok Stored) = stored
+filling_of (Err r) = refused (refusal_number r) (refusal_line r)
 
 -- Memory lengths first (6, 0), then the first faulty line and in it the lowest number.
 abbrev pub short : (terms state : List ℕ) → Bool

@@ -12,8 +12,9 @@ ghost use Rattle.memory.specs.TableIndex.{Indexed};
 ghost use Rattle.renumber.specs.private.Spread.{spread, Doubled, ByteOf, Bytes, Apart, Placed, new_event, Moved, Rewritten};
 ghost use Rattle.renumber.specs.private.PairRows.{Few};
 
+use memory::layout;
 use memory::limits::ENTRIES;
-use memory::{Outcome, layout};
+use memory::refusal::Refusal;
 
 mod pairs;
 
@@ -234,23 +235,23 @@ fn rewrite(terms: &[u16], index: &[u16], state: &[u64], numbers: &[u8], second: 
 
 // Rewrites a state into a second one, byte m of the list being the new number of member m. A refusal
 // leaves the second state as lent.
-pub fn renumber(terms: &[u16], state: &[u64], numbers: &[u8], second: &mut [u64]) -> Outcome
+pub fn renumber(
+    terms: &[u16],
+    state: &[u64],
+    numbers: &[u8],
+    second: &mut [u64],
+) -> Result<(), Refusal>
     ensures result_value { outcome_of result ≡ renumbering terms.now state.now numbers.now second.old }
     ensures second_after { second.new ≡ renumbered_state terms.now state.now numbers.now second.old }
 {
     if second.len() < layout::STATE {
-        return Outcome::Refused(6, 0);
+        return Err(Refusal::Short);
     }
     let mut index = [0u16; ENTRIES];
-    let checked = memory::inspect(terms, state, &mut index);
-    match checked {
-        Outcome::Refused(n, l) => Outcome::Refused(n, l),
-        Outcome::Done => {
-            if !are_new_numbers(numbers, layout::members(terms)) {
-                return Outcome::Refused(15, 0);
-            }
-            rewrite(terms, &index, state, numbers, second);
-            Outcome::Done
-        }
+    memory::inspect(terms, state, &mut index)?;
+    if !are_new_numbers(numbers, layout::members(terms)) {
+        return Err(Refusal::Numbers);
     }
+    rewrite(terms, &index, state, numbers, second);
+    Ok(())
 }

@@ -1,23 +1,23 @@
 -- What `write` and `store` give and leave, for all lent memory: lengths (6), terms (7), state (8), of the old form a
 -- state that is no fresh start (12), and last an output too short for the whole text (6).
-use Rattle.std.specs.Prelude.{ℕ, Bool, false, cond, List, ◌++◌, eqb, ltb, length, get_or, drop}
+use Rattle.std.specs.Prelude.{ℕ, Bool, false, cond, List, ◌++◌, eqb, ltb, length, get_or, drop, Result, Ok, Err}
 use Rattle.sets.specs.Sets.{all_below}
 use Rattle.theory.specs.Tables.{opening}
 use Rattle.memory.specs.Layout.{state_words, terms_of, state_of, word_at}
 use Rattle.memory.specs.Outcome.{Outcome, checks}
 use Rattle.memory.specs.Outcome.Outcome.{passed, refused as refusedOutcome}
 use Rattle.file.specs.Writing.{written, stored}
-use Rattle.writer.specs.declared.Written.{Written}
-use Rattle.writer.specs.declared.Written.TheVariants.{Bytes, Refused}
+use Rattle.memory.specs.declared.refusal.Refusal.{Refusal}
+use Rattle.memory.specs.Refusal.{refusal_number, refusal_line}
 
 -- A writing gives its count of bytes, or it is refused with its number and line.
 pub data Writing : Type 0 where
   bytes : ℕ → Writing
   refused : (number line : ℕ) → Writing
 
-abbrev pub writing_of : Written → Writing
-writing_of (Bytes n) = bytes n
-writing_of (Refused n l) = refused n l
+abbrev pub writing_of : Result ℕ Refusal → Writing
+writing_of (Ok n) = bytes n
+writing_of (Err r) = refused (refusal_number r) (refusal_line r)
 
 -- The text of the lent terms and present relations, and of the whole state.
 unfoldable pub written_text : (terms state : List ℕ) → List ℕ
