@@ -11,7 +11,8 @@ use Rattle.calls.specs.Monitor.{granted}
 use Rattle.calls.specs.SetList.{listing_of, answer_number, filled, listing, gain_of, blank}
 use Rattle.calls.specs.private.Listing.{turns_of}
 use Rattle.calls.specs.declared.Record.{Record}
-use Rattle.calls.specs.declared.Listed.{Listed}
+use Rattle.std.specs.Prelude.{Result}
+use Rattle.memory.specs.declared.refusal.Refusal.{Refusal}
 use Rattle.banking.specs.Banking.{bank_answer, relations_after, own_after, other_after, cleared_after}
 use Rattle.banking.specs.BankList.{BankRun, bank_singly, bank_list_checks, bank_listed, bank_left}
 use Rattle.banking.proofs.BankAnswers.{each_answer}
@@ -111,12 +112,12 @@ module _ (t : List ℕ) where
     abbrev leaves : BankRun
     leaves = bank_left t m₀.0 m₀.1.0 m₀.1.1.0 m₀.1.1.1.0 m₀.1.1.1.1.0 ys₀
 
-    abbrev pub Ended : Listed → List Record → Mem → Type 0
+    abbrev pub Ended : Result ℕ Refusal → List Record → Mem → Type 0
     Ended r ys m =
         (listing_of r ≡ bank_listed t m₀.0 m₀.1.0 m₀.1.1.0 m₀.1.1.1.0 m₀.1.1.1.1.0 ys₀) × (ys ≡ leaves.records) × (m.0 ≡ leaves.relations)
         × (m.1.0 ≡ leaves.own) × (m.1.1.0 ≡ leaves.other) × (m.1.1.1.0 ≡ leaves.scratch) × (m.1.1.1.1.0 ≡ leaves.spare)
 
-    pub ends : (g : ℕ) (ys : List Record) (m : Mem) (o : Outcome) → o ≡ checks → (r : Listed) → listing_of r ≡ listing o g → Facts (turns_of o (length ys₀)) g ys m →
+    pub ends : (g : ℕ) (ys : List Record) (m : Mem) (o : Outcome) → o ≡ checks → (r : Result ℕ Refusal) → listing_of r ≡ listing o g → Facts (turns_of o (length ys₀)) g ys m →
         Ended r ys m
     unfolding bank_listed bank_left
     ends g ys m o e r said F =

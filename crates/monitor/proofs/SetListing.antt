@@ -12,7 +12,8 @@ use Rattle.calls.specs.SetList.{listing_of, filled, Run, singly, listing, listed
 use Rattle.calls.specs.private.Listing.{MemoryPassed, turns_of}
 use Rattle.monitor.specs.private.Inspecting.{Seen}
 use Rattle.calls.specs.declared.Record.{Record}
-use Rattle.calls.specs.declared.Listed.{Listed}
+use Rattle.std.specs.Prelude.{Result}
+use Rattle.memory.specs.declared.refusal.Refusal.{Refusal}
 use Rattle.monitor.specs.declared.set_list.Inspected.{Inspected}
 use Rattle.monitor.proofs.Records.{put_answer}
 use Rattle.monitor.proofs.Listing as loop
@@ -86,11 +87,11 @@ module _ (t : List ℕ) (ys₀ : List Record) (st₀ sc₀ : List ℕ) (c : Insp
         ready = λ p. subst (λ (m : Mem). MemoryPassed t c.index m.0 m.1) (sym left) (after_passed t st sc e.event e.from e.to c.index (F.kept.ready p));
       }) F l
 
-  abbrev pub Ended : Listed → List Record → List ℕ → List ℕ → Type 0
+  abbrev pub Ended : Result ℕ Refusal → List Record → List ℕ → List ℕ → Type 0
   Ended r ys st sc =
       (listing_of r ≡ listed t st₀ sc₀ ys₀) × (ys ≡ (left t st₀ sc₀ ys₀).records) × (st ≡ (left t st₀ sc₀ ys₀).state) × (sc ≡ (left t st₀ sc₀ ys₀).scratch)
 
-  pub ends : (g : ℕ) (ys : List Record) (st sc : List ℕ) (r : Listed) → listing_of r ≡ listing outcome g → Facts (turns_of outcome (length ys₀)) g ys st sc →
+  pub ends : (g : ℕ) (ys : List Record) (st sc : List ℕ) (r : Result ℕ Refusal) → listing_of r ≡ listing outcome g → Facts (turns_of outcome (length ys₀)) g ys st sc →
       Ended r ys st sc
   unfolding listed left
   ends g ys st sc r said F =

@@ -8,9 +8,10 @@ ghost use Rattle.banking.specs.BankList.{bank_list_checks, bank_listed, bank_lef
 
 use crate::banks::request;
 use crate::lists::{finish, number_of, tally, turns};
-use calls::{Listed, Record};
+use calls::Record;
+use memory::layout;
 use memory::limits::ENTRIES;
-use memory::{Outcome, layout};
+use memory::refusal::Refusal;
 
 // The checks of a list.
 fn inspect_bank_list(
@@ -20,11 +21,11 @@ fn inspect_bank_list(
     other: &[u64],
     scratch: &[u64],
     spare: &[u64],
-) -> Outcome
+) -> Result<(), Refusal>
     ensures { outcome_of result ≡ bank_list_checks terms.now relations.now own.now other.now scratch.now spare.now }
 {
     if (scratch.len() < layout::SCRATCH) | (spare.len() < layout::SCRATCH) {
-        return Outcome::Refused(6, 0);
+        return Err(Refusal::Short);
     }
     let mut index = [0u16; ENTRIES];
     memory::banks::inspect(terms, relations, own, other, &mut index)
@@ -66,7 +67,7 @@ pub fn set_list(
     scratch: &mut [u64],
     spare: &mut [u64],
     records: &mut [Record],
-) -> Listed
+) -> Result<usize, Refusal>
     ensures { (listing_of result ≡ bank_listed terms.now relations.old own.old other.old scratch.old spare.old records.old)
         × (records.new ≡ (bank_left terms.now relations.old own.old other.old scratch.old spare.old records.old).records)
         × (relations.new ≡ (bank_left terms.now relations.old own.old other.old scratch.old spare.old records.old).relations)

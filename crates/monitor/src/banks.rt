@@ -11,8 +11,9 @@ ghost use Rattle.deciding.specs.private.Starting.{Revising, Taken};
 use crate::passed::{is_grant, is_moving, is_named};
 use crate::revise::{begin, copy};
 use calls::{Answer, Verdict};
+use memory::layout;
 use memory::limits::ENTRIES;
-use memory::{Outcome, layout};
+use memory::refusal::Refusal;
 use moments::beside;
 
 const TABLES: usize = layout::TABLES_AT;
@@ -36,17 +37,16 @@ fn answer_call(
     ensures indexed { is_decided (answer_of result) ≡ true → Indexed (terms_of terms.now) index.new }
 {
     if scratch.len() < layout::SCRATCH {
-        return Answer::Refused(6, 0);
+        return Err(Refusal::Short).into();
     }
     if spare.len() < layout::SCRATCH {
-        return Answer::Refused(6, 0);
+        return Err(Refusal::Short).into();
     }
-    let checked = memory::banks::inspect(terms, relations, own, other, index);
-    match checked {
-        Outcome::Refused(n, l) => Answer::Refused(n, l),
-        Outcome::Done => {
+    match memory::banks::inspect(terms, relations, own, other, index) {
+        Err(refusal) => Err(refusal).into(),
+        Ok(()) => {
             if !is_named(terms, event, from, to) {
-                return Answer::Refused(9, 0);
+                return Err(Refusal::Name).into();
             }
             if beside::is_granted(terms, index, relations, own, event, from, to) {
                 return Answer::Decided(Verdict::Grant);
@@ -120,21 +120,16 @@ pub fn request(
 }
 
 // Makes moment 0 of the relations for both banks; a refusal leaves their own words as lent.
-pub fn open(terms: &[u16], relations: &[u64], first: &mut [u64], second: &mut [u64]) -> Outcome
+pub fn open(terms: &[u16], relations: &[u64], first: &mut [u64], second: &mut [u64]) -> Result<(), Refusal>
     ensures result_value { outcome_of result ≡ banks_open terms.now relations.now first.old second.old }
     ensures first_after { first.new ≡ own_opened terms.now relations.now first.old second.old first.old }
     ensures second_after { second.new ≡ own_opened terms.now relations.now first.old second.old second.old }
 {
     let mut index = [0u16; ENTRIES];
-    let checked = memory::banks::inspect_opening(terms, relations, first, second, &mut index);
-    match checked {
-        Outcome::Refused(n, l) => Outcome::Refused(n, l),
-        Outcome::Done => {
-            beside::first_moment(terms, &index, relations, first);
-            copy(&mut second[0..OWN], first);
-            Outcome::Done
-        }
-    }
+    memory::banks::inspect_opening(terms, relations, first, second, &mut index)?;
+    beside::first_moment(terms, &index, relations, first);
+    copy(&mut second[0..OWN], first);
+    Ok(())
 }
 
 // Fills in a bank's second own words, with which the new terms go on.
@@ -176,7 +171,7 @@ pub fn revise(
     edges: &mut [u64],
     third: &mut [u64],
     fourth: &mut [u64],
-) -> Outcome
+) -> Result<(), Refusal>
     ensures result_value { outcome_of result ≡ banks_revise old.now relations.now first.now second.now new.now edges.old third.old fourth.old }
     ensures edges_after { edges.new ≡ relations_revised old.now relations.now first.now second.now new.now edges.old third.old fourth.old }
     ensures third_after { third.new ≡ own_revised old.now relations.now first.now second.now new.now edges.old third.old fourth.old first.now third.old }
@@ -184,7 +179,7 @@ pub fn revise(
 {
     let mut before = [0u16; ENTRIES];
     let mut after = [0u16; ENTRIES];
-    let checked = memory::banks::inspect_revision(
+    memory::banks::inspect_revision(
         old,
         relations,
         first,
@@ -195,16 +190,11 @@ pub fn revise(
         fourth,
         &mut before,
         &mut after,
-    );
-    match checked {
-        Outcome::Refused(n, l) => Outcome::Refused(n, l),
-        Outcome::Done => {
-            let mut taken = [0u16; ENTRIES];
-            classes::find_classes(old, new, &mut taken);
-            copy(&mut edges[0..TABLES], relations);
-            begin_own(old, &before, relations, first, new, &after, &taken, third);
-            begin_own(old, &before, relations, second, new, &after, &taken, fourth);
-            Outcome::Done
-        }
-    }
+    )?;
+    let mut taken = [0u16; ENTRIES];
+    classes::find_classes(old, new, &mut taken);
+    copy(&mut edges[0..TABLES], relations);
+    begin_own(old, &before, relations, first, new, &after, &taken, third);
+    begin_own(old, &before, relations, second, new, &after, &taken, fourth);
+    Ok(())
 }

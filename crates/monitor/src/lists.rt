@@ -5,16 +5,16 @@ ghost use Rattle.calls.specs.Monitor.{answer_of};
 ghost use Rattle.calls.specs.SetList.{listing_of, answer_number, listing, gain_of};
 ghost use Rattle.calls.specs.private.Listing.{turns_of};
 
-use calls::{Answer, Listed, Verdict};
-use memory::Outcome;
+use calls::{Answer, Verdict};
+use memory::refusal::Refusal;
 
 // How many of n records are answered.
-pub(crate) fn turns(checked: Outcome, n: usize) -> usize
+pub(crate) fn turns(checked: Result<(), Refusal>, n: usize) -> usize
     ensures { result ≡ turns_of (outcome_of checked) n }
 {
     match checked {
-        Outcome::Done => n,
-        Outcome::Refused(_, _) => 0,
+        Ok(()) => n,
+        Err(_) => 0,
     }
 }
 
@@ -24,10 +24,8 @@ pub(crate) fn number_of(a: Answer) -> u32
     ensures { result ≡ answer_number (answer_of a) }
 {
     match a {
-        Answer::Decided(v) => match v {
-            Verdict::Grant => 1,
-            Verdict::Deny => 0,
-        },
+        Answer::Decided(Verdict::Grant) => 1,
+        Answer::Decided(Verdict::Deny) => 0,
         Answer::Refused(n, _) => n as u32,
     }
 }
@@ -41,11 +39,9 @@ pub(crate) fn tally(count: usize, answer: u32) -> usize
 }
 
 // What a list gives: the count, or what refused it.
-pub(crate) fn finish(checked: Outcome, count: usize) -> Listed
+pub(crate) fn finish(checked: Result<(), Refusal>, count: usize) -> Result<usize, Refusal>
     ensures { listing_of result ≡ listing (outcome_of checked) count }
 {
-    match checked {
-        Outcome::Done => Listed::Granted(count),
-        Outcome::Refused(n, l) => Listed::Refused(n, l),
-    }
+    checked?;
+    Ok(count)
 }

@@ -12,7 +12,8 @@ ghost use Rattle.calls.specs.private.Listing.{MemoryPassed};
 
 use calls::{Answer, Verdict};
 use memory::limits::ENTRIES;
-use memory::{Outcome, layout};
+use memory::refusal::Refusal;
+use memory::layout;
 use moments::moment;
 
 // Checks terms, state and scratch, and leaves the table index where they pass.
@@ -21,12 +22,12 @@ pub(crate) fn inspect_call(
     state: &[u64],
     scratch: &[u64],
     index: &mut [u16; ENTRIES],
-) -> Outcome
+) -> Result<(), Refusal>
     ensures result_value { outcome_of result ≡ list_checks terms.now state.now scratch.now }
     ensures indexed { has_passed (outcome_of result) ≡ true → Indexed (terms_of terms.now) index.new }
 {
     if scratch.len() < layout::SCRATCH {
-        return Outcome::Refused(6, 0);
+        return Err(Refusal::Short);
     }
     memory::inspect(terms, state, index)
 }
@@ -42,13 +43,7 @@ pub(crate) fn is_named(terms: &[u16], event: usize, from: usize, to: usize) -> b
 pub(crate) fn is_grant(a: Answer) -> bool
     ensures { result ≡ granted (answer_of a) }
 {
-    match a {
-        Answer::Decided(v) => match v {
-            Verdict::Grant => true,
-            Verdict::Deny => false,
-        },
-        Answer::Refused(_, _) => false,
-    }
+    matches!(a, Answer::Decided(Verdict::Grant))
 }
 
 // Whether the answer to a request makes a moment, where its event is kept or not.
@@ -56,10 +51,8 @@ pub(crate) fn is_moving(kept: bool, a: Answer) -> bool
     ensures { result ≡ moves kept (answer_of a) }
 {
     match a {
-        Answer::Decided(v) => match v {
-            Verdict::Grant => true,
-            Verdict::Deny => kept,
-        },
+        Answer::Decided(Verdict::Grant) => true,
+        Answer::Decided(Verdict::Deny) => kept,
         Answer::Refused(_, _) => false,
     }
 }
@@ -80,7 +73,7 @@ pub(crate) fn look(
         → answer_of result ≡ answer terms.now state.now scratch event from to }
 {
     if !is_named(terms, event, from, to) {
-        return Answer::Refused(9, 0);
+        return Err(Refusal::Name).into();
     }
     if moment::is_granted(terms, index, state, event, from, to) {
         return Answer::Decided(Verdict::Grant);

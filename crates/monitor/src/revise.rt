@@ -12,8 +12,9 @@ ghost use Rattle.deciding.specs.private.Starting.{Revising, Begun, Taken};
 
 use decide::{memo, memo_choice};
 use memory::limits::ENTRIES;
+use memory::refusal::Refusal;
 use memory::table_index::{is_past, table_of};
-use memory::{Outcome, clear, layout};
+use memory::{clear, layout};
 use moments::apart;
 use moments::moment::put_table;
 
@@ -182,30 +183,25 @@ pub(crate) fn begin(
 
 // From old terms, the state under them and new terms, fills in the second state, with which the new terms go
 // on. A refusal leaves it as lent.
-pub fn revise(old: &[u16], state: &[u64], new: &[u16], second: &mut [u64]) -> Outcome
+pub fn revise(old: &[u16], state: &[u64], new: &[u16], second: &mut [u64]) -> Result<(), Refusal>
     ensures result_value { outcome_of result ≡ revises old.now state.now new.now second.old }
     ensures second_after { second.new ≡ revised_state old.now state.now new.now second.old }
 {
     let mut before = [0u16; ENTRIES];
     let mut after = [0u16; ENTRIES];
-    let checked = memory::inspect_revision(old, state, new, second, &mut before, &mut after);
-    match checked {
-        Outcome::Refused(n, l) => Outcome::Refused(n, l),
-        Outcome::Done => {
-            let mut taken = [0u16; ENTRIES];
-            classes::find_classes(old, new, &mut taken);
-            copy(&mut second[0..TABLES], state);
-            begin(
-                old,
-                &before,
-                &state[0..TABLES],
-                &state[TABLES..layout::STATE],
-                new,
-                &after,
-                &taken,
-                &mut second[TABLES..layout::STATE],
-            );
-            Outcome::Done
-        }
-    }
+    memory::inspect_revision(old, state, new, second, &mut before, &mut after)?;
+    let mut taken = [0u16; ENTRIES];
+    classes::find_classes(old, new, &mut taken);
+    copy(&mut second[0..TABLES], state);
+    begin(
+        old,
+        &before,
+        &state[0..TABLES],
+        &state[TABLES..layout::STATE],
+        new,
+        &after,
+        &taken,
+        &mut second[TABLES..layout::STATE],
+    );
+    Ok(())
 }

@@ -9,14 +9,14 @@ ghost use Rattle.monitor.specs.private.Inspecting.{Seen};
 
 use crate::lists::{number_of, tally};
 use crate::{lists, passed};
-use calls::{Listed, Record};
-use memory::Outcome;
+use calls::Record;
 use memory::limits::ENTRIES;
+use memory::refusal::Refusal;
 
 // What the checks give, and the table index where they pass.
 #[derive(Clone, Copy)]
 struct Inspected {
-    outcome: Outcome,
+    outcome: Result<(), Refusal>,
     index: [u16; ENTRIES],
 }
 
@@ -62,7 +62,7 @@ fn step(
 }
 
 // What the list gives: the count, or what refused it.
-fn finish(inspected: Inspected, count: usize) -> Listed
+fn finish(inspected: Inspected, count: usize) -> Result<usize, Refusal>
     ensures { listing_of result ≡ listing (outcome_of inspected.outcome) count }
 {
     let outcome = inspected.outcome;
@@ -76,7 +76,7 @@ pub fn set_list(
     state: &mut [u64],
     scratch: &mut [u64],
     records: &mut [Record],
-) -> Listed
+) -> Result<usize, Refusal>
     ensures { (listing_of result ≡ listed terms.now state.old scratch.old records.old)
         × (records.new ≡ (left terms.now state.old scratch.old records.old).records)
         × (state.new ≡ (left terms.now state.old scratch.old records.old).state)
