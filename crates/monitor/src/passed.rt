@@ -50,11 +50,7 @@ pub(crate) fn is_grant(a: Answer) -> bool
 pub(crate) fn is_moving(kept: bool, a: Answer) -> bool
     ensures { result ≡ moves kept (answer_of a) }
 {
-    match a {
-        Answer::Decided(Verdict::Grant) => true,
-        Answer::Decided(Verdict::Deny) => kept,
-        Answer::Refused(_, _) => false,
-    }
+    is_grant(a) || (kept && matches!(a, Answer::Decided(Verdict::Deny)))
 }
 
 // What a request would answer now, with any scratch that is long enough. It makes no moment.
@@ -76,9 +72,10 @@ pub(crate) fn look(
         return Err(Refusal::Name).into();
     }
     if moment::is_granted(terms, index, state, event, from, to) {
-        return Answer::Decided(Verdict::Grant);
+        Answer::Decided(Verdict::Grant)
+    } else {
+        Answer::Decided(Verdict::Deny)
     }
-    Answer::Decided(Verdict::Deny)
 }
 
 // Answers a request. Where it makes a moment, that is made in place and the named words of scratch are left 0.

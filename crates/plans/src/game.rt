@@ -9,8 +9,8 @@ ghost use Rattle.plans.specs.private.Playing.{standing, Spared, Placed, Playable
 
 use crate::checks;
 use crate::checks::number_at;
-use calls::Told;
 use memory::layout::{SCRATCH, STATE};
+use memory::refusal::Refusal;
 use memory::{clear, layout};
 
 // The words that a game is lent: three states, and the scratch of a request.
@@ -48,14 +48,10 @@ fn copy_on(words: &mut [u64], at: usize)
 }
 
 // Whether an entry is told to hold.
-fn is_affirmed(t: Told) -> bool
-    ensures { result ≡ affirms (telling_of t) }
+fn is_affirmed(told: Result<bool, Refusal>) -> bool
+    ensures { result ≡ affirms (telling_of told) }
 {
-    match t {
-        Told::Holds => true,
-        Told::Fails => false,
-        Told::Refused(_, _) => false,
-    }
+    matches!(told, Ok(true))
 }
 
 // What a request leaves of a state.

@@ -5,22 +5,14 @@
 ghost use Rattle.std.specs.Prelude.{◌≡◌};
 ghost use Rattle.plans.specs.Plans.{ruling_of, ruling, scratch_after_ruling};
 
-use memory::Outcome;
 use memory::limits::ENTRIES;
+use memory::refusal::Refusal;
 
 mod checks;
 mod game;
 
-// A plan is accepted or rejected, or it is refused with its number and line.
-#[derive(Clone, Copy)]
-pub enum Ruling {
-    Accepted,
-    Rejected,
-    Refused(usize, usize),
-}
-
-// Whether, whatever the rival does between, the goal holds at u, with variable 0 standing for v, after one of the
-// planner's moves. A plan is event and target of each move in turn. A verdict leaves the named words of scratch 0; a
+// Whether a plan is accepted: whatever the rival does between, the goal holds at u, with variable 0 standing for v, after
+// one of the planner's moves. A plan is event and target of each move in turn. A verdict leaves the named words of scratch 0; a
 // refusal leaves them as lent.
 pub fn forced(
     terms: &[u16],
@@ -32,38 +24,30 @@ pub fn forced(
     goal: usize,
     u: usize,
     v: usize,
-) -> Ruling
+) -> Result<bool, Refusal>
     ensures result_value { ruling_of result ≡ ruling terms.now state.now scratch.old plan.now planner rival goal u v }
     ensures scratch_after { scratch.new ≡ scratch_after_ruling scratch.old (ruling terms.now state.now scratch.old plan.now planner rival goal u v) }
 {
     if scratch.len() < game::GAME {
-        return Ruling::Refused(6, 0);
+        return Err(Refusal::Short);
     }
     let mut tables = [0u16; ENTRIES];
-    let checked = memory::inspect_entry(terms, state, goal, &mut tables);
-    match checked {
-        Outcome::Refused(n, l) => Ruling::Refused(n, l),
-        Outcome::Done => {
-            if !checks::is_game(terms, plan, planner, rival) {
-                return Ruling::Refused(14, 0);
-            }
-            if !checks::is_known(terms, plan, planner, rival, u, v) {
-                return Ruling::Refused(9, 0);
-            }
-            if game::play(
-                terms,
-                state,
-                &mut scratch[0..game::GAME],
-                plan,
-                planner,
-                rival,
-                goal,
-                u,
-                v,
-            ) {
-                return Ruling::Accepted;
-            }
-            Ruling::Rejected
-        }
+    memory::inspect_entry(terms, state, goal, &mut tables)?;
+    if !checks::is_game(terms, plan, planner, rival) {
+        return Err(Refusal::Plan);
     }
+    if !checks::is_known(terms, plan, planner, rival, u, v) {
+        return Err(Refusal::Name);
+    }
+    Ok(game::play(
+        terms,
+        state,
+        &mut scratch[0..game::GAME],
+        plan,
+        planner,
+        rival,
+        goal,
+        u,
+        v,
+    ))
 }

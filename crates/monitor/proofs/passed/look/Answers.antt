@@ -20,6 +20,6 @@ pub returns-then-is_granted : goal.returns-then-is_granted
 returns-then-is_granted c scratch long =
     judged _ _ scratch _ _ _ long (checked _ _ c.requires.terms_words_in_bounds c.requires.state_words_in_bounds) (sym c.if-not-is_named.ensures) c.if-is_granted.true c.is_granted.ensures
 
-pub returns : goal.returns
-returns c scratch long =
+pub returns-else-is_granted : goal.returns-else-is_granted
+returns-else-is_granted c scratch long =
     judged _ _ scratch _ _ _ long (checked _ _ c.requires.terms_words_in_bounds c.requires.state_words_in_bounds) (sym c.if-not-is_named.ensures) c.if-is_granted.false c.is_granted.ensures
