@@ -1,5 +1,5 @@
 -- One word after the other.
-use Rattle.std.proofs.Common.{◌≡◌, ◌%◌, ◌||◌, eqb, get_or}
+use Rattle.std.proofs.Common.{◌%◌, ◌||◌, eqb, get_or}
 use mathlib.Core.Path.{sym, ap, ◌∙◌}
 use Rattle.sets.proofs.Finite.{all_none}
 use Rattle.memory.specs.Checks.{level}

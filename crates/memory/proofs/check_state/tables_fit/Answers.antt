@@ -21,7 +21,7 @@ few T g n t l p e = omega (arith, number_lt T.entry n T.entries l p, g.few_table
 
 pub loop-n-init : goal.loop-n-init
 unfolding number
-loop-n-init c = record { few = omega arith; count = refl; keep = sym (ap₂ ◌&&◌ (all_none _) (all_none _)); }
+loop-n-init c = record { few = omega arith; count = refl; keep = sym (ap₂ ◌&&◌ (all_none _) (all_none _)) }
 
 pub table_keeps-ok-requires : goal.table_keeps-ok-requires
 table_keeps-ok-requires c =
@@ -50,30 +50,30 @@ loop-n-preserved c =
     let members = c.members-m.ensures.value in
     let tested = c.is_past.ensures ∙ ap is_past c.op_of.ensures.value in
     elim c.if-is_past.branch [
-      then-is_past w ↦
-        let past : is_past (T.entry l.n).op ≡ true = sym tested ∙ w.if-is_past.true in
-        let m = c.members-m.result in
-        let fit = all_below 64 (λ a. table_fits m (index_columns w.word.result) true a (get_or own (64 * l.t + a) 0)) in
-        let level = eqb w.set_at.result 0 ⇒ level_table m own l.t in
-        let bare = closed_mask T g l.n w.set_at.result here (omega (arith, w.set_at.type_inv)) (λ y. ap (λ v. bit v y) w.set_at.ensures ∙ c.requires.indexed.1.bits l.n y here) in
-        record {
-          few = omega (arith, few T g l.n l.t here past l.invariant.count, w.t-is);
-          count = omega (arith, number_past T.entry l.n past, w.t-is, l.invariant.count);
-          keep = w.ok-is ∙ ap₂ ◌&&◌ w.table_keeps-ok.ensures l.invariant.keep ∙ and_cross fit level (all_below l.t (fit_table T own true)) (all_below l.n (level_entry T own))
-              ∙ ap₂ ◌&&◌
-              (all_turn l.t (fit_table T own true)
-              (fit_indexed T x.index.now g c.requires.indexed.0 l.n here past w.word.ensures.value own members l.invariant.count) refl)
-              (all_turn l.n (level_entry T own) (level_past T own l.n past bare members l.invariant.count) refl)
-              ∙ ap (λ j. all_below j (fit_table T own true) && all_below (l.n + 1) (level_entry T own)) (sym w.t-is);
-        }
-    | else-is_past w ↦
-        let other : is_past (T.entry l.n).op ≡ false = sym tested ∙ w.if-is_past.false in
-        record {
-          few = omega (arith, w.t-is, l.invariant.few);
-          count = omega (arith, number_other T.entry l.n other, w.t-is, l.invariant.count);
-          keep = w.ok-is ∙ l.invariant.keep
-              ∙ ap₂ ◌&&◌ (ap (λ j. all_below j (fit_table T own true)) (sym w.t-is)) (all_turn l.n (level_entry T own) (level_other T own l.n other) refl);
-        }
+      | then-is_past w ↦
+          let past : is_past (T.entry l.n).op ≡ true = sym tested ∙ w.if-is_past.true in
+          let m = c.members-m.result in
+          let fit = all_below 64 (λ a. table_fits m (index_columns w.word.result) true a (get_or own (64 * l.t + a) 0)) in
+          let level = eqb w.set_at.result 0 ⇒ level_table m own l.t in
+          let bare = closed_mask T g l.n w.set_at.result here (omega (arith, w.set_at.type_inv)) (λ y. ap (λ v. bit v y) w.set_at.ensures ∙ c.requires.indexed.1.bits l.n y here) in
+          record {
+            few = omega (arith, few T g l.n l.t here past l.invariant.count, w.t-is);
+            count = omega (arith, number_past T.entry l.n past, w.t-is, l.invariant.count);
+            keep = w.ok-is ∙ ap₂ ◌&&◌ w.table_keeps-ok.ensures l.invariant.keep ∙ and_cross fit level (all_below l.t (fit_table T own true)) (all_below l.n (level_entry T own))
+                ∙ ap₂ ◌&&◌
+                (all_turn l.t (fit_table T own true)
+                (fit_indexed T x.index.now g c.requires.indexed.0 l.n here past w.word.ensures.value own members l.invariant.count) refl)
+                (all_turn l.n (level_entry T own) (level_past T own l.n past bare members l.invariant.count) refl)
+                ∙ ap (λ j. all_below j (fit_table T own true) && all_below (l.n + 1) (level_entry T own)) (sym w.t-is);
+          }
+      | else-is_past w ↦
+          let other : is_past (T.entry l.n).op ≡ false = sym tested ∙ w.if-is_past.false in
+          record {
+            few = omega (arith, w.t-is, l.invariant.few);
+            count = omega (arith, number_other T.entry l.n other, w.t-is, l.invariant.count);
+            keep = w.ok-is ∙ l.invariant.keep
+                ∙ ap₂ ◌&&◌ (ap (λ j. all_below j (fit_table T own true)) (sym w.t-is)) (all_turn l.n (level_entry T own) (level_other T own l.n other) refl);
+          }
     ]
 
 pub returns : goal.returns
