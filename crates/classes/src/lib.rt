@@ -26,11 +26,8 @@ fn normal_of(kind: Kind, x: usize, c: usize) -> usize
 {
     match kind {
         Kind::Unused => 0,
-        Kind::Variable => x,
-        Kind::Binder => x,
-        Kind::Label => x,
         Kind::Entry => c,
-        Kind::Count => x,
+        Kind::Variable | Kind::Binder | Kind::Label | Kind::Count => x,
     }
 }
 
@@ -40,15 +37,12 @@ fn key_of(terms: &[u16], classes: &[u16], n: usize) -> u64
 {
     let op = layout::op_of(terms, n);
     let kinds = operands_of(op);
-    let first = kinds.first;
-    let second = kinds.second;
-    let third = kinds.third;
     let x = layout::first_of(terms, n);
     let y = layout::second_of(terms, n);
     let z = layout::third_of(terms, n);
-    let a = normal_of(first, x, layout::word(classes, x));
-    let b = normal_of(second, y, layout::word(classes, y));
-    let c = normal_of(third, z, layout::word(classes, z));
+    let a = normal_of(kinds.first, x, layout::word(classes, x));
+    let b = normal_of(kinds.second, y, layout::word(classes, y));
+    let c = normal_of(kinds.third, z, layout::word(classes, z));
     (((op * 65536 + a) * 65536 + b) * 65536 + c) as u64
 }
 
@@ -78,12 +72,10 @@ fn first_same(keys: &[u64], limit: usize, key: u64) -> usize
     requires { limit ≤ length keys.now }
     ensures { (result ≡ found keys.now limit key) × (result ≤ limit) }
 {
-    let mut k = 0;
-    while k < limit {
+    for k in 0..limit {
         if keys[k] == key {
             return k;
         }
-        k += 1;
     }
     limit
 }
@@ -104,8 +96,7 @@ fn lookup(keys: &[u64], marks: &[u64], limit: usize, key: u64) -> usize
 fn count_of(terms: &[u16]) -> usize
     ensures { (result ≡ counted terms.now) × (result ≤ max_entries) }
 {
-    let n = layout::entries(terms);
-    if ENTRIES < n { ENTRIES } else { n }
+    layout::entries(terms).min(ENTRIES)
 }
 
 // Fills in the classes and keys of the first count entries of terms among themselves, and marks the keys.
@@ -120,14 +111,12 @@ fn old_classes(
     ensures keys_after { keys.new ≡ (own_filled (terms_of terms.now) count classes.old keys.old).1 }
     ensures keys_len { (length keys.new ≡ max_entries) × (length marks.new ≡ 64) × Marked keys.new marks.new count }
 {
-    let mut n = 0;
-    while n < count {
+    for n in 0..count {
         let key = key_of(terms, &classes[..], n);
         let k = lookup(&keys[..], &marks[..], n, key);
         classes[n] = k as u16;
         keys[n] = key;
         mark(marks, key);
-        n += 1;
     }
 }
 
@@ -144,12 +133,10 @@ fn new_classes(
     requires keys_len { (length keys.now ≡ max_entries) × (length marks.now ≡ 64) × Marked keys.now marks.now limit }
     ensures { classes.new ≡ filled (terms_of terms.now) keys.now limit count classes.old }
 {
-    let mut n = 0;
-    while n < count {
+    for n in 0..count {
         let key = key_of(terms, &classes[..], n);
         let k = lookup(keys, marks, limit, key);
         classes[n] = k as u16;
-        n += 1;
     }
 }
 

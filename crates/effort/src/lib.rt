@@ -25,22 +25,18 @@ const PAIRS: u64 = PAIR_MEMBERS as u64;
 // Fewer entries than these may be decided without a memo whatever they cost.
 const SMALL: usize = 10;
 
+#[tactic(auto, unfolding(crate::specs::Effort::smaller))]
 fn smaller(x: u64, y: u64) -> u64
     ensures { result ≡ smaller x y }
 {
-    if y < x { y } else { x }
+    x.min(y)
 }
 
+#[tactic(auto, unfolding(crate::specs::Effort::smaller))]
 fn plus(x: u64, y: u64) -> u64
     ensures { result ≡ cut (x + y) }
 {
-    if MOST < x {
-        return MOST;
-    }
-    if MOST < y {
-        return MOST;
-    }
-    smaller(x + y, MOST)
+    smaller(x.saturating_add(y), MOST)
 }
 
 fn times(n: u64, x: u64) -> u64
@@ -55,10 +51,7 @@ fn set_of(op: usize, a: usize, f: u64, g: u64, h: u64) -> u64
     ensures { result ≡ set_of op a f g h }
 {
     let s = table_index::free_of(op, a, f, g, h);
-    if table_index::is_past(op) {
-        return if s == 0 { 1 } else { s };
-    }
-    s
+    if table_index::is_past(op) && s == 0 { 1 } else { s }
 }
 
 // Fills in the sets of variables that the entries read.
@@ -67,18 +60,17 @@ fn fill_sets(terms: &[u16], sets: &mut [u64; ENTRIES])
     ensures { sets.new ≡ sets_of (terms_of terms.now) (terms_of terms.now).entries }
 {
     let n = layout::entries(terms);
-    let mut i: usize = 0;
-    while i < n {
+    for i in 0..n {
         let a = layout::first_of(terms, i);
         let f = table_index::set_at(&sets[..], a);
         let g = table_index::set_at(&sets[..], layout::second_of(terms, i));
         let h = table_index::set_at(&sets[..], layout::third_of(terms, i));
         sets[i] = set_of(layout::op_of(terms, i), a, f, g, h);
-        i += 1;
     }
 }
 
 // Whether entry p reads at most one variable.
+#[tactic(auto, unfolding(crate::specs::Effort::is_one))]
 fn is_one(sets: &[u64; ENTRIES], p: usize) -> bool
     ensures { result ≡ is_one sets.now p }
 {
@@ -86,19 +78,18 @@ fn is_one(sets: &[u64; ENTRIES], p: usize) -> bool
 }
 
 // How many rows of an entry are worked out, of those that are asked for.
+#[tactic(auto, unfolding(crate::specs::Effort::rows_of))]
 fn rows_of(op: usize, one: bool, asked: u64, limit: u64) -> u64
     ensures { result ≡ rows_of op one asked limit }
 {
-    if op < NOT {
-        return 0;
-    }
-    if table_index::is_past(op) {
+    if op < NOT || table_index::is_past(op) {
         return 0;
     }
     if one { smaller(asked, limit) } else { asked }
 }
 
 // How often an entry asks for each of its operands, and for how many rows, in all.
+#[tactic(auto, unfolding(crate::specs::Effort::calls_of))]
 fn calls_of(n: u64, op: usize, one: bool, works: u64, rows: u64) -> u64
     ensures { result ≡ calls_of n op one works rows }
 {
@@ -108,6 +99,7 @@ fn calls_of(n: u64, op: usize, one: bool, works: u64, rows: u64) -> u64
     if op == BIND { rows } else { works }
 }
 
+#[tactic(auto, unfolding(crate::specs::Effort::asked_of))]
 fn asked_of(n: u64, op: usize, one: bool, works: u64, rows: u64) -> u64
     requires { n < 65536 }
     ensures { result ≡ asked_of n op one works rows }
@@ -115,13 +107,11 @@ fn asked_of(n: u64, op: usize, one: bool, works: u64, rows: u64) -> u64
     if table_index::is_past(op) {
         return if one { n } else { n * n };
     }
-    if op < OUT {
-        return rows;
-    }
-    if op == BIND { rows } else { times(n, works) }
+    if op < OUT || op == BIND { rows } else { times(n, works) }
 }
 
 // Adds x to word k, if there is one.
+#[tactic(auto, unfolding(crate::specs::Effort::more))]
 fn add(words: &mut [u64; ENTRIES], k: usize, x: u64)
     ensures { words.new ≡ more k x words.old }
 {
@@ -131,6 +121,7 @@ fn add(words: &mut [u64; ENTRIES], k: usize, x: u64)
 }
 
 // The same if it is to be so.
+#[tactic(auto, unfolding(crate::specs::Effort::more_if))]
 fn add_if(yes: bool, words: &mut [u64; ENTRIES], k: usize, x: u64)
     ensures { words.new ≡ more_if yes k x words.old }
 {
@@ -139,17 +130,11 @@ fn add_if(yes: bool, words: &mut [u64; ENTRIES], k: usize, x: u64)
     }
 }
 
+#[tactic(auto, unfolding(crate::specs::Effort::is_entry))]
 fn is_entry(kind: Kind) -> bool
     ensures { result ≡ is_entry (operand_kind kind) }
 {
-    match kind {
-        Kind::Unused => false,
-        Kind::Variable => false,
-        Kind::Binder => false,
-        Kind::Label => false,
-        Kind::Entry => true,
-        Kind::Count => false,
-    }
+    matches!(kind, Kind::Entry)
 }
 
 // Adds x to the words of the operands of entry p that are entries.
@@ -157,12 +142,9 @@ fn add_to_operands(terms: &[u16], p: usize, words: &mut [u64; ENTRIES], x: u64)
     ensures { words.new ≡ more_of ((terms_of terms.now).entry p) x words.old }
 {
     let kinds = operands_of(layout::op_of(terms, p));
-    let first = kinds.first;
-    let second = kinds.second;
-    let third = kinds.third;
-    add_if(is_entry(first), words, layout::first_of(terms, p), x);
-    add_if(is_entry(second), words, layout::second_of(terms, p), x);
-    add_if(is_entry(third), words, layout::third_of(terms, p), x);
+    add_if(is_entry(kinds.first), words, layout::first_of(terms, p), x);
+    add_if(is_entry(kinds.second), words, layout::second_of(terms, p), x);
+    add_if(is_entry(kinds.third), words, layout::third_of(terms, p), x);
 }
 
 // Counts the policy of each event once.
@@ -171,10 +153,8 @@ fn add_policies(terms: &[u16], words: &mut [u64; ENTRIES])
     ensures { words.new ≡ policies (terms_of terms.now) (terms_of terms.now).events }
 {
     let n = layout::events(terms);
-    let mut j: usize = 0;
-    while j < n {
+    for j in 0..n {
         add(words, layout::policy_of(terms, j), 1);
-        j += 1;
     }
 }
 
@@ -218,16 +198,15 @@ fn total(terms: &[u16], sets: &[u64; ENTRIES], limit: u64) -> u64
     add_policies(terms, &mut asked);
     let n = layout::entries(terms);
     let mut rows: u64 = 0;
-    let mut i: usize = 0;
-    while i < n {
-        i += 1;
-        let r = turn(terms, sets, limit, &mut calls, &mut asked, n - i);
+    for p in (0..n).rev() {
+        let r = turn(terms, sets, limit, &mut calls, &mut asked, p);
         rows = plus(rows, r);
     }
     rows
 }
 
 // What is decided without a memo.
+#[tactic(auto, unfolding(crate::specs::Effort::brief))]
 fn brief_of(n: u64) -> u64
     requires { n < 65536 }
     ensures { result ≡ brief n }

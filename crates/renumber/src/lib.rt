@@ -25,19 +25,13 @@ const EVENT_UNIT: usize = layout::EVENT_UNIT as usize;
 // Relations and tables.
 const BLOCKS: usize = layout::EVENT_AT / layout::BLOCK;
 
-fn wide(x: u8) -> usize
-    ensures { result ≡ x }
-{
-    x as usize
-}
-
 // The new number of m. What is no member keeps its number.
 fn new_number(numbers: &[u8], m: usize) -> usize
     ensures value { result ≡ new_number numbers.now m }
     ensures upper_bound { m < 64 → result < 256 }
 {
     if m < numbers.len() {
-        wide(numbers[m])
+        numbers[m] as usize
     } else {
         m
     }
@@ -48,10 +42,8 @@ fn fill_numbers(numbers: &[u8], all: &mut [u8])
     requires { length all.old ≡ block_words }
     ensures { (length all.new ≡ block_words) × ((m : ℕ) → m < block_words → get_or all.new m 0 ≡ new_number numbers.now m) }
 {
-    let mut m: usize = 0;
-    while m < layout::BLOCK {
+    for m in 0..layout::BLOCK {
         all[m] = new_number(numbers, m) as u8;
-        m += 1;
     }
 }
 
@@ -61,7 +53,7 @@ pub(crate) fn number_of(all: &[u8], m: usize) -> usize
     ensures value { result ≡ new_number all.now m }
     ensures upper_bound { result < 256 }
 {
-    wide(all[m])
+    all[m] as usize
 }
 
 // Whether the list has n numbers, and every number below n is in it.
@@ -73,10 +65,8 @@ fn are_new_numbers(numbers: &[u8], n: usize) -> bool
         return false;
     }
     let mut seen: u64 = 0;
-    let mut i = 0;
-    while i < n {
-        seen = sets::with(seen, wide(numbers[i]));
-        i += 1;
+    for x in numbers {
+        seen = sets::with(seen, *x as usize);
     }
     let all = sets::mask(n);
     all ^ (all & seen) == 0
@@ -87,10 +77,8 @@ fn double(part: &mut [u64], n: usize, more: u64)
     requires { (length part.old ≡ 256) × (n < 129) }
     ensures { Doubled part.old n more part.new n }
 {
-    let mut v: usize = 0;
-    while v < n {
+    for v in 0..n {
         part[n + v] = part[v] | more;
-        v += 1;
     }
 }
 
@@ -101,12 +89,10 @@ fn fill_byte(all: &[u8], b: usize, part: &mut [u64])
 {
     part[0] = 0;
     let mut n: usize = 1;
-    let mut k: usize = 0;
-    while k < 8 {
+    for k in 0..8 {
         let more = sets::single(number_of(all, b + k));
         double(part, n, more);
         n = 2 * n;
-        k += 1;
     }
 }
 
@@ -115,11 +101,9 @@ fn fill_bytes(all: &[u8], bytes: &mut [u64])
     requires { (length bytes.old ≡ 2048) × (length all.now ≡ block_words) }
     ensures { Bytes (new_number all.now) bytes.new }
 {
-    let mut i = 0;
-    while i < 8 {
+    for i in 0..8 {
         let k = 256 * i;
         fill_byte(all, 8 * i, &mut bytes[k..k + 256]);
-        i += 1;
     }
 }
 
@@ -163,11 +147,7 @@ pub(crate) fn clear(words: &mut [u64])
     requires { length words.old ≡ block_words }
     ensures { (length words.new ≡ block_words) × ((i : ℕ) → get_or words.new i 0 ≡ 0) }
 {
-    let mut i: usize = 0;
-    while i < layout::BLOCK {
-        words[i] = 0;
-        i += 1;
-    }
+    words.fill(0);
 }
 
 // Puts each row of a block at its new number, with its bits at theirs. Most rows of a sparse state are 0.
@@ -177,15 +157,13 @@ fn move_rows(from: &[u64], all: &[u8], bytes: &[u64], into: &mut [u64])
     ensures { Placed (new_number all.now) from.now into.new block_words }
 {
     clear(into);
-    let mut a: usize = 0;
-    while a < layout::BLOCK {
+    for a in 0..layout::BLOCK {
         let k = number_of(all, a);
         let w = from[a];
         if w != 0 {
             let moved = spread(bytes, w);
             into[k] = moved;
         }
-        a += 1;
     }
 }
 
@@ -195,25 +173,15 @@ fn move_blocks(two: u64, state: &[u64], all: &[u8], bytes: &[u64], second: &mut 
     requires bytes { Bytes (new_number all.now) bytes.now × Apart (new_number all.now) × ((b : ℕ) → bit two b ≡ true → Few (new_number all.now)) }
     ensures { Moved two (new_number all.now) state.now second.old second.new 48 }
 {
-    let mut b: usize = 0;
-    while b < BLOCKS {
+    for b in 0..BLOCKS {
         let k = layout::BLOCK * b;
+        let from = &state[k..k + layout::BLOCK];
+        let into = &mut second[k..k + layout::BLOCK];
         if sets::has(two, b) {
-            pairs::move_table(
-                &state[k..k + layout::BLOCK],
-                all,
-                bytes,
-                &mut second[k..k + layout::BLOCK],
-            );
+            pairs::move_table(from, all, bytes, into);
         } else {
-            move_rows(
-                &state[k..k + layout::BLOCK],
-                all,
-                bytes,
-                &mut second[k..k + layout::BLOCK],
-            );
+            move_rows(from, all, bytes, into);
         }
-        b += 1;
     }
 }
 

@@ -30,13 +30,11 @@ fn move_word(from: &[u64], a: usize, j: usize, all: &[u8], bytes: &[u64], into: 
 {
     let w = from[WORDS * a + j];
     let at = WORDS * crate::number_of(all, a);
-    let mut q: usize = 0;
-    while q < WORDS {
+    for q in 0..WORDS {
         let b = crate::number_of(all, WORDS * j + q);
         let row = crate::spread_part(bytes, 0, quarters::quarter(w, q));
         let k = at + b / WORDS;
         into[k] = quarters::with_quarter(into[k], b % WORDS, row);
-        q += 1;
     }
 }
 
@@ -47,12 +45,10 @@ fn move_member(from: &[u64], a: usize, all: &[u8], bytes: &[u64], into: &mut [u6
     requires gone { Gone (new_number all.now) (λ a. get_or from.now a 0) into.old (16 * a) }
     ensures { Gone (new_number all.now) (λ a. get_or from.now a 0) into.new (16 * a + 16) }
 {
-    let mut j: usize = 0;
-    while j < WORDS {
+    for j in 0..WORDS {
         if from[WORDS * a + j] != 0 {
             move_word(from, a, j, all, bytes, into);
         }
-        j += 1;
     }
 }
 
@@ -63,10 +59,8 @@ pub(crate) fn move_table(from: &[u64], all: &[u8], bytes: &[u64], into: &mut [u6
     ensures { Gone (new_number all.now) (λ a. get_or from.now a 0) into.new 256 }
 {
     crate::clear(into);
-    let mut a: usize = 0;
-    while a < MEMBERS {
+    for a in 0..MEMBERS {
         move_member(from, a, all, bytes, into);
-        a += 1;
     }
 }
 
@@ -75,15 +69,12 @@ pub(crate) fn two_columns(terms: &[u16], index: &[u16]) -> u64
     requires { (good_memory terms.now ≡ true) × Indexed (terms_of terms.now) index.now }
     ensures { (b : ℕ) → bit result b ≡ is_pairs (terms_of terms.now) (tables (terms_of terms.now)) b }
 {
-    let count = entries(terms);
     let mut two: u64 = 0;
-    let mut n = 0;
-    while n < count {
+    for n in 0..entries(terms) {
         let p = word(index, n);
-        if table_index::is_past(op_of(terms, n)) & table_index::is_pair(p) {
+        if table_index::is_past(op_of(terms, n)) && table_index::is_pair(p) {
             two = sets::with(two, RELATIONS + table_index::table_of(p));
         }
-        n += 1;
     }
     two
 }
