@@ -1,4 +1,5 @@
 pub mod Split
+pub mod FirstLine
 pub mod Scan
 pub mod Numeral
 pub mod Digits

@@ -1,3 +1,4 @@
 pub mod Split
+pub mod Lines
 pub mod Number
 pub mod private

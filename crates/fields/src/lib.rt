@@ -3,6 +3,7 @@
 
 pub mod emit;
 pub mod field;
+pub mod lines;
 pub mod number;
 mod put;
 pub mod word;

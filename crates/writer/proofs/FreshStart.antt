@@ -1,16 +1,16 @@
 -- A fresh start: a copy of the state, opened, has the words of moment 0 of its relations.
-use Prim.Native.Nat.{ℕ, suc, ◌+◌, ◌≤◌, ◌<◌}
+use Prim.Native.Nat.{ℕ, ◌≤◌, ◌<◌}
 use native.Mathlib.Omega.{arith}
-use native.Mathlib.Numerals.{add-one}
 use mathlib.Core.Path.{◌≡◌, refl, sym, ap, subst, ◌∙◌}
 use mathlib.Core.Bool.{Bool, true}
-use mathlib.Core.List.{List, [], ◌∷◌, ◌++◌, append_assoc}
+use mathlib.Core.List.{List}
 use lib.Dec.{eqb}
-use lib.ListN.{length, get_or, take, drop, set, length-append, length-drop, get_or-append}
-use lib.Seq.{ext_get_or, take-suc, drop-cons, set_at, length-take-le, get_or-take}
-use borrow.Author.Tests.{eqb-true, le-ltb}
+use lib.ListN.{length, get_or, take, drop, length-append, length-drop, get_or-append}
+use lib.Seq.{ext_get_or, length-take-le, get_or-take}
+use borrow.Author.Tests.{eqb-true, eq-eqb, le-ltb}
+use Rattle.std.specs.Bool.{Decides}
 use Rattle.sets.specs.Sets.{all_below}
-use Rattle.sets.proofs.Finite.{all_out, all_cong}
+use Rattle.sets.proofs.Finite.{bool_iff, all_true, all_out, all_cong}
 use Rattle.theory.specs.Tables.{State, opening}
 use Rattle.memory.specs.Layout.{terms_words, state_words, terms_of, state_of, word_at, tabulate, words_of}
 use Rattle.memory.specs.Checks.{state_tests, good_state}
@@ -24,15 +24,15 @@ use Rattle.memory.proofs.Outcomes.{Checked, passed_checked}
 use Rattle.calls.specs.Monitor.{opened_state}
 use Rattle.writer.specs.Write.{is_fresh}
 
--- The first i words of s in front of what was there.
-abbrev pub copied_to : (d s : List ℕ) → ℕ → List ℕ
-copied_to d s i = take i s ++ drop i d
-
-pub copied_more : (d s : List ℕ) (i : ℕ) → i < length s → i < length d → set (copied_to d s i) i (get_or s i 0) ≡ copied_to d s (i + 1)
-copied_more d s i h k =
-    rw (add-one i, take-suc s i 0 h, drop-cons d i 0 k)
-    (set_at (take i s) (get_or d i 0) (drop (suc i) d) (get_or s i 0) i (length-take-le i s (omega arith))
-    ∙ sym (append_assoc (take i s) (get_or s i 0 ∷ []) (drop (suc i) d)))
+-- The first n words of a list are another list.
+pub same_words : (n : ℕ) (s o : List ℕ) (r : Bool) → n ≤ length s → n ≡ length o → Decides r (take n s ≡ o)
+    → r ≡ all_below n (λ i. eqb (get_or s i 0) (get_or o i 0))
+same_words n s o r h k d =
+    bool_iff r _
+    (λ e. all_true n (λ i l. eq-eqb _ _ (sym (get_or-take n s i 0 l) ∙ ap (λ w. get_or w i 0) (d.0 e))))
+    (λ e. d.1 (ext_get_or 0 (take n s) o (length-take-le n s h ∙ k)
+    (λ i l. let il : i < n = subst (λ m. i < m) (length-take-le n s h) l in
+    get_or-take n s i 0 il ∙ eqb-true _ _ (all_out n (λ i. eqb (get_or s i 0) (get_or o i 0)) e i il))))
 
 -- The named words of a fresh start are those of moment 0 of its relations.
 pub fresh_words : (terms state : List ℕ) → state_words ≤ length state → is_fresh terms state ≡ true →

@@ -50,11 +50,9 @@ fn put_bits(out: &mut [u8], at: usize, table: bool, pairs: u64, w: u64, i: usize
     ensures put { Put out.old out.new at result (printed_all (row_of table pairs w i)) }
     ensures upper_bound { result ≤ at + 32 * 64 }
 {
-    let mut b = 0;
     let mut next = at;
-    while b < MEMBERS {
+    for b in 0..MEMBERS {
         next = put_bit(out, next, table, pairs, w, i, b);
-        b += 1;
     }
     next
 }
@@ -88,11 +86,9 @@ fn put_rows(
     ensures put { Put out.old out.new at result (printed_all (rows_of table pairs state.now first count)) }
     ensures upper_bound { result ≤ at + 32 * 64 * count }
 {
-    let mut i = 0;
     let mut next = at;
-    while i < count {
-        next = put_row(out, next, table, pairs, state[first + i], i);
-        i += 1;
+    for (i, w) in state[first..first + count].iter().enumerate() {
+        next = put_row(out, next, table, pairs, *w, i);
     }
     next
 }

@@ -25,14 +25,11 @@ pub(crate) fn pair_tables(terms: &[u16], index: &[u16]) -> u64
     requires { (terms_words ≤ length terms.now) × (good_memory terms.now ≡ true) × Indexed (terms_of terms.now) index.now }
     ensures { Paired (terms_of terms.now) result }
 {
-    let count = layout::entries(terms);
     let mut pairs = 0;
-    let mut n = 0;
-    while n < count {
+    for n in 0..layout::entries(terms) {
         if table_index::is_past(layout::op_of(terms, n)) {
             pairs = with_pair(pairs, layout::word(index, n));
         }
-        n += 1;
     }
     pairs
 }

@@ -67,11 +67,9 @@ pub(crate) fn skip_row(at: usize, table: bool, pairs: u64, w: u64, i: usize) -> 
     ensures put { Put [] [] at result (printed_all (row_of table pairs w i)) }
     ensures upper_bound { result ≤ at + 32 * 64 }
 {
-    let mut b = 0;
     let mut next = at;
-    while b < MEMBERS {
+    for b in 0..MEMBERS {
         next = skip_bit(next, table, pairs, w, i, b);
-        b += 1;
     }
     next
 }

@@ -40,12 +40,9 @@ fn put_entries(terms: &[u16], out: &mut [u8], at: usize) -> usize
     ensures put { Put out.old out.new at result (printed_all (entry_lines (terms_of terms.now))) }
     ensures upper_bound { result ≤ at + 32 * 65536 }
 {
-    let count = entries(terms);
-    let mut n = 0;
     let mut next = at;
-    while n < count {
+    for n in 0..entries(terms) {
         next = put_entry_of(terms, out, next, n);
-        n += 1;
     }
     next
 }
@@ -66,12 +63,9 @@ fn put_policies(terms: &[u16], out: &mut [u8], at: usize) -> usize
     ensures put { Put out.old out.new at result (printed_all (policy_lines (terms_of terms.now))) }
     ensures upper_bound { result ≤ at + 32 * 65536 }
 {
-    let count = events(terms);
-    let mut j = 0;
     let mut next = at;
-    while j < count {
+    for j in 0..events(terms) {
         next = put_policy_of(terms, out, next, j);
-        j += 1;
     }
     next
 }
@@ -94,12 +88,9 @@ fn put_marks(terms: &[u16], out: &mut [u8], at: usize) -> usize
     ensures put { Put out.old out.new at result (printed_all (mark_lines (terms_of terms.now))) }
     ensures upper_bound { result ≤ at + 8 * 65536 }
 {
-    let count = events(terms);
-    let mut j = 0;
     let mut next = at;
-    while j < count {
+    for j in 0..events(terms) {
         next = put_mark_of(terms, out, next, j);
-        j += 1;
     }
     next
 }
@@ -129,15 +120,13 @@ fn put_effects_of(terms: &[u16], out: &mut [u8], at: usize, j: usize) -> usize
     ensures put { Put out.old out.new at result (printed_all (effects_of (terms_of terms.now) j)) }
     ensures upper_bound { result ≤ at + 128 }
 {
-    let mut i = 0;
     let mut next = at;
-    while i < EFFECTS {
+    for i in 0..EFFECTS {
         let from = EFFECTS_AT + EVENT * j + EFFECT * i;
         if word(terms, from) == 0 {
             return next;
         }
         next = put_slot(terms, out, next, j, from);
-        i += 1;
     }
     next
 }
@@ -148,12 +137,9 @@ fn put_effects(terms: &[u16], out: &mut [u8], at: usize) -> usize
     ensures put { Put out.old out.new at result (printed_all (event_lines (terms_of terms.now))) }
     ensures upper_bound { result ≤ at + 128 * 65536 }
 {
-    let count = events(terms);
-    let mut j = 0;
     let mut next = at;
-    while j < count {
+    for j in 0..events(terms) {
         next = put_effects_of(terms, out, next, j);
-        j += 1;
     }
     next
 }

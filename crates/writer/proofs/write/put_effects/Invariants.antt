@@ -1,0 +1,8 @@
+-- The lines of the first j events have been put.
+use Rattle.memory.specs.Layout.{terms_of}
+use Rattle.writer.specs.private.Kinds.{effects_of}
+use Rattle.writer.proofs.PutLines.{Running}
+use Rattle.writer.proofs.write.put_effects.Given as goal
+
+abbrev pub invariant-loop-j : goal.invariant-loop-j
+invariant-loop-j l = Running l.fn.out l.out l.at l.next 128 (terms_of l.terms).events l.j (effects_of (terms_of l.terms))
