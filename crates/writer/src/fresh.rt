@@ -14,6 +14,6 @@ pub(crate) fn is_fresh(terms: &[u16], state: &[u64]) -> bool
 {
     let mut copy = [0u64; STATE];
     copy.copy_from_slice(&state[..STATE]);
-    open(terms, &mut copy);
+    let _ = open(terms, &mut copy);
     state[..STATE] == copy[..]
 }

@@ -10,10 +10,3 @@ mod skip;
 pub mod store;
 mod vocabulary;
 pub mod write;
-
-// A writing gives its count of bytes, or it is refused with its number and line.
-#[derive(Clone, Copy)]
-pub enum Written {
-    Bytes(usize),
-    Refused(usize, usize),
-}

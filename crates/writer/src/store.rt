@@ -14,9 +14,10 @@ use crate::bits::put_tables;
 use crate::pairs::pair_tables;
 use crate::print::{put_single, put_triple};
 use crate::write::put_text;
-use crate::{Written, kind};
+use crate::kind;
 use memory::limits::ENTRIES;
-use memory::{Outcome, inspect, layout};
+use memory::refusal::Refusal;
+use memory::{inspect, layout};
 
 // The number of the form, which its S line names.
 const FORM: usize = 2;
@@ -68,39 +69,35 @@ fn count(terms: &[u16], state: &[u64], pairs: u64) -> usize
 }
 
 // Writes the text of checked terms and state, if the output has room for all of it.
-fn store_checked(terms: &[u16], state: &[u64], out: &mut [u8], pairs: u64) -> Written
+fn store_checked(terms: &[u16], state: &[u64], out: &mut [u8], pairs: u64) -> Result<usize, Refusal>
     requires { (passed ≡ checks terms.now state.now) × Paired (terms_of terms.now) pairs }
     ensures result_value { writing_of result ≡ store_gives terms.now state.now out.old }
     ensures out_after { out.new ≡ store_leaves terms.now state.now out.old }
 {
     let n = count(terms, state, pairs);
     if out.len() < n {
-        return Written::Refused(6, 0);
+        return Err(Refusal::Short);
     }
     put_stored(terms, state, out, 0, pairs);
-    Written::Bytes(n)
+    Ok(n)
 }
 
 // How many bytes `store` would write, or its refusal of terms and state: 6, 7 or 8.
-pub fn store_size(terms: &[u16], state: &[u64]) -> Written
+pub fn store_size(terms: &[u16], state: &[u64]) -> Result<usize, Refusal>
     ensures { writing_of result ≡ store_size_gives terms.now state.now }
 {
     let mut index = [0u16; ENTRIES];
-    match inspect(terms, state, &mut index) {
-        Outcome::Done => Written::Bytes(count(terms, state, pair_tables(terms, &index))),
-        Outcome::Refused(n, l) => Written::Refused(n, l),
-    }
+    inspect(terms, state, &mut index)?;
+    Ok(count(terms, state, pair_tables(terms, &index)))
 }
 
 // Writes the terms with the whole state. The count of bytes, or a refusal, which leaves the output untouched:
 // 6, 7 and 8 for terms and state, and last 6 for an output too short for the whole text.
-pub fn store(terms: &[u16], state: &[u64], out: &mut [u8]) -> Written
+pub fn store(terms: &[u16], state: &[u64], out: &mut [u8]) -> Result<usize, Refusal>
     ensures result_value { writing_of result ≡ store_gives terms.now state.now out.old }
     ensures out_after { out.new ≡ store_leaves terms.now state.now out.old }
 {
     let mut index = [0u16; ENTRIES];
-    match inspect(terms, state, &mut index) {
-        Outcome::Done => store_checked(terms, state, out, pair_tables(terms, &index)),
-        Outcome::Refused(n, l) => Written::Refused(n, l),
-    }
+    inspect(terms, state, &mut index)?;
+    store_checked(terms, state, out, pair_tables(terms, &index))
 }

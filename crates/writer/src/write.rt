@@ -13,13 +13,14 @@ ghost use Rattle.writer.specs.private.Kinds.{front_lines, entry_of, entry_lines,
 use crate::bits::put_edges;
 use crate::fresh::is_fresh;
 use crate::print::{put_effect, put_entry, put_pair, put_single};
-use crate::{Written, kind};
+use crate::kind;
 use memory::layout::{
     EFFECT, EFFECTS_AT, EVENT, entries, events, first_of, is_kept, members, op_of, policy_of,
     relations, second_of, third_of, word,
 };
 use memory::limits::EFFECTS;
-use memory::{Outcome, check};
+use memory::refusal::Refusal;
+use memory::check;
 
 // Puts the F line of entry n.
 fn put_entry_of(terms: &[u16], out: &mut [u8], at: usize, n: usize) -> usize
@@ -178,53 +179,49 @@ fn count(terms: &[u16], state: &[u64]) -> usize
 }
 
 // The size of checked terms and state, where the state is a fresh start.
-fn size_checked(terms: &[u16], state: &[u64]) -> Written
+fn size_checked(terms: &[u16], state: &[u64]) -> Result<usize, Refusal>
     requires { passed ≡ checks terms.now state.now }
     ensures { writing_of result ≡ old_size_gives terms.now state.now }
 {
     if is_fresh(terms, state) {
-        Written::Bytes(count(terms, state))
+        Ok(count(terms, state))
     } else {
-        Written::Refused(12, 0)
+        Err(Refusal::Fresh)
     }
 }
 
 // Writes the text of checked terms and state, where the state is a fresh start and the output has room for all of it.
-fn write_checked(terms: &[u16], state: &[u64], out: &mut [u8]) -> Written
+fn write_checked(terms: &[u16], state: &[u64], out: &mut [u8]) -> Result<usize, Refusal>
     requires { passed ≡ checks terms.now state.now }
     ensures result_value { writing_of result ≡ old_write_gives terms.now state.now out.old }
     ensures out_after { out.new ≡ old_write_leaves terms.now state.now out.old }
 {
     if !is_fresh(terms, state) {
-        return Written::Refused(12, 0);
+        return Err(Refusal::Fresh);
     }
     let n = count(terms, state);
     if out.len() < n {
-        return Written::Refused(6, 0);
+        return Err(Refusal::Short);
     }
     put_text(terms, state, out, 0);
-    Written::Bytes(n)
+    Ok(n)
 }
 
 // How many bytes `write` would write, or its refusal of terms and state: 6, 7, 8 or 12.
-pub fn size(terms: &[u16], state: &[u64]) -> Written
+pub fn size(terms: &[u16], state: &[u64]) -> Result<usize, Refusal>
     ensures { writing_of result ≡ old_size_gives terms.now state.now }
 {
-    match check(terms, state) {
-        Outcome::Done => size_checked(terms, state),
-        Outcome::Refused(n, l) => Written::Refused(n, l),
-    }
+    check(terms, state)?;
+    size_checked(terms, state)
 }
 
 // Writes the terms with the present relations, from a state that is a fresh start of its own relations. The count of
 // bytes, or a refusal, which leaves the output untouched: 6, 7 and 8 for terms and state, 12 for a state that is
 // another, and last 6 for an output too short for the whole text.
-pub fn write(terms: &[u16], state: &[u64], out: &mut [u8]) -> Written
+pub fn write(terms: &[u16], state: &[u64], out: &mut [u8]) -> Result<usize, Refusal>
     ensures result_value { writing_of result ≡ old_write_gives terms.now state.now out.old }
     ensures out_after { out.new ≡ old_write_leaves terms.now state.now out.old }
 {
-    match check(terms, state) {
-        Outcome::Done => write_checked(terms, state, out),
-        Outcome::Refused(n, l) => Written::Refused(n, l),
-    }
+    check(terms, state)?;
+    write_checked(terms, state, out)
 }
