@@ -6,7 +6,7 @@ ghost use Rattle.banking.specs.BankList.{bank_listed, bank_left};
 ghost use Rattle.text.specs.Banks.{banks_read_gives, banks_read_terms, banks_read_relations, banks_read_own};
 ghost use Rattle.cuckooormolu.specs.Codes.{code_of, outcome_code, outcome_line, listing_code, listing_count};
 
-use crate::{answer_code, outcome_code, outcome_line, tell_listing};
+use crate::{answer_code, outcome_code, outcome_line, tell_count};
 use calls::Record;
 
 // Reads a terms file of the old form into two banks: DONE, or the number of the refusal, with its line; the
@@ -116,7 +116,7 @@ pub extern "C" fn cuckooormolu_raw_banks_set_list(
     ensures spare_after { spare.new ≡ (bank_left terms.now relations.old own.old other.old scratch.old spare.old records.old).spare }
 {
     let l = monitor::bank_list::set_list(terms, relations, own, other, scratch, spare, records);
-    tell_listing(l, count)
+    tell_count(l, count)
 }
 
 // Gives both banks new terms together, into second relations and second own words: DONE, or the number of the refusal.

@@ -5,8 +5,7 @@ ghost use Rattle.calls.specs.Telling.{telling_of, tells};
 ghost use Rattle.plans.specs.Plans.{ruling_of, ruling, scratch_after_ruling};
 ghost use Rattle.cuckooormolu.specs.Codes.{ruling_code, telling_code};
 
-use calls::Told;
-use plans::Ruling;
+use memory::refusal::Refusal;
 
 // Accepted and rejected differ in three bits, an entry that holds and one that fails in four.
 pub const REJECTED: usize = 400;
@@ -17,23 +16,23 @@ pub const FAILS: usize = 600;
 
 pub const HOLDS: usize = 700;
 
-fn ruling_code(g: Ruling) -> usize
-    ensures { result ≡ ruling_code (ruling_of g) }
+fn ruling_code(accepted: Result<bool, Refusal>) -> usize
+    ensures { result ≡ ruling_code (ruling_of accepted) }
 {
-    match g {
-        Ruling::Accepted => ACCEPTED,
-        Ruling::Rejected => REJECTED,
-        Ruling::Refused(n, _) => n,
+    match accepted {
+        Ok(true) => ACCEPTED,
+        Ok(false) => REJECTED,
+        Err(refusal) => refusal.number(),
     }
 }
 
-fn telling_code(t: Told) -> usize
-    ensures { result ≡ telling_code (telling_of t) }
+fn telling_code(holds: Result<bool, Refusal>) -> usize
+    ensures { result ≡ telling_code (telling_of holds) }
 {
-    match t {
-        Told::Holds => HOLDS,
-        Told::Fails => FAILS,
-        Told::Refused(n, _) => n,
+    match holds {
+        Ok(true) => HOLDS,
+        Ok(false) => FAILS,
+        Err(refusal) => refusal.number(),
     }
 }
 

@@ -3,10 +3,9 @@ ghost use Rattle.std.specs.Prelude.{◌≡◌};
 ghost use Rattle.memory.specs.Outcome.{outcome_of};
 ghost use Rattle.text.specs.Banks.{banks_read_gives, banks_read_terms, banks_read_relations, banks_read_own};
 
-use memory::Outcome;
 use memory::layout::OWN;
+use memory::refusal::Refusal;
 use monitor::banks::open;
-use reader::Filled;
 use reader::read::fill_relations;
 
 // Reads a terms file of the old form. An accepted text fills the named words of terms, of relations and of both banks'
@@ -18,7 +17,7 @@ pub fn read(
     relations: &mut [u64],
     first: &mut [u64],
     second: &mut [u64],
-) -> Outcome
+) -> Result<(), Refusal>
     ensures result_value { outcome_of result ≡ banks_read_gives text.now terms.old relations.old first.old second.old }
     ensures terms_after { terms.new ≡ banks_read_terms text.now terms.old relations.old first.old second.old }
     ensures relations_after { relations.new ≡ banks_read_relations text.now terms.old relations.old first.old second.old }
@@ -26,14 +25,11 @@ pub fn read(
     ensures second_after { second.new ≡ banks_read_own text.now terms.old relations.old first.old second.old second.old }
 {
     if first.len() < OWN {
-        return Outcome::Refused(6, 0);
+        return Err(Refusal::Short);
     }
     if second.len() < OWN {
-        return Outcome::Refused(6, 0);
+        return Err(Refusal::Short);
     }
-    let filled = fill_relations(text, terms, relations);
-    if let Filled::Refused(number, line) = filled {
-        return Outcome::Refused(number, line);
-    }
+    fill_relations(text, terms, relations)?;
     open(terms, relations, first, second)
 }
