@@ -41,6 +41,3 @@ put_out o at m bs h e = record { next = e; left = sym (sets_out o at bs h) }
 pub put_more : {o p q : List ℕ} {at j k : ℕ} (w : List ℕ) (i : ℕ) → i < length w
     → Put o p at j (take i w) → Put p q j k (get_or w i 0 ∷ []) → Put o q at k (take (i + 1) w)
 put_more w i h f g = rw (add-one i, take-suc w i 0 h) (put_then f g)
-
-pub put_whole : {o p : List ℕ} {at j : ℕ} (w : List ℕ) (i : ℕ) → length w ≤ i → Put o p at j (take i w) → Put o p at j w
-put_whole w i h f = rw (take_all i w h) at f

@@ -157,23 +157,3 @@ part_rest a s = take_all (length s - a) (drop a s) (le_of_eq (length-drop a s))
 
 pub rest_shorter : (n : ℕ) (t : List ℕ) → length (take (length t - (n + 1)) (drop (n + 1) t)) ≡ length t - (n + 1)
 rest_shorter n t = rw (part_rest (n + 1) t) (length-drop (n + 1) t)
-
-pub piece_none : (c : ℕ) (t : List ℕ) (n k : ℕ) → n ≡ place c t → length t ≤ n → 0 < k → get_or (split c t) k [] ≡ []
-piece_none c t n zero e h p = absurd (omega arith)
-piece_none c t n (suc k) e h p = rw (split_last c t (omega (arith, place_le c t))) refl
-
-pub piece_first : (c : ℕ) (t : List ℕ) (n k : ℕ) → n ≡ place c t → k ≤ 0 → get_or (split c t) k [] ≡ take n t
-piece_first c t n (suc k) e z = absurd (omega arith)
-piece_first c t n zero e z =
-    ⊎_elim
-    (λ h. rw (e, split_here c t (ltb-true (place c t) (length t) h)) refl)
-    (λ h. let k : place c t ≡ length t = omega (arith, place_le c t, ltb-false (place c t) (length t) h) in
-    rw (split_last c t k, e, k) (sym (take-length t)))
-    (true_or_false (ltb (place c t) (length t)))
-
-pub piece_next : (c : ℕ) (t : List ℕ) (n k : ℕ) → n ≡ place c t → n < length t → 0 < k
-    → get_or (split c t) k [] ≡ get_or (split c (take (length t - (n + 1)) (drop (n + 1) t))) (k - 1) []
-piece_next c t n zero e h p = absurd (omega arith)
-piece_next c t n (suc k) e h p =
-    let q : suc k - 1 ≡ k = omega arith in
-    rw (part_rest (n + 1) t, add-one n, q, e, split_here c t (omega arith)) refl

@@ -15,17 +15,11 @@ fn value(f: &[u8]) -> Number
     ensures { result ≡ pick_number (all_digits f.now) (Number.Value (value_of f.now)) Number.Malformed }
 {
     let mut v: usize = 0;
-    let mut i = 0;
-    while i < f.len() {
-        let d = f[i];
-        if d < 48 {
+    for d in f {
+        if !d.is_ascii_digit() {
             return Number::Malformed;
         }
-        if 57 < d {
-            return Number::Malformed;
-        }
-        v = v * 10 + (d - 48) as usize;
-        i += 1;
+        v = v * 10 + usize::from(*d - b'0');
     }
     Number::Value(v)
 }
