@@ -6,7 +6,7 @@ use native.Mathlib.Omega.{arith}
 use native.Mathlib.Nat.{add-zero, add-suc, suc-add}
 use native.Mathlib.Numerals.{add-one}
 use lib.ListN.{length, get_or, take, set, length-append}
-use lib.Seq.{sets, length-sets, set_out, take-suc, take_all}
+use lib.Seq.{sets, length-sets, set_out, take-suc}
 use Rattle.fields.specs.private.Put.{Put}
 
 sets_append : (o : List ℕ) (i : ℕ) (bs cs : List ℕ) → sets o i (bs ++ cs) ≡ sets (sets o i bs) (i + length bs) cs

@@ -10,10 +10,8 @@ pub(crate) fn put(out: &mut [u8], at: usize, b: u8) -> usize
 {
     if at < out.len() {
         out[at] = b;
-        at + 1
-    } else {
-        at + 1
     }
+    at + 1
 }
 
 // Puts the bytes of w from a place on, as far as the output reaches. The place after them.

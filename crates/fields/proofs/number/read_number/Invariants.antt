@@ -1,7 +1,7 @@
 -- The digits of the rest, read on from v, give what all of f gives; v has at most as many digits as were read.
 use Rattle.std.proofs.Common.{◌≡◌, ◌^◌, ◌<◌, drop}
 use Rattle.fields.specs.Number.{all_digits, value_from, value_of}
-use Rattle.fields.proofs.number.value.Given as goal
+use Rattle.fields.proofs.number.read_number.Given as goal
 
 abbrev pub invariant-loop-d : goal.invariant-loop-d
 invariant-loop-d l =
