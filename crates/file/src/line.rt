@@ -80,7 +80,8 @@ fn effect_line(l: &[u8]) -> Option<Line>
     Some(Line::Effect(j, action, k, direction))
 }
 
-// What a line says, by the kind that its first field names. A `T` line has a fifth field where its table has two columns.
+// What a line says, by the kind that its first field names, if it is well formed. A `T` line has a fifth field where its
+// table has two columns.
 fn said(l: &[u8]) -> Option<Line>
     ensures { unwrap_or result Malformed ≡ parsed (split 9 l.now) }
 {
