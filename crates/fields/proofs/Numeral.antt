@@ -3,45 +3,53 @@ use Prim.Native.Nat.{ℕ, ◌+◌, ◌-◌, ◌*◌, ◌^◌, ◌≤◌, ◌<◌
 use mathlib.Core.Path.{◌≡◌, refl}
 use mathlib.Core.Logic.{⊎_elim}
 use mathlib.Core.List.{List, [], ◌∷◌}
-use mathlib.Core.Bool.{true, false, ◌&&◌}
+use mathlib.Core.Bool.{true, false, ◌&&◌, and-false}
 use native.Mathlib.Omega.{arith}
 use native.Mathlib.Nat.{pow-suc, pow-le-pow_right, mul-one, mul_comm, mul_assoc}
-use lib.Dec.{leb, ltb, lit<}
+use lib.Dec.{eqb, leb, ltb, lit<}
 use lib.ListN.{length}
 use borrow.Author.Tests.{leb-true, ltb-true, le-ltb, lt-ltb, le-leb, lt-leb}
 use Rattle.sets.proofs.Finite.{true_or_false, and_left, and_right}
-use Rattle.fields.specs.declared.number.Number.TheVariants.{Value, Malformed}
-use Rattle.fields.specs.Number.{is_digit, all_digits, value_from, value_of, is_number, number_of, pick_number}
+use Rattle.std.proofs.Common.{Some, None}
+use Rattle.fields.specs.Number.{is_digit, all_digits, value_from, value_of, is_number, number_of}
 
 -- ---- the three ways that reading a field goes
 
-pub number_empty : (f : List ℕ) → length f < 1 → number_of f ≡ Malformed
+pub some_bytes : (f : List ℕ) → eqb (length f) 0 ≡ false → 0 < length f
+some_bytes [] e = (cc)
+some_bytes (x ∷ f) e = omega arith
+
+pub number_empty : (f : List ℕ) → length f ≡ 0 → number_of f ≡ None
 unfolding number_of is_number
 number_empty f h = rw (le-ltb 0 (length f) (omega arith)) refl
 
-pub number_long : (f : List ℕ) → 5 < length f → number_of f ≡ Malformed
+pub number_long : (f : List ℕ) → 5 < length f → number_of f ≡ None
 unfolding number_of is_number
 number_long f h = rw (lt-ltb 0 (length f) (omega arith), lt-leb (length f) 5 h) refl
 
-pub number_digits : (f : List ℕ) → 1 ≤ length f → length f ≤ 5 → number_of f ≡ pick_number (all_digits f) (Value (value_of f)) Malformed
+pub number_bad : (f : List ℕ) → all_digits f ≡ false → number_of f ≡ None
 unfolding number_of is_number
-number_digits f h k = rw (lt-ltb 0 (length f) (omega arith), le-leb (length f) 5 k) refl
+number_bad f h = rw (h, and-false (leb (length f) 5), and-false (ltb 0 (length f))) refl
+
+pub number_good : (f : List ℕ) → 0 < length f → length f ≤ 5 → all_digits f ≡ true → number_of f ≡ Some (value_of f)
+unfolding number_of is_number
+number_good f h k a = rw (lt-ltb 0 (length f) h, le-leb (length f) 5 k, a) refl
 
 -- ---- what the answer says of the field
 
-pub number_is : (f : List ℕ) (n : ℕ) → number_of f ≡ Value n → (is_number f ≡ true) × (n ≡ value_of f)
+pub number_is : (f : List ℕ) (n : ℕ) → number_of f ≡ Some n → (is_number f ≡ true) × (n ≡ value_of f)
 unfolding number_of
 number_is f n e =
     ⊎_elim
-    (λ t. let g : Value (value_of f) ≡ Value n = rw t at e in (t, (cc)))
-    (λ t. let g : Malformed ≡ Value n = rw t at e in let z : ◌≡◌ {A = ℕ} 0 1 = cc in absurd (omega arith))
+    (λ t. let g : Some (value_of f) ≡ Some n = rw t at e in (t, (cc)))
+    (λ t. let g : None ≡ Some n = rw t at e in (cc))
     (true_or_false (is_number f))
 
-pub number_none : (f : List ℕ) → number_of f ≡ Malformed → is_number f ≡ false
+pub number_none : (f : List ℕ) → number_of f ≡ None → is_number f ≡ false
 unfolding number_of
 number_none f e =
     ⊎_elim
-    (λ t. let g : Value (value_of f) ≡ Malformed = rw t at e in let z : ◌≡◌ {A = ℕ} 0 1 = cc in absurd (omega arith))
+    (λ t. let g : Some (value_of f) ≡ None = rw t at e in (cc))
     (λ t. t)
     (true_or_false (is_number f))
 

@@ -6,7 +6,7 @@ use native.Mathlib.Omega.{arith}
 use native.Mathlib.Nat.{add-zero, add-suc, suc-add}
 use native.Mathlib.Numerals.{add-one}
 use lib.ListN.{length, get_or, take, set, length-append}
-use lib.Seq.{sets, length-sets, set_out, take-suc, take_all}
+use lib.Seq.{sets, length-sets, set_out, take-suc}
 use Rattle.fields.specs.private.Put.{Put}
 
 sets_append : (o : List ℕ) (i : ℕ) (bs cs : List ℕ) → sets o i (bs ++ cs) ≡ sets (sets o i bs) (i + length bs) cs
@@ -41,6 +41,3 @@ put_out o at m bs h e = record { next = e; left = sym (sets_out o at bs h) }
 pub put_more : {o p q : List ℕ} {at j k : ℕ} (w : List ℕ) (i : ℕ) → i < length w
     → Put o p at j (take i w) → Put p q j k (get_or w i 0 ∷ []) → Put o q at k (take (i + 1) w)
 put_more w i h f g = rw (add-one i, take-suc w i 0 h) (put_then f g)
-
-pub put_whole : {o p : List ℕ} {at j : ℕ} (w : List ℕ) (i : ℕ) → length w ≤ i → Put o p at j (take i w) → Put o p at j w
-put_whole w i h f = rw (take_all i w h) at f

@@ -1,8 +1,6 @@
 -- A number field, its value, and the digits of a number (docs/SCOPE.md, The terms file: decimal, 1 to 5
 -- digits, leading zeros among them).
-use Rattle.std.specs.Prelude.{ℕ, zero, suc, ◌+◌, ◌-◌, ◌*◌, ◌/◌, ◌%◌, List, [], ◌∷◌, ◌++◌, Bool, true, false, cond, ◌&&◌, eqb, leb, ltb, length, get_or}
-use Rattle.fields.specs.declared.number.Number.{Number}
-use Rattle.fields.specs.declared.number.Number.TheVariants.{Value, Malformed}
+use Rattle.std.specs.Prelude.{ℕ, zero, suc, ◌+◌, ◌-◌, ◌*◌, ◌/◌, ◌%◌, List, [], ◌∷◌, ◌++◌, Bool, true, cond, Option, Some, None, ◌&&◌, eqb, leb, ltb, length, get_or}
 
 unfoldable pub is_digit : ℕ → Bool
 is_digit d = leb 48 d && leb d 57
@@ -22,13 +20,9 @@ value_from v (d ∷ ds) = value_from (v * 10 + (d - 48)) ds
 unfoldable pub value_of : List ℕ → ℕ
 value_of f = value_from 0 f
 
-abbrev pub pick_number : Bool → Number → Number → Number
-pick_number true a b = a
-pick_number false a b = b
-
 -- What a field is as a number.
-unfoldable pub number_of : List ℕ → Number
-number_of f = pick_number (is_number f) (Value (value_of f)) Malformed
+unfoldable pub number_of : List ℕ → Option ℕ
+number_of f = cond (is_number f) (Some (value_of f)) None
 
 -- The digits of a number, of which there are at most k.
 unfoldable pub digits_in : ℕ → ℕ → List ℕ

@@ -26,10 +26,7 @@ pub fn put_byte(out: &mut [u8], at: usize, b: u8) -> usize
 pub fn put_bytes(out: &mut [u8], at: usize, w: &[u8]) -> usize
     ensures { PutIf (at + length w.now < 2 ^ 62) out.old out.new at result w.now }
 {
-    if BYTES_BELOW <= at {
-        return at;
-    }
-    if BYTES_BELOW - at <= w.len() {
+    if BYTES_BELOW <= at || BYTES_BELOW - at <= w.len() {
         return at;
     }
     put_word(out, at, w)
@@ -40,10 +37,7 @@ pub fn put_bytes(out: &mut [u8], at: usize, w: &[u8]) -> usize
 pub fn put_decimal(out: &mut [u8], at: usize, n: usize) -> usize
     ensures { PutIf ((n < 100000) × (at < 2 ^ 61)) out.old out.new at result (digits n) }
 {
-    if DIGITS_BELOW <= at {
-        return at;
-    }
-    if 100000 <= n {
+    if DIGITS_BELOW <= at || 100000 <= n {
         return at;
     }
     put_number(out, at, n)

@@ -10,10 +10,8 @@ pub(crate) fn put(out: &mut [u8], at: usize, b: u8) -> usize
 {
     if at < out.len() {
         out[at] = b;
-        at + 1
-    } else {
-        at + 1
     }
+    at + 1
 }
 
 // Puts the bytes of w from a place on, as far as the output reaches. The place after them.
@@ -21,44 +19,22 @@ pub(crate) fn put_word(out: &mut [u8], at: usize, w: &[u8]) -> usize
     requires { at + length w.now < 2 ^ 62 }
     ensures { Put out.old out.new at result w.now }
 {
-    let mut i = 0;
     let mut next = at;
-    while i < w.len() {
-        next = put(out, next, w[i]);
-        i += 1;
+    for b in w {
+        next = put(out, next, *b);
     }
     next
 }
 
-// Puts the digits of n, worked out from the last one on.
-fn put_digits(out: &mut [u8], at: usize, n: usize) -> usize
-    requires { (n < 100000) × (at < 2 ^ 61) }
-    ensures { Put out.old out.new at result (digits n) }
-{
-    let mut d = [0u8; 5];
-    let mut i = 5;
-    let mut v = n;
-    while 9 < v {
-        i -= 1;
-        d[i] = 48 + (v % 10) as u8;
-        v = v / 10;
-    }
-    i -= 1;
-    d[i] = 48 + v as u8;
-    put_word(out, at, &d[i..])
-}
-
-// Puts the digits of n, one or two of them without working out how many there are.
+// Puts the digits of n, those before the last one first.
 pub(crate) fn put_number(out: &mut [u8], at: usize, n: usize) -> usize
     requires { (n < 100000) × (at < 2 ^ 61) }
     ensures { Put out.old out.new at result (digits n) }
 {
+    let last = b'0' + (n % 10) as u8;
     if n < 10 {
-        return put(out, at, 48 + n as u8);
+        return put(out, at, last);
     }
-    if n < 100 {
-        let next = put(out, at, 48 + (n / 10) as u8);
-        return put(out, next, 48 + (n % 10) as u8);
-    }
-    put_digits(out, at, n)
+    let next = put_number(out, at, n / 10);
+    put(out, next, last)
 }

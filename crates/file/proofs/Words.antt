@@ -1,17 +1,22 @@
 -- Laws of the tables of words: reading word k of a table gives k, and a field with a number is the word of that number.
 use Prim.Native.Nat.{ℕ, zero, suc, ◌+◌, ◌≤◌, ◌<◌}
-use mathlib.Core.Path.{◌≡◌, refl, sym}
+use mathlib.Core.Path.{◌≡◌, refl, sym, ap, ◌∙◌}
 use mathlib.Core.Logic.{⊎_elim}
-use mathlib.Core.List.{List, [], ◌∷◌}
-use mathlib.Core.Bool.{true, false, cond, not}
+use mathlib.Core.List.{List, [], ◌∷◌, map}
+use mathlib.Core.Bool.{true, false, cond, not, and-false}
 use native.Mathlib.Omega.{arith}
 use native.Mathlib.Numerals.{add-one}
-use lib.Dec.{ltb}
-use lib.ListN.{length, get_or}
-use borrow.Author.Tests.{not-true, lt-ltb, le-ltb, ltb-true, ltb-false}
+use lib.Dec.{eqb, ltb}
+use lib.Pointwise.{pointwise}
+use denote.Ref.{Bor}
+use Rattle.std.proofs.Common.{Some, None}
+use Rattle.std.specs.List.{position_or_len}
+use lib.ListN.{length, get_or, length-map}
+use borrow.Author.Tests.{ne_eqb, not-true, lt-ltb, le-ltb, ltb-true, ltb-false}
 use Rattle.sets.proofs.Finite.{true_or_false, and_left, and_right}
 use Rattle.fields.specs.Split.{alike}
 use Rattle.file.specs.Words.{operator_words, action_words, direction_words, kind_words, absent, distinct, index_from, index_of, operator_of, action_of, direction_of, kind_of}
+use Rattle.fields.proofs.Scan.{alike_std}
 use Rattle.fields.proofs.Split.{alike_refl, alike_eq}
 
 -- ---- any table
@@ -58,15 +63,25 @@ from_back j (w ∷ ws) f (suc k) e h =
 index_of_back : (ws : List (List ℕ)) (f : List ℕ) (k : ℕ) → index_of ws f ≡ k → k < length ws → f ≡ get_or ws k []
 index_of_back ws f k e h = from_back 0 ws f k (omega arith) h
 
--- One word in front: what code finds that tries the words from the last to the first.
-pub picked : {r rest : ℕ} (f w : List ℕ) (ws : List (List ℕ)) (k : ℕ) → r ≡ cond (alike f w) k rest → rest ≡ index_from (suc k) ws f
-    → r ≡ index_from k (w ∷ ws) f
+-- What code finds that goes through a table of words.
+index_std : (ws : List (Bor (List ℕ))) (f : List ℕ) (k : ℕ)
+    → index_from k (map (λ w. w.now) ws) f ≡ k + position_or_len (λ w. pointwise eqb f w.now) ws
 unfolding index_from
-picked f w ws k e h = rw h at e
+index_std [] f k = omega arith
+index_std (w ∷ ws) f k =
+    let ih = index_std ws f (suc k) in
+    ⊎_elim
+    (λ (t : pointwise eqb f w.now ≡ true). rw (alike_std f w.now, t) (omega arith))
+    (λ (t : pointwise eqb f w.now ≡ false). rw (alike_std f w.now, t, ih) (omega arith))
+    (true_or_false (pointwise eqb f w.now))
 
-pub picked_none : (f : List ℕ) (k : ℕ) → k ≡ index_from k [] f
-unfolding index_from
-picked_none f k = refl
+pub word_found : (ws : List (Bor (List ℕ))) (us : List (List ℕ)) (f : List ℕ) → map (λ w. w.now) ws ≡ us
+    → cond (ltb (position_or_len (λ w. pointwise eqb f w.now) ws) (length ws)) (Some (position_or_len (λ w. pointwise eqb f w.now) ws)) None
+    ≡ cond (ltb (index_of us f) (length us)) (Some (index_of us f)) None
+word_found ws us f e =
+    let l : length us ≡ length ws = rw (← e) (length-map ws (λ (w : Bor (List ℕ)). w.now)) in
+    let n : index_of us f ≡ position_or_len (λ w. pointwise eqb f w.now) ws = rw (← e) (index_std ws f 0 ∙ omega arith) in
+    rw (l, n) refl
 
 -- ---- the tables
 
@@ -109,6 +124,36 @@ kind_at k h = index_of_at kind_words k kinds_distinct h
 pub kind_back : (f : List ℕ) → kind_of f < length kind_words → f ≡ get_or kind_words (kind_of f) []
 unfolding kind_of
 kind_back f h = index_of_back kind_words f (index_of kind_words f) refl h
+
+-- A field of one byte, and a kind by its byte.
+one_byte : (f : List ℕ) → 1 ≤ length f → length f < 2 → f ≡ get_or f 0 0 ∷ []
+one_byte [] h k = absurd (omega arith)
+one_byte (b ∷ []) h k = refl
+one_byte (b ∷ d ∷ f) h k = absurd (omega arith)
+
+pub kind_byte : (f : List ℕ) (b k : ℕ) → kind_of (b ∷ []) ≡ k → 1 ≤ length f → length f < 2 → get_or f 0 0 ≡ b → k ≡ kind_of f
+kind_byte f b k e h l g = sym (ap kind_of (one_byte f h l ∙ ap {B = List ℕ} (λ d. d ∷ []) g) ∙ e)
+
+pub kind_short : (f : List ℕ) → length f < 1 → 10 ≡ kind_of f
+unfolding kind_of kind_words index_from alike
+kind_short [] h = refl
+kind_short (b ∷ f) h = absurd (omega arith)
+
+pub kind_long : (f : List ℕ) → 2 ≤ length f → 10 ≡ kind_of f
+unfolding kind_of kind_words index_from alike
+kind_long [] h = absurd (omega arith)
+kind_long (b ∷ []) h = absurd (omega arith)
+kind_long (b ∷ d ∷ f) h = simp and-false
+
+pub kind_other : (f : List ℕ) → 1 ≤ length f → length f < 2 → (b : ℕ) → b ≡ get_or f 0 0
+    → (b ≡ 77 → ⊥) → (b ≡ 76 → ⊥) → (b ≡ 70 → ⊥) → (b ≡ 80 → ⊥) → (b ≡ 69 → ⊥) → (b ≡ 71 → ⊥) → (b ≡ 83 → ⊥)
+    → (b ≡ 84 → ⊥) → (b ≡ 86 → ⊥) → (b ≡ 75 → ⊥) → 10 ≡ kind_of f
+kind_other f h l b e m n o p q r s t u v =
+    kind_byte f b 10
+    (unfold kind_of kind_words index_from alike in
+    rw (ne_eqb b 77 m, ne_eqb b 76 n, ne_eqb b 70 o, ne_eqb b 80 p, ne_eqb b 69 q, ne_eqb b 71 r, ne_eqb b 83 s, ne_eqb b 84 t, ne_eqb b 86 u, ne_eqb b 75 v)
+    refl)
+    h l (sym e)
 
 -- ---- actions: the number is one more than the place
 

@@ -7,3 +7,4 @@ pub mod Said
 pub mod Preset
 pub mod Writing
 pub mod Normal
+pub mod private

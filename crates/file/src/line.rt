@@ -1,15 +1,16 @@
 // One line of a terms file: its fields, as parts of the text, and what they say.
-ghost use Rattle.std.specs.Prelude.{◌≡◌, [], length, get_or};
+ghost use Rattle.std.specs.Prelude.{◌≡◌, [], get_or, cond, Some, None};
+ghost use Rattle.std.specs.Option.{unwrap_or};
 ghost use Rattle.fields.specs.Split.{split};
 ghost use Rattle.fields.specs.Number.{number_of};
-ghost use Rattle.file.specs.Words.{operator_of};
-ghost use Rattle.file.specs.Line.{single_line, labels_line, short_entry_line, long_entry_line, entry_line, policy_line, effect_line, triple_line, pair_line, parsed};
-ghost use Rattle.file.specs.declared.line.Line.TheVariants.{Members, Edge, Form, TableBit, EventEdge, Mark};
+ghost use Rattle.file.specs.Line.{entry_line, effect_line, parsed};
+ghost use Rattle.file.specs.private.Numbers.{are_numbers, numbers_of};
+ghost use Rattle.file.specs.declared.line.Line.TheVariants.{Malformed};
 
-use crate::vocabulary::{read_action, read_direction, read_kind, read_operator};
+use crate::vocabulary::{Kind, read_action, read_direction, read_kind, read_operator};
 use fields::field::{piece, pieces};
-use fields::number::{Number, read_number};
-use theory::operators::{MANY, OPERATORS, REACH};
+use fields::number::read_number;
+use theory::operators::{MANY, REACH};
 
 // One line of a terms file, as what it says.
 #[derive(Clone, Copy)]
@@ -29,213 +30,106 @@ pub enum Line {
 }
 
 // Field k as a number.
-fn number_at(l: &[u8], k: usize) -> Number
+fn number_at(l: &[u8], k: usize) -> Option<usize>
     ensures { result ≡ number_of (get_or (split 9 l.now) k []) }
 {
     read_number(piece(l, 9, k))
 }
 
-// A line of one number, by its kind: `M` N, `S` form, `K` event.
-fn single_line(l: &[u8], kind: usize) -> Line
-    ensures { (kind ≡ 0 → result ≡ single_line Members (split 9 l.now))
-        × (kind ≡ 6 → result ≡ single_line Form (split 9 l.now))
-        × (kind ≡ 9 → result ≡ single_line Mark (split 9 l.now)) }
+// The N numbers of a line of N fields more than its first, each a number.
+fn numbers<const N: usize>(l: &[u8]) -> Option<[usize; N]>
+    ensures { result ≡ cond (are_numbers N (split 9 l.now)) (Some (numbers_of N (split 9 l.now))) None }
 {
-    if pieces(l, 9) != 2 {
-        return Line::Malformed;
+    if pieces(l, 9) - 1 != N {
+        return None;
     }
-    let Number::Value(n) = number_at(l, 1) else {
-        return Line::Malformed;
-    };
-    match kind {
-        0 => Line::Members(n),
-        6 => Line::Form(n),
-        _ => Line::Mark(n),
+    let mut a = [0; N];
+    for k in 0..N {
+        a[k] = number_at(l, k + 1)?;
     }
+    Some(a)
 }
 
-// A line `L` r e.
-fn labels_line(l: &[u8]) -> Line
-    ensures { result ≡ labels_line (split 9 l.now) }
+// A line `F` entry word a b; with a third operand c where the operator has one.
+fn entry_line(l: &[u8]) -> Option<Line>
+    ensures { unwrap_or result Malformed ≡ entry_line (split 9 l.now) }
 {
-    if pieces(l, 9) != 3 {
-        return Line::Malformed;
+    let o = read_operator(piece(l, 9, 2))?;
+    let third = (o == REACH) | (o == MANY);
+    if pieces(l, 9) != 5 + usize::from(third) {
+        return None;
     }
-    let Number::Value(r) = number_at(l, 1) else {
-        return Line::Malformed;
-    };
-    let Number::Value(e) = number_at(l, 2) else {
-        return Line::Malformed;
-    };
-    Line::Labels(r, e)
-}
-
-// A line `F` entry word a b.
-fn short_entry_line(l: &[u8], o: usize) -> Line
-    requires { o ≡ operator_of (get_or (split 9 l.now) 2 []) }
-    ensures { result ≡ short_entry_line (split 9 l.now) }
-{
-    if pieces(l, 9) != 5 {
-        return Line::Malformed;
-    }
-    let Number::Value(n) = number_at(l, 1) else {
-        return Line::Malformed;
-    };
-    if OPERATORS <= o {
-        return Line::Malformed;
-    }
-    let Number::Value(a) = number_at(l, 3) else {
-        return Line::Malformed;
-    };
-    let Number::Value(b) = number_at(l, 4) else {
-        return Line::Malformed;
-    };
-    Line::Entry(n, o, a, b, 0)
-}
-
-// A line `F` entry word a b c.
-fn long_entry_line(l: &[u8], o: usize) -> Line
-    requires { o ≡ operator_of (get_or (split 9 l.now) 2 []) }
-    ensures { result ≡ long_entry_line (split 9 l.now) }
-{
-    if pieces(l, 9) != 6 {
-        return Line::Malformed;
-    }
-    let Number::Value(n) = number_at(l, 1) else {
-        return Line::Malformed;
-    };
-    let Number::Value(a) = number_at(l, 3) else {
-        return Line::Malformed;
-    };
-    let Number::Value(b) = number_at(l, 4) else {
-        return Line::Malformed;
-    };
-    let Number::Value(c) = number_at(l, 5) else {
-        return Line::Malformed;
-    };
-    Line::Entry(n, o, a, b, c)
-}
-
-// An `F` line, which has a sixth field where its operator has a third operand.
-fn entry_line(l: &[u8]) -> Line
-    ensures { result ≡ entry_line (split 9 l.now) }
-{
-    let o = read_operator(piece(l, 9, 2));
-    if (o == REACH) | (o == MANY) {
-        long_entry_line(l, o)
-    } else {
-        short_entry_line(l, o)
-    }
-}
-
-// A line `P` event entry.
-fn policy_line(l: &[u8]) -> Line
-    ensures { result ≡ policy_line (split 9 l.now) }
-{
-    if pieces(l, 9) != 3 {
-        return Line::Malformed;
-    }
-    let Number::Value(j) = number_at(l, 1) else {
-        return Line::Malformed;
-    };
-    let Number::Value(n) = number_at(l, 2) else {
-        return Line::Malformed;
-    };
-    Line::Policy(j, n)
+    let n = number_at(l, 1)?;
+    let a = number_at(l, 3)?;
+    let b = number_at(l, 4)?;
+    let c = if third { number_at(l, 5)? } else { 0 };
+    Some(Line::Entry(n, o, a, b, c))
 }
 
 // A line `E` event action relation direction.
-fn effect_line(l: &[u8]) -> Line
-    ensures { result ≡ effect_line (split 9 l.now) }
+fn effect_line(l: &[u8]) -> Option<Line>
+    ensures { unwrap_or result Malformed ≡ effect_line (split 9 l.now) }
 {
     if pieces(l, 9) != 5 {
-        return Line::Malformed;
+        return None;
     }
-    let Number::Value(j) = number_at(l, 1) else {
-        return Line::Malformed;
-    };
-    let action = read_action(piece(l, 9, 2));
-    if action <= 0 {
-        return Line::Malformed;
-    }
-    let Number::Value(k) = number_at(l, 3) else {
-        return Line::Malformed;
-    };
-    let direction = read_direction(piece(l, 9, 4));
-    if 2 <= direction {
-        return Line::Malformed;
-    }
-    Line::Effect(j, action, k, direction)
+    let j = number_at(l, 1)?;
+    let action = read_action(piece(l, 9, 2))?;
+    let k = number_at(l, 3)?;
+    let direction = read_direction(piece(l, 9, 4))?;
+    Some(Line::Effect(j, action, k, direction))
 }
 
-// A line of three numbers, by its kind: `G` relation from to, `T` table member other, `V`
-// event from to; it has n fields.
-fn triple_line(l: &[u8], n: usize, kind: usize) -> Line
-    requires { n ≡ length (split 9 l.now) }
-    ensures { (kind ≡ 5 → result ≡ triple_line Edge (split 9 l.now))
-        × (kind ≡ 7 → result ≡ triple_line TableBit (split 9 l.now))
-        × (kind ≡ 8 → result ≡ triple_line EventEdge (split 9 l.now)) }
+// What a line says, by the kind that its first field names, if it is well formed. A `T` line has a fifth field where its
+// table has two columns.
+fn said(l: &[u8]) -> Option<Line>
+    ensures { unwrap_or result Malformed ≡ parsed (split 9 l.now) }
 {
-    if n != 4 {
-        return Line::Malformed;
-    }
-    let Number::Value(k) = number_at(l, 1) else {
-        return Line::Malformed;
-    };
-    let Number::Value(a) = number_at(l, 2) else {
-        return Line::Malformed;
-    };
-    let Number::Value(b) = number_at(l, 3) else {
-        return Line::Malformed;
-    };
-    match kind {
-        5 => Line::Edge(k, a, b),
-        7 => Line::TableBit(k, a, b),
-        _ => Line::EventEdge(k, a, b),
+    match read_kind(piece(l, 9, 0))? {
+        Kind::Members => {
+            let [n] = numbers::<1>(l)?;
+            Some(Line::Members(n))
+        },
+        Kind::Labels => {
+            let [r, e] = numbers::<2>(l)?;
+            Some(Line::Labels(r, e))
+        },
+        Kind::Entry => entry_line(l),
+        Kind::Policy => {
+            let [j, n] = numbers::<2>(l)?;
+            Some(Line::Policy(j, n))
+        },
+        Kind::Effect => effect_line(l),
+        Kind::Edge => {
+            let [k, a, b] = numbers::<3>(l)?;
+            Some(Line::Edge(k, a, b))
+        },
+        Kind::Form => {
+            let [n] = numbers::<1>(l)?;
+            Some(Line::Form(n))
+        },
+        Kind::Table if pieces(l, 9) == 5 => {
+            let [t, a, b, c] = numbers::<4>(l)?;
+            Some(Line::PairBit(t, a, b, c))
+        },
+        Kind::Table => {
+            let [t, a, b] = numbers::<3>(l)?;
+            Some(Line::TableBit(t, a, b))
+        },
+        Kind::Event => {
+            let [j, u, v] = numbers::<3>(l)?;
+            Some(Line::EventEdge(j, u, v))
+        },
+        Kind::Mark => {
+            let [j] = numbers::<1>(l)?;
+            Some(Line::Mark(j))
+        },
     }
 }
 
-// A line `T` table member b c.
-fn pair_line(l: &[u8]) -> Line
-    requires { length (split 9 l.now) ≡ 5 }
-    ensures { result ≡ pair_line (split 9 l.now) }
-{
-    let Number::Value(t) = number_at(l, 1) else {
-        return Line::Malformed;
-    };
-    let Number::Value(a) = number_at(l, 2) else {
-        return Line::Malformed;
-    };
-    let Number::Value(b) = number_at(l, 3) else {
-        return Line::Malformed;
-    };
-    let Number::Value(c) = number_at(l, 4) else {
-        return Line::Malformed;
-    };
-    Line::PairBit(t, a, b, c)
-}
-
-// What a line says, by the kind that its first field names. A `T` line has a fifth field
-// where its table has two columns.
+// What a line says.
 pub fn parse_line(l: &[u8]) -> Line
     ensures { result ≡ parsed (split 9 l.now) }
 {
-    let kind = read_kind(piece(l, 9, 0));
-    let n = pieces(l, 9);
-    if (kind == 7) & (n == 5) {
-        return pair_line(l);
-    }
-    match kind {
-        0 => single_line(l, 0),
-        1 => labels_line(l),
-        2 => entry_line(l),
-        3 => policy_line(l),
-        4 => effect_line(l),
-        5 => triple_line(l, n, 5),
-        6 => single_line(l, 6),
-        7 => triple_line(l, n, 7),
-        8 => triple_line(l, n, 8),
-        9 => single_line(l, 9),
-        _ => Line::Malformed,
-    }
+    said(l).unwrap_or(Line::Malformed)
 }
