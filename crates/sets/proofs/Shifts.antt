@@ -3,10 +3,12 @@ use Prim.Native.Nat.{ℕ, suc, ◌+◌, ◌-◌, ◌*◌, ◌/◌, ◌%◌, ◌^
 use mathlib.Core.Path.{◌≡◌, refl, sym, ap, ap₂, ◌∙◌}
 use mathlib.Core.Bool.{Bool, true, false, cond, ◌&&◌, ◌||◌, and-false, or-false}
 use mathlib.Core.Logic.{⊎_elim}
+use mathlib.Core.List.{List}
 use native.Mathlib.Omega.{arith}
 use native.Mathlib.Nat.{pow-suc, mul_assoc, mul-mod_left}
 use lib.Bits.{bit_and, bit_or, and_le_r}
 use lib.Dec.{eqb, ltb}
+use lib.ListN.{length, get_or}
 use lib.Pow.{pow-add, shr-shr, shl-shr, shl_exact}
 use borrow.Author.Tests.{lt-ltb, le-ltb, ltb-true, ltb-false, eqb-true, eqb-false, ne_eqb}
 use Rattle.sets.specs.Sets.{bit}
@@ -106,3 +108,19 @@ swept_more p s b x l h one j =
         let z : j ≡ b = eqb-true j b e in
         ap (λ (y : Bool). (y && p j) || p b) (le-ltb j b (omega arith)) ∙ ap p (sym z) ∙ sym (ap (λ (y : Bool). y && p j) (lt-ltb j (b + 1) (omega arith)))
     go false e = or-false (ltb j b && p j) ∙ ap (λ (y : Bool). y && p j) (sym (below_suc j b ∙ ap (λ (y : Bool). y || ltb j b) e))
+
+-- ---- the same bit of each quarter
+
+abbrev pub there : List ℕ → (from c b : ℕ) → Bool
+there ws from c b = bit (get_or ws (from + b / 4) 0) (16 * (b % 4) + c)
+
+-- Where the words are not there, or c is no bit of a quarter.
+module _ (ws : List ℕ) (from c b : ℕ) where
+  pub nowhere_words : length ws ≤ from + 3 → bit 0 b ≡ (ltb (from + 3) (length ws) && (ltb c 16 && (ltb b 16 && there ws from c b)))
+  nowhere_words h =
+      bit_zero b ∙ sym (ap (λ (y : Bool). y && (ltb c 16 && (ltb b 16 && there ws from c b))) (le-ltb (from + 3) (length ws) h))
+
+  pub nowhere_bit : 16 ≤ c → bit 0 b ≡ (ltb (from + 3) (length ws) && (ltb c 16 && (ltb b 16 && there ws from c b)))
+  nowhere_bit h =
+      bit_zero b
+      ∙ sym (ap (λ (y : Bool). ltb (from + 3) (length ws) && (y && (ltb b 16 && there ws from c b))) (le-ltb c 16 h) ∙ and-false (ltb (from + 3) (length ws)))
