@@ -15,7 +15,7 @@ use Rattle.sets.specs.Sets.{any_below, bit}
 use Rattle.sets.proofs.Finite.{bool_iff, and_left, and_right, and_both, or_left, or_right, or_cases, is_false, not_both}
 use Rattle.sets.proofs.Finite.{any_intro, any_elim, true_or_false}
 use Rattle.sets.proofs.Bits.{bit_zero, bit-or}
-pub use Rattle.sets.proofs.MemberLoop.{Done, MembersLeft, going, Turn, turn, least_small, least_wanted, rest_less, done_all, going_on, done_more}
+pub use Rattle.sets.proofs.MemberLoop.{Done, MembersLeft, going, Turn, turn, turn_of, taken_small, taken_wanted, least_small, least_wanted, rest_less, done_all, going_on, done_more}
 pub use Rattle.sets.proofs.Tally.{zeros}
 use Rattle.deciding.specs.private.Rows.{Rows, in_row, Only, Added}
 
