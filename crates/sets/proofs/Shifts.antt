@@ -12,7 +12,7 @@ use lib.ListN.{length, get_or}
 use lib.Pow.{pow-add, shr-shr, shl-shr, shl_exact}
 use borrow.Author.Tests.{lt-ltb, le-ltb, ltb-true, ltb-false, eqb-true, eqb-false, ne_eqb}
 use Rattle.sets.specs.Sets.{bit}
-use Rattle.sets.proofs.Finite.{is_false, and_left, and_right, and-true, and_implied, below_suc, true_or_false}
+use Rattle.sets.proofs.Finite.{is_false, and_left, and-true, and_implied, below_suc, true_or_false}
 use Rattle.sets.proofs.Bits.{bit-and, bit-or, bit_zero, bit_mask, bit_below}
 
 bit_shr : (w j k : ℕ) → bit (w / 2 ^ j) k ≡ bit w (j + k)
@@ -66,19 +66,12 @@ placed_bits row q k ql rl =
         ∙ sym (ap (λ (x : Bool). x && bit row (k % 16)) e))
         (true_or_false (eqb (k / 16) q))
 
--- A number from 4 up is no quarter.
+-- What has a quarter below 4 is below 64.
 module _ (q k : ℕ) (x : Bool) where
   pub in_quarter : q < 4 → (ltb k 64 && (eqb (k / 16) q && x)) ≡ (eqb (k / 16) q && x)
   in_quarter l =
       and_implied (ltb k 64) (eqb (k / 16) q && x)
       (λ e. lt-ltb k 64 (let z : k / 16 ≡ q = eqb-true (k / 16) q (and_left (eqb (k / 16) q) x e) in omega arith))
-
-  pub no_quarter : 4 ≤ q → (ltb k 64 && (eqb (k / 16) q && x)) ≡ false
-  no_quarter l =
-      is_false _ (λ e.
-      let s : k < 64 = ltb-true k 64 (and_left (ltb k 64) (eqb (k / 16) q && x) e) in
-      let z : k / 16 ≡ q = eqb-true (k / 16) q (and_left (eqb (k / 16) q) x (and_right (ltb k 64) (eqb (k / 16) q && x) e)) in
-      omega arith)
 
 -- A row cut to 16 bits and put in as quarter q.
 pub put_bits : (row q k : ℕ) → q < 4 →

@@ -8,8 +8,10 @@ pub loop-a-init : goal.loop-a-init
 loop-a-init c = rw (c.into_iter-a-iterator.ensures.into_iter_gives, c.of-a-items.ensures) (loops.filling _ (omega arith) c.requires.out_len.0)
 
 pub loop-a-preserved : goal.loop-a-preserved
-loop-a-preserved c = loops.filling_more _ c.loop-a.invariant (loops.turn_of c.loop-a.invariant.upon c.in-Some.ensures.steps) (let x = c.args in
-    pairs.pair_read x.past.now x.t x.b x.c x.free c.in-Some.a x.all c.row_of.result _ c.requires.by_index_2 c.row_of.ensures refl)
+loop-a-preserved c =
+    let x = c.args in
+    loops.filling_more _ c.loop-a.invariant (loops.turn_of c.loop-a.invariant.upon c.in-Some.ensures.steps)
+    (pairs.pair_read x.past.now x.t x.b x.c x.free c.in-Some.a x.all c.row_of.result _ c.requires.by_index_2 c.row_of.ensures refl)
 
 pub returns : goal.returns
 returns c = loops.filled c.loop-a.invariant c.in-None.ensures.steps

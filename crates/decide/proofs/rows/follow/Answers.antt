@@ -1,5 +1,4 @@
-use Rattle.std.proofs.Common.{arith}
-use Rattle.std.proofs.Common.{◌&&◌, Bool}
+use Rattle.std.proofs.Common.{◌&&◌, Bool, arith}
 use mathlib.Core.Path.{ap, ◌∙◌}
 use Rattle.sets.proofs.Finite.{any_cong}
 use Rattle.deciding.specs.private.Rows.{in_row}
@@ -10,8 +9,10 @@ pub loop-a-init : goal.loop-a-init
 loop-a-init c = rw (c.into_iter-a-iterator.ensures.into_iter_gives, c.of-a-items.ensures) (loops.filling _ (omega arith) c.requires.0)
 
 pub loop-a-preserved : goal.loop-a-preserved
-loop-a-preserved c = loops.filling_more _ c.loop-a.invariant (loops.turn_of c.loop-a.invariant.upon c.in-Some.ensures.steps) (λ b. c.together.ensures b
-    ∙ any_cong 64 (λ k _. ap (λ (x : Bool). x && in_row c.args.f.now k b) (loops.filling_next c.loop-a.invariant (loops.turn_of c.loop-a.invariant.upon c.in-Some.ensures.steps) k)))
+loop-a-preserved c =
+    let t = loops.turn_of c.loop-a.invariant.upon c.in-Some.ensures.steps in
+    loops.filling_more _ c.loop-a.invariant t (λ b. c.together.ensures b
+    ∙ any_cong 64 (λ k _. ap (λ (x : Bool). x && in_row c.args.f.now k b) (loops.filling_next c.loop-a.invariant t k)))
 
 pub returns : goal.returns
 returns c = loops.filled c.loop-a.invariant c.in-None.ensures.steps

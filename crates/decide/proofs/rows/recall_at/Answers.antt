@@ -1,5 +1,4 @@
-use Rattle.std.proofs.Common.{arith}
-use Rattle.std.proofs.Common.{ℕ, Bool, cond}
+use Rattle.std.proofs.Common.{ℕ, Bool, cond, arith}
 use mathlib.Core.Path.{ap, ◌∙◌}
 use Rattle.sets.specs.Sets.{bit}
 use Rattle.deciding.proofs.Counting as counting
@@ -12,7 +11,9 @@ loop-a-init c = rw (c.into_iter-a-iterator.ensures.into_iter_gives, c.of-a-items
 
 pub loop-a-preserved : goal.loop-a-preserved
 unfolding table_bit
-loop-a-preserved c = loops.filling_more _ c.loop-a.invariant (loops.turn_of c.loop-a.invariant.upon c.in-Some.ensures.steps) (λ b. ap (λ (w : ℕ). bit w b) (c.only.ensures ∙ ap (λ (t : Bool). cond t c.args.all 0) c.has.ensures)
+loop-a-preserved c =
+    loops.filling_more _ c.loop-a.invariant (loops.turn_of c.loop-a.invariant.upon c.in-Some.ensures.steps)
+    (λ b. ap (λ (w : ℕ). bit w b) (c.only.ensures ∙ ap (λ (t : Bool). cond t c.args.all 0) c.has.ensures)
     ∙ counting.only-is _ c.args.all b)
 
 pub returns : goal.returns

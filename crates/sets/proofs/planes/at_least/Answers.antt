@@ -8,4 +8,7 @@ loop-p-init c = tally.comparing _ _
 
 pub loop-p-preserved : goal.loop-p-preserved
 loop-p-preserved c =
-    elim c.if-rest-eq1.branch [ then-rest-eq1 w ↦ rw w.s-is (tally.comparing_with c.loop-p.invariant (omega arith) w.if-rest-eq1.true) | else-rest-eq1 w ↦ rw w.s-is (tally.comparing_without c.loop-p.invariant (omega arith) w.if-rest-eq1.false (omega arith)) ]
+    elim c.if-rest-eq1.branch [
+      | then-rest-eq1 w ↦ rw w.s-is (tally.comparing_with c.loop-p.invariant (omega arith) w.if-rest-eq1.true)
+      | else-rest-eq1 w ↦ rw w.s-is (tally.comparing_without c.loop-p.invariant (omega arith) w.if-rest-eq1.false (omega arith))
+    ]
