@@ -1,7 +1,7 @@
 -- Loops over the numbers below 64: one that stores a word a turn, and one that puts numbers into a set.
 use Prim.Native.Nat.{ℕ, ◌+◌, ◌-◌, ◌*◌, ◌^◌, ◌<◌, ◌≤◌}
 use mathlib.Core.Path.{◌≡◌, refl, sym, ap, ap₂, ◌∙◌, subst}
-use mathlib.Core.Bool.{Bool, true, false, cond, ◌&&◌, ◌||◌, and-true, and-false, and-or_distrib_right}
+use mathlib.Core.Bool.{Bool, true, false, cond, ◌&&◌, ◌||◌, and-true, and-false, or_comm, and-or_distrib_right}
 use mathlib.Core.List.{List, [], ◌++◌}
 use mathlib.Core.Logic.{⊎_elim}
 use native.Mathlib.Omega.{arith}
@@ -115,11 +115,11 @@ pub sweeping : (p : ℕ → Bool) → Sweeping p 0 0
 sweeping p = record { upto = omega arith; bits = λ m. bit_zero m ∙ sym (ap (λ (t : Bool). t && p m) (le-ltb m 0 (omega arith))) }
 
 pub sweeping_more : {p : ℕ → Bool} {s a : ℕ} (w : ℕ) → Sweeping p s a → a < 64 → ((k : ℕ) → bit w k ≡ (eqb k a && p k))
-    → Sweeping p (bit_or w s) (a + 1)
+    → Sweeping p (bit_or s w) (a + 1)
 sweeping_more {p} {s} {a} w f l h = record {
   upto = omega arith;
   bits = λ m.
-      bit-or w s m ∙ ap₂ ◌||◌ (h m) (f.bits m)
+      bit-or s w m ∙ ap₂ ◌||◌ (f.bits m) (h m) ∙ or_comm (ltb m a && p m) (eqb m a && p m)
       ∙ sym (ap (λ (t : Bool). t && p m) (below_suc m a) ∙ and-or_distrib_right (eqb m a) (ltb m a) (p m));
 }
 

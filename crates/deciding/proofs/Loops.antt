@@ -151,10 +151,11 @@ pub adding : (want : ℕ) (p : ℕ → ℕ → Bool) → want < 2 ^ 64 → Addin
 adding want p h = record { upon = going want h; bits = λ b. bit_zero b ∙ sym (some_none want (λ c. p c b)) }
 
 pub adding_more : {want : ℕ} {p : ℕ → ℕ → Bool} {rest a rest' s : ℕ} (w : ℕ) → Adding want p rest s → Turn want rest a rest'
-    → ((b : ℕ) → bit w b ≡ p a b) → Adding want p rest' (bit_or w s)
+    → ((b : ℕ) → bit w b ≡ p a b) → Adding want p rest' (bit_or s w)
 adding_more {want} {p} {rest} {a} {rest'} {s} w f t h = record {
   upon = going_on t;
-  bits = λ b. bit-or w s b ∙ ap₂ ◌||◌ (h b) (f.bits b) ∙ some_more (λ c. p c b) t;
+  bits = λ b.
+      bit-or s w b ∙ ap₂ ◌||◌ (f.bits b) (h b) ∙ or_comm (Some want rest (λ c. p c b)) (p a b) ∙ some_more (λ c. p c b) t;
 }
 
 pub adding_all : {want : ℕ} {p : ℕ → ℕ → Bool} {rest s : ℕ} → Adding want p rest s → rest ≡ 0 → (b : ℕ)
