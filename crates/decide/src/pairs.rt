@@ -7,6 +7,7 @@ ghost use Rattle.memory.specs.Layout.{block_words};
 ghost use Rattle.deciding.specs.private.Rows.{table_words, Rows, pair_cell, open_column, AddedRows};
 
 use memory::layout::BLOCK;
+use sets::members::Members;
 use sets::quarters;
 
 // The words of a member.
@@ -20,9 +21,12 @@ pub(crate) fn open_column(x: usize, first: usize, last: usize) -> usize
     ensures { result ≡ open_column x first last }
 {
     if x == first {
-        return 1;
+        1
+    } else if x == last {
+        2
+    } else {
+        0
     }
-    if x == last { 2 } else { 0 }
 }
 
 // What a table says of one member, whose words stand from `at` on, with the columns standing for b and c: the row of
@@ -31,14 +35,11 @@ fn row_of(past: &[u64], at: usize, b: usize, c: usize, free: usize) -> u64
     requires { (at + 4 ≤ length past.now) × (b < 16) × (c < 16) }
     ensures { (v : ℕ) → v < 16 → bit result v ≡ bit (get_or past.now (at + cond (eqb free 1) v b / 4) 0) (16 * (cond (eqb free 1) v b % 4) + cond (eqb free 2) v c) }
 {
-    if free == 1 {
-        return quarters::stripe(past, at, c);
+    match free {
+        1 => quarters::stripe(past, at, c),
+        2 => quarters::quarter(past[at + b / 4], b % 4),
+        _ => sets::only(sets::has(past[at + b / 4], 16 * (b % 4) + c), LOW),
     }
-    let w = past[at + b / 4];
-    if free == 2 {
-        return quarters::quarter(w, b % 4);
-    }
-    sets::only(sets::has(w, 16 * (b % 4) + c), LOW)
 }
 
 // Leaves the rows of table t, cut to all, at the members of want, with the columns standing for b and c, or open.
@@ -57,11 +58,8 @@ pub(crate) fn recall(
     requires by_index_2 { (v : ℕ) → bit all v ≡ true → v < 16 }
     ensures { Rows want (λ a v. bit all v && pair_cell past.now t b c free a v) out.new }
 {
-    let mut rest = want;
-    while rest != 0 {
-        let a = sets::least_of(rest);
+    for a in Members::of(want) {
         out[a] = all & row_of(past, BLOCK * t + WORDS * a, b, c, free);
-        rest = sets::rest_of(rest);
     }
 }
 
@@ -70,10 +68,8 @@ pub(crate) fn add_rows(table: &mut [u64], rows: &[u64], n: usize, b: usize)
     requires { (length table.old ≡ block_words) × (length rows.now ≡ block_words) × (n < 1 + pair_members) × (b < n) }
     ensures { AddedRows n b rows.now table.old table.new }
 {
-    let mut a: usize = 0;
-    while a < n {
+    for a in 0..n {
         let i = WORDS * a + b / 4;
         table[i] = quarters::with_quarter(table[i], b % 4, rows[a] & LOW);
-        a += 1;
     }
 }

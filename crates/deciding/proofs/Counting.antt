@@ -1,14 +1,16 @@
 -- Loops over the numbers below 64: one that stores a word a turn, and one that puts numbers into a set.
-use Prim.Native.Nat.{ℕ, ◌+◌, ◌*◌, ◌^◌, ◌<◌, ◌≤◌}
+use Prim.Native.Nat.{ℕ, ◌+◌, ◌-◌, ◌*◌, ◌^◌, ◌<◌, ◌≤◌}
 use mathlib.Core.Path.{◌≡◌, refl, sym, ap, ap₂, ◌∙◌, subst}
-use mathlib.Core.Bool.{Bool, true, false, cond, ◌&&◌, ◌||◌, and-true, and-false, and-or_distrib_right}
-use mathlib.Core.List.{List}
+use mathlib.Core.Bool.{Bool, true, false, cond, ◌&&◌, ◌||◌, and-true, and-false, or_comm, and-or_distrib_right}
+use mathlib.Core.List.{List, [], ◌++◌}
 use mathlib.Core.Logic.{⊎_elim}
 use native.Mathlib.Omega.{arith}
 use lib.Dec.{eqb, ltb}
-use lib.ListN.{length, get_or, set, replicate, length-replicate, length-set, get_or-eq_default}
-use lib.Seq.{get_or-set_same, get_or-set_other, ext_get_or}
+use lib.ListN.{length, get_or, set, take, drop, replicate, length-drop, length-set, get_or-append, get_or-eq_default}
+use lib.Seq.{get_or-set_same, get_or-set_other, get_or-take}
+use Rattle.std.proofs.lemmas.List.{length-take-le, get_or-append_right, drop_all, append-nil}
 use lib.Bits.{bit_and, bit_or, and_le_l}
+use borrow.Rule.Slice.PartMut.{put_mid}
 use borrow.Author.Tests.{lt-ltb, le-ltb, ltb-true, ltb-false, eqb-true, eqb-false}
 use Rattle.sets.specs.Sets.{bit}
 use Rattle.sets.proofs.Finite.{and_implied, and_under, below_suc, true_or_false}
@@ -27,17 +29,6 @@ storing v s = record {
   upto = omega arith;
   long = refl;
   words = λ k. sym (ap (λ (t : Bool). cond t (v k) (get_or s k 0)) (le-ltb k 0 (omega arith)));
-}
-
--- The same from n on, where v has the old words before n.
-pub storing_from : (v : ℕ → ℕ) (s : List ℕ) (n : ℕ) → n ≤ 64 → ((k : ℕ) → k < n → v k ≡ get_or s k 0) → Storing v s n s
-storing_from v s n l h = record {
-  upto = l;
-  long = refl;
-  words = λ k. ⊎_elim
-      (λ e. sym (ap (λ (t : Bool). cond t (v k) (get_or s k 0)) e ∙ h k (ltb-true k n e)))
-      (λ e. sym (ap (λ (t : Bool). cond t (v k) (get_or s k 0)) e))
-      (true_or_false (ltb k n));
 }
 
 -- The word that comes next is still the old one.
@@ -74,21 +65,25 @@ storing_all {v} {s₀} {s} {a} f l h z k =
     ap (λ (t : Bool). cond t (v k) (get_or s₀ k 0)) e ∙ get_or-eq_default s₀ 0 (omega arith) ∙ sym (z k high))
     (true_or_false (ltb k a))
 
-pub cleared : {s₀ s : List ℕ} {a : ℕ} → Storing (λ k. 0) s₀ a s → 64 ≤ a → length s₀ ≡ 64 → s ≡ replicate 64 0
-cleared {s₀} {s} f l h =
-    ext_get_or 0 s (replicate 64 0) (f.long ∙ h ∙ sym (length-replicate {A = ℕ} 64 0))
-    (λ k p. storing_all f l h (λ k q. refl) k ∙ sym (zeros 64 k))
-
 -- Rows of which those from n on are cleared.
-pub cleared_from : (n : ℕ) {s₀ s : List ℕ} {a : ℕ} → n ≤ 64 → Storing (λ k. cond (ltb k n) (get_or s₀ k 0) 0) s₀ a s → 64 ≤ a → length s₀ ≡ 64
-    → (k b : ℕ) → in_row s k b ≡ (ltb k n && in_row s₀ k b)
-cleared_from n {s₀} {s} m f l h k b =
-    ap (λ (x : ℕ). bit x b) (storing_all f l h (λ j q. ap (λ (t : Bool). cond t (get_or s₀ j 0) 0) (le-ltb j n (omega arith))) k)
-    ∙ cut (ltb k n)
+pub cleared_from : (n k : ℕ) (s ys : List ℕ) → n ≤ length s → ys ≡ replicate k 0 → k ≡ length s - n
+    → (a b : ℕ) → in_row (put_mid n k s ys) a b ≡ (ltb a n && in_row s a b)
+cleared_from n k s ys m e l a b =
+    ap (λ (xs : List ℕ). in_row (take n s ++ xs) a b) (ap₂ ◌++◌ e gone ∙ append-nil (replicate k 0))
+    ∙ ⊎_elim
+    (λ t. let below : a < n = ltb-true a n t in
+    ap (λ (x : ℕ). bit x b) (get_or-append (take n s) (replicate k 0) 0 a (rw front below) ∙ get_or-take n s a 0 below)
+    ∙ sym (ap (λ (c : Bool). c && in_row s a b) t))
+    (λ t. let above : n ≤ a = ltb-false a n t in
+    ap (λ (x : ℕ). bit x b) (get_or-append_right (take n s) (replicate k 0) n a 0 front above ∙ zeros k (a - n))
+    ∙ bit_zero b ∙ sym (ap (λ (c : Bool). c && in_row s a b) t))
+    (true_or_false (ltb a n))
   where
-    cut : (t : Bool) → bit (cond t (get_or s₀ k 0) 0) b ≡ (t && in_row s₀ k b)
-    cut true = refl
-    cut false = bit_zero b
+    front : length (take n s) ≡ n
+    front = length-take-le n s m
+
+    gone : drop k (drop n s) ≡ []
+    gone = drop_all k (drop n s) (rw length-drop (omega arith))
 
 -- Rows that are added to: v is the old word with w.
 pub added : {s₀ s : List ℕ} {a : ℕ} (w : ℕ → ℕ) → Storing (λ k. bit_or (get_or s₀ k 0) (w k)) s₀ a s → 64 ≤ a → length s₀ ≡ 64
@@ -120,11 +115,11 @@ pub sweeping : (p : ℕ → Bool) → Sweeping p 0 0
 sweeping p = record { upto = omega arith; bits = λ m. bit_zero m ∙ sym (ap (λ (t : Bool). t && p m) (le-ltb m 0 (omega arith))) }
 
 pub sweeping_more : {p : ℕ → Bool} {s a : ℕ} (w : ℕ) → Sweeping p s a → a < 64 → ((k : ℕ) → bit w k ≡ (eqb k a && p k))
-    → Sweeping p (bit_or w s) (a + 1)
+    → Sweeping p (bit_or s w) (a + 1)
 sweeping_more {p} {s} {a} w f l h = record {
   upto = omega arith;
   bits = λ m.
-      bit-or w s m ∙ ap₂ ◌||◌ (h m) (f.bits m)
+      bit-or s w m ∙ ap₂ ◌||◌ (f.bits m) (h m) ∙ or_comm (ltb m a && p m) (eqb m a && p m)
       ∙ sym (ap (λ (t : Bool). t && p m) (below_suc m a) ∙ and-or_distrib_right (eqb m a) (ltb m a) (p m));
 }
 

@@ -15,7 +15,7 @@ use Rattle.sets.specs.Sets.{any_below, bit}
 use Rattle.sets.proofs.Finite.{bool_iff, and_left, and_right, and_both, or_left, or_right, or_cases, is_false, not_both}
 use Rattle.sets.proofs.Finite.{any_intro, any_elim, true_or_false}
 use Rattle.sets.proofs.Bits.{bit_zero, bit-or}
-pub use Rattle.sets.proofs.MemberLoop.{Done, MembersLeft, going, Turn, turn, least_small, least_wanted, rest_less, done_all, going_on, done_more}
+pub use Rattle.sets.proofs.MemberLoop.{Done, MembersLeft, going, Turn, turn, turn_of, taken_small, taken_wanted, least_small, least_wanted, rest_less, done_all, going_on, done_more}
 pub use Rattle.sets.proofs.Tally.{zeros}
 use Rattle.deciding.specs.private.Rows.{Rows, in_row, Only, Added}
 
@@ -151,10 +151,11 @@ pub adding : (want : ℕ) (p : ℕ → ℕ → Bool) → want < 2 ^ 64 → Addin
 adding want p h = record { upon = going want h; bits = λ b. bit_zero b ∙ sym (some_none want (λ c. p c b)) }
 
 pub adding_more : {want : ℕ} {p : ℕ → ℕ → Bool} {rest a rest' s : ℕ} (w : ℕ) → Adding want p rest s → Turn want rest a rest'
-    → ((b : ℕ) → bit w b ≡ p a b) → Adding want p rest' (bit_or w s)
+    → ((b : ℕ) → bit w b ≡ p a b) → Adding want p rest' (bit_or s w)
 adding_more {want} {p} {rest} {a} {rest'} {s} w f t h = record {
   upon = going_on t;
-  bits = λ b. bit-or w s b ∙ ap₂ ◌||◌ (h b) (f.bits b) ∙ some_more (λ c. p c b) t;
+  bits = λ b.
+      bit-or s w b ∙ ap₂ ◌||◌ (f.bits b) (h b) ∙ or_comm (Some want rest (λ c. p c b)) (p a b) ∙ some_more (λ c. p c b) t;
 }
 
 pub adding_all : {want : ℕ} {p : ℕ → ℕ → Bool} {rest s : ℕ} → Adding want p rest s → rest ≡ 0 → (b : ℕ)

@@ -219,12 +219,6 @@ module _ (past : List ℕ) (at b c free r : ℕ) where
   abbrev pub RowIs : Type 0
   RowIs = (v : ℕ) → v < 16 → bit r v ≡ bit (get_or past (at + cond (eqb free 1) v b / 4) 0) (16 * (cond (eqb free 1) v b % 4) + cond (eqb free 2) v c)
 
-  pub row_first : free ≡ 1 → ((v : ℕ) → bit r v ≡ (ltb v 16 && bit (get_or past (at + v / 4) 0) (16 * (v % 4) + c))) → RowIs
-  row_first e h v l = h v ∙ rw (e, lt-ltb v 16 l)
-
-  pub row_second : (free ≡ 1 → ⊥) → free ≡ 2 → ((v : ℕ) → bit r v ≡ (ltb v 16 && bit (get_or past (at + b / 4) 0) (16 * (b % 4) + v))) → RowIs
-  row_second n e h v l = h v ∙ rw (e, lt-ltb v 16 l)
-
   pub row_shut : (free ≡ 1 → ⊥) → (free ≡ 2 → ⊥) → (t : Bool) → r ≡ cond t 65535 0 → t ≡ bit (get_or past (at + b / 4) 0) (16 * (b % 4) + c) → RowIs
   row_shut n m t e q v l =
       ap (λ x. bit x v) e ∙ go t q

@@ -3,14 +3,16 @@ use Prim.Native.Nat.{ℕ, suc, ◌+◌, ◌-◌, ◌*◌, ◌/◌, ◌%◌, ◌^
 use mathlib.Core.Path.{◌≡◌, refl, sym, ap, ap₂, ◌∙◌}
 use mathlib.Core.Bool.{Bool, true, false, cond, ◌&&◌, ◌||◌, and-false, or-false}
 use mathlib.Core.Logic.{⊎_elim}
+use mathlib.Core.List.{List}
 use native.Mathlib.Omega.{arith}
 use native.Mathlib.Nat.{pow-suc, mul_assoc, mul-mod_left}
 use lib.Bits.{bit_and, bit_or, and_le_r}
 use lib.Dec.{eqb, ltb}
+use lib.ListN.{length, get_or}
 use lib.Pow.{pow-add, shr-shr, shl-shr, shl_exact}
 use borrow.Author.Tests.{lt-ltb, le-ltb, ltb-true, ltb-false, eqb-true, eqb-false, ne_eqb}
 use Rattle.sets.specs.Sets.{bit}
-use Rattle.sets.proofs.Finite.{is_false, and_left, and_right, and-true, and_implied, below_suc, true_or_false}
+use Rattle.sets.proofs.Finite.{is_false, and_left, and-true, and_implied, below_suc, true_or_false}
 use Rattle.sets.proofs.Bits.{bit-and, bit-or, bit_zero, bit_mask, bit_below}
 
 bit_shr : (w j k : ℕ) → bit (w / 2 ^ j) k ≡ bit w (j + k)
@@ -64,19 +66,12 @@ placed_bits row q k ql rl =
         ∙ sym (ap (λ (x : Bool). x && bit row (k % 16)) e))
         (true_or_false (eqb (k / 16) q))
 
--- A number from 4 up is no quarter.
+-- What has a quarter below 4 is below 64.
 module _ (q k : ℕ) (x : Bool) where
   pub in_quarter : q < 4 → (ltb k 64 && (eqb (k / 16) q && x)) ≡ (eqb (k / 16) q && x)
   in_quarter l =
       and_implied (ltb k 64) (eqb (k / 16) q && x)
       (λ e. lt-ltb k 64 (let z : k / 16 ≡ q = eqb-true (k / 16) q (and_left (eqb (k / 16) q) x e) in omega arith))
-
-  pub no_quarter : 4 ≤ q → (ltb k 64 && (eqb (k / 16) q && x)) ≡ false
-  no_quarter l =
-      is_false _ (λ e.
-      let s : k < 64 = ltb-true k 64 (and_left (ltb k 64) (eqb (k / 16) q && x) e) in
-      let z : k / 16 ≡ q = eqb-true (k / 16) q (and_left (eqb (k / 16) q) x (and_right (ltb k 64) (eqb (k / 16) q && x) e)) in
-      omega arith)
 
 -- A row cut to 16 bits and put in as quarter q.
 pub put_bits : (row q k : ℕ) → q < 4 →
@@ -106,3 +101,19 @@ swept_more p s b x l h one j =
         let z : j ≡ b = eqb-true j b e in
         ap (λ (y : Bool). (y && p j) || p b) (le-ltb j b (omega arith)) ∙ ap p (sym z) ∙ sym (ap (λ (y : Bool). y && p j) (lt-ltb j (b + 1) (omega arith)))
     go false e = or-false (ltb j b && p j) ∙ ap (λ (y : Bool). y && p j) (sym (below_suc j b ∙ ap (λ (y : Bool). y || ltb j b) e))
+
+-- ---- the same bit of each quarter
+
+abbrev pub there : List ℕ → (from c b : ℕ) → Bool
+there ws from c b = bit (get_or ws (from + b / 4) 0) (16 * (b % 4) + c)
+
+-- Where the words are not there, or c is no bit of a quarter.
+module _ (ws : List ℕ) (from c b : ℕ) where
+  pub nowhere_words : length ws ≤ from + 3 → bit 0 b ≡ (ltb (from + 3) (length ws) && (ltb c 16 && (ltb b 16 && there ws from c b)))
+  nowhere_words h =
+      bit_zero b ∙ sym (ap (λ (y : Bool). y && (ltb c 16 && (ltb b 16 && there ws from c b))) (le-ltb (from + 3) (length ws) h))
+
+  pub nowhere_bit : 16 ≤ c → bit 0 b ≡ (ltb (from + 3) (length ws) && (ltb c 16 && (ltb b 16 && there ws from c b)))
+  nowhere_bit h =
+      bit_zero b
+      ∙ sym (ap (λ (y : Bool). ltb (from + 3) (length ws) && (y && (ltb b 16 && there ws from c b))) (le-ltb c 16 h) ∙ and-false (ltb (from + 3) (length ws)))

@@ -178,12 +178,6 @@ module _ {ps : List ℕ} {k s rest i : ℕ} (a : Comparing ps k s rest i) (l : i
   pub comparing_without : (rest % 2 ≡ 1 → ⊥) → plane < 2 ^ 64 → Comparing ps k (bit_or s plane) (rest / 2) (i + 1)
   comparing_without n fits = rw add-one (record { step = omega arith; left = halved; bits = without_digit n fits })
 
-pub comparing_all : {ps : List ℕ} {k s rest i : ℕ} → Comparing ps k s rest i → (i < 7 → ⊥) → k < 128 → (b : ℕ) → bit s b ≡ (ltb b 64 && leb k (tally ps 7 b))
-comparing_all {ps} {k} {s} {rest} {i} a l small b =
-    let e : i ≡ 7 = omega (arith, a.step) in
-    let q : bit s b ≡ (ltb b 64 && leb (k % 128) (tally ps 7 b)) = rw e at (a.bits b) in
-    q ∙ ap (λ (x : ℕ). ltb b 64 && leb x (tally ps 7 b)) (mod-eq_of_lt small)
-
 -- ---- the rows of the members of a set, counted
 
 tally_none : (ps : List ℕ) (n b : ℕ) → ((j : ℕ) → get_or ps j 0 ≡ 0) → tally ps n b ≡ 0

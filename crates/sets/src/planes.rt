@@ -13,12 +13,13 @@ fn add(planes: &mut [u64], row: u64)
     ensures { (b : ℕ) → tally planes.new 7 b ≡ (tally planes.old 7 b + cond (bit row b) 1 0) % 128 }
 {
     let mut carry = row;
-    let mut i: usize = 0;
-    while i < PLANES && carry != 0 {
-        let p = planes[i];
-        planes[i] = p ^ carry;
-        carry = p & carry;
-        i += 1;
+    for p in planes.iter_mut() {
+        if carry == 0 {
+            return;
+        }
+        let was = *p;
+        *p = was ^ carry;
+        carry = was & carry;
     }
 }
 
@@ -27,17 +28,15 @@ fn at_least(planes: &[u64], k: usize) -> u64
     requires { (length planes.now ≡ 7) × (k < 128) }
     ensures { (b : ℕ) → bit result b ≡ (ltb b 64 && leb k (tally planes.now 7 b)) }
 {
-    let mut s: u64 = 18446744073709551615;
+    let mut s = u64::MAX;
     let mut rest = k;
-    let mut i = 0;
-    while i < PLANES {
+    for p in planes {
         if rest % 2 == 1 {
-            s = s & planes[i];
+            s &= *p;
         } else {
-            s = s | planes[i];
+            s |= *p;
         }
-        rest = rest / 2;
-        i += 1;
+        rest /= 2;
     }
     s
 }

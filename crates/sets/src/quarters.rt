@@ -24,21 +24,13 @@ pub fn with_quarter(w: u64, q: usize, row: u64) -> u64
 pub fn stripe(ws: &[u64], from: usize, c: usize) -> u64
     ensures { (b : ℕ) → bit result b ≡ (ltb (from + 3) (length ws.now) && (ltb c 16 && (ltb b 16 && bit (get_or ws.now (from + b / 4) 0) (16 * (b % 4) + c)))) }
 {
-    if 16 <= c {
+    if 16 <= c || ws.len().saturating_sub(3) <= from {
         return 0;
     }
-    if ws.len() < 4 {
-        return 0;
-    }
-    if ws.len() - 4 < from {
-        return 0;
-    }
-    let mut s: u64 = 0;
-    let mut b: usize = 0;
-    while b < 16 {
+    let mut s = 0;
+    for b in 0..16 {
         let w = ws[from + b / 4];
-        s = s | crate::only(crate::has(w, 16 * (b % 4) + c), crate::single(b));
-        b += 1;
+        s |= crate::only(crate::has(w, 16 * (b % 4) + c), crate::single(b));
     }
     s
 }

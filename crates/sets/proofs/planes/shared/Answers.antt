@@ -1,5 +1,5 @@
 -- The loop's invariant: the planes count the sets of the members passed.
-use Rattle.std.proofs.Common.{rules, ◌≡◌, cond, ◌&&◌, ℕ, ltb, leb, get_or, arith}
+use Rattle.std.proofs.Common.{rules, ◌&&◌, ℕ, ltb, leb, get_or, arith}
 use mathlib.Core.Path.{◌∙◌, ap, sym}
 use mathlib.Core.Bool.{and-false}
 use lib.Bits.{and_le_l}

@@ -1,0 +1,15 @@
+use Rattle.std.proofs.Common.{arith}
+use Rattle.sets.proofs.Bits.{bit-and}
+use Rattle.deciding.specs.private.Rows.{table_bit}
+use Rattle.deciding.proofs.Loops as loops
+use Rattle.decide.proofs.rows.recall.Goals as goal
+
+pub loop-a-init : goal.loop-a-init
+loop-a-init c = rw (c.into_iter-a-iterator.ensures.into_iter_gives, c.of-a-items.ensures) (loops.filling _ (omega arith) c.requires.0)
+
+pub loop-a-preserved : goal.loop-a-preserved
+unfolding table_bit
+loop-a-preserved c = loops.filling_more _ c.loop-a.invariant (loops.turn_of c.loop-a.invariant.upon c.in-Some.ensures.steps) (bit-and c.args.all _)
+
+pub returns : goal.returns
+returns c = loops.filled c.loop-a.invariant c.in-None.ensures.steps
