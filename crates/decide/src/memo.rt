@@ -1,6 +1,6 @@
 // Rows that are remembered while entries are decided, in a lent memo: a slot for each entry, as
 // far as the memo is long enough.
-ghost use Rattle.std.specs.Prelude.{◌≡◌, true, false, cond, ◌&&◌, ◌||◌, List, ℕ, ◌+◌, ◌*◌, ◌/◌, ◌%◌, ◌<◌, ◌≤◌, eqb, ltb, length, get_or, MatchOption};
+ghost use Rattle.std.specs.Prelude.{◌≡◌, true, false, cond, ◌&&◌, ◌||◌, List, ℕ, ◌+◌, ◌*◌, ◌/◌, ◌%◌, ◌<◌, ◌≤◌, eqb, ltb, length, get_or, MatchOption, IfSome};
 ghost use Rattle.std.specs.Int.Bits.{bit_and};
 ghost use Rattle.sets.specs.Sets.{bit};
 ghost use Rattle.theory.specs.Limits.{max_members, variables};
@@ -142,34 +142,35 @@ fn missing_in(slot: &mut [u64], vars: &[u8; VARIABLES], x: usize, want: u64) -> 
     want
 }
 
-// Whether the rows of the entry are kept: there is a slot for it, and it is no leaf (the
-// operators before NOT are leaves).
-pub(crate) fn has_slot(memo: &[u64], op: usize, entry: usize) -> bool
+// The number of the slot in which the rows of the entry are kept, which is the entry's; none, if the memo is too
+// short, or the entry is a leaf (the operators before NOT are leaves).
+pub(crate) fn slot_for(memo: &[u64], op: usize, entry: usize) -> Option<usize>
     requires { entry < 65536 }
-    ensures { result ≡ true → slot_words * entry + slot_words ≤ length memo.now }
+    ensures { IfSome result (λ k. (k ≡ entry) × (slot_words * k + slot_words ≤ length memo.now)) }
 {
-    (SLOT * entry + SLOT <= memo.len()) & !((op < NOT) | table_index::is_past(op))
+    if SLOT * entry + SLOT <= memo.len() && NOT <= op && !table_index::is_past(op) {
+        Some(entry)
+    } else {
+        None
+    }
 }
 
-// The members of want whose row is not remembered; all of them, if none of the entry's is.
+// The members of want whose row is not in the slot; all of them, if there is none.
 pub(crate) fn missing(
     memo: &mut [u64],
-    kept: bool,
-    entry: usize,
+    slot: Option<usize>,
     vars: &[u8; VARIABLES],
     x: usize,
     want: u64,
 ) -> u64
-    requires { (entry < 65536) × (kept ≡ true → slot_words * entry + slot_words ≤ length memo.old) }
-    ensures missing { kept ≡ true → Missing (assigned vars.now) x want result (slot_of entry memo.old) (slot_of entry memo.new) }
-    ensures value { kept ≡ false → (result ≡ want) × (memo.new ≡ memo.old) }
-    ensures apart { Apart entry memo.old memo.new }
+    requires { IfSome slot (λ k. slot_words * k + slot_words ≤ length memo.old) }
+    ensures { MatchOption slot ((result ≡ want) × (memo.new ≡ memo.old)) (λ k. Missing (assigned vars.now) x want result (slot_of k memo.old) (slot_of k memo.new) × Apart k memo.old memo.new) }
 {
-    if kept {
-        let at = SLOT * entry;
-        return missing_in(&mut memo[at..at + SLOT], vars, x, want);
-    }
-    want
+    let Some(k) = slot else {
+        return want;
+    };
+    let at = SLOT * k;
+    missing_in(&mut memo[at..at + SLOT], vars, x, want)
 }
 
 // v, but at the members of ask as w.
@@ -239,12 +240,11 @@ fn keep_in(
     show(out, slot, whole, c, all, want ^ (want & need));
 }
 
-// Remembers the rows of need, and leaves the other rows of want as remembered, if the entry's rows
-// are kept. all has the members.
+// Remembers the rows of need in the slot, if there is one, and leaves the other rows of want from there. all has the
+// members.
 pub(crate) fn keep(
     memo: &mut [u64],
-    kept: bool,
-    entry: usize,
+    slot: Option<usize>,
     vars: &[u8; VARIABLES],
     x: usize,
     all: u64,
@@ -252,13 +252,12 @@ pub(crate) fn keep(
     want: u64,
     out: &mut [u64],
 )
-    requires { (entry < 65536) × (kept ≡ true → slot_words * entry + slot_words ≤ length memo.old) × (length out.old ≡ block_words) }
-    ensures stored { kept ≡ true → Stored (assigned vars.now) x all need want (slot_of entry memo.old) out.old (slot_of entry memo.new) out.new }
-    ensures memo_unchanged { kept ≡ false → (memo.new ≡ memo.old) × (out.new ≡ out.old) }
-    ensures apart { Apart entry memo.old memo.new }
+    requires slot { IfSome slot (λ k. slot_words * k + slot_words ≤ length memo.old) }
+    requires out_len { length out.old ≡ block_words }
+    ensures { MatchOption slot ((memo.new ≡ memo.old) × (out.new ≡ out.old)) (λ k. Stored (assigned vars.now) x all need want (slot_of k memo.old) out.old (slot_of k memo.new) out.new × Apart k memo.old memo.new) }
 {
-    if kept {
-        let at = SLOT * entry;
+    if let Some(k) = slot {
+        let at = SLOT * k;
         keep_in(&mut memo[at..at + SLOT], vars, x, all, need, want, out);
     }
 }

@@ -3,12 +3,12 @@ use Rattle.deciding.specs.private.Memo.{Stored}
 use Rattle.deciding.proofs.Copying as copy
 use Rattle.decide.proofs.memo.keep.Goals as goal
 
-pub returns-then-kept-clause-stored : goal.returns-then-kept-clause-stored
-returns-then-kept-clause-stored c e =
+pub returns-in-Some : goal.returns-in-Some
+returns-in-Some c =
     let x = c.args in
-    let k = c.keep_in in
-    copy.lent_as x.entry x.memo.now (c.requires.1 e) (λ s s'. Stored (assigned x.vars.now) x.x x.all x.need x.want s x.out.now s' k.new.out) k.new.slot k.auto.slot k.ensures
-
-pub returns-then-kept-clause-apart : goal.returns-then-kept-clause-apart
-returns-then-kept-clause-apart c =
-    (copy.lent_back c.args.entry c.args.memo.now (c.requires.1 c.if-kept.true) c.keep_in.new.slot c.keep_in.auto.slot).1
+    let s = c.keep_in in
+    let fits = rw c.in-Some.is at c.requires.slot in
+    rw c.in-Some.is (
+      copy.lent_as c.in-Some.k x.memo.now fits (λ s₀ s₁. Stored (assigned x.vars.now) x.x x.all x.need x.want s₀ x.out.now s₁ s.new.out) s.new.slot s.auto.slot s.ensures,
+      (copy.lent_back c.in-Some.k x.memo.now fits s.new.slot s.auto.slot).1,
+    )
