@@ -1,6 +1,6 @@
 // Rows that are remembered while entries are decided, in a lent memo: a slot for each entry, as
 // far as the memo is long enough.
-ghost use Rattle.std.specs.Prelude.{◌≡◌, true, false, cond, ◌&&◌, ◌||◌, List, ℕ, ◌+◌, ◌*◌, ◌/◌, ◌%◌, ◌<◌, ◌≤◌, eqb, ltb, length, get_or};
+ghost use Rattle.std.specs.Prelude.{◌≡◌, true, false, cond, ◌&&◌, ◌||◌, List, ℕ, ◌+◌, ◌*◌, ◌/◌, ◌%◌, ◌<◌, ◌≤◌, eqb, ltb, length, get_or, MatchOption, IfSome};
 ghost use Rattle.std.specs.Int.Bits.{bit_and};
 ghost use Rattle.sets.specs.Sets.{bit};
 ghost use Rattle.theory.specs.Limits.{max_members, variables};
@@ -15,6 +15,7 @@ ghost use Rattle.deciding.specs.private.Memo.{reads, slot_words, slot_of, byte_o
 use deciding::slot::{BYTES, COLUMN, HAVE, KNOWN, READS, SLOT, VALUES};
 use memory::limits::{ENTRIES, MEMBERS, VARIABLES};
 use memory::{layout, table_index};
+use sets::members::Members;
 use theory::operators::NOT;
 
 // The words of a memo with a slot for each entry.
@@ -48,29 +49,24 @@ fn packed(vars: &[u8; VARIABLES], k: usize) -> u64
     ensures { (i : ℕ) → i < 8 → byte_of result i ≡ assigned vars.now (k + i) }
 {
     let mut w: u64 = 0;
-    let mut i: usize = BYTES;
-    while i != 0 {
-        i -= 1;
+    for i in (0..BYTES).rev() {
         w = w * 256 + wide(vars[k + i]);
     }
     w
 }
 
-// The least variable, but the column, that the entry reads and that stood for something else; the
-// number of none, if there is no such.
-fn differing(slot: &[u64], vars: &[u8; VARIABLES]) -> usize
+// The least variable, but the column, that the entry reads and that stood for something else.
+fn differing(slot: &[u64], vars: &[u8; VARIABLES]) -> Option<usize>
     requires { length slot.now ≡ slot_words }
-    ensures { result ≡ variables → Under slot.now (assigned vars.now) }
+    ensures { MatchOption result (Under slot.now (assigned vars.now)) (λ y. y < variables) }
 {
-    let mut rest = sets::without(slot[READS] & sets::mask(VARIABLES), slot[COLUMN] as usize);
-    while rest != 0 {
-        let y = sets::least_of(rest);
+    let read = sets::without(slot[READS] & sets::mask(VARIABLES), slot[COLUMN] as usize);
+    for y in Members::of(read) {
         if value_of(slot, y) != wide(vars[y]) {
-            return y;
+            return Some(y);
         }
-        rest = sets::rest_of(rest);
     }
-    VARIABLES
+    None
 }
 
 // Leaves a slot with no rows, for these variables, with column z.
@@ -122,11 +118,8 @@ fn lacking(slot: &[u64], ask: u64, want: u64) -> u64
 {
     let had = want & slot[HAVE];
     let mut need = want ^ had;
-    let mut rest = had;
-    while rest != 0 {
-        let a = sets::least_of(rest);
-        need = need | unless_known(slot[KNOWN + a], ask, a);
-        rest = sets::rest_of(rest);
+    for a in Members::of(had) {
+        need |= unless_known(slot[KNOWN + a], ask, a);
     }
     need
 }
@@ -138,50 +131,46 @@ fn missing_in(slot: &mut [u64], vars: &[u8; VARIABLES], x: usize, want: u64) -> 
 {
     let whole = sets::has(slot[READS], x);
     let z = slot[COLUMN] as usize;
-    if whole & (z != x) {
+    if whole && z != x {
         claim(slot, vars, x);
         return want;
     }
-    let y = differing(slot, vars);
-    if y == VARIABLES {
+    let Some(y) = differing(slot, vars) else {
         return lacking(slot, asked(whole, standing(*vars, z)), want);
-    }
-    if whole {
-        claim(slot, vars, x);
-        return want;
-    }
-    claim(slot, vars, y);
+    };
+    claim(slot, vars, if whole { x } else { y });
     want
 }
 
-// Whether the rows of the entry are kept: there is a slot for it, and it is no leaf (the
-// operators before NOT are leaves).
-pub(crate) fn has_slot(memo: &[u64], op: usize, entry: usize) -> bool
+// The number of the slot in which the rows of the entry are kept, which is the entry's; none, if the memo is too
+// short, or the entry is a leaf (the operators before NOT are leaves).
+pub(crate) fn slot_for(memo: &[u64], op: usize, entry: usize) -> Option<usize>
     requires { entry < 65536 }
-    ensures { result ≡ true → slot_words * entry + slot_words ≤ length memo.now }
+    ensures { IfSome result (λ k. (k ≡ entry) × (slot_words * k + slot_words ≤ length memo.now)) }
 {
-    (SLOT * entry + SLOT <= memo.len()) & !((op < NOT) | table_index::is_past(op))
+    if SLOT * entry + SLOT <= memo.len() && NOT <= op && !table_index::is_past(op) {
+        Some(entry)
+    } else {
+        None
+    }
 }
 
-// The members of want whose row is not remembered; all of them, if none of the entry's is.
+// The members of want whose row is not in the slot; all of them, if there is none.
 pub(crate) fn missing(
     memo: &mut [u64],
-    kept: bool,
-    entry: usize,
+    slot: Option<usize>,
     vars: &[u8; VARIABLES],
     x: usize,
     want: u64,
 ) -> u64
-    requires { (entry < 65536) × (kept ≡ true → slot_words * entry + slot_words ≤ length memo.old) }
-    ensures missing { kept ≡ true → Missing (assigned vars.now) x want result (slot_of entry memo.old) (slot_of entry memo.new) }
-    ensures value { kept ≡ false → (result ≡ want) × (memo.new ≡ memo.old) }
-    ensures apart { Apart entry memo.old memo.new }
+    requires { IfSome slot (λ k. slot_words * k + slot_words ≤ length memo.old) }
+    ensures { MatchOption slot ((result ≡ want) × (memo.new ≡ memo.old)) (λ k. Missing (assigned vars.now) x want result (slot_of k memo.old) (slot_of k memo.new) × Apart k memo.old memo.new) }
 {
-    if kept {
-        let at = SLOT * entry;
-        return missing_in(&mut memo[at..at + SLOT], vars, x, want);
-    }
-    want
+    let Some(k) = slot else {
+        return want;
+    };
+    let at = SLOT * k;
+    missing_in(&mut memo[at..at + SLOT], vars, x, want)
 }
 
 // v, but at the members of ask as w.
@@ -204,14 +193,9 @@ fn put(slot: &mut [u64], rows: &[u64], ask: u64, need: u64)
     ensures { Put ask need rows.now slot.old slot.new }
 {
     let have = slot[HAVE];
-    let mut rest = need;
-    while rest != 0 {
-        let a = sets::least_of(rest);
-        let row = mixed(slot[a], rows[a], ask);
-        let known = known_too(slot[KNOWN + a], sets::has(have, a), ask);
-        slot[a] = row;
-        slot[KNOWN + a] = known;
-        rest = sets::rest_of(rest);
+    for a in Members::of(need) {
+        slot[a] = mixed(slot[a], rows[a], ask);
+        slot[KNOWN + a] = known_too(slot[KNOWN + a], sets::has(have, a), ask);
     }
     slot[HAVE] = have | need;
 }
@@ -232,11 +216,8 @@ fn show(out: &mut [u64], slot: &[u64], whole: bool, c: usize, all: u64, set: u64
     requires { (block_words ≤ length out.old) × (block_words ≤ length slot.now) }
     ensures { Shown set (λ a. cond whole (bit_and all (get_or slot.now a 0)) (cond (bit (get_or slot.now a 0) c) all 0)) out.old out.new }
 {
-    let mut rest = set;
-    while rest != 0 {
-        let a = sets::least_of(rest);
+    for a in Members::of(set) {
         out[a] = row_of(slot[a], whole, c, all);
-        rest = sets::rest_of(rest);
     }
 }
 
@@ -259,12 +240,11 @@ fn keep_in(
     show(out, slot, whole, c, all, want ^ (want & need));
 }
 
-// Remembers the rows of need, and leaves the other rows of want as remembered, if the entry's rows
-// are kept. all has the members.
+// Remembers the rows of need in the slot, if there is one, and leaves the other rows of want from there. all has the
+// members.
 pub(crate) fn keep(
     memo: &mut [u64],
-    kept: bool,
-    entry: usize,
+    slot: Option<usize>,
     vars: &[u8; VARIABLES],
     x: usize,
     all: u64,
@@ -272,13 +252,12 @@ pub(crate) fn keep(
     want: u64,
     out: &mut [u64],
 )
-    requires { (entry < 65536) × (kept ≡ true → slot_words * entry + slot_words ≤ length memo.old) × (length out.old ≡ block_words) }
-    ensures stored { kept ≡ true → Stored (assigned vars.now) x all need want (slot_of entry memo.old) out.old (slot_of entry memo.new) out.new }
-    ensures memo_unchanged { kept ≡ false → (memo.new ≡ memo.old) × (out.new ≡ out.old) }
-    ensures apart { Apart entry memo.old memo.new }
+    requires slot { IfSome slot (λ k. slot_words * k + slot_words ≤ length memo.old) }
+    requires out_len { length out.old ≡ block_words }
+    ensures { MatchOption slot ((memo.new ≡ memo.old) × (out.new ≡ out.old)) (λ k. Stored (assigned vars.now) x all need want (slot_of k memo.old) out.old (slot_of k memo.new) out.new × Apart k memo.old memo.new) }
 {
-    if kept {
-        let at = SLOT * entry;
+    if let Some(k) = slot {
+        let at = SLOT * k;
         keep_in(&mut memo[at..at + SLOT], vars, x, all, need, want, out);
     }
 }
@@ -328,8 +307,7 @@ pub fn prepare(terms: &[u16], index: &[u16], memo: &mut [u64])
 {
     let n = layout::entries(terms);
     let mut reads = [0u64; ENTRIES];
-    let mut i: usize = 0;
-    while i < n {
+    for i in 0..n {
         let a = layout::first_of(terms, i);
         let r = reads_of(
             layout::op_of(terms, i),
@@ -341,6 +319,5 @@ pub fn prepare(terms: &[u16], index: &[u16], memo: &mut [u64])
         );
         reads[i] = r;
         give(memo, i, r);
-        i += 1;
     }
 }

@@ -64,12 +64,10 @@ fn are_few(terms: &[u16]) -> bool {
     }
     let mut once = false;
     let mut twice = false;
-    let mut i: usize = 0;
-    while i < SMALL {
+    for i in 0..SMALL {
         let bind = layout::op_of(terms, i) == BIND;
-        twice = twice | (once & bind);
-        once = once | bind;
-        i += 1;
+        twice |= once & bind;
+        once |= bind;
     }
     !twice
 }
@@ -100,12 +98,9 @@ pub fn are_brief(terms: &[u16]) -> bool {
     if are_few(terms) {
         return true;
     }
-    let n = layout::entries(terms);
     let mut left = FEW;
-    let mut i: usize = 0;
-    while i < n {
+    for i in 0..layout::entries(terms) {
         left = left_after_turn(terms, i, left);
-        i += 1;
     }
     0 < left
 }

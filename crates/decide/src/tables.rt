@@ -124,14 +124,12 @@ fn pair_rows(
     let all = sets::mask(n);
     let mut f = [0u64; BLOCK];
     rows::clear(out);
-    let mut b: usize = 0;
-    while b < n {
+    for b in 0..n {
         let vars = rebind([0u8; VARIABLES], x, b);
         decide(
             terms, index, relations, past, memo, vars, y, operand, all, &mut f,
         );
         pairs::add_rows(out, &f, n, b);
-        b += 1;
     }
 }
 

@@ -10,6 +10,8 @@ use lib.Bits.{bit_and}
 use lib.Dec.{eqb, ltb, leb}
 use lib.ListN.{length, get_or}
 use borrow.Author.Tests.{eq-eqb, eqb-true, eqb-false, lt-ltb, ltb-true, ltb-false}
+use Rattle.std.specs.declared.option.Option.{Option}
+use Rattle.std.specs.Prelude.{Some, None, MatchOption, IfSome}
 use Rattle.sets.specs.Sets.{bit}
 use Rattle.sets.proofs.Finite.{any_cong, count_cong, and_left, and_right, and_both, or_left, or_right, or_cases, not_both, is_false, and_under}
 use Rattle.sets.proofs.Bits.{bit-or, bit_zero, bit-and}
@@ -221,6 +223,14 @@ module _ (T : Terms) (rel past : List ℕ) (few : T.members < 65) where
             ∙ ap₂ (λ (y z : Bool). cond (y && not z) (shows s g x all (get_or s' a 0)) (get_or r a 0)) w t)
             ∙ kept a b w t (bit (reads_of s) x) refl
 
+-- ---- what `missing` leaves, where the rows are kept in a slot or not
+abbrev AfterMissing : Assignment → (x want need : ℕ) → (m m₁ : List ℕ) → Option ℕ → Type 0
+AfterMissing g x want need m m₁ slot = MatchOption slot ((need ≡ want) × (m₁ ≡ m)) (λ k. Missing g x want need (slot_of k m) (slot_of k m₁) × Apart k m m₁)
+
+pub needed : (g : Assignment) (x want need : ℕ) (m m₁ : List ℕ) (slot : Option ℕ) → AfterMissing g x want need m m₁ slot → (a : ℕ) → bit need a ≡ true → bit want a ≡ true
+needed g x want need m m₁ (Some k) miss a e = miss.0.within a e
+needed g x want need m m₁ None plain a e = ap (λ (w : ℕ). bit w a) (sym plain.0) ∙ e
+
 -- ---- a memo
 module _ {T : Terms} {rel past : List ℕ} where
   pub memo_lower : {n n' : ℕ} {m : List ℕ} → n' ≤ n → Memo T rel past n m → Memo T rel past n' m
@@ -280,27 +290,34 @@ module _ {T : Terms} {rel past : List ℕ} where
       )
 
   -- The slots below n, where that of n is changed.
-  pub memo_apart : (n : ℕ) {m m' : List ℕ} → Memo T rel past (n + 1) m → Apart n m m' → Memo T rel past n m'
+  memo_apart : (n : ℕ) {m m' : List ℕ} → Memo T rel past (n + 1) m → Apart n m m' → Memo T rel past n m'
   memo_apart n {m} {m'} h q = record {
     slot = λ k kl f. subst (λ (z : List ℕ). Slot T rel past k z) (sym (q.same k (λ e. let z : ⊥ = omega arith in z)))
         (h.slot k (omega arith) (subst (λ (z : ℕ). 133 * k + 133 ≤ z) q.long f));
   }
 
-  -- An entry is decided, its rows kept or not.
-  module _ {g : Assignment} {x all want need n : ℕ} {m m₁ m₂ m₃ r r' : List ℕ} where
-    pub decided : (kept : Bool) → T.members < 65 → ((b : ℕ) → bit all b ≡ ltb b T.members) → Vars T.members g → ((a : ℕ) → bit want a ≡ true → a < T.members)
-        → (kept ≡ true → 133 * n + 133 ≤ length m) → Memo T rel past (n + 1) m
-        → (kept ≡ true → Missing g x want need (slot_of n m) (slot_of n m₁)) → (kept ≡ false → (need ≡ want) × (m₁ ≡ m)) → Apart n m m₁
-        → Rows need (cell T rel past g x n) r → Grown T rel past n m₁ m₂
-        → (kept ≡ true → Stored g x all need want (slot_of n m₂) r (slot_of n m₃) r') → (kept ≡ false → (m₃ ≡ m₂) × (r' ≡ r)) → Apart n m₂ m₃
+  module _ (g : Assignment) (x want need n : ℕ) (m m₁ : List ℕ) where
+    pub memo_below : (slot : Option ℕ) → IfSome slot (λ k. (k ≡ n) × (133 * k + 133 ≤ length m)) → Memo T rel past (n + 1) m
+        → AfterMissing g x want need m m₁ slot → Memo T rel past n m₁
+    memo_below (Some k) fits h miss = memo_apart n h (subst (λ (j : ℕ). Apart j m m₁) fits.0 miss.1)
+    memo_below None fits h plain = memo_lower (omega arith) (subst (λ (z : List ℕ). Memo T rel past (n + 1) z) (sym plain.1) h)
+
+    -- An entry is decided, its rows kept in a slot, that of its number, or not.
+    pub decided : (all : ℕ) (m₂ m₃ r r' : List ℕ) (slot : Option ℕ) → T.members < 65 → ((b : ℕ) → bit all b ≡ ltb b T.members) → Vars T.members g
+        → ((a : ℕ) → bit want a ≡ true → a < T.members) → IfSome slot (λ k. (k ≡ n) × (133 * k + 133 ≤ length m)) → Memo T rel past (n + 1) m
+        → AfterMissing g x want need m m₁ slot → Rows need (cell T rel past g x n) r → Grown T rel past n m₁ m₂
+        → MatchOption slot ((m₃ ≡ m₂) × (r' ≡ r)) (λ k. Stored g x all need want (slot_of k m₂) r (slot_of k m₃) r' × Apart k m₂ m₃)
         → Rows want (cell T rel past g x n) r' × Grown T rel past (n + 1) m m₃
-    decided true few all-is v wanted fits h miss plain a₁ d grow store same a₂ =
-        decided_kept few all-is v wanted (fits refl) h (miss refl) a₁ d grow (store refl) a₂
-    decided false few all-is v wanted fits h miss plain a₁ d grow store same a₂ = (
-      subst (λ (z : List ℕ). Rows want (cell T rel past g x n) z) (sym (same refl).1)
-          (subst (λ (w : ℕ). Rows w (cell T rel past g x n) r) (plain refl).0 d),
-      subst (λ (z : List ℕ). Grown T rel past (n + 1) m z) (sym (same refl).0)
-          (grown_up (omega arith) h (subst (λ (z : List ℕ). Grown T rel past n z m₂) (plain refl).1 grow)),
+    decided all m₂ m₃ r r' (Some k) few all-is v wanted fits h miss d grow store =
+        let fit = subst (λ (j : ℕ). 133 * j + 133 ≤ length m) fits.0 fits.1 in
+        let a₁ = subst (λ (j : ℕ). Missing g x want need (slot_of j m) (slot_of j m₁) × Apart j m m₁) fits.0 miss in
+        let a₂ = subst (λ (j : ℕ). Stored g x all need want (slot_of j m₂) r (slot_of j m₃) r' × Apart j m₂ m₃) fits.0 store in
+        decided_kept few all-is v wanted fit h a₁.0 a₁.1 d grow a₂.0 a₂.1
+    decided all m₂ m₃ r r' None few all-is v wanted fits h plain d grow same = (
+      subst (λ (z : List ℕ). Rows want (cell T rel past g x n) z) (sym same.1)
+          (subst (λ (w : ℕ). Rows w (cell T rel past g x n) r) plain.0 d),
+      subst (λ (z : List ℕ). Grown T rel past (n + 1) m z) (sym same.0)
+          (grown_up (omega arith) h (subst (λ (z : List ℕ). Grown T rel past n z m₂) plain.1 grow)),
     )
 
   -- ---- slots with no rows
@@ -316,8 +333,3 @@ no_slots n l = record { slot = λ k kl f. absurd (let z : ⊥ = omega arith in z
 
 pub no_rows : (N n : ℕ) {m : List ℕ} → length m < 133 → Fresh N n m
 no_rows N n l = record { none = λ k kl kn f. absurd (let z : ⊥ = omega arith in z) }
-
-pub needed : {g : Assignment} {x want need : ℕ} {s s₁ m m₁ : List ℕ} (kept : Bool) → (kept ≡ true → Missing g x want need s s₁)
-    → (kept ≡ false → (need ≡ want) × (m₁ ≡ m)) → (a : ℕ) → bit need a ≡ true → bit want a ≡ true
-needed true miss plain a e = (miss refl).within a e
-needed false miss plain a e = ap (λ (w : ℕ). bit w a) (sym (plain refl).0) ∙ e
