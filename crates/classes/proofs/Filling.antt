@@ -10,7 +10,7 @@ use mathlib.Core.Logic.{◌⊎◌, inl, inr}
 use lib.Dec.{eqb, ltb}
 use lib.ListN.{length, get_or, set, replicate, length-set, length-replicate}
 use lib.Seq.{get_or-set_same, get_or-set_other}
-use borrow.Author.Tests.{lt-ltb, le-ltb, ltb-false, eq-eqb}
+use borrow.Author.Tests.{le-ltb, ltb-false, eq-eqb}
 use Rattle.sets.proofs.Finite.{last_or_below}
 use Rattle.theory.specs.Formula.{lowest, same}
 use Rattle.theory.specs.Limits.{max_entries}
@@ -60,9 +60,6 @@ own_lengths T (suc n) w ks =
     (length-set p.0 n (found p.1 n key) ∙ ih.0, length-set p.1 n key ∙ ih.1)
 
 -- The number of entries, cut off at the most that there may be.
-pub counted_many : (terms : List ℕ) → max_entries < (terms_of terms).entries → max_entries ≡ counted terms
-counted_many terms l = rw (lt-ltb max_entries (terms_of terms).entries l)
-
 pub counted_few : (terms : List ℕ) → (terms_of terms).entries ≤ max_entries → (terms_of terms).entries ≡ counted terms
 counted_few terms l = rw (le-ltb max_entries (terms_of terms).entries l)
 

@@ -1,4 +1,4 @@
--- The smaller of two numbers, sums and products that are cut, and one turn of each loop.
+-- Products that are cut, the sets of variables, and one turn of each loop.
 use Prim.Native.Nat.{ℕ, ◌+◌, ◌-◌, ◌*◌, ◌^◌, ◌<◌, ◌≤◌}
 use native.Mathlib.Nat.{mul-le-mul}
 use native.Mathlib.Numerals.{add-one}
@@ -18,14 +18,6 @@ use Rattle.memory.specs.Layout.{terms_of}
 use Rattle.memory.specs.TableIndex.{in_free}
 use Rattle.effort.specs.Effort.{smaller, most, cut, set_of, sets_of, is_one, rows_of, calls_of, asked_of, more, more_if, is_entry, more_of, policies, Count, rows_at, calls_after, asked_after, turn, count_after, total, memo_rows, brief, effort}
 
-pub second_smaller : (x y : ℕ) → y < x → y ≡ smaller x y
-unfolding smaller
-second_smaller x y l = rw (lt-ltb y x l)
-
-pub first_smaller : (x y : ℕ) → x ≤ y → x ≡ smaller x y
-unfolding smaller
-first_smaller x y l = rw (le-ltb y x l)
-
 pub cut_le : (x : ℕ) → cut x ≤ most
 unfolding smaller
 cut_le x = go (ltb most x) refl
@@ -37,9 +29,6 @@ cut_le x = go (ltb most x) refl
 -- A product of members and a number that is cut fits a word.
 pub product_fits : (n x : ℕ) → n < 65536 → x ≤ most → n * x < 2 ^ 64
 product_fits n x l m = let few : n ≤ 65535 = omega arith in let p = mul-le-mul few m in omega arith
-
-pub square_less : (n : ℕ) → n < 65536 → n * n ≤ 4294836225
-square_less n l = let few : n ≤ 65535 = omega arith in mul-le-mul few few
 
 -- A set by its bits.
 pub set_is : (s op a f g h : ℕ) → s < 2 ^ 64 → ((x : ℕ) → bit s x ≡ in_free op a f g h x) → set_of op a f g h ≡ cond (is_past op && eqb s 0) 1 s

@@ -2,13 +2,12 @@
 use Prim.Native.Nat.{ℕ, ◌+◌, ◌≤◌, ◌<◌}
 use native.Mathlib.Omega.{arith}
 use mathlib.Core.Path.{◌≡◌, refl, sym, ap, subst, fun_ext, ◌∙◌}
-use mathlib.Core.Logic.{◌⊎◌, inl, inr, ⊎_elim}
+use mathlib.Core.Logic.{⊎_elim}
 use mathlib.Core.Bool.{Bool, true, false, not, ◌&&◌, ◌||◌}
 use mathlib.Core.List.{List}
 use lib.Dec.{eqb, ltb}
 use lib.Bits.{bit_and, bit_xor}
-use lib.ListN.{length, get_or, set, get_or-eq_default}
-use lib.Seq.{get_or-set_same, get_or-set_other}
+use lib.ListN.{length, get_or, get_or-eq_default}
 use borrow.Author.Tests.{eqb-true, eq-eqb, ne_eqb, ltb-true, ltb-false, lt-ltb}
 use Rattle.sets.specs.Sets.{any_below, all_below, bit}
 use Rattle.sets.proofs.Finite.{bool_iff, is_false, not_both, and_left, and_right, and_both, or_left, or_right, or_cases, any_intro, any_elim, all_true, all_out, last_or_below}
@@ -83,17 +82,7 @@ pub short : (p : List ℕ) (n : ℕ) → (length p ≡ n → ⊥) → renumbers 
 unfolding renumbers
 short p n h = rw (ne_eqb (length p) n h)
 
--- ---- the list of all 64 new numbers
-
-pub listed_more : (numbers all : List ℕ) (m x : ℕ) → m < length all → x ≡ new_number numbers m → ((j : ℕ) → j < m → get_or all j 0 ≡ new_number numbers j) →
-    (j : ℕ) → j < m + 1 → get_or (set all m x) j 0 ≡ new_number numbers j
-listed_more numbers all m x ml e h j jl = by (last_or_below j m (omega arith))
-  where
-    by : (j < m) ⊎ (j ≡ m) → get_or (set all m x) j 0 ≡ new_number numbers j
-    by (inl l) = get_or-set_other all m j x 0 (λ z. omega arith) ∙ h j l
-    by (inr z) = ap (λ k. get_or (set all m x) k 0) z ∙ get_or-set_same all m x 0 ml ∙ e ∙ ap (new_number numbers) (sym z)
-
--- It says the same of every number.
+-- The list of all 64 new numbers says the same of every number.
 pub same_numbers : (numbers all : List ℕ) → length numbers ≤ 64 → length all ≡ 64 → ((m : ℕ) → m < 64 → get_or all m 0 ≡ new_number numbers m) →
     new_number all ≡ new_number numbers
 same_numbers numbers all few long h = fun_ext (λ m. by m (ltb m 64) refl)

@@ -4,15 +4,14 @@ use Prim.Native.Nat.{ℕ, ◌+◌, ◌-◌, ◌*◌, ◌/◌, ◌%◌, ◌≤◌
 use native.Mathlib.Omega.{arith}
 use native.Mathlib.Numerals.{add-one}
 use mathlib.Core.Path.{◌≡◌, refl, sym, ap, ap₂, subst, ◌∙◌}
-use mathlib.Core.Logic.{◌⊎◌, inl, inr}
 use mathlib.Core.Bool.{Bool, true, false, cond, not, ◌&&◌, ◌||◌, false≢true}
 use mathlib.Core.List.{List, [], ◌∷◌}
 use lib.Dec.{eqb, ltb}
-use lib.ListN.{length, get_or, set, take, drop, length-set, length-take, length-drop, get_or-eq_default}
+use lib.ListN.{length, get_or, set, take, drop, length-set}
 use lib.Seq.{get_or-set_same, get_or-set_other, get_or-take, get_or-drop}
-use borrow.Author.Tests.{eq-eqb, eqb-true, eqb-false, lt-ltb, ltb-true, ltb-false}
+use borrow.Author.Tests.{eq-eqb, eqb-true, eqb-false, lt-ltb, ltb-true}
 use Rattle.sets.specs.Sets.{any_below, bit}
-use Rattle.sets.proofs.Finite.{bool_iff, is_false, not_both, and_left, and_right, and_both, any_intro, any_elim, last_or_below}
+use Rattle.sets.proofs.Finite.{bool_iff, is_false, not_both, and_left, and_right, and_both, any_intro, any_elim}
 use Rattle.sets.proofs.Bits.{bit_zero}
 use Rattle.theory.specs.Formula.{number, is_past, columns}
 use Rattle.theory.specs.Columns.{columns_fit, inside, word_under, bit_under}
@@ -175,21 +174,6 @@ module _ (p : ℕ → ℕ) (few : Few p) (ws : ℕ → ℕ) (into : List ℕ) wh
   pub gone_none : length into ≡ 64 → ((i : ℕ) → get_or into i 0 ≡ 0) → Gone p ws into 0
   gone_none l z = record { long = l; bits = λ j m. ap (λ x. bit x m) (z j) ∙ bit_zero m ∙ sym (none_below _) }
 
--- Words up to i are 0.
-pub cleared : (ws : List ℕ) (i : ℕ) → i < length ws → ((j : ℕ) → j < i → get_or ws j 0 ≡ 0) → (j : ℕ) → j < i + 1 → get_or (set ws i 0) j 0 ≡ 0
-cleared ws i l h j jl = by (last_or_below j i (omega arith))
-  where
-    by : (j < i) ⊎ (j ≡ i) → get_or (set ws i 0) j 0 ≡ 0
-    by (inl q) = get_or-set_other ws i j 0 0 (λ z. omega arith) ∙ h j q
-    by (inr q) = ap (λ x. get_or (set ws i 0) x 0) q ∙ get_or-set_same ws i 0 0 l
-
-pub cleared_all : (ws : List ℕ) → length ws ≡ 64 → (i : ℕ) → i ≡ 64 → ((j : ℕ) → j < i → get_or ws j 0 ≡ 0) → (j : ℕ) → get_or ws j 0 ≡ 0
-cleared_all ws l i e h j = by (ltb j 64) refl
-  where
-    by : (c : Bool) → ltb j 64 ≡ c → get_or ws j 0 ≡ 0
-    by true q = h j (omega (arith, ltb-true j 64 q))
-    by false q = get_or-eq_default ws 0 (let h : 64 ≤ j = ltb-false j 64 q in let z : length ws ≤ j = omega arith in z)
-
 -- ---- the set of such tables
 
 module _ (T : Terms) where
@@ -273,9 +257,6 @@ module _ (T : Terms) (good : Good T) (index : List ℕ) (h : Indexed T index) (n
 
 -- 64 words of a list.
 module _ (w : List ℕ) (at : ℕ) (l : at + 64 ≤ length w) where
-  pub part_long : length (take (at + 64 - at) (drop at w)) ≡ 64
-  part_long = simp (length-take, length-drop) (omega arith)
-
   pub part_word : (a : ℕ) → a < 64 → get_or (take (at + 64 - at) (drop at w)) a 0 ≡ get_or w (at + a) 0
   part_word a al = get_or-take (at + 64 - at) (drop at w) a 0 (omega arith) ∙ get_or-drop at w a 0
 

@@ -2,7 +2,6 @@
 -- those of the renumbered state.
 use Prim.Native.Nat.{ℕ, zero, suc, ◌+◌, ◌-◌, ◌*◌, ◌/◌, ◌%◌, ◌≤◌, ◌<◌}
 use native.Mathlib.Omega.{arith}
-use native.Mathlib.Numerals.{add-one}
 use mathlib.Core.Path.{◌≡◌, refl, sym, ap, ap₂, ◌∙◌}
 use mathlib.Core.Logic.{◌⊎◌, inl, inr}
 use mathlib.Core.Bool.{Bool, true, false, cond, ◌&&◌, false≢true, and_assoc}
@@ -146,16 +145,7 @@ module _ (p : ℕ → ℕ) (far : Apart p) (two : ℕ) (state before : List ℕ)
       drop_more : (l : List ℕ) → drop 1 (drop event_at l) ≡ drop state_words l
       drop_more l = drop-drop 1 event_at l
 
--- ---- the event word, by its parts
-
-pub new-event : (p : ℕ → ℕ) (w n u v : ℕ) → w ≡ n + 1 → u ≡ p (n / 64 % 64) → v ≡ p (n % 64) → 1 + n / 4096 * 4096 + u * 64 + v ≡ new_event p w
-new-event p w n u v e f g = rw (e ∙ add-one n, f, g) (go (ltb (n / 4096) 16) refl)
-  where
-    go : (c : Bool) → ltb (n / 4096) 16 ≡ c →
-        1 + n / 4096 * 4096 + p (n / 64 % 64) * 64 + p (n % 64)
-        ≡ event_word (renumber_event p p (cond c (happened (n / 4096) (n / 64 % 64) (n % 64)) (tried (n / 4096 - 16) (n / 64 % 64) (n % 64))))
-    go true z = refl
-    go false z = let h : 16 ≤ n / 4096 = ltb-false (n / 4096) 16 z in let k : n / 4096 ≡ 16 + (n / 4096 - 16) = omega arith in ap (λ (j : ℕ). 1 + j * 4096 + p (n / 64 % 64) * 64 + p (n % 64)) k
+-- ---- the event word
 
 -- The event word of a state that keeps the layout is small.
 event_small : (T : Terms) → Good T → (w : ℕ) → good_event T w ≡ true → w < 131073
