@@ -74,10 +74,12 @@ pub(crate) fn make_effects(
     requires { (good_memory terms.now ≡ true) × (named (terms_of terms.now) event from to ≡ true) × (length relations.old ≡ relation_words) }
     ensures { (own : List ℕ) → Becomes terms.now (all_affected event from to) (relations.old ++ own) (relations.new ++ own) }
 {
-    let mut i: usize = 0;
-    while i < EFFECTS && layout::word(terms, effect_at(event, i)) != 0 {
-        make_effect(terms, relations, effect_at(event, i), from, to);
-        i += 1;
+    for i in 0..EFFECTS {
+        let at = effect_at(event, i);
+        if layout::word(terms, at) == 0 {
+            return;
+        }
+        make_effect(terms, relations, at, from, to);
     }
 }
 
