@@ -1,1 +1,2 @@
 pub mod Hushed
+pub mod Split

@@ -83,12 +83,9 @@ pub(crate) fn move_prev(
     requires { Movable terms.now index.now (relations.now ++ own.old) × (length relations.now ≡ relation_words) × (length own.old ≡ own_words) × (length rows.old ≡ block_words) }
     ensures { Becomes terms.now prev_moved (relations.now ++ own.old) (relations.now ++ own.new) }
 {
-    let entries = layout::entries(terms);
     renew(terms, index, memo);
-    let mut n: usize = 0;
-    while n < entries {
-        n += 1;
-        prev_turn(terms, index, relations, own, memo, rows, entries - n);
+    for n in (0..layout::entries(terms)).rev() {
+        prev_turn(terms, index, relations, own, memo, rows, n);
     }
 }
 
@@ -105,12 +102,9 @@ pub(crate) fn move_since(
     requires { Movable terms.now index.now (relations.now ++ own.old) × (length relations.now ≡ relation_words) × (length own.old ≡ own_words) × (length rows.old ≡ block_words) }
     ensures { Becomes terms.now since_moved (relations.now ++ own.old) (relations.now ++ own.new) }
 {
-    let entries = layout::entries(terms);
     let mut f = [0u64; ROWS];
     renew(terms, index, memo);
-    let mut n: usize = 0;
-    while n < entries {
+    for n in 0..layout::entries(terms) {
         since_turn(terms, index, relations, own, memo, &mut f, rows, n);
-        n += 1;
     }
 }

@@ -128,51 +128,33 @@ fn move_shared(
     );
 }
 
-// The same, without a memo where that is brief. The rows are the first words of scratch; where there are more, it calls
-// itself with the rows alone, and leaves all of them 0.
+// The same, without a memo where that is brief.
 fn move_on(
     terms: &[u16],
     index: &[u16],
     relations: &mut [u64],
     own: &mut [u64],
     other: &mut [u64],
-    scratch: &mut [u64],
+    rows: &mut [u64],
     granted: bool,
     event: usize,
     from: usize,
     to: usize,
 )
     requires movable { Movable terms.now index.now (relations.old ++ own.old) × Movable terms.now index.now (relations.old ++ other.old) }
-    requires relations_len { (length relations.old ≡ relation_words) × (length own.old ≡ own_words) × (length other.old ≡ own_words) × (block_words ≤ length scratch.old) }
+    requires relations_len { (length relations.old ≡ relation_words) × (length own.old ≡ own_words) × (length other.old ≡ own_words) × (length rows.old ≡ block_words) }
     requires to_value { named (terms_of terms.now) event from to ≡ true }
     ensures becomes { Becomes terms.now (λ T S. advance T S (made T S.now granted event from to)) (relations.old ++ own.old) (relations.new ++ own.new) }
     ensures becomes_2 { Becomes terms.now (λ T S. advance T S (quiet (made T S.now granted event from to))) (relations.old ++ other.old) (relations.new ++ other.new) }
-    ensures scratch_after { block_words < length scratch.old → scratch.new ≡ replicate (length scratch.old) 0 }
 {
-    if ROWS < scratch.len() {
-        move_on(
-            terms,
-            index,
-            relations,
-            own,
-            other,
-            &mut scratch[0..ROWS],
-            granted,
-            event,
-            from,
-            to,
-        );
-        clear(scratch);
-        return;
-    }
     if memo_choice::are_brief(terms) {
         let mut none = [0u64; 1];
         move_both(
-            terms, index, relations, own, other, &mut none, scratch, granted, event, from, to,
+            terms, index, relations, own, other, &mut none, rows, granted, event, from, to,
         );
     } else {
         move_shared(
-            terms, index, relations, own, other, scratch, granted, event, from, to,
+            terms, index, relations, own, other, rows, granted, event, from, to,
         );
     }
 }
@@ -205,7 +187,7 @@ pub fn next_moments(
         &mut relations[0..TABLES],
         &mut own[0..OWN],
         &mut other[0..OWN],
-        &mut scratch[0..layout::SCRATCH],
+        &mut scratch[0..ROWS],
         granted,
         event,
         from,
@@ -215,17 +197,12 @@ pub fn next_moments(
     clear(&mut spare[0..layout::SCRATCH]);
 }
 
-// The since sweep with a memo that has a slot for each entry. Where more words than the rows are lent, it calls itself
-// with the rows alone. Out of line, so that no caller has the memo in its frame.
+// The since sweep with a memo that has a slot for each entry; out of line, so that no caller has the memo in its frame.
 #[inline(never)]
 fn open_shared(terms: &[u16], index: &[u16], relations: &[u64], own: &mut [u64], rows: &mut [u64])
-    requires { Movable terms.now index.now (relations.now ++ own.old) × (length relations.now ≡ relation_words) × (length own.old ≡ own_words) × (block_words ≤ length rows.old) }
+    requires { Movable terms.now index.now (relations.now ++ own.old) × (length relations.now ≡ relation_words) × (length own.old ≡ own_words) × (length rows.old ≡ block_words) }
     ensures { Becomes terms.now since_moved (relations.now ++ own.old) (relations.now ++ own.new) }
 {
-    if ROWS < rows.len() {
-        open_shared(terms, index, relations, own, &mut rows[0..ROWS]);
-        return;
-    }
     let mut memo = [0u64; memo::WORDS];
     apart::move_since(terms, index, relations, own, &mut memo, rows);
 }

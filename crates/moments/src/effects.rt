@@ -10,9 +10,7 @@ ghost use Rattle.deciding.specs.private.Moving.{Becomes, effect_of, affected, al
 use memory::layout;
 use memory::limits::EFFECTS;
 
-// Where the tables begin, the rows of a relation, and the event word, of a bank's own words, with its units.
-const TABLES: usize = layout::TABLES_AT;
-
+// The rows of a relation, and the event word, of a bank's own words, with its units.
 const ROWS: usize = layout::BLOCK;
 
 const EVENT: usize = layout::OWN_EVENT_AT;
@@ -76,10 +74,12 @@ pub(crate) fn make_effects(
     requires { (good_memory terms.now ≡ true) × (named (terms_of terms.now) event from to ≡ true) × (length relations.old ≡ relation_words) }
     ensures { (own : List ℕ) → Becomes terms.now (all_affected event from to) (relations.old ++ own) (relations.new ++ own) }
 {
-    let mut i: usize = 0;
-    while i < EFFECTS && layout::word(terms, effect_at(event, i)) != 0 {
-        make_effect(terms, relations, effect_at(event, i), from, to);
-        i += 1;
+    for i in 0..EFFECTS {
+        let at = effect_at(event, i);
+        if layout::word(terms, at) == 0 {
+            return;
+        }
+        make_effect(terms, relations, at, from, to);
     }
 }
 
@@ -110,24 +110,18 @@ pub(crate) fn put_event(
 // The moment itself: the effects, if the request is granted, and the event edge.
 pub(crate) fn enter(
     terms: &[u16],
-    state: &mut [u64],
+    relations: &mut [u64],
+    own: &mut [u64],
     granted: bool,
     event: usize,
     from: usize,
     to: usize,
 )
-    requires { (good_memory terms.now ≡ true) × (named (terms_of terms.now) event from to ≡ true) × (state_words ≤ length state.old) }
-    ensures { Becomes terms.now (entered granted event from to) state.old state.new }
+    requires { (good_memory terms.now ≡ true) × (named (terms_of terms.now) event from to ≡ true) × (length relations.old ≡ relation_words) × (own_words ≤ length own.old) }
+    ensures { Becomes terms.now (entered granted event from to) (relations.old ++ own.old) (relations.new ++ own.new) }
 {
     if granted {
-        make_effects(terms, &mut state[0..TABLES], event, from, to);
+        make_effects(terms, relations, event, from, to);
     }
-    put_event(
-        terms,
-        &mut state[TABLES..layout::STATE],
-        granted,
-        event,
-        from,
-        to,
-    );
+    put_event(terms, own, granted, event, from, to);
 }

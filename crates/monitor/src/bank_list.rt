@@ -79,13 +79,11 @@ pub fn set_list(
     let checked = inspect_bank_list(terms, relations, own, other, scratch, spare);
     let n = turns(checked, records.len());
     let mut count = 0;
-    let mut i = 0;
-    while i < n {
+    for i in 0..n {
         let r = records[i];
         let answer = step(terms, relations, own, other, scratch, spare, r);
         records[i].answer = answer;
         count = tally(count, answer);
-        i = i + 1;
     }
     finish(checked, count)
 }

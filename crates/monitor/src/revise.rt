@@ -29,11 +29,7 @@ pub(crate) fn copy(to: &mut [u64], from: &[u64])
     requires { length to.old ≤ length from.now }
     ensures { to.new ≡ take (length to.old) from.now }
 {
-    let mut i: usize = 0;
-    while i < to.len() {
-        to[i] = from[i];
-        i += 1;
-    }
+    to.copy_from_slice(&from[0..to.len()]);
 }
 
 // Fills in the table of new entry n with that of old entry k.
@@ -99,20 +95,16 @@ fn start_tables(
     requires begun { Begun old.now (relations.now ++ own.now) new.now 0 [] (relations.now ++ second.old) }
     ensures { Begun old.now (relations.now ++ own.now) new.now (terms_of new.now).entries [] (relations.now ++ second.new) }
 {
-    let entries = layout::entries(new);
     let mut f = [0u64; ROWS];
     apart::renew(new, index, memo);
-    let mut n: usize = 0;
-    while n < entries {
+    for n in 0..layout::entries(new) {
         start_turn(
             old, before, relations, own, new, index, taken, second, memo, &mut f, rows, n,
         );
-        n += 1;
     }
 }
 
-// The same, with a memo that has a slot for each entry. Where more words than the rows are lent, it calls itself with
-// the rows alone. Out of line, so that no caller has the memo in its frame.
+// The same, with a memo that has a slot for each entry; out of line, so that no caller has the memo in its frame.
 #[inline(never)]
 fn start_shared(
     old: &[u16],
@@ -126,24 +118,10 @@ fn start_shared(
     rows: &mut [u64],
 )
     requires revising { Revising old.now before.now (relations.now ++ own.now) new.now index.now × Taken old.now new.now taken.now }
-    requires relations_len { (length relations.now ≡ relation_words) × (length own.now ≡ own_words) × (length second.old ≡ own_words) × (block_words ≤ length rows.old) }
+    requires relations_len { (length relations.now ≡ relation_words) × (length own.now ≡ own_words) × (length second.old ≡ own_words) × (length rows.old ≡ block_words) }
     requires begun { Begun old.now (relations.now ++ own.now) new.now 0 [] (relations.now ++ second.old) }
     ensures { Begun old.now (relations.now ++ own.now) new.now (terms_of new.now).entries [] (relations.now ++ second.new) }
 {
-    if ROWS < rows.len() {
-        start_shared(
-            old,
-            before,
-            relations,
-            own,
-            new,
-            index,
-            taken,
-            second,
-            &mut rows[0..ROWS],
-        );
-        return;
-    }
     let mut memo = [0u64; memo::WORDS];
     start_tables(
         old, before, relations, own, new, index, taken, second, &mut memo, rows,

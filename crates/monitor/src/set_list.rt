@@ -85,13 +85,11 @@ pub fn set_list(
     let inspected = inspect_list(terms, state, scratch);
     let n = turns(inspected, records.len());
     let mut count = 0;
-    let mut i = 0;
-    while i < n {
+    for i in 0..n {
         let r = records[i];
         let answer = step(terms, state, scratch, inspected, r);
         records[i].answer = answer;
         count = tally(count, answer);
-        i = i + 1;
     }
     finish(inspected, count)
 }

@@ -5,23 +5,21 @@ use Rattle.monitor.proofs.BankListing.{Mem, Facts, Free, begins, turn, ends}
 use Rattle.monitor.proofs.bank_list.set_list.Goals as goal
 
 pub loop-i-init : goal.loop-i-init
-loop-i-init c = (omega arith, begins _ _ _ Free tt)
+loop-i-init c = begins _ _ _ Free tt
 
 pub slice_copy_out-r : goal.slice_copy_out-r
-slice_copy_out-r c = within _ _ _ _ _ c.loop-i-test.true c.turns-n.ensures c.loop-i.invariant.1.size
+slice_copy_out-r c = within _ _ _ _ _ c.loop-i-test.true c.turns-n.ensures c.loop-i.invariant.size
 
 pub bounds-records-i : goal.bounds-records-i
-bounds-records-i c = within _ _ _ _ _ c.loop-i-test.true c.turns-n.ensures c.loop-i.invariant.1.size
+bounds-records-i c = within _ _ _ _ _ c.loop-i-test.true c.turns-n.ensures c.loop-i.invariant.size
 
 pub loop-i-preserved : goal.loop-i-preserved
 loop-i-preserved c =
     let s = c.step-answer.new in
-    let l = c.loop-i in (
-      omega arith,
-      rw c.tally-count.ensures (turn _ _ _ Free l.i l.count l.records (l.relations, (l.own, (l.other, (l.scratch, (l.spare, tt))))) c.step-answer.result
-          (s.relations, (s.own, (s.other, (s.scratch, (s.spare, tt))))) c.step-answer.ensures tt l.invariant.1
-          (within _ _ _ _ _ c.loop-i-test.true c.turns-n.ensures l.invariant.1.size)),
-    )
+    let l = c.loop-i in
+    rw c.tally-count.ensures (turn _ _ _ Free l.i l.count l.records (l.relations, (l.own, (l.other, (l.scratch, (l.spare, tt))))) c.step-answer.result
+    (s.relations, (s.own, (s.other, (s.scratch, (s.spare, tt))))) c.step-answer.ensures tt l.invariant
+    (within _ _ _ _ _ c.loop-i-test.true c.turns-n.ensures l.invariant.size))
 
 pub returns : goal.returns
 returns c =
@@ -31,4 +29,4 @@ returns c =
     let m₀ : Mem = (x.relations.now, (x.own.now, (x.other.now, (x.scratch.now, (x.spare.now, tt))))) in
     let m : Mem = (l.relations, (l.own, (l.other, (l.scratch, (l.spare, tt))))) in
     ends x.terms.now x.records.now m₀ Free l.count l.records m _ c.inspect_bank_list-checked.ensures c.finish.result c.finish.ensures
-    (subst (λ (n : ℕ). Facts x.terms.now x.records.now m₀ Free n l.count l.records m) (e ∙ c.turns-n.ensures) l.invariant.1)
+    (subst (λ (n : ℕ). Facts x.terms.now x.records.now m₀ Free n l.count l.records m) (e ∙ c.turns-n.ensures) l.invariant)

@@ -1,14 +1,9 @@
 -- The records passed are answered, and the memory is what they leave.
-use Rattle.std.proofs.Common.{◌-◌, ◌≤◌}
 use Rattle.monitor.proofs.BankListing.{Facts, Free}
 use Rattle.monitor.proofs.bank_list.set_list.Given as goal
 
 abbrev pub invariant-loop-i : goal.invariant-loop-i
 invariant-loop-i l =
     let x = l.fn in
-    (l.i ≤ l.n)
-    × Facts l.terms x.records (x.relations, (x.own, (x.other, (x.scratch, (x.spare, tt))))) Free l.i l.count l.records
+    Facts l.terms x.records (x.relations, (x.own, (x.other, (x.scratch, (x.spare, tt))))) Free l.i l.count l.records
     (l.relations, (l.own, (l.other, (l.scratch, (l.spare, tt)))))
-
-abbrev pub decreases-loop-i : goal.decreases-loop-i
-decreases-loop-i l = l.n - l.i
