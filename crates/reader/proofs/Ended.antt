@@ -3,6 +3,7 @@
 use Prim.Native.Nat.{ℕ, ◌≤◌, ◌<◌}
 use native.Mathlib.Omega.{arith}
 use mathlib.Core.Path.{◌≡◌, refl, sym, ap, ◌∙◌}
+use mathlib.Core.Logic.{◌⊎◌, ⊎_elim}
 use mathlib.Core.Bool.{Bool, true, false, cond}
 use mathlib.Core.List.{List, [], ◌∷◌, ◌++◌}
 use lib.ListN.{length, drop}
@@ -50,6 +51,15 @@ pub unrefused : (x : Filled) → OneOf (0 ∷ 1 ∷ []) (tag_of the_type x) → 
 unrefused Old h = tt
 unrefused Stored h = tt
 unrefused (Refused n l) h = absurd (miss (0 ∷ 1 ∷ []) 2 tt h)
+
+pub unrefused_by : (x : Filled) → ((n l : ℕ) → x ≡ Refused n l → ⊥) → Unrefused (filling_of x)
+unrefused_by Old h = tt
+unrefused_by Stored h = tt
+unrefused_by (Refused n l) h = absurd (h n l refl)
+
+-- A copy in front of what was there.
+pub copied : {n : ℕ} (src dst new : List ℕ) → new ≡ src → length src ≡ n → new ++ drop n dst ≡ src ++ drop (length src) dst
+copied src dst new e l = rw (e, l) refl
 
 -- What filling gives and leaves.
 abbrev pub Leaves : (text terms state : List ℕ) → Filling → (terms' state' : List ℕ) → Type 0
@@ -121,3 +131,9 @@ module _ (text terms state : List ℕ) where
                       ∙ ap (λ (i : ℕ). words_of f.terms (state_said f) ++ drop i state) (length_words f.terms (state_said f))),
                 ),
               )
+
+-- Either memory is too short.
+module _ (text terms state : List ℕ) where
+  pub short_memory : (length terms < terms_words) ⊎ ((terms_words ≤ length terms) × (length state < state_words))
+      → Leaves text terms state (refusedFilling 6 0) terms state
+  short_memory h = ⊎_elim (λ l. short_terms text terms state l) (λ p. short_state text terms state p.0 p.1) h

@@ -11,6 +11,6 @@ pub mod Passing
 pub mod LineLoop
 pub mod StateMemory
 pub mod PartlyFilled
-pub mod Copied
 pub mod Ended
 pub mod OldForm
+pub mod FirstLine

@@ -2,21 +2,22 @@
 -- for each way that a turn goes.
 use Prim.Native.Nat.{ℕ, zero, suc, ◌+◌, ◌-◌, ◌%◌, ◌^◌, ◌≤◌, ◌<◌}
 use native.Mathlib.Omega.{arith}
-use native.Mathlib.Numerals.{add-one}
 use mathlib.Core.Path.{◌≡◌, refl, sym, ap, ap₂, subst, ◌∙◌}
 use mathlib.Core.Logic.{⊎_elim}
 use mathlib.Core.List.{List, [], ◌∷◌}
 use mathlib.Core.Bool.{Bool, true, false, cond, false≢true}
 use lib.Dec.{ltb}
-use lib.ListN.{length, get_or, take, drop, replicate}
+use lib.ListN.{length, get_or, replicate}
 use Rattle.theory.specs.Formula.{number}
 use Rattle.memory.specs.Layout.{terms_words, entries_at, policies_at, effects_at, marks_at, entry_words, state_words}
 use Rattle.reader.specs.Read.Filling.{old, stored, refused as refusedFilling}
 use Rattle.memory.specs.TableIndex.{Masked}
-use Rattle.fields.specs.Split.{lines, split, place}
+use Rattle.fields.specs.Split.{lines, split}
+use Rattle.fields.specs.Split.Lines.{done, cut, line}
+use Rattle.fields.specs.Lines.{LineTaken}
 use Rattle.file.specs.Line.{parsed}
 use Rattle.file.specs.File.{File, nothing, after_line}
-use Rattle.file.specs.Reading.{tests, complete, Reading, tried, read_on}
+use Rattle.file.specs.Reading.{tests, Reading, tried, read_on}
 use Rattle.file.specs.Reading.Reading.{accepted, refused}
 use Rattle.reader.specs.Memory.{effect_word, terms_word, memory_of}
 use Rattle.reader.specs.private.Stepping.{begun, is_complete, Ranges, stepped}
@@ -25,7 +26,6 @@ use Rattle.reader.specs.private.Storing.{stored_terms, stored_state, stored_sets
 use Rattle.file.specs.declared.line.Line.{Line}
 use Rattle.file.specs.declared.line.Line.TheVariants.{Members, Labels, Entry, Policy, Effect, Edge, Form, TableBit, PairBit, EventEdge, Mark, Malformed}
 use Rattle.reader.specs.declared.step.Context.{Context}
-use Rattle.fields.proofs.Split.{place_le, lines_here, lines_cut, part_rest, rest_shorter}
 use Rattle.file.proofs.Printed.{Ranged, formed}
 use Rattle.file.specs.Refused.{Passed}
 use Rattle.file.proofs.Derivation.{passed_at, tried_passed}
@@ -72,7 +72,6 @@ pub record Along (text terms state masks t : List ℕ) (c : Context) (n : ℕ) :
   pub masked : Masked file.terms masks
   pub words : terms ≡ memory_of file.terms
   pub bits : state ≡ bits_of file
-  pub within : length t ≤ length text
   pub counted : n + length t ≤ suc (length text)
   pub same : read_on file n (lines t) ≡ all_read text
 
@@ -86,7 +85,6 @@ along_first text terms state masks p q r = record {
   masked = record { long = r; bits = λ i x l. absurd (omega arith) };
   words = p ∙ none_terms;
   bits = q ∙ sym bits_none;
-  within = omega arith;
   counted = omega arith;
   same = refl;
 }
@@ -102,15 +100,11 @@ refuses text terms state masks k n e = record {
 
 module _ (text terms state masks t : List ℕ) (c : Context) (n : ℕ) (s : Along text terms state masks t c n) where
   -- Nothing is left.
-  read_end : length t ≤ 0 → all_read text ≡ cond (is_complete c) (accepted s.file) (refused 1 n)
-  unfolding read_on lines
+  read_end : lines t ≡ done → all_read text ≡ cond (is_complete c) (accepted s.file) (refused 1 n)
+  unfolding read_on
   read_end h =
-      sym s.same ∙ end_lines t h
+      sym s.same ∙ ap (read_on s.file n) h
       ∙ ap (λ (d : Context). cond (is_complete d) (accepted s.file) (refused 1 n)) (sym s.context)
-    where
-      end_lines : (t : List ℕ) → length t ≤ 0 → read_on s.file n (lines t) ≡ cond (complete s.file) (accepted s.file) (refused 1 n)
-      end_lines [] h = refl
-      end_lines (x ∷ t) h = absurd (omega arith)
 
   holding : is_complete c ≡ true → Holds s.file terms state masks
   holding b =
@@ -123,7 +117,7 @@ module _ (text terms state masks t : List ℕ) (c : Context) (n : ℕ) (s : Alon
       }
 
   -- All lines pass; x says whether one was an S line.
-  pub along_done : length t ≤ 0 → is_complete c ≡ true → (x : Bool) → c.stored ≡ x → Reads text (cond x stored old) terms state masks
+  pub along_done : lines t ≡ done → is_complete c ≡ true → (x : Bool) → c.stored ≡ x → Reads text (cond x stored old) terms state masks
   along_done h b x q =
       let r : all_read text ≡ accepted s.file = read_end h ∙ rw b in
       record {
@@ -131,15 +125,13 @@ module _ (text terms state masks t : List ℕ) (c : Context) (n : ℕ) (s : Alon
         filled = λ f e. let z : s.file ≡ f = cc in subst (λ (y : File). Holds y terms state masks) z (holding b);
       }
 
-  pub along_short : length t ≤ 0 → is_complete c ≡ false → Reads text (refusedFilling 1 n) terms state masks
+  pub along_short : lines t ≡ done → is_complete c ≡ false → Reads text (refusedFilling 1 n) terms state masks
   along_short h b = refuses text terms state masks 1 n (read_end h ∙ rw b)
 
   -- No line feed is left.
-  pub along_cut : (e : ℕ) → e ≡ place 10 t → 0 < length t → length t ≤ e → Reads text (refusedFilling 1 n) terms state masks
+  pub along_cut : lines t ≡ cut t → Reads text (refusedFilling 1 n) terms state masks
   unfolding read_on
-  along_cut e p h k =
-      refuses text terms state masks 1 n
-      (sym s.same ∙ ap (read_on s.file n) (lines_cut t (omega (arith, place_le 10 t)) h))
+  along_cut h = refuses text terms state masks 1 n (sym s.same ∙ ap (read_on s.file n) h)
 
 -- ---- one turn
 
@@ -158,31 +150,27 @@ tests_positive c m q (EventEdge j u v) = refl
 tests_positive c m q (Mark j) = refl
 tests_positive c m q Malformed = refl
 
-line_read : (f : File) (t : List ℕ) (n e : ℕ) (l : Line) → e ≡ place 10 t → e < length t → l ≡ parsed (split 9 (take e t)) →
-    read_on f n (lines t) ≡ tried (tests f l) n (read_on (after_line f l) (n + 1) (lines (take (length t - (e + 1)) (drop (e + 1) t))))
+line_read : (f : File) (n : ℕ) (t b rest : List ℕ) (l : Line) → lines t ≡ line b (lines rest) → l ≡ parsed (split 9 b) →
+    read_on f n (lines t) ≡ tried (tests f l) n (read_on (after_line f l) (n + 1) (lines rest))
 unfolding read_on
-line_read f t n e l p h q = rw (q, part_rest (e + 1) t, add-one e, p, lines_here t (omega arith)) refl
+line_read f n t b rest l h q = rw (q, h) refl
 
--- The line l ends at e, m is the set of free variables that it is tested by, r says whether it may be a reach, and k is
--- the number of its first test that fails.
-pub record Turn (text terms state masks t : List ℕ) (c : Context) (n e : ℕ) (l : Line) (m : ℕ) (r : Bool) (k : ℕ) : Type 0 where
+-- The line l of bytes b is taken from t, and rest is left. m is the set of free variables that it is tested by, r says
+-- whether it may be a reach, and k is the number of its first test that fails.
+pub record Turn (text terms state masks t b rest : List ℕ) (c : Context) (n : ℕ) (l : Line) (m : ℕ) (r : Bool) (k : ℕ) : Type 0 where
   pub along : Along text terms state masks t c n
-  pub ends : e ≡ place 10 t
-  pub inside : e < length t
-  pub line : l ≡ parsed (split 9 (take e t))
+  pub taken : LineTaken t b rest
+  pub line : l ≡ parsed (split 9 b)
   pub set : FreeIn terms masks l m
   pub fits : m < 2 ^ 64
   pub reaches : r ≡ reach_in masks l
   pub number : k ≡ number_from 0 (context_tests c m r l)
 
-module _ {text terms state masks t : List ℕ} {c : Context} {n e : ℕ} {l : Line} {m : ℕ} {r : Bool} {k : ℕ}
-    (s : Turn text terms state masks t c n e l m r k)
+module _ {text terms state masks t b rest : List ℕ} {c : Context} {n : ℕ} {l : Line} {m : ℕ} {r : Bool} {k : ℕ}
+    (s : Turn text terms state masks t b rest c n l m r k)
   where
     abbrev f : File
     f = s.along.file
-
-    abbrev rest : List ℕ
-    rest = take (length t - (e + 1)) (drop (e + 1) t)
 
     number_is : k ≡ number_from 0 (context_tests (context_of f) m r l)
     number_is = s.number ∙ ap (λ (d : Context). number_from 0 (context_tests d m r l)) s.along.context
@@ -191,7 +179,7 @@ module _ {text terms state masks t : List ℕ} {c : Context} {n e : ℕ} {l : Li
     later = read_on (after_line f l) (n + 1) (lines rest)
 
     read_line : all_read text ≡ tried (tests f l) n later
-    read_line = sym s.along.same ∙ line_read f t n e l s.ends s.inside s.line
+    read_line = sym s.along.same ∙ line_read f n t b rest l s.taken.first s.line
 
     tests_are : Same (context_tests (context_of f) m r l) (tests f l)
     tests_are = tests_same f s.along.going terms s.along.words masks s.along.masked m s.fits r l s.set s.reaches
@@ -219,7 +207,7 @@ module _ {text terms state masks t : List ℕ} {c : Context} {n e : ℕ} {l : Li
           ⊎_elim
           (λ z. absurd (false≢true (passed_at (subst (λ (x : Line). Passed (tests f x)) (s.line ∙ z) passes) 0)))
           (λ z. subst Ranged (sym s.line) z.ranged)
-          (formed (split 9 (take e t)))
+          (formed (split 9 b))
 
       pub turn_ranges : Ranges c l
       turn_ranges = subst (λ (d : Context). Ranges d l) (sym s.along.context) (in_ranges ranged s.along.going passes)
@@ -234,8 +222,7 @@ module _ {text terms state masks t : List ℕ} {c : Context} {n e : ℕ} {l : Li
         words = ap₂ (λ (d : Context) (w : List ℕ). stored_terms d l w) s.along.context s.along.words
             ∙ terms_after ranged s.along.going passes;
         bits = ap (stored_state l) s.along.bits ∙ state-after ranged s.along.going passes;
-        within = omega (arith, rest_shorter e t, s.along.within);
-        counted = omega (arith, rest_shorter e t, s.along.counted, s.inside);
+        counted = omega (arith, s.taken.shorter, s.along.counted);
         same = sym (read_line ∙ tried_passed passes n later);
       }
 

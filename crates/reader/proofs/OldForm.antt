@@ -5,14 +5,14 @@ use native.Mathlib.Omega.{arith}
 use mathlib.Core.Path.{◌≡◌, refl, sym, ap, ◌∙◌}
 use mathlib.Core.Logic.{◌⊎◌, inl, inr, ⊎_elim}
 use mathlib.Core.Bool.{Bool, true, false, cond, true≢false}
-use mathlib.Core.List.{List, [], ◌∷◌, ◌++◌}
+use mathlib.Core.List.{List, ◌++◌}
 use lib.ListN.{length, take, drop}
 use lib.Seq.{take-append-le, length-take-le}
 use borrow.Author.Tests.{eqb-true, lt-ltb, le-ltb}
 use Rattle.memory.specs.Layout.{terms_words, state_words, relation_words, words_of}
 use Rattle.memory.proofs.Words.{length_words}
-use Rattle.fields.specs.Split.{split, lines, place}
-use Rattle.fields.proofs.Split.{place_le, lines_here, lines_cut}
+use Rattle.fields.specs.Split.{split, lines}
+use Rattle.fields.specs.Split.Lines.{done, cut, line}
 use Rattle.file.specs.Line.{parsed}
 use Rattle.file.specs.File.{File, state_said, after_line}
 use Rattle.file.specs.Said.{said_lines, form_in, stored_said}
@@ -60,19 +60,19 @@ module _ (text : List ℕ) (f : File) where
       go true h e = let z : ◌≡◌ {A = ℕ} 0 1 = cc in absurd (omega arith)
       go false h e = (e, old_form h e)
 
--- The first line, by the bytes before the first line feed.
-module _ (text : List ℕ) (e : ℕ) (p : e ≡ place 10 text) where
-  pub begins_cut : length text ≤ e → false ≡ begins_stored text
-  unfolding begins_stored said_lines stored_said lines
-  begins_cut h = go text (omega (arith, place_le 10 text, p))
-    where
-      go : (t : List ℕ) → place 10 t ≡ length t → false ≡ stored_said (take 1 (said_lines (lines t)))
-      go [] q = refl
-      go (x ∷ t) q = rw (lines_cut (x ∷ t) q (omega arith)) refl
-
-  pub begins_line : e < length text → (l : Line) → l ≡ parsed (split 9 (take e text)) → form_in l false ≡ begins_stored text
+-- The first line.
+module _ (text : List ℕ) where
+  pub begins_none : lines text ≡ done → false ≡ begins_stored text
   unfolding begins_stored said_lines stored_said
-  begins_line h l q = rw (lines_here text (omega arith), q, p) refl
+  begins_none h = rw h refl
+
+  pub begins_cut : lines text ≡ cut text → false ≡ begins_stored text
+  unfolding begins_stored said_lines stored_said
+  begins_cut h = rw h refl
+
+  pub begins_line : (b rest : List ℕ) → lines text ≡ line b (lines rest) → (l : Line) → l ≡ parsed (split 9 b) → form_in l false ≡ begins_stored text
+  unfolding begins_stored said_lines stored_said
+  begins_line b rest h l q = rw (q, h) refl
 
 -- ---- the ways that filling terms and relations goes
 
@@ -152,3 +152,9 @@ module _ (text terms relations : List ℕ) where
             terms' ≡ read_terms text terms state → state' ≡ read_words text terms state →
             relations' ≡ take relation_words state' ++ drop (length (take relation_words state')) relations → Leaves o terms' relations'
         text_accepted o g u = let a = was_accepted (reading text) o (g ∙ given) u in accepts a.0 a.1 o g
+
+-- Either memory is too short.
+module _ (text terms relations : List ℕ) where
+  pub short_memory : (length terms < terms_words) ⊎ ((terms_words ≤ length terms) × (length relations < relation_words))
+      → Leaves text terms relations (refusedFilling 6 0) terms relations
+  short_memory h = ⊎_elim (λ l. short_terms text terms relations l) (λ p. short-relations text terms relations p.0 p.1) h

@@ -2,12 +2,11 @@
 -- filled word where they say so.
 use Prim.Native.Nat.{ℕ, zero, suc, ◌+◌, ◌-◌, ◌^◌, ◌≤◌, ◌<◌}
 use native.Mathlib.Omega.{arith}
-use native.Mathlib.Numerals.{add-one}
 use mathlib.Core.Path.{◌≡◌, refl, sym, ap, ap₂, subst, ◌∙◌}
 use mathlib.Core.Bool.{Bool, true, false, cond, not, ◌&&◌}
-use mathlib.Core.List.{List, [], ◌∷◌, append-nil}
+use mathlib.Core.List.{List, [], append-nil}
 use lib.Dec.{eqb, ltb}
-use lib.ListN.{length, get_or, take, drop}
+use lib.ListN.{length, get_or}
 use lib.Pow.{pow_mono}
 use borrow.Author.Tests.{eqb-true, eq-eqb, ne_eqb, lt-ltb, ltb-true, ltb-false, not-true}
 use Rattle.sets.specs.Sets.{bit, all_below}
@@ -28,9 +27,9 @@ use Rattle.memory.specs.TableIndex.{Masked}
 use Rattle.memory.proofs.StateTests.{full_is}
 use Rattle.memory.proofs.Words.{word_table, word_of_table}
 use Rattle.memory.proofs.Outcomes.{passed_checked}
-use Rattle.fields.specs.Split.{lines, split, place}
-use Rattle.fields.specs.Split.Lines.{line}
-use Rattle.fields.proofs.Split.{place_le, lines_here, lines_cut, part_rest, rest_shorter}
+use Rattle.fields.specs.Split.{lines, split}
+use Rattle.fields.specs.Split.Lines.{done, cut}
+use Rattle.fields.specs.Lines.{LineTaken}
 use Rattle.file.specs.Line.{parsed}
 use Rattle.file.specs.File.{File, state_said}
 use Rattle.file.specs.Reading.{partly, partly_filled, partly_at}
@@ -166,57 +165,46 @@ module _ (f : File) (acc : Accepted f) (terms state masks : List ℕ) (holds : H
 
 -- The text t is left from line n on, and no line before it is such a line.
 pub record Looking (text terms state masks t : List ℕ) (n : ℕ) : Type 0 where
-  pub within : length t ≤ length text
   pub counted : n + length t ≤ suc (length text)
   pub same : (f : File) → all_read text ≡ accepted f → Holds f terms state masks → partly_at f n (lines t) ≡ partly_at f 1 (lines text)
 
 pub looking_first : (text terms state masks : List ℕ) → Looking text terms state masks text 1
-looking_first text terms state masks = record { within = omega arith; counted = omega arith; same = λ f e h. refl }
+looking_first text terms state masks = record { counted = omega arith; same = λ f e h. refl }
 
 module _ (text terms state masks t : List ℕ) (n : ℕ) (s : Looking text terms state masks t n) where
-  pub looking_done : length t ≤ 0 → Found text terms state masks 0
-  unfolding partly_at lines
-  looking_done h f e k = none t h ∙ s.same f e k
-    where
-      none : (t : List ℕ) → length t ≤ 0 → 0 ≡ partly_at f n (lines t)
-      none [] h = refl
-      none (x ∷ t) h = absurd (omega arith)
-
-  pub looking_cut : (e : ℕ) → e ≡ place 10 t → 0 < length t → length t ≤ e → Found text terms state masks 0
+  pub looking_done : lines t ≡ done → Found text terms state masks 0
   unfolding partly_at
-  looking_cut e p h l f r k = sym (ap (partly_at f n) (lines_cut t (omega (arith, place_le 10 t)) h)) ∙ s.same f r k
+  looking_done h f e k = sym (ap (partly_at f n) h) ∙ s.same f e k
 
--- The line l ends at e; full has the bits of all members.
-pub record Look (text terms state masks t : List ℕ) (n full e : ℕ) (l : Line) : Type 0 where
+  pub looking_cut : lines t ≡ cut t → Found text terms state masks 0
+  unfolding partly_at
+  looking_cut h f e k = sym (ap (partly_at f n) h) ∙ s.same f e k
+
+-- The line l of bytes b is taken from t, and rest is left; full has the bits of all members.
+pub record Look (text terms state masks t b rest : List ℕ) (n full : ℕ) (l : Line) : Type 0 where
   pub looking : Looking text terms state masks t n
   pub fits : full < 2 ^ 64
   pub bits : (m : ℕ) → bit full m ≡ ltb m 64 && ltb m (terms_of terms).members
-  pub ends : e ≡ place 10 t
-  pub inside : e < length t
-  pub line : l ≡ parsed (split 9 (take e t))
+  pub taken : LineTaken t b rest
+  pub line : l ≡ parsed (split 9 b)
 
-module _ {text terms state masks t : List ℕ} {n full e : ℕ} {l : Line} (s : Look text terms state masks t n full e l) where
-  abbrev rest : List ℕ
-  rest = take (length t - (e + 1)) (drop (e + 1) t)
-
-  line_looked : (f : File) → all_read text ≡ accepted f → Holds f terms state masks → (b : Bool) → partly_in terms state masks full l ≡ b →
-      partly_at f n (lines t) ≡ cond b n (partly_at f (n + 1) (lines rest))
+module _ {text terms state masks t b rest : List ℕ} {n full : ℕ} {l : Line} (s : Look text terms state masks t b rest n full l) where
+  line_looked : (f : File) → all_read text ≡ accepted f → Holds f terms state masks → (x : Bool) → partly_in terms state masks full l ≡ x →
+      partly_at f n (lines t) ≡ cond x n (partly_at f (n + 1) (lines rest))
   unfolding partly_at
-  line_looked f r h b q =
+  line_looked f r h x q =
       let acc = read_good text f r in
-      let p : partly_filled f (parsed (split 9 (take e t))) ≡ b =
+      let p : partly_filled f (parsed (split 9 b)) ≡ x =
       ap (partly_filled f) (sym s.line)
       ∙ sym (line_partly f acc terms state masks h full (full_held f acc terms state masks h full s.fits s.bits) l) ∙ q in
-      let here : lines t ≡ line (take e t) (lines rest) = rw (part_rest (e + 1) t, add-one e, s.ends) (lines_here t (omega (arith, s.ends, s.inside))) in
-      ap (partly_at f n) here ∙ rw p refl
+      ap (partly_at f n) s.taken.first ∙ rw p refl
 
   pub looking_here : partly_in terms state masks full l ≡ true → Found text terms state masks n
   looking_here q f r h = sym (line_looked f r h true q) ∙ s.looking.same f r h
 
   pub looking_next : partly_in terms state masks full l ≡ false → Looking text terms state masks rest (n + 1)
   looking_next q = record {
-    within = omega (arith, rest_shorter e t, s.looking.within);
-    counted = omega (arith, rest_shorter e t, s.looking.counted, s.inside);
+    counted = omega (arith, s.taken.shorter, s.looking.counted);
     same = λ f r h. sym (line_looked f r h false q) ∙ s.looking.same f r h;
   }
 

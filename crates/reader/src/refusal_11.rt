@@ -1,10 +1,10 @@
 // Refusal 11: the first T line of a partly filled word, in a table without a free variable.
-ghost use Rattle.std.specs.Prelude.{◌≡◌};
+ghost use Rattle.std.specs.Prelude.{◌≡◌, ◌<◌, MatchOption};
 ghost use Rattle.theory.specs.Terms.{past_entry};
 ghost use Rattle.memory.specs.Layout.{terms_of};
 ghost use Rattle.reader.specs.private.Partly.{table_word, partly_in, Found};
 
-use fields::field::find;
+use fields::lines::Lines;
 use file::line::{Line, parse_line};
 use memory::layout::{BLOCK, TABLES_AT, entries, members, op_of};
 use memory::limits::TABLES;
@@ -16,31 +16,23 @@ use sets::mask;
 pub(crate) fn past_entry(terms: &[u16], t: usize) -> usize
     ensures { result ≡ past_entry (terms_of terms.now) t }
 {
-    let count = entries(terms);
-    let mut found = 0;
     let mut k = 0;
-    let mut n = 0;
-    while n < count {
-        let past = is_past(op_of(terms, n));
-        if past & (k == t) {
-            found = n;
-        }
-        if past {
+    for n in 0..entries(terms) {
+        if is_past(op_of(terms, n)) {
+            if k == t {
+                return n;
+            }
             k += 1;
         }
-        n += 1;
     }
-    found
+    0
 }
 
 // Word a of table t; 0 where there is none.
 fn table_word(state: &[u64], t: usize, a: usize) -> u64
     ensures { result ≡ table_word state.now t a }
 {
-    if TABLES <= t {
-        return 0;
-    }
-    if BLOCK <= a {
+    if TABLES <= t || BLOCK <= a {
         return 0;
     }
     set_at(state, TABLES_AT + BLOCK * t + a)
@@ -58,35 +50,28 @@ fn is_partly(terms: &[u16], state: &[u64], masks: &[u64], full: u64, line: Line)
     }
 }
 
-// The number of the first such line, or 0.
-fn find_partly(text: &[u8], terms: &[u16], state: &[u64], masks: &[u64]) -> usize
-    ensures { Found text.now terms.now state.now masks.now result }
+// The number of the first such line.
+fn find_partly(text: &[u8], terms: &[u16], state: &[u64], masks: &[u64]) -> Option<usize>
+    ensures { MatchOption result (Found text.now terms.now state.now masks.now 0) (λ n. (0 < n) × Found text.now terms.now state.now masks.now n) }
 {
     let full = mask(members(terms));
-    let mut t = text;
     let mut n = 1;
-    while 0 < t.len() {
-        let e = find(t, 10);
-        if t.len() <= e {
-            return 0;
-        }
-        let line = parse_line(&t[..e]);
+    for bytes in Lines::of(text) {
+        let line = parse_line(bytes?);
         if is_partly(terms, state, masks, full, line) {
-            return n;
+            return Some(n);
         }
-        t = &t[e + 1..];
         n += 1;
     }
-    0
+    None
 }
 
 // The same. The text is looked at again only where the words do not keep the layout.
-pub(crate) fn partly_at(text: &[u8], terms: &[u16], state: &[u64], masks: &[u64]) -> usize
-    ensures { Found text.now terms.now state.now masks.now result }
+pub(crate) fn partly_at(text: &[u8], terms: &[u16], state: &[u64], masks: &[u64]) -> Option<usize>
+    ensures { MatchOption result (Found text.now terms.now state.now masks.now 0) (λ n. (0 < n) × Found text.now terms.now state.now masks.now n) }
 {
-    let outcome = check(terms, state);
-    match outcome {
-        Outcome::Done => 0,
+    match check(terms, state) {
+        Outcome::Done => None,
         Outcome::Refused(_, _) => find_partly(text, terms, state, masks),
     }
 }
