@@ -8,8 +8,6 @@ use mathlib.Core.Bool.{Bool, true, false, cond}
 use mathlib.Core.List.{List, [], ◌∷◌, ◌++◌}
 use lib.ListN.{length, drop}
 use borrow.Author.Tests.{eq-eqb, ne_eqb, lt-ltb, le-ltb}
-use denote.Enum.Declared.{tag_of}
-use types.Run.{OneOf, miss}
 use Rattle.memory.specs.Layout.{terms_words, state_words, words_of}
 use Rattle.memory.proofs.Words.{length_words}
 use Rattle.fields.specs.Split.{lines}
@@ -21,9 +19,9 @@ use Rattle.reader.specs.Read.{Filling, filling_of, filling, fill_gives, read_ter
 use Rattle.reader.specs.Read.Filling.{old, stored, refused as refusedFilling}
 use Rattle.reader.specs.private.Storing.{all_read, Holds, Reads}
 use Rattle.reader.specs.private.Partly.{Found}
-use Rattle.reader.specs.declared.Filled.{Filled}
-use Rattle.reader.specs.declared.Filled.TheVariants.{Old, Stored, Refused}
-use Rattle.reader.specs.contracts.Filled.{the_type}
+use Rattle.std.specs.Prelude.{Ok}
+use Rattle.reader.specs.declared.Form.{Form}
+use Rattle.reader.specs.declared.Form.TheVariants.{Old, Stored}
 use Rattle.reader.proofs.TermsMemory.{length_memory}
 
 pub was_refused : (r : Reading) (k n : ℕ) → filling r ≡ refusedFilling k n → r ≡ refused k n
@@ -47,15 +45,9 @@ was_accepted (refused i j) stored e t = let z : ◌≡◌ {A = ℕ} 0 1 = cc in 
 was_accepted (refused i j) (refusedFilling k n) e t = absurd t
 
 -- Nor is what the code answers then.
-pub unrefused : (x : Filled) → OneOf (0 ∷ 1 ∷ []) (tag_of the_type x) → Unrefused (filling_of x)
-unrefused Old h = tt
-unrefused Stored h = tt
-unrefused (Refused n l) h = absurd (miss (0 ∷ 1 ∷ []) 2 tt h)
-
-pub unrefused_by : (x : Filled) → ((n l : ℕ) → x ≡ Refused n l → ⊥) → Unrefused (filling_of x)
-unrefused_by Old h = tt
-unrefused_by Stored h = tt
-unrefused_by (Refused n l) h = absurd (h n l refl)
+pub unrefused : (x : Form) → Unrefused (filling_of (Ok x))
+unrefused Old = tt
+unrefused Stored = tt
 
 -- A copy in front of what was there.
 pub copied : {n : ℕ} (src dst new : List ℕ) → new ≡ src → length src ≡ n → new ++ drop n dst ≡ src ++ drop (length src) dst

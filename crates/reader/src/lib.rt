@@ -8,10 +8,9 @@ mod refusal_11;
 mod step;
 mod store;
 
-// A text is of the old form or of the stored one, or it is refused with its number and line.
-#[derive(Clone, Copy)]
-pub enum Filled {
+// The forms of a text.
+#[derive(Clone, Copy, PartialEq, Eq)]
+pub enum Form {
     Old,
     Stored,
-    Refused(usize, usize),
 }

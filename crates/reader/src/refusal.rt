@@ -1,30 +1,29 @@
-// The tests of a line against the counters: the number that it is refused with.
+// The tests of a line against the counters, and its first fault.
 ghost use Rattle.std.specs.Prelude.{◌≡◌, ◌+◌, ◌*◌, ltb};
 ghost use Rattle.theory.specs.Formula.{is_past};
 ghost use Rattle.theory.specs.Columns.{pair_first};
 ghost use Rattle.memory.specs.private.Operands.{operand_kind};
+ghost use Rattle.memory.specs.Refusal.{fault_number};
 ghost use Rattle.theory.specs.Fit.{◌⇒◌};
 ghost use Rattle.file.specs.File.{event_named};
 ghost use Rattle.file.specs.Reading.{test, in_range, is_lower};
-ghost use Rattle.reader.specs.private.Testing.{refused_by, number_from, rising, rising_pair, is_pair, context_tests};
+ghost use Rattle.reader.specs.private.Testing.{found, refused_by, number_from, rising, rising_pair, is_pair, context_tests};
 ghost use Rattle.file.specs.declared.line.Line.TheVariants.{Members, Labels, Entry, Policy, Effect, Edge, Form, TableBit, PairBit, EventEdge, Mark};
 
 use crate::step::{Context, is_complete, slot_of};
 use file::line::Line;
 use memory::limits::{COUNT, EFFECTS, ENTRIES, EVENTS, MEMBERS, RELATIONS, TABLES, VARIABLES};
 use memory::operands::{Kind, operands_of};
+use memory::refusal::Fault;
 use memory::table_index::{columns_fit, is_past};
 use sets::rest_of;
 
-// k, the number of the first test that failed; where none has, number if this one fails, else 0.
-fn first(k: usize, number: usize, passes: bool) -> usize
-    ensures { result ≡ refused_by k (test number passes) }
+// k, what the tests before have found; where they passed, the fault if this one fails.
+fn first(k: Result<(), Fault>, fault: Fault, passes: bool) -> Result<(), Fault>
+    ensures { found result ≡ refused_by (found k) (test (fault_number fault) passes) }
 {
-    if k == 0 {
-        if passes { 0 } else { number }
-    } else {
-        k
-    }
+    k?;
+    if passes { Ok(()) } else { Err(fault) }
 }
 
 // Whether a test passes that is made of prev and since entries only.
@@ -69,27 +68,27 @@ fn is_lower(kind: Kind, n: usize, v: usize) -> bool
     }
 }
 
-// The number that an M line is refused with, or 0.
-fn members_number(c: Context, n: usize, m: u64, reaches: bool) -> usize
-    ensures { result ≡ number_from 0 (context_tests c m reaches (Members n)) }
+// The first fault of an M line.
+fn members_fault(c: Context, n: usize, m: u64, reaches: bool) -> Result<(), Fault>
+    ensures { found result ≡ number_from 0 (context_tests c m reaches (Members n)) }
 {
-    let k = first(0, 1, c.phase == 0);
-    let k = first(k, 2, 0 < n);
-    first(k, 2, n <= MEMBERS)
+    let k = first(Ok(()), Fault::Form, c.phase == 0);
+    let k = first(k, Fault::Range, 0 < n);
+    first(k, Fault::Range, n <= MEMBERS)
 }
 
-// The number that an L line is refused with, or 0.
-fn labels_number(c: Context, r: usize, e: usize, m: u64, reaches: bool) -> usize
-    ensures { result ≡ number_from 0 (context_tests c m reaches (Labels r e)) }
+// The first fault of an L line.
+fn labels_fault(c: Context, r: usize, e: usize, m: u64, reaches: bool) -> Result<(), Fault>
+    ensures { found result ≡ number_from 0 (context_tests c m reaches (Labels r e)) }
 {
-    let k = first(0, 1, c.phase == 1);
-    let k = first(k, 2, r <= RELATIONS);
-    let k = first(k, 2, 0 < e);
-    first(k, 2, e <= EVENTS)
+    let k = first(Ok(()), Fault::Form, c.phase == 1);
+    let k = first(k, Fault::Range, r <= RELATIONS);
+    let k = first(k, Fault::Range, 0 < e);
+    first(k, Fault::Range, e <= EVENTS)
 }
 
-// The number that an F line is refused with, or 0.
-fn entry_number(
+// The first fault of an F line.
+fn entry_fault(
     c: Context,
     n: usize,
     o: usize,
@@ -98,48 +97,48 @@ fn entry_number(
     d: usize,
     m: u64,
     reaches: bool,
-) -> usize
-    ensures { result ≡ number_from 0 (context_tests c m reaches (Entry n o a b d)) }
+) -> Result<(), Fault>
+    ensures { found result ≡ number_from 0 (context_tests c m reaches (Entry n o a b d)) }
 {
     let kinds = operands_of(o);
     let one = kinds.first;
     let two = kinds.second;
     let three = kinds.third;
-    let k = first(0, 1, (c.phase == 2) | (c.phase == 3));
-    let k = first(k, 1, n == c.entries);
-    let k = first(k, 2, n < ENTRIES);
-    let k = first(k, 2, in_range(one, c.relations, c.events, a));
-    let k = first(k, 2, in_range(two, c.relations, c.events, b));
-    let k = first(k, 2, in_range(three, c.relations, c.events, d));
-    let k = first(k, 2, if_past(o, c.tables < TABLES));
-    let k = first(k, 3, is_lower(one, n, a));
-    let k = first(k, 3, is_lower(two, n, b));
-    let k = first(k, 3, is_lower(three, n, d));
-    let k = first(k, 4, if_past(o, columns_fit(m, c.members)));
-    first(k, 10, reaches)
+    let k = first(Ok(()), Fault::Form, (c.phase == 2) | (c.phase == 3));
+    let k = first(k, Fault::Form, n == c.entries);
+    let k = first(k, Fault::Range, n < ENTRIES);
+    let k = first(k, Fault::Range, in_range(one, c.relations, c.events, a));
+    let k = first(k, Fault::Range, in_range(two, c.relations, c.events, b));
+    let k = first(k, Fault::Range, in_range(three, c.relations, c.events, d));
+    let k = first(k, Fault::Range, if_past(o, c.tables < TABLES));
+    let k = first(k, Fault::Operand, is_lower(one, n, a));
+    let k = first(k, Fault::Operand, is_lower(two, n, b));
+    let k = first(k, Fault::Operand, is_lower(three, n, d));
+    let k = first(k, Fault::Past, if_past(o, columns_fit(m, c.members)));
+    first(k, Fault::Reach, reaches)
 }
 
-// The number that a P line is refused with, or 0.
-fn policy_number(c: Context, j: usize, n: usize, m: u64, reaches: bool) -> usize
-    ensures { result ≡ number_from 0 (context_tests c m reaches (Policy j n)) }
+// The first fault of a P line.
+fn policy_fault(c: Context, j: usize, n: usize, m: u64, reaches: bool) -> Result<(), Fault>
+    ensures { found result ≡ number_from 0 (context_tests c m reaches (Policy j n)) }
 {
-    let k = first(0, 1, (2 <= c.phase) & (c.phase <= 4));
-    let k = first(k, 1, j == c.policies);
-    let k = first(k, 1, j < c.events);
-    let k = first(k, 2, n < c.entries);
-    first(k, 5, m < 2)
+    let k = first(Ok(()), Fault::Form, (2 <= c.phase) & (c.phase <= 4));
+    let k = first(k, Fault::Form, j == c.policies);
+    let k = first(k, Fault::Form, j < c.events);
+    let k = first(k, Fault::Range, n < c.entries);
+    first(k, Fault::Policy, m < 2)
 }
 
-// The number that an E line is refused with, or 0.
-fn effect_number(c: Context, j: usize, a: usize, k: usize, d: usize, m: u64, reaches: bool) -> usize
-    ensures { result ≡ number_from 0 (context_tests c m reaches (Effect j a k d)) }
+// The first fault of an E line.
+fn effect_fault(c: Context, j: usize, a: usize, k: usize, d: usize, m: u64, reaches: bool) -> Result<(), Fault>
+    ensures { found result ≡ number_from 0 (context_tests c m reaches (Effect j a k d)) }
 {
-    let p = first(0, 1, is_complete(c));
-    let p = first(p, 1, c.phase <= 5);
-    let p = first(p, 1, c.event <= j);
-    let p = first(p, 2, j < c.events);
-    let p = first(p, 2, slot_of(c, j) < EFFECTS);
-    first(p, 2, k < c.relations)
+    let p = first(Ok(()), Fault::Form, is_complete(c));
+    let p = first(p, Fault::Form, c.phase <= 5);
+    let p = first(p, Fault::Form, c.event <= j);
+    let p = first(p, Fault::Range, j < c.events);
+    let p = first(p, Fault::Range, slot_of(c, j) < EFFECTS);
+    first(p, Fault::Range, k < c.relations)
 }
 
 // Whether an edge (kind 6) or a bit of a table (kind 7) comes after the last of its kind,
@@ -151,39 +150,39 @@ fn is_rising(kind: usize, c: Context, k: usize, a: usize, b: usize) -> bool
         | ((c.relation < k) | ((c.relation == k) & ((c.from < a) | ((c.from == a) & (c.to < b)))))
 }
 
-// The number that a G line is refused with, or 0.
-fn edge_number(c: Context, k: usize, a: usize, b: usize, m: u64, reaches: bool) -> usize
-    ensures { result ≡ number_from 0 (context_tests c m reaches (Edge k a b)) }
+// The first fault of a G line.
+fn edge_fault(c: Context, k: usize, a: usize, b: usize, m: u64, reaches: bool) -> Result<(), Fault>
+    ensures { found result ≡ number_from 0 (context_tests c m reaches (Edge k a b)) }
 {
-    let p = first(0, 1, is_complete(c));
-    let p = first(p, 1, c.phase <= 6);
-    let p = first(p, 1, is_rising(6, c, k, a, b));
-    let p = first(p, 2, k < c.relations);
-    let p = first(p, 2, a < c.members);
-    first(p, 2, b < c.members)
+    let p = first(Ok(()), Fault::Form, is_complete(c));
+    let p = first(p, Fault::Form, c.phase <= 6);
+    let p = first(p, Fault::Form, is_rising(6, c, k, a, b));
+    let p = first(p, Fault::Range, k < c.relations);
+    let p = first(p, Fault::Range, a < c.members);
+    first(p, Fault::Range, b < c.members)
 }
 
-// The number that an S line is refused with, or 0.
-fn form_number(c: Context, n: usize, m: u64, reaches: bool) -> usize
-    ensures { result ≡ number_from 0 (context_tests c m reaches (Form n)) }
+// The first fault of an S line.
+fn form_fault(c: Context, n: usize, m: u64, reaches: bool) -> Result<(), Fault>
+    ensures { found result ≡ number_from 0 (context_tests c m reaches (Form n)) }
 {
-    let k = first(0, 1, c.phase == 0);
-    let k = first(k, 1, !c.stored);
-    first(k, 2, n == 2)
+    let k = first(Ok(()), Fault::Form, c.phase == 0);
+    let k = first(k, Fault::Form, !c.stored);
+    first(k, Fault::Range, n == 2)
 }
 
-// The number that a T line is refused with, or 0.
-fn bit_number(c: Context, t: usize, a: usize, b: usize, m: u64, reaches: bool) -> usize
-    ensures { result ≡ number_from 0 (context_tests c m reaches (TableBit t a b)) }
+// The first fault of a T line.
+fn bit_fault(c: Context, t: usize, a: usize, b: usize, m: u64, reaches: bool) -> Result<(), Fault>
+    ensures { found result ≡ number_from 0 (context_tests c m reaches (TableBit t a b)) }
 {
-    let p = first(0, 1, c.stored);
-    let p = first(p, 1, is_complete(c));
-    let p = first(p, 1, c.phase <= 7);
-    let p = first(p, 1, is_rising(7, c, t, a, b));
-    let p = first(p, 1, !is_pair(c, m, t));
-    let p = first(p, 2, t < c.tables);
-    let p = first(p, 2, a < c.members);
-    first(p, 2, b < c.members)
+    let p = first(Ok(()), Fault::Form, c.stored);
+    let p = first(p, Fault::Form, is_complete(c));
+    let p = first(p, Fault::Form, c.phase <= 7);
+    let p = first(p, Fault::Form, is_rising(7, c, t, a, b));
+    let p = first(p, Fault::Form, !is_pair(c, m, t));
+    let p = first(p, Fault::Range, t < c.tables);
+    let p = first(p, Fault::Range, a < c.members);
+    first(p, Fault::Range, b < c.members)
 }
 
 // The member of the first column, by word and bit of a table with two columns.
@@ -213,17 +212,17 @@ fn is_pair(c: Context, m: u64, t: usize) -> bool
 }
 
 // The number that a T line of a table with two columns is refused with, or 0.
-fn pair_number(c: Context, t: usize, a: usize, b: usize, d: usize, m: u64, reaches: bool) -> usize
-    ensures { result ≡ number_from 0 (context_tests c m reaches (PairBit t a b d)) }
+fn pair_fault(c: Context, t: usize, a: usize, b: usize, d: usize, m: u64, reaches: bool) -> Result<(), Fault>
+    ensures { found result ≡ number_from 0 (context_tests c m reaches (PairBit t a b d)) }
 {
-    let p = first(0, 1, c.stored);
-    let p = first(p, 1, is_complete(c));
-    let p = first(p, 1, c.phase <= 7);
-    let p = first(p, 1, is_rising_pair(c, t, a, b, d));
-    let p = first(p, 1, is_pair(c, m, t));
-    let p = first(p, 2, a < c.members);
-    let p = first(p, 2, b < c.members);
-    first(p, 2, d < c.members)
+    let p = first(Ok(()), Fault::Form, c.stored);
+    let p = first(p, Fault::Form, is_complete(c));
+    let p = first(p, Fault::Form, c.phase <= 7);
+    let p = first(p, Fault::Form, is_rising_pair(c, t, a, b, d));
+    let p = first(p, Fault::Form, is_pair(c, m, t));
+    let p = first(p, Fault::Range, a < c.members);
+    let p = first(p, Fault::Range, b < c.members);
+    first(p, Fault::Range, d < c.members)
 }
 
 // The event that a V line names: granted, or denied.
@@ -233,44 +232,44 @@ fn named(j: usize) -> usize
     if j < EVENTS { j } else { j - EVENTS }
 }
 
-// The number that a V line is refused with, or 0.
-fn event_number(c: Context, j: usize, u: usize, v: usize, m: u64, reaches: bool) -> usize
-    ensures { result ≡ number_from 0 (context_tests c m reaches (EventEdge j u v)) }
+// The first fault of a V line.
+fn event_fault(c: Context, j: usize, u: usize, v: usize, m: u64, reaches: bool) -> Result<(), Fault>
+    ensures { found result ≡ number_from 0 (context_tests c m reaches (EventEdge j u v)) }
 {
-    let p = first(0, 1, c.stored);
-    let p = first(p, 1, is_complete(c));
-    let p = first(p, 1, c.phase <= 7);
-    let p = first(p, 2, named(j) < c.events);
-    let p = first(p, 2, u < c.members);
-    first(p, 2, v < c.members)
+    let p = first(Ok(()), Fault::Form, c.stored);
+    let p = first(p, Fault::Form, is_complete(c));
+    let p = first(p, Fault::Form, c.phase <= 7);
+    let p = first(p, Fault::Range, named(j) < c.events);
+    let p = first(p, Fault::Range, u < c.members);
+    first(p, Fault::Range, v < c.members)
 }
 
-// The number that a K line is refused with, or 0.
-fn mark_number(c: Context, j: usize, m: u64, reaches: bool) -> usize
-    ensures { result ≡ number_from 0 (context_tests c m reaches (Mark j)) }
+// The first fault of a K line.
+fn mark_fault(c: Context, j: usize, m: u64, reaches: bool) -> Result<(), Fault>
+    ensures { found result ≡ number_from 0 (context_tests c m reaches (Mark j)) }
 {
-    let p = first(0, 1, is_complete(c));
-    let p = first(p, 1, c.phase <= 4);
-    let p = first(p, 1, c.marks <= j);
-    first(p, 2, j < c.events)
+    let p = first(Ok(()), Fault::Form, is_complete(c));
+    let p = first(p, Fault::Form, c.phase <= 4);
+    let p = first(p, Fault::Form, c.marks <= j);
+    first(p, Fault::Range, j < c.events)
 }
 
-// The number that a line is refused with, the lowest; 0 where it passes.
-pub(crate) fn number_of(c: Context, line: Line, m: u64, reaches: bool) -> usize
-    ensures { result ≡ number_from 0 (context_tests c m reaches line) }
+// The first fault of a line, which has the lowest number.
+pub(crate) fn fault_of(c: Context, line: Line, m: u64, reaches: bool) -> Result<(), Fault>
+    ensures { found result ≡ number_from 0 (context_tests c m reaches line) }
 {
     match line {
-        Line::Members(n) => members_number(c, n, m, reaches),
-        Line::Labels(r, e) => labels_number(c, r, e, m, reaches),
-        Line::Entry(n, o, a, b, d) => entry_number(c, n, o, a, b, d, m, reaches),
-        Line::Policy(j, n) => policy_number(c, j, n, m, reaches),
-        Line::Effect(j, a, k, d) => effect_number(c, j, a, k, d, m, reaches),
-        Line::Edge(k, a, b) => edge_number(c, k, a, b, m, reaches),
-        Line::Form(n) => form_number(c, n, m, reaches),
-        Line::TableBit(t, a, b) => bit_number(c, t, a, b, m, reaches),
-        Line::PairBit(t, a, b, d) => pair_number(c, t, a, b, d, m, reaches),
-        Line::EventEdge(j, u, v) => event_number(c, j, u, v, m, reaches),
-        Line::Mark(j) => mark_number(c, j, m, reaches),
-        Line::Malformed => 1,
+        Line::Members(n) => members_fault(c, n, m, reaches),
+        Line::Labels(r, e) => labels_fault(c, r, e, m, reaches),
+        Line::Entry(n, o, a, b, d) => entry_fault(c, n, o, a, b, d, m, reaches),
+        Line::Policy(j, n) => policy_fault(c, j, n, m, reaches),
+        Line::Effect(j, a, k, d) => effect_fault(c, j, a, k, d, m, reaches),
+        Line::Edge(k, a, b) => edge_fault(c, k, a, b, m, reaches),
+        Line::Form(n) => form_fault(c, n, m, reaches),
+        Line::TableBit(t, a, b) => bit_fault(c, t, a, b, m, reaches),
+        Line::PairBit(t, a, b, d) => pair_fault(c, t, a, b, d, m, reaches),
+        Line::EventEdge(j, u, v) => event_fault(c, j, u, v, m, reaches),
+        Line::Mark(j) => mark_fault(c, j, m, reaches),
+        Line::Malformed => Err(Fault::Form),
     }
 }

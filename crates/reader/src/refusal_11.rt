@@ -9,7 +9,7 @@ use file::line::{Line, parse_line};
 use memory::layout::{BLOCK, TABLES_AT, entries, members, op_of};
 use memory::limits::TABLES;
 use memory::table_index::{is_past, set_at};
-use memory::{Outcome, check};
+use memory::check;
 use sets::mask;
 
 // Past-time entry number t; 0 where there is none.
@@ -71,7 +71,7 @@ pub(crate) fn partly_at(text: &[u8], terms: &[u16], state: &[u64], masks: &[u64]
     ensures { MatchOption result (Found text.now terms.now state.now masks.now 0) (λ n. (0 < n) × Found text.now terms.now state.now masks.now n) }
 {
     match check(terms, state) {
-        Outcome::Done => None,
-        Outcome::Refused(_, _) => find_partly(text, terms, state, masks),
+        Ok(()) => None,
+        Err(_) => find_partly(text, terms, state, masks),
     }
 }

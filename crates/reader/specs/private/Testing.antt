@@ -1,5 +1,5 @@
 -- The tests of a line, on numbers: against the counters in place of what the lines have said.
-use Rattle.std.specs.Prelude.{ℕ, ◌+◌, ◌*◌, ◌<◌, ◌≡◌, Bool, true, false, cond, not, ◌&&◌, ◌||◌, List, [], ◌∷◌, eqb, ltb, leb, get_or}
+use Rattle.std.specs.Prelude.{ℕ, ◌+◌, ◌*◌, ◌<◌, ◌≡◌, Bool, true, false, cond, not, ◌&&◌, ◌||◌, List, [], ◌∷◌, eqb, ltb, leb, get_or, Result, Ok, Err}
 use Rattle.sets.specs.Sets.{bit}
 use Rattle.theory.specs.Formula.{Formula, node, free, first_operand, second_operand, third_operand, is_past, reach_operator}
 use Rattle.theory.specs.Formula.Operand.{variable, entry}
@@ -7,6 +7,8 @@ use Rattle.theory.specs.Columns.{pair_member, pair_first, pair_last}
 use Rattle.theory.specs.Fit.{◌⇒◌}
 use Rattle.theory.specs.Limits.{max_members, max_relations, max_events, max_entries, max_tables, max_effects}
 use Rattle.memory.specs.Layout.{terms_of}
+use Rattle.memory.specs.declared.refusal.Fault.{Fault}
+use Rattle.memory.specs.Refusal.{fault_number}
 use Rattle.memory.specs.TableIndex.{rest_of, set_fits, reach_sets}
 use Rattle.theory.specs.Terms.{past_entry}
 use Rattle.file.specs.File.{event_named}
@@ -17,6 +19,11 @@ use Rattle.reader.specs.declared.step.Context.{Context}
 use Rattle.reader.specs.private.Stepping.{is_complete, slot}
 
 -- ---- the number of the first test that fails, or 0
+
+-- The number of what is found wrong; 0 where nothing is.
+abbrev pub found : Result Unit Fault → ℕ
+found (Ok u) = 0
+found (Err f) = fault_number f
 
 -- A number k from the tests before t: it stays, and where it is 0, t gives its own if it fails.
 unfoldable pub refused_by : ℕ → Test → ℕ
