@@ -119,6 +119,7 @@ fn old_classes(
 }
 
 // Fills in the classes of the first count entries of terms among those with the first limit keys, which are marked.
+// Not joined with old_classes, where keys and marks grow at each entry, and the limit with them.
 fn new_classes(
     terms: &[u16],
     keys: &[u64],

@@ -51,7 +51,11 @@ fn set_of(op: usize, a: usize, f: u64, g: u64, h: u64) -> u64
     ensures { result ≡ set_of op a f g h }
 {
     let s = table_index::free_of(op, a, f, g, h);
-    if table_index::is_past(op) && s == 0 { 1 } else { s }
+    if table_index::is_past(op) && s == 0 {
+        1
+    } else {
+        s
+    }
 }
 
 // Fills in the sets of variables that the entries read.
@@ -107,7 +111,11 @@ fn asked_of(n: u64, op: usize, one: bool, works: u64, rows: u64) -> u64
     if table_index::is_past(op) {
         return if one { n } else { n * n };
     }
-    if op < OUT || op == BIND { rows } else { times(n, works) }
+    if op < OUT || op == BIND {
+        rows
+    } else {
+        times(n, works)
+    }
 }
 
 // Adds x to word k, if there is one.
@@ -143,7 +151,12 @@ fn add_to_operands(terms: &[u16], p: usize, words: &mut [u64; ENTRIES], x: u64)
 {
     let kinds = operands_of(layout::op_of(terms, p));
     add_if(is_entry(kinds.first), words, layout::first_of(terms, p), x);
-    add_if(is_entry(kinds.second), words, layout::second_of(terms, p), x);
+    add_if(
+        is_entry(kinds.second),
+        words,
+        layout::second_of(terms, p),
+        x,
+    );
     add_if(is_entry(kinds.third), words, layout::third_of(terms, p), x);
 }
 

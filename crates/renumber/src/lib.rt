@@ -47,7 +47,7 @@ fn fill_numbers(numbers: &[u8], all: &mut [u8])
     }
 }
 
-// The new number of m in such a list.
+// The new number of m in such a list, with no test: new_number's would be made for each row.
 pub(crate) fn number_of(all: &[u8], m: usize) -> usize
     requires { (length all.now ≡ block_words) × (m < block_words) }
     ensures value { result ≡ new_number all.now m }

@@ -17,6 +17,6 @@ returns-else-is_past c =
     let f = c.free_of-s in
     sym (set_is f.result _ _ _ _ _ (omega arith) f.ensures
     ∙ elim c.else-is_past.branch [
-      else-is_past-via-then-is_past+else-s-eq0 w ↦ rw (ne_eqb f.result 0 w.if-s-eq0.false, and-false (is_past c.args.op))
+      | else-is_past-via-then-is_past+else-s-eq0 w ↦ rw (ne_eqb f.result 0 w.if-s-eq0.false, and-false (is_past c.args.op))
       | else-is_past-via-else-is_past w ↦ let p : is_past c.args.op ≡ false = sym c.is_past.ensures ∙ w.if-is_past.false in rw p
     ])

@@ -19,10 +19,10 @@ loop-b-preserved c =
     let more = placing.moved_more (new_number x.all.now) c.requires.bytes.1 x.two x.state.now x.second.now l.second (take (k + 64 - k) (drop k x.state.now)) in
     let same = rows.part_word x.state.now k (omega (arith, long.0)) in
     elim c.if-has.branch [
-      then-has w ↦ rw w.second-is
-      (more _ l.b k (omega arith) refl long.1 same w.move_table.ensures.long
-      (λ one. absurd (not_both _ (sym c.has.ensures ∙ w.if-has.true) one)) (λ _. w.move_table.ensures) l.invariant)
+      | then-has w ↦ rw w.second-is
+          (more _ l.b k (omega arith) refl long.1 same w.move_table.ensures.long
+          (λ one. absurd (not_both _ (sym c.has.ensures ∙ w.if-has.true) one)) (λ _. w.move_table.ensures) l.invariant)
       | else-has w ↦ rw w.second-is
-      (more _ l.b k (omega arith) refl long.1 same w.move_rows.ensures.long
-      (λ _. w.move_rows.ensures) (λ two. absurd (not_both _ two (sym c.has.ensures ∙ w.if-has.false))) l.invariant)
+          (more _ l.b k (omega arith) refl long.1 same w.move_rows.ensures.long
+          (λ _. w.move_rows.ensures) (λ two. absurd (not_both _ two (sym c.has.ensures ∙ w.if-has.false))) l.invariant)
     ]

@@ -16,7 +16,7 @@ loop-a-preserved c =
     let x = c.args in
     let far = c.requires.bytes.1 in
     elim c.if-w-ne0.branch [
-      then-w-ne0 w ↦ rw w.into-is
-      (placing.placed_more (new_number x.all.now) far x.from.now l.into l.a (omega arith) l.invariant _ _ c.number_of-k.ensures.value (w.spread-moved.ensures (new_number x.all.now) c.requires.bytes.0))
+      | then-w-ne0 w ↦ rw w.into-is
+          (placing.placed_more (new_number x.all.now) far x.from.now l.into l.a (omega arith) l.invariant _ _ c.number_of-k.ensures.value (w.spread-moved.ensures (new_number x.all.now) c.requires.bytes.0))
       | else-w-ne0 w ↦ rw w.into-is (placing.placed_skip (new_number x.all.now) far x.from.now l.into l.a (omega arith) l.invariant w.if-w-ne0.false)
     ]

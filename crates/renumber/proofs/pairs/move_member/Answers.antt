@@ -19,9 +19,9 @@ loop-j-preserved c =
     let ws : ℕ → ℕ = λ a. get_or x.from.now a 0 in
     let e : 16 * x.a + 4 * l.j + 4 ≡ 16 * x.a + 4 * (l.j + 1) = omega arith in
     elim c.if-from-a-ne0.branch [
-      then-from-a-ne0 w ↦ rw w.into-is (subst (Gone p ws _) e w.move_word.ensures)
+      | then-from-a-ne0 w ↦ rw w.into-is (subst (Gone p ws _) e w.move_word.ensures)
       | else-from-a-ne0 w ↦ rw w.into-is
-      (rows.gone_word p c.requires.bytes.1 ws l.into (4 * x.a + l.j) _ _ (omega arith) (omega arith) w.if-from-a-ne0.false l.invariant)
+          (rows.gone_word p c.requires.bytes.1 ws l.into (4 * x.a + l.j) _ _ (omega arith) (omega arith) w.if-from-a-ne0.false l.invariant)
     ]
 
 pub returns : goal.returns
