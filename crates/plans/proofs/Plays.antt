@@ -7,7 +7,7 @@ use mathlib.Core.List.{List, ◌++◌, append-nil}
 use mathlib.Core.Bool.{Bool, true, false, cond, ◌&&◌, ◌||◌}
 use lib.Dec.{eqb, ltb}
 use lib.ListN.{length, get_or, take, drop, set, replicate, length-append, length-drop, length-set, drop_of_length-le}
-use lib.Seq.{length-take-le, take_at, drop_at, take-add, take-take, take-set-le, drop-set-add, get_or-drop}
+use lib.Seq.{length-take-le, take_all, take_at, drop_at, drop-append-le, take-add, take-take, take-set-le, drop-set-add, get_or-drop}
 use borrow.Author.Tests.{lt-ltb, ltb-true, ne_eqb}
 use borrow.Rule.Slice.PartMut.{put_mid}
 use Rattle.sets.specs.Sets.{all_below}
@@ -76,38 +76,26 @@ game_cleared w zs l e =
     ∙ ap (λ (z : List ℕ). replicate game_words 0 ++ z) (drop_of_length-le w {i = game_words} (omega (arith, l)))
     ∙ append-nil (replicate game_words 0)
 
--- A state copied behind itself: i words are.
-pub record Copying (at i : ℕ) (w w' : List ℕ) : Type 0 where
-  pub spared : Spared (at + state_words) w w'
-  pub done : take i (drop (at + state_words) w') ≡ take i (drop at w)
-
-pub copying : (at : ℕ) (w : List ℕ) → Copying at 0 w w
-copying at w = record { spared = spared_none (at + state_words) w; done = refl }
-
-pub copying_more : (at i : ℕ) (w w' : List ℕ) → i < state_words → at + state_words + state_words ≤ length w → Copying at i w w' →
-    Copying at (i + 1) w (set w' (at + state_words + i) (get_or w' (at + i) 0))
-copying_more at i w w' l h c =
-    let to : ℕ = at + state_words in
-    let x : ℕ = get_or w' (at + i) 0 in
-    let read : get_or w' (at + i) 0 ≡ get_or (drop at w) i 0 = same in
+-- The state at the end of s is copied behind itself.
+pub copied_on : (at : ℕ) (w s b c : List ℕ) → w ≡ s ++ b → length s ≡ at + state_words → at + state_words + state_words ≤ length w → c ≡ take state_words (drop at s) →
+    Placed (at + state_words) (standing at w) w (s ++ (c ++ drop state_words b))
+copied_on at w s b c e ls h q =
+    let rest : List ℕ = drop state_words b in
+    let lw : length w ≡ length s + length b = ap length e ∙ length-append s b in
+    let ld : length (drop at s) ≡ state_words = length-drop at s ∙ omega arith in
+    let lc : length c ≡ state_words = ap length q ∙ length-take-le state_words (drop at s) (omega arith) in
+    let same : standing at w ≡ take state_words (drop at s) =
+    ap (λ (l : List ℕ). take state_words (drop at l)) e
+    ∙ ap (take state_words) (drop-append-le at s b (omega arith))
+    ∙ take_at (drop at s) b state_words ld
+    ∙ sym (take_all state_words (drop at s) (omega arith)) in
     record {
       spared = record {
-        long = length-set w' (to + i) x ∙ c.spared.long;
-        before = take-set-le to w' (to + i) x (omega arith) ∙ c.spared.before;
+        long = length-append s (c ++ rest) ∙ omega (arith, length-append c rest, length-drop state_words b);
+        before = take_at s (c ++ rest) (at + state_words) ls ∙ sym (ap (take (at + state_words)) e ∙ take_at s b (at + state_words) ls);
       };
-      done = ap (take (i + 1)) (drop-set-add to w' i x) ∙ ap (λ y. take (i + 1) (set (drop to w') i y)) read
-          ∙ copied i (drop to w') (drop at w) (rw (length-drop to w') (omega (arith, c.spared.long))) (rw (length-drop at w) (omega arith)) c.done;
+      here = ap (take state_words) (drop_at s (c ++ rest) (at + state_words) ls) ∙ take_at c rest state_words lc ∙ q ∙ sym same;
     }
-  where
-    same : get_or w' (at + i) 0 ≡ get_or (drop at w) i 0
-    same =
-        sym (get_or-drop at w' i 0)
-        ∙ sym (lib.Seq.get_or-take state_words (drop at w') i 0 l)
-        ∙ ap (λ z. get_or z i 0) (stand_spared at w w' (omega arith) c.spared)
-        ∙ lib.Seq.get_or-take state_words (drop at w) i 0 l
-
-pub copying_all : (at i : ℕ) (w w' : List ℕ) → i ≡ state_words → Copying at i w w' → Placed (at + state_words) (standing at w) w w'
-copying_all at i w w' e c = record { spared = c.spared; here = subst (λ n. take n (drop (at + state_words) w') ≡ take n (drop at w)) e c.done }
 
 -- ---- what a step leaves
 

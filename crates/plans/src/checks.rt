@@ -35,12 +35,9 @@ fn plan_named(terms: &[u16], plan: &[usize]) -> bool
 {
     let e = layout::events(terms);
     let n = layout::members(terms);
-    let count = plan.len() / 2;
     let mut ok = true;
-    let mut k = 0;
-    while k < count {
+    for k in 0..plan.len() / 2 {
         ok = ((number_at(plan, 2 * k) < e) & (number_at(plan, 2 * k + 1) < n)) & ok;
-        k += 1;
     }
     ok
 }

@@ -28,11 +28,7 @@ fn copy_words(part: &mut [u64], from: &[u64])
     requires { length part.old ≡ length from.now }
     ensures { part.new ≡ from.now }
 {
-    let mut i: usize = 0;
-    while i < from.len() {
-        part[i] = from[i];
-        i += 1;
-    }
+    part.copy_from_slice(from);
 }
 
 // Copies the state that stands from a place on behind itself.
@@ -40,11 +36,8 @@ fn copy_on(words: &mut [u64], at: usize)
     requires { at + state_words + state_words ≤ length words.old }
     ensures { Placed (at + state_words) (standing at words.old) words.old words.new }
 {
-    let mut i: usize = 0;
-    while i < STATE {
-        words[at + STATE + i] = words[at + i];
-        i += 1;
-    }
+    let (standing, behind) = words.split_at_mut(at + STATE);
+    behind[0..STATE].copy_from_slice(&standing[at..at + STATE]);
 }
 
 // Whether an entry is told to hold.
