@@ -11,8 +11,7 @@ use Rattle.decide.proofs.tables.since_pairs.Goals as goal
 pub pair_rows-requires-clause-operand_bound : goal.pair_rows-requires-clause-operand_bound
 pair_rows-requires-clause-operand_bound c =
     let l = second_lower ((good c.args.terms.now c.requires.ready.good).entry c.args.entry c.requires.bound.0) (rw c.requires.bound.1) in
-    let two = ap (λ (p : ℕ). not (eqb (index_first p) (index_last p))) c.word-p.ensures.value ∙ c.requires.value in
-    (
+    let two = ap (λ (p : ℕ). not (eqb (index_first p) (index_last p))) c.word-p.ensures.value ∙ c.requires.value in (
       omega arith,
       requests.pair_few c.requires.ready c.requires.bound.0 c.requires.bound.1 refl c.word-p.result c.word-p.ensures.value two,
       omega (arith, c.first_of-x.ensures),
@@ -29,8 +28,7 @@ pair_rows-requires-clause-memo c =
 pub pair_rows-requires-2-clause-operand_bound : goal.pair_rows-requires-2-clause-operand_bound
 pair_rows-requires-2-clause-operand_bound c =
     let l = first_lower ((good c.args.terms.now c.requires.ready.good).entry c.args.entry c.requires.bound.0) (rw c.requires.bound.1) in
-    let two = ap (λ (p : ℕ). not (eqb (index_first p) (index_last p))) c.word-p.ensures.value ∙ c.requires.value in
-    (
+    let two = ap (λ (p : ℕ). not (eqb (index_first p) (index_last p))) c.word-p.ensures.value ∙ c.requires.value in (
       omega arith,
       requests.pair_few c.requires.ready c.requires.bound.0 c.requires.bound.1 refl c.word-p.result c.word-p.ensures.value two,
       omega (arith, c.first_of-x.ensures),
