@@ -81,7 +81,7 @@ fn claim(slot: &mut [u64], vars: &[u8; VARIABLES], z: usize)
     slot[VALUES + 1] = packed(vars, BYTES);
 }
 
-// What variable z stands for; 0 where z is none.
+// What variable z stands for; 0 where z is none. (decide::member_of asks for a variable, and has no test.)
 fn standing(vars: [u8; VARIABLES], z: usize) -> usize
     ensures { result ≡ assigned vars z }
 {

@@ -59,25 +59,16 @@ fn left_after(terms: &[u16], entry: usize, bound: bool, many: bool, left: usize)
 
 // Whether there are few entries, and one bind at most. (Words of entries that there are not are 0, which is no bind.)
 fn are_few(terms: &[u16]) -> bool {
-    if SMALL <= layout::entries(terms) {
-        return false;
-    }
-    let mut once = false;
-    let mut twice = false;
-    for i in 0..SMALL {
-        let bind = layout::op_of(terms, i) == BIND;
-        twice |= once & bind;
-        once |= bind;
-    }
-    !twice
+    layout::entries(terms) < SMALL
+        && (0..SMALL)
+            .filter(|i| layout::op_of(terms, *i) == BIND)
+            .count()
+            < 2
 }
 
 // Whether an entry is decided without a memo.
 pub fn is_brief(terms: &[u16], entry: usize) -> bool {
-    if are_few(terms) {
-        return true;
-    }
-    0 < left_after(terms, entry, false, false, FEW)
+    are_few(terms) || 0 < left_after(terms, entry, false, false, FEW)
 }
 
 // What is left of so many when the operands of entry n, if that is a past-time one, are decided without a memo.
