@@ -20,5 +20,13 @@ pub fn pieces(s: &[u8], c: u8) -> usize
 pub fn piece(s: &[u8], c: u8, k: usize) -> &[u8]
     ensures { result.now ≡ get_or (split c s.now) k [] }
 {
-    s.split(|b| *b == c).nth(k).unwrap_or(&[])
+    let mut t = s;
+    for _ in 0..k {
+        let n = find(t, c);
+        if t.len() <= n {
+            return &[];
+        }
+        t = &t[n + 1..];
+    }
+    &t[..find(t, c)]
 }
