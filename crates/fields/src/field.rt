@@ -13,7 +13,13 @@ pub fn find(s: &[u8], c: u8) -> usize
 pub fn pieces(s: &[u8], c: u8) -> usize
     ensures { result ≡ length (split c s.now) }
 {
-    1 + s.iter().filter(|b| **b == c).count()
+    let mut n = 1;
+    for b in s {
+        if *b == c {
+            n += 1;
+        }
+    }
+    n
 }
 
 // Field k, as the part of s that it occupies; empty where there are fewer.
