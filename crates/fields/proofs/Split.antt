@@ -1,16 +1,17 @@
 -- Laws of fields and lines: how a text parts at its first separator, and that putting the
 -- parts together gives the text back.
-use Prim.Native.Nat.{ℕ, suc, ◌+◌, ◌-◌, ◌≤◌, ◌<◌, zero-le, suc-le-suc}
+use Prim.Native.Nat.{ℕ, zero, suc, ◌+◌, ◌-◌, ◌≤◌, ◌<◌, zero-le, suc-le-suc}
 use mathlib.Core.Path.{◌≡◌, refl, sym, ap, ap₂, ◌∙◌}
 use mathlib.Core.Logic.{⊎_elim}
 use mathlib.Core.List.{List, [], ◌∷◌}
 use mathlib.Core.Bool.{true, false, and-false, false≢true}
 use native.Mathlib.Omega.{arith}
 use native.Mathlib.Nat.{le_of_eq}
-use lib.Dec.{eqb}
-use lib.ListN.{length, take, drop, length-drop}
-use lib.Seq.{take_all}
-use borrow.Author.Tests.{eqb-true, eq-eqb}
+use native.Mathlib.Numerals.{add-one}
+use lib.Dec.{eqb, ltb}
+use lib.ListN.{length, get_or, take, drop, length-drop}
+use lib.Seq.{take_all, take-length}
+use borrow.Author.Tests.{eqb-true, eq-eqb, ltb-true, ltb-false}
 use Rattle.sets.proofs.Finite.{true_or_false, and_left, and_right}
 use Rattle.fields.specs.Split.{push, split, join, Lines, push_line, lines, unlines, place, alike}
 use Rattle.fields.specs.Split.Lines.{done, cut, line}
@@ -156,3 +157,23 @@ part_rest a s = take_all (length s - a) (drop a s) (le_of_eq (length-drop a s))
 
 pub rest_shorter : (n : ℕ) (t : List ℕ) → length (take (length t - (n + 1)) (drop (n + 1) t)) ≡ length t - (n + 1)
 rest_shorter n t = rw (part_rest (n + 1) t) (length-drop (n + 1) t)
+
+pub piece_none : (c : ℕ) (t : List ℕ) (n k : ℕ) → n ≡ place c t → length t ≤ n → 0 < k → get_or (split c t) k [] ≡ []
+piece_none c t n zero e h p = absurd (omega arith)
+piece_none c t n (suc k) e h p = rw (split_last c t (omega (arith, place_le c t))) refl
+
+pub piece_first : (c : ℕ) (t : List ℕ) (n k : ℕ) → n ≡ place c t → k ≤ 0 → get_or (split c t) k [] ≡ take n t
+piece_first c t n (suc k) e z = absurd (omega arith)
+piece_first c t n zero e z =
+    ⊎_elim
+    (λ h. rw (e, split_here c t (ltb-true (place c t) (length t) h)) refl)
+    (λ h. let k : place c t ≡ length t = omega (arith, place_le c t, ltb-false (place c t) (length t) h) in
+    rw (split_last c t k, e, k) (sym (take-length t)))
+    (true_or_false (ltb (place c t) (length t)))
+
+pub piece_next : (c : ℕ) (t : List ℕ) (n k : ℕ) → n ≡ place c t → n < length t → 0 < k
+    → get_or (split c t) k [] ≡ get_or (split c (take (length t - (n + 1)) (drop (n + 1) t))) (k - 1) []
+piece_next c t n zero e h p = absurd (omega arith)
+piece_next c t n (suc k) e h p =
+    let q : suc k - 1 ≡ k = omega arith in
+    rw (part_rest (n + 1) t, add-one n, q, e, split_here c t (omega arith)) refl

@@ -13,12 +13,26 @@ pub fn find(s: &[u8], c: u8) -> usize
 pub fn pieces(s: &[u8], c: u8) -> usize
     ensures { result ≡ length (split c s.now) }
 {
-    1 + s.iter().filter(|b| **b == c).count()
+    let mut n = 1;
+    for b in s {
+        if *b == c {
+            n += 1;
+        }
+    }
+    n
 }
 
 // Field k, as the part of s that it occupies; empty where there are fewer.
 pub fn piece(s: &[u8], c: u8, k: usize) -> &[u8]
     ensures { result.now ≡ get_or (split c s.now) k [] }
 {
-    s.split(|b| *b == c).nth(k).unwrap_or(&[])
+    let mut t = s;
+    for _ in 0..k {
+        let n = find(t, c);
+        if t.len() <= n {
+            return &[];
+        }
+        t = &t[n + 1..];
+    }
+    &t[..find(t, c)]
 }

@@ -10,8 +10,8 @@ use Rattle.fields.proofs.number.read_number.Goals.{then-is_empty-via-then-is_emp
 pub returns-then-is_empty : goal.returns-then-is_empty
 returns-then-is_empty c =
     elim c.then-is_empty.branch [
-      then-is_empty-via-then-is_empty w ↦ sym (number_empty c.args.f.now (eqb-true _ 0 (sym w.if-is_empty.ensures)))
-    | then-is_empty-via-else-is_empty+then-f-gt-DIGITS w ↦ sym (number_long c.args.f.now (omega arith))
+      | then-is_empty-via-then-is_empty w ↦ sym (number_empty c.args.f.now (eqb-true _ 0 (sym w.if-is_empty.ensures)))
+      | then-is_empty-via-else-is_empty+then-f-gt-DIGITS w ↦ sym (number_long c.args.f.now (omega arith))
     ]
 
 pub loop-d-init : goal.loop-d-init
@@ -30,10 +30,13 @@ loop-d-preserved c =
     let f = c.args.f.now in
     let l = c.loop-d in
     let e = sym c.is_ascii_digit.ensures.value ∙ c.if-not-is_ascii_digit.false in
-    rw c.from.ensures
-    ( ten_more l.v (get_or f l.d-index 0) l.d-index l.invariant.0 c.if-not-is_ascii_digit.ensures.cases.1
-    , ( sym (digit_next f l.d-index (omega arith) (digit_std _ ∙ e)) ∙ l.invariant.1.0
-      , sym (value_next f l.d-index (omega arith) l.v) ∙ l.invariant.1.1))
+    rw c.from.ensures (
+      ten_more l.v (get_or f l.d-index 0) l.d-index l.invariant.0 c.if-not-is_ascii_digit.ensures.cases.1,
+      (
+        sym (digit_next f l.d-index (omega arith) (digit_std _ ∙ e)) ∙ l.invariant.1.0,
+        sym (value_next f l.d-index (omega arith) l.v) ∙ l.invariant.1.1,
+      ),
+    )
 
 pub returns : goal.returns
 returns c =
