@@ -7,7 +7,7 @@ ghost use Rattle.file.specs.Writing.{printed_all};
 ghost use Rattle.theory.specs.Terms.{Terms};
 ghost use Rattle.writer.specs.private.Kinds.{Paired, edge_lines, table_lines, bit_of, row_of, rows_of};
 
-use crate::kind;
+use crate::kind::Kind;
 use crate::print::{put_quad, put_triple};
 use crate::skip::skip_row;
 use memory::layout::{BLOCK, EVENT_AT, TABLES_AT};
@@ -28,20 +28,20 @@ fn put_bit(out: &mut [u8], at: usize, table: bool, pairs: u64, w: u64, i: usize,
         return at;
     }
     if !table {
-        return put_triple(out, at, kind::EDGE, i / BLOCK, i % BLOCK, b);
+        return put_triple(out, at, Kind::Edge, i / BLOCK, i % BLOCK, b);
     }
     if has(pairs, i / BLOCK) {
         return put_quad(
             out,
             at,
-            kind::TABLE_BIT,
+            Kind::Table,
             i / BLOCK,
             i % BLOCK / 4,
             4 * (i % BLOCK % 4) + b / 16,
             b % 16,
         );
     }
-    put_triple(out, at, kind::TABLE_BIT, i / BLOCK, i % BLOCK, b)
+    put_triple(out, at, Kind::Table, i / BLOCK, i % BLOCK, b)
 }
 
 // Puts the lines of word i, which is w, bit by bit.

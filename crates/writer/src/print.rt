@@ -3,11 +3,12 @@ ghost use Rattle.std.specs.Prelude.{[], ◌∷◌, ◌++◌, ◌+◌, ◌^◌, �
 ghost use Rattle.fields.specs.Split.{join};
 ghost use Rattle.fields.specs.Number.{digits};
 ghost use Rattle.fields.specs.private.Put.{Put};
+ghost use Rattle.writer.specs.private.Kind.{kind_number};
 ghost use Rattle.file.specs.Words.{operator_words, action_words, direction_words, kind_words};
 ghost use Rattle.file.specs.Line.{printed};
 ghost use Rattle.file.specs.declared.line.Line.TheVariants.{Entry, Effect};
 
-use crate::kind;
+use crate::kind::Kind;
 use crate::vocabulary::{put_action, put_direction, put_kind, put_operator};
 use fields::emit::{put_byte, put_decimal};
 use theory::operators::{MANY, REACH};
@@ -53,9 +54,9 @@ fn put_direction_field(out: &mut [u8], at: usize, direction: usize) -> usize
 }
 
 // Puts the word of a line kind, a tab and the digits of n: so every line begins.
-fn put_head(out: &mut [u8], at: usize, kind: usize, n: usize) -> usize
+fn put_head(out: &mut [u8], at: usize, kind: Kind, n: usize) -> usize
     requires { (n < 100000) × (at < 2 ^ 59) }
-    ensures put { Put out.old out.new at result (join 9 (get_or kind_words kind [] ∷ digits n ∷ [])) }
+    ensures put { Put out.old out.new at result (join 9 (get_or kind_words (kind_number kind) [] ∷ digits n ∷ [])) }
     ensures upper_bound { result ≤ at + 7 }
 {
     let next = put_kind(out, at, kind);
@@ -63,9 +64,9 @@ fn put_head(out: &mut [u8], at: usize, kind: usize, n: usize) -> usize
 }
 
 // Puts a line of a kind and one number: M, S and K. It has at most 8 bytes.
-pub(crate) fn put_single(out: &mut [u8], at: usize, kind: usize, n: usize) -> usize
+pub(crate) fn put_single(out: &mut [u8], at: usize, kind: Kind, n: usize) -> usize
     requires { (n < 100000) × (at < 2 ^ 58) }
-    ensures put { Put out.old out.new at result (join 9 (get_or kind_words kind [] ∷ digits n ∷ []) ++ (10 ∷ [])) }
+    ensures put { Put out.old out.new at result (join 9 (get_or kind_words (kind_number kind) [] ∷ digits n ∷ []) ++ (10 ∷ [])) }
     ensures upper_bound { result ≤ at + 8 }
 {
     let first = put_head(out, at, kind, n);
@@ -73,9 +74,9 @@ pub(crate) fn put_single(out: &mut [u8], at: usize, kind: usize, n: usize) -> us
 }
 
 // Puts a line of a kind and two numbers: L and P.
-pub(crate) fn put_pair(out: &mut [u8], at: usize, kind: usize, n: usize, a: usize) -> usize
+pub(crate) fn put_pair(out: &mut [u8], at: usize, kind: Kind, n: usize, a: usize) -> usize
     requires { (n < 100000) × (a < 100000) × (at < 2 ^ 58) }
-    ensures put { Put out.old out.new at result (join 9 (get_or kind_words kind [] ∷ digits n ∷ digits a ∷ []) ++ (10 ∷ [])) }
+    ensures put { Put out.old out.new at result (join 9 (get_or kind_words (kind_number kind) [] ∷ digits n ∷ digits a ∷ []) ++ (10 ∷ [])) }
     ensures upper_bound { result ≤ at + 32 }
 {
     let first = put_head(out, at, kind, n);
@@ -87,13 +88,13 @@ pub(crate) fn put_pair(out: &mut [u8], at: usize, kind: usize, n: usize, a: usiz
 pub(crate) fn put_triple(
     out: &mut [u8],
     at: usize,
-    kind: usize,
+    kind: Kind,
     n: usize,
     a: usize,
     b: usize,
 ) -> usize
     requires { (n < 100000) × (a < 100000) × (b < 100000) × (at < 2 ^ 58) }
-    ensures put { Put out.old out.new at result (join 9 (get_or kind_words kind [] ∷ digits n ∷ digits a ∷ digits b ∷ []) ++ (10 ∷ [])) }
+    ensures put { Put out.old out.new at result (join 9 (get_or kind_words (kind_number kind) [] ∷ digits n ∷ digits a ∷ digits b ∷ []) ++ (10 ∷ [])) }
     ensures upper_bound { result ≤ at + 32 }
 {
     let first = put_head(out, at, kind, n);
@@ -106,14 +107,14 @@ pub(crate) fn put_triple(
 pub(crate) fn put_quad(
     out: &mut [u8],
     at: usize,
-    kind: usize,
+    kind: Kind,
     n: usize,
     a: usize,
     b: usize,
     c: usize,
 ) -> usize
     requires { (n < 100000) × (a < 100000) × (b < 100000) × (c < 100000) × (at < 2 ^ 58) }
-    ensures put { Put out.old out.new at result (join 9 (get_or kind_words kind [] ∷ digits n ∷ digits a ∷ digits b ∷ digits c ∷ []) ++ (10 ∷ [])) }
+    ensures put { Put out.old out.new at result (join 9 (get_or kind_words (kind_number kind) [] ∷ digits n ∷ digits a ∷ digits b ∷ digits c ∷ []) ++ (10 ∷ [])) }
     ensures upper_bound { result ≤ at + 32 }
 {
     let first = put_head(out, at, kind, n);
@@ -137,7 +138,7 @@ pub(crate) fn put_entry(
     ensures put { Put out.old out.new at result (printed (Entry n op a b c) ++ (10 ∷ [])) }
     ensures upper_bound { result ≤ at + 32 }
 {
-    let first = put_head(out, at, kind::ENTRY, n);
+    let first = put_head(out, at, Kind::Entry, n);
     let second = put_operator_field(out, first, op);
     let third = put_field(out, second, a);
     let fourth = put_field(out, third, b);
@@ -154,7 +155,7 @@ pub(crate) fn put_effect(out: &mut [u8], at: usize, j: usize, c: usize, k: usize
     ensures put { Put out.old out.new at result (printed (Effect j c k d) ++ (10 ∷ [])) }
     ensures upper_bound { result ≤ at + 32 }
 {
-    let first = put_head(out, at, kind::EFFECT, j);
+    let first = put_head(out, at, Kind::Effect, j);
     let second = put_action_field(out, first, c);
     let third = put_field(out, second, k);
     let fourth = put_direction_field(out, third, d);

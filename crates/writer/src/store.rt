@@ -11,10 +11,10 @@ ghost use Rattle.writer.specs.private.Kinds.{Paired};
 ghost use Rattle.writer.specs.Write.{stored_text, writing_of, store_size_gives, store_gives, store_leaves};
 
 use crate::bits::put_tables;
+use crate::kind::Kind;
 use crate::pairs::pair_tables;
 use crate::print::{put_single, put_triple};
 use crate::write::put_text;
-use crate::kind;
 use memory::limits::ENTRIES;
 use memory::refusal::Refusal;
 use memory::{inspect, layout};
@@ -40,7 +40,7 @@ fn put_event(out: &mut [u8], at: usize, w: u64) -> usize
     put_triple(
         out,
         at,
-        kind::EVENT_EDGE,
+        Kind::Event,
         n / EVENT_UNIT,
         n / FROM_UNIT % FROM_UNIT,
         n % FROM_UNIT,
@@ -53,7 +53,7 @@ fn put_stored(terms: &[u16], state: &[u64], out: &mut [u8], at: usize, pairs: u6
     ensures put { Put out.old out.new at result (stored_text terms.now state.now) }
     ensures upper_bound { result ≤ at + 2 ^ 25 }
 {
-    let text = put_single(out, at, kind::FORM, FORM);
+    let text = put_single(out, at, Kind::Form, FORM);
     let tables = put_text(terms, state, out, text);
     let event = put_tables(state, out, tables, pairs);
     put_event(out, event, state[layout::EVENT_AT])

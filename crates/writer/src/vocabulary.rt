@@ -1,11 +1,10 @@
 // Words: the word of a number is put, each word a byte string of its own.
 ghost use Rattle.std.specs.Prelude.{[], ◌∷◌, ◌^◌, ◌<◌, get_or};
 ghost use Rattle.fields.specs.private.Put.{Put};
+ghost use Rattle.writer.specs.private.Kind.{kind_number};
 ghost use Rattle.file.specs.Words.{operator_words, action_words, direction_words, kind_words};
 
-use crate::kind::{
-    EDGE, EFFECT, ENTRY, EVENT_EDGE, FORM, LABELS, MARK, MEMBERS, POLICY, TABLE_BIT,
-};
+use crate::kind::Kind;
 use fields::emit::put_bytes;
 use theory::operators::{AT, BIND, IN, MANY, NOT, OR, OUT, PREV, REACH, SINCE, TOP, VAR};
 
@@ -55,22 +54,22 @@ pub(crate) fn put_direction(out: &mut [u8], at: usize, direction: usize) -> usiz
     }
 }
 
-// Puts the word of a line kind; nothing for what is no kind.
-pub(crate) fn put_kind(out: &mut [u8], at: usize, kind: usize) -> usize
+// Puts the word of a line kind.
+#[tactic(auto, unfolding(file::specs::Words::kind_words))]
+pub(crate) fn put_kind(out: &mut [u8], at: usize, kind: Kind) -> usize
     requires { at < 2 ^ 61 }
-    ensures { Put out.old out.new at result (get_or kind_words kind []) }
+    ensures { Put out.old out.new at result (get_or kind_words (kind_number kind) []) }
 {
     match kind {
-        MEMBERS => put_bytes(out, at, b"M"),
-        LABELS => put_bytes(out, at, b"L"),
-        ENTRY => put_bytes(out, at, b"F"),
-        POLICY => put_bytes(out, at, b"P"),
-        EFFECT => put_bytes(out, at, b"E"),
-        EDGE => put_bytes(out, at, b"G"),
-        FORM => put_bytes(out, at, b"S"),
-        TABLE_BIT => put_bytes(out, at, b"T"),
-        EVENT_EDGE => put_bytes(out, at, b"V"),
-        MARK => put_bytes(out, at, b"K"),
-        _ => at,
+        Kind::Members => put_bytes(out, at, b"M"),
+        Kind::Labels => put_bytes(out, at, b"L"),
+        Kind::Entry => put_bytes(out, at, b"F"),
+        Kind::Policy => put_bytes(out, at, b"P"),
+        Kind::Effect => put_bytes(out, at, b"E"),
+        Kind::Edge => put_bytes(out, at, b"G"),
+        Kind::Form => put_bytes(out, at, b"S"),
+        Kind::Table => put_bytes(out, at, b"T"),
+        Kind::Event => put_bytes(out, at, b"V"),
+        Kind::Mark => put_bytes(out, at, b"K"),
     }
 }

@@ -12,8 +12,8 @@ ghost use Rattle.writer.specs.private.Kinds.{front_lines, entry_of, entry_lines,
 
 use crate::bits::put_edges;
 use crate::fresh::is_fresh;
+use crate::kind::Kind;
 use crate::print::{put_effect, put_entry, put_pair, put_single};
-use crate::kind;
 use memory::layout::{
     EFFECT, EFFECTS_AT, EVENT, entries, events, first_of, is_kept, members, op_of, policy_of,
     relations, second_of, third_of, word,
@@ -55,7 +55,7 @@ fn put_policy_of(terms: &[u16], out: &mut [u8], at: usize, j: usize) -> usize
     ensures upper_bound { result ≤ at + 32 }
 {
     let n = policy_of(terms, j);
-    put_pair(out, at, kind::POLICY, j, n)
+    put_pair(out, at, Kind::Policy, j, n)
 }
 
 // Puts the P lines.
@@ -80,7 +80,7 @@ fn put_mark_of(terms: &[u16], out: &mut [u8], at: usize, j: usize) -> usize
     if !is_kept(terms, j) {
         return at;
     }
-    put_single(out, at, kind::MARK, j)
+    put_single(out, at, Kind::Mark, j)
 }
 
 // Puts the K lines.
@@ -151,8 +151,8 @@ fn put_front(terms: &[u16], out: &mut [u8], at: usize) -> usize
     ensures put { Put out.old out.new at result (printed_all (front_lines (terms_of terms.now))) }
     ensures upper_bound { result ≤ at + 64 }
 {
-    let next = put_single(out, at, kind::MEMBERS, members(terms));
-    put_pair(out, next, kind::LABELS, relations(terms), events(terms))
+    let next = put_single(out, at, Kind::Members, members(terms));
+    put_pair(out, next, Kind::Labels, relations(terms), events(terms))
 }
 
 // Puts the whole text.

@@ -4,13 +4,14 @@ use borrow.Author.Rules.{rules}
 use Rattle.fields.specs.Split.{join}
 use Rattle.fields.proofs.Output.{put_then}
 use Rattle.writer.proofs.Placed.{kind_short}
+use Rattle.writer.specs.private.Kind.{kind_number}
 use Rattle.writer.proofs.print.put_head.Statement.{statement}
 use Rattle.writer.proofs.print.put_head.Tie as tie
 
 put-field-requires : tie.Need-put_field-requires
 put-field-requires c κs =
     let a = c in
-    omega (arith, a.put_kind-next.ensures.next, kind_short a.args.kind)
+    omega (arith, a.put_kind-next.ensures.next, kind_short (kind_number a.args.kind))
 
 returns : tie.Need-returns
 unfolding join
@@ -18,7 +19,7 @@ returns c =
     let f = c.put_field.ensures in
     let a = c in
     let k = a.put_kind-next.ensures in
-    (put_then k f.0, omega (arith, k.next, kind_short a.args.kind))
+    (put_then k f.0, omega (arith, k.next, kind_short (kind_number a.args.kind)))
 
 pub put_head_spec : {M : Type 1} → statement M
 put_head_spec =
