@@ -2,7 +2,7 @@
 ghost use Rattle.std.specs.Prelude.{◌≡◌, cond, ltb, Some, None};
 ghost use Rattle.theory.specs.Formula.{operators};
 ghost use Rattle.file.specs.Words.{operator_of, action_of, direction_of, kind_of};
-ghost use Rattle.file.specs.private.Kinds.{kind_number};
+ghost use Rattle.file.specs.private.Kinds.{kind_told};
 
 use fields::word::same;
 use theory::operators::{AT, BIND, IN, MANY, NOT, OR, OUT, PREV, REACH, SINCE, TOP, VAR};
@@ -58,7 +58,7 @@ pub fn read_direction(f: &[u8]) -> Option<usize>
 
 // The kind of a line, by its first field.
 pub fn read_kind(f: &[u8]) -> Option<Kind>
-    ensures { kind_number result ≡ kind_of f.now }
+    ensures { kind_told result ≡ kind_of f.now }
 {
     match f {
         b"M" => Some(Kind::Members),

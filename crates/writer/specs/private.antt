@@ -1,3 +1,2 @@
 -- Definitions that no top theorem and no contract of a host rests on.
-pub mod Kind
 pub mod Kinds

@@ -7,9 +7,9 @@ ghost use Rattle.file.specs.Writing.{printed_all};
 ghost use Rattle.theory.specs.Terms.{Terms};
 ghost use Rattle.writer.specs.private.Kinds.{Paired, edge_lines, table_lines, bit_of, row_of, rows_of};
 
-use crate::kind::Kind;
 use crate::print::{put_quad, put_triple};
 use crate::skip::skip_row;
+use file::vocabulary::Kind;
 use memory::layout::{BLOCK, EVENT_AT, TABLES_AT};
 use memory::limits::MEMBERS;
 use sets::has;

@@ -3,7 +3,6 @@
 
 mod bits;
 mod fresh;
-mod kind;
 mod pairs;
 mod print;
 mod skip;

@@ -3,13 +3,13 @@ ghost use Rattle.std.specs.Prelude.{[], ◌∷◌, ◌++◌, ◌+◌, ◌^◌, �
 ghost use Rattle.fields.specs.Split.{join};
 ghost use Rattle.fields.specs.Number.{digits};
 ghost use Rattle.fields.specs.private.Put.{Put};
-ghost use Rattle.writer.specs.private.Kind.{kind_number};
+ghost use Rattle.file.specs.private.Kinds.{kind_number};
 ghost use Rattle.file.specs.Words.{operator_words, action_words, direction_words, kind_words};
 ghost use Rattle.file.specs.Line.{printed};
 ghost use Rattle.file.specs.declared.line.Line.TheVariants.{Entry, Effect};
 
-use crate::kind::Kind;
 use crate::vocabulary::{put_action, put_direction, put_kind, put_operator};
+use file::vocabulary::Kind;
 use fields::emit::{put_byte, put_decimal};
 use theory::operators::{MANY, REACH};
 

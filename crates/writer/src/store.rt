@@ -11,10 +11,10 @@ ghost use Rattle.writer.specs.private.Kinds.{Paired};
 ghost use Rattle.writer.specs.Write.{stored_text, writing_of, store_size_gives, store_gives, store_leaves};
 
 use crate::bits::put_tables;
-use crate::kind::Kind;
 use crate::pairs::pair_tables;
 use crate::print::{put_single, put_triple};
 use crate::write::put_text;
+use file::vocabulary::Kind;
 use memory::limits::ENTRIES;
 use memory::refusal::Refusal;
 use memory::{inspect, layout};

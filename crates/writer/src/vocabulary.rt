@@ -1,10 +1,10 @@
 // Words: the word of a number is put, each word a byte string of its own.
 ghost use Rattle.std.specs.Prelude.{[], ◌∷◌, ◌^◌, ◌<◌, get_or};
 ghost use Rattle.fields.specs.private.Put.{Put};
-ghost use Rattle.writer.specs.private.Kind.{kind_number};
+ghost use Rattle.file.specs.private.Kinds.{kind_number};
 ghost use Rattle.file.specs.Words.{operator_words, action_words, direction_words, kind_words};
 
-use crate::kind::Kind;
+use file::vocabulary::Kind;
 use fields::emit::put_bytes;
 use theory::operators::{AT, BIND, IN, MANY, NOT, OR, OUT, PREV, REACH, SINCE, TOP, VAR};
 

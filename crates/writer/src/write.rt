@@ -12,8 +12,8 @@ ghost use Rattle.writer.specs.private.Kinds.{front_lines, entry_of, entry_lines,
 
 use crate::bits::put_edges;
 use crate::fresh::is_fresh;
-use crate::kind::Kind;
 use crate::print::{put_effect, put_entry, put_pair, put_single};
+use file::vocabulary::Kind;
 use memory::layout::{
     EFFECT, EFFECTS_AT, EVENT, entries, events, first_of, is_kept, members, op_of, policy_of,
     relations, second_of, third_of, word,

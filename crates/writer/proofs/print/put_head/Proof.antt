@@ -4,7 +4,7 @@ use borrow.Author.Rules.{rules}
 use Rattle.fields.specs.Split.{join}
 use Rattle.fields.proofs.Output.{put_then}
 use Rattle.writer.proofs.Placed.{kind_short}
-use Rattle.writer.specs.private.Kind.{kind_number}
+use Rattle.file.specs.private.Kinds.{kind_number}
 use Rattle.writer.proofs.print.put_head.Statement.{statement}
 use Rattle.writer.proofs.print.put_head.Tie as tie
 
