@@ -1,14 +1,20 @@
-// The calls over the front of lent memory. Memory that does not reach so far gives a refusal by 0, which no call gives.
+// The calls over the front of lent memory. Where memory does not reach so far, no call is made: there is no outcome, and
+// an answer is a refusal by 0, which no call gives.
 use crate::columns::{Call, put_text};
 use calls::Answer;
-use memory::Outcome;
 use memory::layout::SCRATCH;
+use memory::refusal::Refusal;
 use monitor::revise::revise;
 use monitor::{look, request};
 use text::read::read;
-use writer::Written;
 use writer::store::store;
 use writer::write::write;
+
+// What a call gives, if one is made.
+pub(crate) type Outcome = Option<Result<(), Refusal>>;
+
+// What a writing gives, if one is made.
+pub(crate) type Written = Option<Result<usize, Refusal>>;
 
 // Bytes of a text, enough for those of the cases.
 pub(crate) const ROOM: usize = 8192;
@@ -16,12 +22,12 @@ pub(crate) const ROOM: usize = 8192;
 // Reads into the first t words of terms and s of state.
 fn reading_into(text: &[u8], terms: &mut [u16], t: usize, state: &mut [u64], s: usize) -> Outcome {
     if terms.len() < t {
-        return Outcome::Refused(0, 0);
+        return None;
     }
     if state.len() < s {
-        return Outcome::Refused(0, 0);
+        return None;
     }
-    read(text, &mut terms[0..t], &mut state[0..s])
+    Some(read(text, &mut terms[0..t], &mut state[0..s]))
 }
 
 // Reads the first n bytes of a text.
@@ -34,7 +40,7 @@ pub(crate) fn reading_front(
     s: usize,
 ) -> Outcome {
     if text.len() < n {
-        return Outcome::Refused(0, 0);
+        return None;
     }
     reading_into(&text[0..n], terms, t, state, s)
 }
@@ -135,18 +141,23 @@ pub(crate) fn revising(
     m: usize,
 ) -> Outcome {
     if old.len() < t {
-        return Outcome::Refused(0, 0);
+        return None;
     }
     if state.len() < s {
-        return Outcome::Refused(0, 0);
+        return None;
     }
     if new.len() < n {
-        return Outcome::Refused(0, 0);
+        return None;
     }
     if second.len() < m {
-        return Outcome::Refused(0, 0);
+        return None;
     }
-    revise(&old[0..t], &state[0..s], &new[0..n], &mut second[0..m])
+    Some(revise(
+        &old[0..t],
+        &state[0..s],
+        &new[0..n],
+        &mut second[0..m],
+    ))
 }
 
 // Writes the first t words of terms and s of state into the first n bytes of out, in the stored form or the old.
@@ -160,16 +171,17 @@ pub(crate) fn writing(
     n: usize,
 ) -> Written {
     if terms.len() < t {
-        return Written::Refused(0, 0);
+        return None;
     }
     if state.len() < s {
-        return Written::Refused(0, 0);
+        return None;
     }
     if out.len() < n {
-        return Written::Refused(0, 0);
+        return None;
     }
-    if stored {
-        return store(&terms[0..t], &state[0..s], &mut out[0..n]);
-    }
-    write(&terms[0..t], &state[0..s], &mut out[0..n])
+    Some(if stored {
+        store(&terms[0..t], &state[0..s], &mut out[0..n])
+    } else {
+        write(&terms[0..t], &state[0..s], &mut out[0..n])
+    })
 }

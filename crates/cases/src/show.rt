@@ -1,8 +1,8 @@
 // The line of a case: its label, a tab, the result.
 use calls::{Answer, Verdict};
-use memory::Outcome;
+use crate::lent::{Outcome, Written};
+use memory::refusal::Refusal;
 use std::io;
-use writer::Written;
 
 // A result that is one word.
 pub(crate) fn show_word(rt: &impl Print, label: &[u8], word: &str) -> io::Result<()> {
@@ -16,32 +16,34 @@ fn show_count(rt: &impl Print, label: &[u8], word: &str, n: usize) -> io::Result
     println!(rt; "\t{word}\t{n}")
 }
 
-// A refusal: its number and line.
-fn show_refusal(rt: &impl Print, label: &[u8], number: usize, line: usize) -> io::Result<()> {
+// A refusal: its number and line, or 0 where no call is made.
+fn show_refusal(rt: &impl Print, label: &[u8], refusal: Option<Refusal>) -> io::Result<()> {
+    let number = refusal.map_or(0, |r| r.number());
+    let line = refusal.map_or(0, |r| r.line());
     rt.write_all(label)?;
     println!(rt; "\t{number}\t{line}")
 }
 
 pub(crate) fn show_outcome(rt: &impl Print, label: &[u8], outcome: Outcome) -> io::Result<()> {
     match outcome {
-        Outcome::Done => show_word(rt, label, "accepted"),
-        Outcome::Refused(number, line) => show_refusal(rt, label, number, line),
+        Some(Ok(())) => show_word(rt, label, "accepted"),
+        Some(Err(refusal)) => show_refusal(rt, label, Some(refusal)),
+        None => show_refusal(rt, label, None),
     }
 }
 
 pub(crate) fn show_answer(rt: &impl Print, label: &[u8], answer: Answer) -> io::Result<()> {
     match answer {
-        Answer::Decided(v) => match v {
-            Verdict::Grant => show_word(rt, label, "grant"),
-            Verdict::Deny => show_word(rt, label, "deny"),
-        },
+        Answer::Decided(Verdict::Grant) => show_word(rt, label, "grant"),
+        Answer::Decided(Verdict::Deny) => show_word(rt, label, "deny"),
         Answer::Refused(number, _) => show_count(rt, label, "refuse", number),
     }
 }
 
 pub(crate) fn show_written(rt: &impl Print, label: &[u8], written: Written) -> io::Result<()> {
     match written {
-        Written::Bytes(n) => show_count(rt, label, "bytes", n),
-        Written::Refused(number, line) => show_refusal(rt, label, number, line),
+        Some(Ok(n)) => show_count(rt, label, "bytes", n),
+        Some(Err(refusal)) => show_refusal(rt, label, Some(refusal)),
+        None => show_refusal(rt, label, None),
     }
 }

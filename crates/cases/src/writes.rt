@@ -2,14 +2,12 @@
 // and its like in the stored form.
 use crate::asks::{put_term, put_word};
 use crate::columns::{call_at, label, number_at, put_text, term_at, word_at};
-use crate::lent::{ROOM, reading, reading_front, requesting, writing};
+use crate::lent::{Outcome, ROOM, Written, reading, reading_front, requesting, writing};
 use crate::show::{show_answer, show_word, show_written};
 use fields::field::piece;
 use fields::word::same;
-use memory::Outcome;
 use memory::layout::{SCRATCH, STATE, TERMS};
 use std::io;
-use writer::Written;
 
 // `writes` terms state bytes: so many words of terms and of state into so many bytes.
 fn writes(rt: &impl Print, l: &[u8], head: &[u8], stored: bool) -> io::Result<()> {
@@ -66,7 +64,7 @@ fn show_front(
     w: usize,
 ) -> io::Result<()> {
     match written {
-        Written::Bytes(n) if !is_front(out, n, wanted, w) => show_word(rt, label(l), "different"),
+        Some(Ok(n)) if !is_front(out, n, wanted, w) => show_word(rt, label(l), "different"),
         _ => show_written(rt, label(l), written),
     }
 }
@@ -108,8 +106,8 @@ fn writes_after(rt: &impl Print, l: &[u8], head: &[u8], stored: bool) -> io::Res
 // Reads what was written. A refusal reads nothing.
 fn reading_back(out: &[u8], written: Written, terms: &mut [u16], state: &mut [u64]) -> Outcome {
     match written {
-        Written::Bytes(n) => reading_front(out, n, terms, TERMS, state, STATE),
-        Written::Refused(_, _) => Outcome::Refused(0, 0),
+        Some(Ok(n)) => reading_front(out, n, terms, TERMS, state, STATE),
+        _ => None,
     }
 }
 

@@ -7,7 +7,7 @@ ghost use Rattle.writer.specs.Write.{writing_of};
 ghost use Rattle.transcript.specs.Output.{transcript_gives, transcript_leaves};
 
 use std::rt::Files;
-use writer::Written;
+use memory::refusal::Refusal;
 
 // As many bytes as a file may have, and one more: a longer file is noticed by it.
 const TOO_MANY: usize = 65537;
@@ -40,15 +40,15 @@ fn print_front(rt: &(impl Print + Eprint), out: &[u8], n: usize) {
 
 // Writes what was put into out, all of it at once. A refusal, which an output of this length
 // never gets, counts as too long.
-fn print(rt: &(impl Print + Eprint), out: &[u8; OUTPUT], written: Written) {
+fn print(rt: &(impl Print + Eprint), out: &[u8; OUTPUT], written: Result<usize, Refusal>) {
     match written {
-        Written::Bytes(n) => print_front(rt, out, n),
-        Written::Refused(_, _) => print_front(rt, out, OUTPUT + 1),
+        Ok(n) => print_front(rt, out, n),
+        Err(_) => print_front(rt, out, OUTPUT + 1),
     }
 }
 
 // One call of the transcript, into an output that is long enough for every one.
-fn answer(terms: &[u8], requests: &[u8], out: &mut [u8; OUTPUT]) -> Written
+fn answer(terms: &[u8], requests: &[u8], out: &mut [u8; OUTPUT]) -> Result<usize, Refusal>
     ensures result_value { writing_of result ≡ transcript_gives terms.now requests.now out.old }
     ensures out_after { out.new ≡ transcript_leaves terms.now requests.now out.old }
 {
