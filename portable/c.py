@@ -6,6 +6,7 @@ is accessed only as the type that it was lent or declared with. A value that tel
 """
 from kinds import declared
 from mir import Refused, show
+from sizes import offsets, scaled
 
 UNSIGNED = {"Add": "+", "Sub": "-", "Mul": "*", "Div": "/", "Rem": "%", "Shr": ">>", "Lt": "<", "Le": "<="}
 PLAIN = {"And": "&", "Or": "|", "Xor": "^", "Shl": "<<", "Eq": "==", "Ne": "!="}
@@ -20,7 +21,11 @@ class Body:
     def __init__(self, types, program, names, function):
         self.types, self.program, self.names, self.function = types, program, names, function
         self.lines, self.constants, self.labels, self.used, self.read = [], [], 0, set(), set()
-        self.statement(function.body, 1, [])
+        try:
+            body = scaled(types, function.body)
+        except Refused as why:
+            raise Refused(f"in {function.name}: {why}")
+        self.statement(body, 1, [])
 
     def line(self, depth, text):
         self.lines.append("    " * depth + text)
@@ -61,10 +66,12 @@ class Body:
                 return "", "Unit"
             case ("Int", width, number):
                 return f"UINT{width}_C({number})", ("Int", width)
-            case ("SizeOf", kind) if self.types.is_empty(kind):
-                return "UINT64_C(0)", U64
-            case ("SizeOf", kind):
+            case ("SizeOf", kind) | ("Sizes", 1, kind) if not self.types.is_empty(kind):
                 return f"(uint64_t)sizeof({self.types.of(kind)})", U64
+            case ("Sizes", count, kind) if not self.types.is_empty(kind):
+                return f"(UINT64_C({count}) * (uint64_t)sizeof({self.types.of(kind)}))", U64
+            case ("SizeOf" | "Sizes", *_):
+                return "UINT64_C(0)", U64
             case ("Copy", place):
                 return self.place(place)
         raise Refused(f"operand {show(operand)}")
@@ -165,9 +172,6 @@ class Body:
 
     def statement(self, statement, depth, exits):
         """A statement. `exits` has the labels of the blocks and loops around it, the innermost first."""
-        while statement[0] == "Seq":
-            self.statement(statement[1], depth, exits)
-            statement = statement[2]
         try:
             self.single(statement, depth, exits)
         except (Refused, ValueError, TypeError, KeyError, IndexError) as why:
@@ -178,6 +182,9 @@ class Body:
         match statement:
             case "Skip":
                 pass
+            case ("Seq", *statements):
+                for one in statements:
+                    self.statement(one, depth, exits)
             case "Return":
                 self.line(depth, "return;" if self.types.is_empty(self.function.kinds[0]) else "return l0;")
             case "Unreachable":
@@ -251,45 +258,64 @@ class Body:
                 self.line(depth, f"{target} = {self.value(value, kind)};")
 
     def lend(self, place, kind, value, depth):
-        """A constant is lent, for good and to be read only."""
+        """A constant is lent, for good and to be read only. What it refers to stands in it, behind what is lent."""
         target, wanted = self.place(place, written=True)
+        match kind, value:
+            case ("Struct", "", (kind, *kinds)), ("Parts", value, *values):
+                places, _ = offsets(self.types, (kind, *kinds))
+                here = dict(zip(places[1:], zip(kinds, values, strict=True), strict=True))
+            case _:
+                here = {}
         match wanted:
             case ("Ref", "Imm", pointed) if self.types.same(pointed, kind):
                 pass
             case _:
                 raise Refused(f"{show(wanted)} lends {show(kind)}")
-        if self.types.is_empty(kind) or not self.is_live(place):
-            return
-        name = f"c{len(self.constants) + 1}"
-        self.constants.append(f"    static const {self.types.of(kind)} {name} = {self.constant(value, kind)};")
-        self.line(depth, f"{target} = ({self.types.of(wanted)})&{name};")
+        if not self.types.is_empty(kind) and self.is_live(place):
+            name = self.kept(value, kind, here)
+            self.line(depth, f"{target} = ({self.types.of(wanted)})&{name};")
 
-    def constant(self, value, kind):
+    def kept(self, value, kind, here):
+        """The name of a constant that stands above the lines. `here` has the constants that it may refer to."""
+        text = self.constant(value, kind, here)
+        name = f"c{len(self.constants) + 1}"
+        self.constants.append(f"    static const {self.types.of(kind)} {name} = {text};")
+        return name
+
+    def constant(self, value, kind, here):
         """A constant as an initializer."""
         match value, kind:
             case ("Ints", width, numbers), ("Array", ("Int", bits), (_, count)) if width == bits:
                 if len(numbers) != count:
                     raise Refused(f"{len(numbers)} values of {count}")
                 return f"{{{{{', '.join(map(str, numbers)) or '0'}}}}}"
+            case ("Repeat", part, number), ("Array", element, (_, count)) if number == count:
+                return f"{{{{{', '.join([self.constant(part, element, here)] * count) or '0'}}}}}"
             case ("Parts", *parts), ("Array", element, (_, count)):
                 if len(parts) != count:
                     raise Refused(f"{len(parts)} values of {count}")
-                return f"{{{{{', '.join(self.constant(part, element) for part in parts) or '0'}}}}}"
-            case ("Parts", *parts), ("Named", *_):
-                if not self.types.has_variants(kind):
-                    return f"{{{self.constants_of(parts, self.types.fields(kind))}}}"
+                return f"{{{{{', '.join(self.constant(part, element, here) for part in parts) or '0'}}}}}"
+            case ("Parts", *parts), ("Named", *_) if self.types.has_variants(kind):
                 (_, _, tag), *others = parts
-                inner = self.constants_of(others, self.types.variants(kind)[tag])
+                inner = self.constants_of(others, self.types.variants(kind)[tag], here)
                 return f"{{.tag = {tag}" + (f", .of.v{tag} = {{{inner}}}}}" if inner else "}")
+            case ("Parts", *parts), ("Named" | "Struct", *_):
+                return f"{{{self.constants_of(parts, self.types.fields(kind), here)}}}"
+            case ("Here", place), ("Ref", _, target):
+                of, part = here[place]
+                name = self.kept(part, of, here)
+                if not self.types.same(target, of) and not (of[0] == "Array" and self.types.same(target, of[1])):
+                    raise Refused(f"{show(of)} where {show(target)} is wanted")
+                return f"({self.types.of(kind)})&{name}"
             case ("Int", width, number), ("Int", bits) if width == bits:
                 return str(number)
             case "True" | "False", "Bool":
                 return value.lower()
         raise Refused(f"constant {show(value)} of {show(kind)}")
 
-    def constants_of(self, parts, fields):
+    def constants_of(self, parts, fields, here):
         pairs = zip(parts, fields, strict=True)
-        return ", ".join(self.constant(part, kind) for part, (_, kind) in pairs if not self.types.is_empty(kind))
+        return ", ".join(self.constant(part, kind, here) for part, (_, kind) in pairs if not self.types.is_empty(kind))
 
     def call(self, callee, operands, place, depth):
         target, kind = self.place(place, written=True)

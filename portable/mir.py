@@ -48,13 +48,19 @@ def form(value):
     return value
 
 
+def sequence(*statements):
+    """Statements one after the other, as one."""
+    parts = [part for of in statements for part in (of[1:] if of[0] == "Seq" else (of,)) if part != "Skip"]
+    return ("Seq", *parts) if len(parts) > 1 else parts[0] if parts else "Skip"
+
+
 def tree(tokens):
     """The statement that a list of statements is, each before those that it holds."""
     done = []
     for token in reversed([form(token) for token in tokens]):
         match token:
             case "Seq":
-                done.append((token, done.pop(), done.pop()))
+                done.append(sequence(done.pop(), done.pop()))
             case "Block" | "Loop":
                 done.append((token, done.pop()))
             case ("If", *operand):
@@ -78,7 +84,7 @@ def chosen(value, types, dicts):
         case ("NumOf", width, of):
             _, number = chosen(of, types, dicts)
             return ("Int", width, number)
-        case ("Array" | "Repeat" as name, of, count):
+        case ("Array" | "Repeat" as name, of, (_, _) as count):
             _, number = chosen(count, types, dicts)
             return (name, chosen(of, types, dicts), ("Lit", number))
         case tuple():
@@ -171,6 +177,10 @@ class Program:
                     case {"Impl": [impl, index]}:
                         self.methods[impl, index] = name
 
+    def is_method(self, name):
+        """A function that others call through a dictionary, or a closure."""
+        return "::fn::" in name or self.items[name]["generics"]["method_of"] is not None
+
     def called(self, callee):
         """What a call calls, as ("Fn", name, types, dictionaries): a method is its impl's function."""
         match callee:
@@ -238,7 +248,7 @@ class Program:
                 return all(map(self.does_nothing, parts))
             case ("Switch", _, arms, default):
                 return all(self.does_nothing(arm) for _, arm in arms) and self.does_nothing(default)
-            case ("Copy", _) | ("Exit", _) | "Skip" | "Return" | "True" | "False" | None:
+            case ("Copy", _) | ("Exit", _) | "Skip" | "Return" | "Unreachable" | "True" | "False" | None:
                 return True
         return False
 
@@ -247,18 +257,13 @@ class Program:
         match statement:
             case ("Call", ("Fn", *key), *_) if self.is_idle(tuple(key)):
                 return "Skip"
-            case ("Seq", first, second):
-                first, second = self.without_idle(first), self.without_idle(second)
-                return second if first == "Skip" else first if second == "Skip" else ("Seq", first, second)
-            case ("If", operand, *parts):
-                parts = [self.without_idle(part) for part in parts]
-                return ("If", operand, *parts) if set(parts) != {"Skip"} else "Skip"
-            case ("Block" | "Loop", inner):
-                return (statement[0], self.without_idle(inner))
+            case ("Seq", *parts):
+                return sequence(*map(self.without_idle, parts))
+            case ("Block" | "Loop" | "If", *parts):
+                return (statement[0], *map(self.without_idle, parts))
             case ("Switch", operand, arms, default):
                 arms = tuple((of, self.without_idle(arm)) for of, arm in arms)
-                default = self.without_idle(default)
-                return ("Switch", operand, arms, default) if {arm for _, arm in arms} | {default} - {None} != {"Skip"} else "Skip"
+                return ("Switch", operand, arms, self.without_idle(default))
         return statement
 
     def needed(self, roots):

@@ -7,7 +7,7 @@ import pathlib
 import sys
 
 from c import U64, Body
-from kinds import TOOLCHAIN, Names, Types, declared, identifier, spelled
+from kinds import Names, Types, declared, identifier, spelled
 from mir import Program, Refused
 
 # What hosts call: functions of this crate, in any of its modules, whose names begin so.
@@ -57,7 +57,7 @@ class Translation:
         static = "static"
         if any(is_large(function.kinds[i]) for i in own):
             static += " OUT_OF_LINE"
-        elif function.types or function.name.startswith(TOOLCHAIN):
+        elif function.types or self.program.is_method(function.name):
             static += " inline"
         head = f"{static} {declared(kinds[0], self.name(function))}({parameters})"
         lines = [f"    {declared(kinds[i], f'l{i}')};" for i in own]
