@@ -1,7 +1,7 @@
 """Offsets in arrays of structs.
 
-Where the type of the elements is known, the middle language has their size as a number, for machines of 64 bits. Another
-machine may lay out a struct or an address in fewer bytes: there it has to be C's own size.
+Where the type of the elements is known, the middle language has their size as a number, for machines of 64 bits.
+Another machine may lay out a struct or an address in fewer bytes: there it has to be C's own size.
 """
 from mir import Refused, show
 

@@ -9,23 +9,17 @@ import sys
 from c import U64, Body
 from kinds import Names, Types, declared, identifier, spelled
 from mir import Program, Refused
+from sizes import layout
 
 # What hosts call: functions of this crate, in any of its modules, whose names begin so.
 LIBRARY, EXPORTED = "cuckooormolu::", "cuckooormolu_"
 HEAD = pathlib.Path(__file__).with_name("head.c").read_text()
-# Bytes of an array from which on a function that has it is not inlined.
+# Bytes of an array, or of what holds one, from which on a function that has it is not inlined.
 LARGE = 4096
 
 
 def own_name(name):
     return name.rpartition("::")[2]
-
-
-def is_large(kind):
-    match kind:
-        case ("Array", ("Int", width), ("Lit", count)):
-            return width // 8 * count >= LARGE
-    return False
 
 
 class Translation:
@@ -55,15 +49,15 @@ class Translation:
         parameters = ", ".join(declared(kinds[i], f"l{i}") for i in arguments) or "void"
         own = [i for i in sorted(function.live) if i not in function.arguments and kinds[i] != "void"]
         static = "static"
-        if any(is_large(function.kinds[i]) for i in own):
+        if any(layout(self.types, function.kinds[i])[0] >= LARGE for i in own):
             static += " OUT_OF_LINE"
         elif function.types or self.program.is_method(function.name):
             static += " inline"
         head = f"{static} {declared(kinds[0], self.name(function))}({parameters})"
         lines = [f"    {declared(kinds[i], f'l{i}')};" for i in own]
         lines += [f"    (void)l{i};" for i in arguments if i not in function.live]
-        chosen = f"<{', '.join(map(spelled, function.types))}>" if function.types else ""
-        title = f"/* {function.name}{chosen} */"
+        choice = f"<{', '.join(map(spelled, function.types))}>" if function.types else ""
+        title = f"/* {function.name}{choice} */"
         return f"{head};", "\n".join([title, head, "{", *body.constants, *lines, *body.lines, "}", ""])
 
     def exported(self, function):
