@@ -5,7 +5,7 @@
 set -eu
 cd "$(dirname "$0")/.."
 toolchain=$(dirname "$(readlink -f "$(command -v rt)")")/..
-for library in core std; do
+for library in core std std_alloc; do
     echo "$toolchain/rlibs/$library.rlib/toolchain/mir.json"
 done
 awk -F: -v top="$PWD" '

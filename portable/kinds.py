@@ -14,7 +14,7 @@ LENT = {"calls::Record": ("cuckooormolu_record", ("event", "from", "to", "answer
 # So many characters of a name are significant in C11.
 SIGNIFICANT = 63
 # The toolchain's own libraries: their types go by their last names.
-TOOLCHAIN = ("core::", "std::")
+TOOLCHAIN = ("core::", "std::", "std_alloc::")
 
 
 def identifier(name):
