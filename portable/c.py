@@ -145,6 +145,10 @@ class Body:
                 return self.binary(operator, left, right, wanted)
             case ("Op1", "Not", operand) if wanted == "Bool":
                 return f"!{self.given(operand, wanted)}"
+            case ("Op1", "Not", operand) if wanted in (U8, U16):
+                return f"({self.types.of(wanted)})~(uint32_t){self.given(operand, wanted)}"
+            case ("Op1", "Not", operand) if wanted in (U32, U64):
+                return f"~{self.given(operand, wanted)}"
             case ("Op1", "CountOnes" | "LeadingZeros" | "TrailingZeros" as operator, operand) if wanted == U32:
                 return self.counted(operator, operand)
             case ("Op1", ("Cast", "Unsigned", "Unsigned", width), operand) if wanted == ("Int", width):

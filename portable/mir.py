@@ -208,7 +208,7 @@ class Program:
         if key not in self.functions:
             name, types, dicts = key
             if name not in self.items:
-                raise Refused(f"no function {name}")
+                raise Refused(f"no function {name} in the libraries that are named")
             item = self.items[name]
             generics = item["generics"]
             if (len(generics["types"]), len(generics["bounds"])) != (len(types), len(dicts)):
@@ -216,7 +216,10 @@ class Program:
             if name not in self.forms:
                 self.forms[name] = form([local["ty"] for local in item["locals"]]), tree(item["body"])
             kinds, body = chosen(self.forms[name], types, dicts)
-            self.functions[key] = Function(key, item["params"], kinds, self.resolved(body))
+            try:
+                self.functions[key] = Function(key, item["params"], kinds, self.resolved(body))
+            except Refused as why:
+                raise Refused(f"in {name}: {why}") from None
         return self.functions[key]
 
     def reached(self, roots):
@@ -226,9 +229,9 @@ class Program:
             key = todo.pop()
             if key not in seen:
                 seen[key] = self.function(key)
-                todo += sorted(seen[key].calls, key=show)
+                todo += sorted(seen[key].calls, key=repr)
         place = {name: number for number, name in enumerate(self.items)}
-        return sorted(seen.values(), key=lambda function: (place[function.name], show(function.key)))
+        return sorted(seen.values(), key=lambda function: (place[function.name], repr(function.key)))
 
     def is_idle(self, key):
         """A function that does nothing and tells nothing, as the end of a value that owns nothing."""

@@ -43,6 +43,12 @@ class Translation:
 
     def translated(self, function):
         """A function's prototype and definition."""
+        try:
+            return self.written(function)
+        except Refused as why:
+            raise why if str(why).startswith("in ") else Refused(f"in {function.name}: {why}")
+
+    def written(self, function):
         body = self.body(function)
         kinds = [self.types.of(kind) for kind in function.kinds]
         arguments = [i for i in function.arguments if kinds[i] != "void"]
