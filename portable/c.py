@@ -15,6 +15,11 @@ COMPARISONS = {"<", "<=", "==", "!="}
 U8, U16, U32, U64 = ("Int", 8), ("Int", 16), ("Int", 32), ("Int", 64)
 
 
+def written(number):
+    """A number of a constant. One that no signed type has is to say so."""
+    return str(number) if number < 2**63 else f"UINT64_C({number})"
+
+
 class Body:
     """The lines of a function's body, its constants, and the locals that they read."""
 
@@ -292,7 +297,7 @@ class Body:
             case ("Ints", width, numbers), ("Array", ("Int", bits), (_, count)) if width == bits:
                 if len(numbers) != count:
                     raise Refused(f"{len(numbers)} values of {count}")
-                return f"{{{{{', '.join(map(str, numbers)) or '0'}}}}}"
+                return f"{{{{{', '.join(map(written, numbers)) or '0'}}}}}"
             case ("Repeat", part, number), ("Array", element, (_, count)) if number == count:
                 return f"{{{{{', '.join([self.constant(part, element, here)] * count) or '0'}}}}}"
             case ("Parts", *parts), ("Array", element, (_, count)):
@@ -312,7 +317,7 @@ class Body:
                     raise Refused(f"{show(of)} where {show(target)} is wanted")
                 return f"({self.types.of(kind)})&{name}"
             case ("Int", width, number), ("Int", bits) if width == bits:
-                return str(number)
+                return written(number)
             case "True" | "False", "Bool":
                 return value.lower()
         raise Refused(f"constant {show(value)} of {show(kind)}")
