@@ -1,8 +1,13 @@
 #!/bin/sh
 # files.sh: the files with the MIR of the library, that of `cuckooormolu` and of each crate that it stands on, as the
-# last build left them. crates.txt names a crate after all that it stands on.
+# last build left them, after those of the toolchain's own libraries. crates.txt names a crate after all that it stands
+# on.
 set -eu
 cd "$(dirname "$0")/.."
+toolchain=$(dirname "$(readlink -f "$(command -v rt)")")/..
+for library in core std std_alloc; do
+    echo "$toolchain/rlibs/$library.rlib/toolchain/mir.json"
+done
 awk -F: -v top="$PWD" '
     { sub(/#.*/, ""); name[NR] = $1; below[NR] = $2 }
     END {

@@ -12,7 +12,7 @@ sh "$top/portable/files.sh" | while IFS= read -r file; do
 done
 export PYTHONDONTWRITEBYTECODE=1
 if python3 "$top/portable/translate.py" '' "$work"/mir/* >/dev/null 2>"$work/said"; then exit 1; fi
-grep -q '^translate: in [a-z_:]*: (Assign .*(Add Signed)' "$work/said" || { cat "$work/said" && exit 1; }
+grep -q '^translate: in [A-Za-z0-9_:+]*: (Assign .*(Add Signed)' "$work/said" || { cat "$work/said" && exit 1; }
 echo 'ok   a sum of signed numbers is refused'
 
 wanted=$(reference "$inputs")
