@@ -2,12 +2,13 @@
 use Prim.Native.Nat.{ℕ, zero, suc, ◌+◌, ◌-◌, ◌*◌, ◌/◌, ◌%◌, ◌^◌, ◌≤◌, ◌<◌, zero-le}
 use mathlib.Core.Path.{◌≡◌, refl, sym, ap, ap₂, subst, ◌∙◌}
 use mathlib.Core.Logic.{⊎_elim}
-use mathlib.Core.List.{List, [], ◌∷◌, ◌++◌}
+use mathlib.Core.List.{List, [], ◌∷◌, ◌++◌, append_assoc}
 use mathlib.Core.Bool.{true, false, and-false}
 use native.Mathlib.Omega.{arith}
 use native.Mathlib.Nat.{pow-suc}
 use lib.Dec.{leb, ltb}
-use lib.ListN.{length, get_or, length-append, get_or-append}
+use lib.ListN.{length, get_or, drop, set, length-append, length-set, get_or-append}
+use lib.Seq.{drop-cons, get_or-set_same, drop-set-lt}
 use borrow.Author.Tests.{eq-eqb, ne_eqb, leb-true, ltb-true, ltb-false, le-ltb, lt-ltb, le-leb}
 use Rattle.sets.proofs.Finite.{true_or_false, not_both, and_left, and_right, and_both}
 use Rattle.fields.specs.Number.{is_digit, all_digits, value_from, value_of, padded, is_number, digits_in, digits, normal}
@@ -65,23 +66,6 @@ digits_single n h = sym (digits_one 4 n h)
 pub digits_double : (n : ℕ) → 10 ≤ n → n < 100 → (48 + n / 10) ∷ (48 + n % 10) ∷ [] ≡ digits n
 unfolding digits
 digits_double n h k = sym (digits_more 4 n h ∙ rw (digits_one 3 (n / 10) (omega arith)) refl)
-
--- Room for one digit more makes no difference.
-digits_room : (k n : ℕ) → n < 10 ^ suc k → digits_in (suc (suc k)) n ≡ digits_in (suc k) n
-digits_room zero n h = digits_one 1 n (omega arith) ∙ sym (digits_one 0 n (omega arith))
-digits_room (suc k) n h =
-    ⊎_elim
-    (λ t. let b = ltb-true n 10 t in digits_one (suc (suc k)) n b ∙ sym (digits_one (suc k) n b))
-    (λ t. let b = ltb-false n 10 t in
-    let e = pow-suc 10 (suc k) in
-    digits_more (suc (suc k)) n b
-    ∙ rw (digits_room k (n / 10) (omega arith)) (sym (digits_more (suc k) n b)))
-    (true_or_false (ltb n 10))
-
--- The digits of a number of two or more: those before the last one, and the last one.
-pub digits_snoc : (n : ℕ) → 10 ≤ n → n < 100000 → digits (n / 10) ++ ((48 + n % 10) ∷ []) ≡ digits n
-unfolding digits
-digits_snoc n h k = rw (digits_room 3 (n / 10) (omega arith)) (sym (digits_more 4 n h))
 
 -- ---- the digits of a field's value are the field
 
@@ -224,3 +208,37 @@ digits_short n = digits_length 5 n
 pub digits_all_digits : (n : ℕ) → all_digits (digits n) ≡ true
 unfolding digits
 digits_all_digits n = digits_all 5 n
+
+-- ---- writing digits from the last to the first into places that end at i
+
+drop_set : (d : List ℕ) (j x : ℕ) → j < length d → drop j (set d j x) ≡ x ∷ drop (suc j) d
+drop_set d j x h =
+    drop-cons (set d j x) j 0 (subst (λ (n : ℕ). j < n) (sym (length-set d j x)) h)
+    ∙ ap₂ {C = List ℕ} (λ a l. a ∷ l) (get_or-set_same d j x 0 h) (drop-set-lt (suc j) d j x (omega arith))
+
+pub digits_deep : (i v : ℕ) → 9 < v → v < 10 ^ i → 2 ≤ i
+digits_deep zero v h k = absurd (omega arith)
+digits_deep (suc zero) v h k = absurd (omega arith)
+digits_deep (suc (suc i)) v h k = omega arith
+
+pub digits_rest : (i v : ℕ) → 9 < v → v < 10 ^ i → v / 10 < 10 ^ (i - 1)
+digits_rest zero v h k = absurd (omega arith)
+digits_rest (suc i) v h k =
+    let e : suc i - 1 ≡ i = omega arith in
+    let f = pow-suc 10 i in
+    rw e (omega arith)
+
+pub digits_down : (i v : ℕ) (d : List ℕ) → 9 < v → 1 ≤ i → i ≤ length d
+    → digits_in i v ++ drop i d ≡ digits_in (i - 1) (v / 10) ++ drop (i - 1) (set d (i - 1) (48 + v % 10))
+digits_down zero v d h k l = absurd (omega arith)
+digits_down (suc i) v d h k l =
+    let e : suc i - 1 ≡ i = omega arith in
+    rw (e, digits_more i v h, drop_set d i (48 + v % 10) l)
+    (append_assoc (digits_in i (v / 10)) ((48 + v % 10) ∷ []) (drop (suc i) d))
+
+pub digits_last : (i v : ℕ) (d : List ℕ) → v ≤ 9 → 1 ≤ i → i ≤ length d
+    → digits_in i v ++ drop i d ≡ drop (i - 1) (set d (i - 1) (48 + v))
+digits_last zero v d h k l = absurd (omega arith)
+digits_last (suc i) v d h k l =
+    let e : suc i - 1 ≡ i = omega arith in
+    rw (e, digits_one i v (omega arith), drop_set d i (48 + v) l) refl

@@ -26,15 +26,35 @@ pub(crate) fn put_word(out: &mut [u8], at: usize, w: &[u8]) -> usize
     next
 }
 
-// Puts the digits of n, those before the last one first.
+// Puts the digits of n, worked out from the last one on. A call of itself for the digits before the last is slower.
+fn put_digits(out: &mut [u8], at: usize, n: usize) -> usize
+    requires { (n < 100000) × (at < 2 ^ 61) }
+    ensures { Put out.old out.new at result (digits n) }
+{
+    let mut d = [0u8; 5];
+    let mut i = 5;
+    let mut v = n;
+    while 9 < v {
+        i -= 1;
+        d[i] = 48 + (v % 10) as u8;
+        v = v / 10;
+    }
+    i -= 1;
+    d[i] = 48 + v as u8;
+    put_word(out, at, &d[i..])
+}
+
+// Puts the digits of n, one or two of them without working out how many there are.
 pub(crate) fn put_number(out: &mut [u8], at: usize, n: usize) -> usize
     requires { (n < 100000) × (at < 2 ^ 61) }
     ensures { Put out.old out.new at result (digits n) }
 {
-    let last = b'0' + (n % 10) as u8;
     if n < 10 {
-        return put(out, at, last);
+        return put(out, at, 48 + n as u8);
     }
-    let next = put_number(out, at, n / 10);
-    put(out, next, last)
+    if n < 100 {
+        let next = put(out, at, 48 + (n / 10) as u8);
+        return put(out, next, 48 + (n % 10) as u8);
+    }
+    put_digits(out, at, n)
 }
