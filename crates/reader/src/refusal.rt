@@ -55,16 +55,13 @@ fn in_range(kind: Kind, r: usize, e: usize, v: usize) -> bool
 }
 
 // Whether an operand, if it is an entry, is lower than entry n.
+#[tactic(auto, unfolding(file::specs::Reading::is_lower, memory::specs::private::Operands::operand_kind))]
 fn is_lower(kind: Kind, n: usize, v: usize) -> bool
     ensures { result ≡ is_lower (operand_kind kind) n v }
 {
     match kind {
         Kind::Entry => v < n,
-        Kind::Unused => true,
-        Kind::Variable => true,
-        Kind::Binder => true,
-        Kind::Label => true,
-        Kind::Count => true,
+        Kind::Unused | Kind::Variable | Kind::Binder | Kind::Label | Kind::Count => true,
     }
 }
 
