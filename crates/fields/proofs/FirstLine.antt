@@ -8,7 +8,7 @@ use lib.ListN.{length, take, drop}
 use lib.Seq.{length-take-le}
 use Rattle.fields.specs.Split.{lines, place}
 use Rattle.fields.specs.Split.Lines.{done}
-use Rattle.fields.specs.Lines.{LineTaken, CutTaken}
+use Rattle.fields.specs.private.Lines.{LineTaken, CutTaken}
 use Rattle.fields.proofs.Split.{place_le, lines_here, lines_cut, part_rest, rest_shorter}
 
 pub lines_end : (t : List ℕ) → length t ≡ 0 → lines t ≡ done

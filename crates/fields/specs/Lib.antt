@@ -1,4 +1,3 @@
 pub mod Split
-pub mod Lines
 pub mod Number
 pub mod private

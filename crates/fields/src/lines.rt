@@ -1,7 +1,7 @@
 // The lines of a text, one after the other.
 ghost use Rattle.std.specs.Prelude.{◌≡◌, length, MatchOption};
 ghost use Rattle.std.specs.Iterator.{at_most};
-ghost use Rattle.fields.specs.Lines.{LineTaken, CutTaken};
+ghost use Rattle.fields.specs.private.Lines.{LineTaken, CutTaken};
 ghost use Rattle.fields.specs.Split.{lines};
 ghost use Rattle.fields.specs.Split.Lines.{done};
 

@@ -1,5 +1,5 @@
-// The sweeps over the tables where relations and own words are lent apart, as two banks lend them. (Of one state they
-// cannot be lent apart: `moment` has the sweeps over that.)
+// The sweeps over the tables, where relations and own words are lent apart: as two banks lend them, or as the parts of
+// one state.
 ghost use Rattle.std.specs.Prelude.{◌≡◌, true, List, ◌++◌, ℕ, ◌<◌, length};
 ghost use Rattle.memory.specs.Layout.{relation_words, own_words, block_words, terms_of};
 ghost use Rattle.memory.specs.Checks.{good_memory};

@@ -9,7 +9,7 @@ use Rattle.std.specs.Option.{option_flatten}
 use denote.Ref.{Bor}
 use Rattle.fields.specs.Split.{split, lines}
 use Rattle.fields.specs.Split.Lines.{done}
-use Rattle.fields.specs.Lines.{LineTaken, CutTaken}
+use Rattle.fields.specs.private.Lines.{LineTaken, CutTaken}
 use Rattle.file.specs.Line.{parsed}
 use Rattle.file.specs.Said.{form_in}
 use Rattle.file.specs.declared.line.Line.{Line}

@@ -14,7 +14,7 @@ use Rattle.reader.specs.Read.Filling.{old, stored, refused as refusedFilling}
 use Rattle.memory.specs.TableIndex.{Masked}
 use Rattle.fields.specs.Split.{lines, split}
 use Rattle.fields.specs.Split.Lines.{done, cut, line}
-use Rattle.fields.specs.Lines.{LineTaken}
+use Rattle.fields.specs.private.Lines.{LineTaken}
 use Rattle.file.specs.Line.{parsed}
 use Rattle.file.specs.File.{File, nothing, after_line}
 use Rattle.file.specs.Reading.{tests, Reading, tried, read_on}

@@ -29,7 +29,7 @@ use Rattle.memory.proofs.Words.{word_table, word_of_table}
 use Rattle.memory.proofs.Outcomes.{passed_checked}
 use Rattle.fields.specs.Split.{lines, split}
 use Rattle.fields.specs.Split.Lines.{done, cut}
-use Rattle.fields.specs.Lines.{LineTaken}
+use Rattle.fields.specs.private.Lines.{LineTaken}
 use Rattle.file.specs.Line.{parsed}
 use Rattle.file.specs.File.{File, state_said}
 use Rattle.file.specs.Reading.{partly, partly_filled, partly_at}

@@ -9,7 +9,7 @@ use Rattle.theory.specs.Keeper.Answer.{refused}
 use Rattle.fields.specs.private.Put.{Put}
 use Rattle.fields.specs.Split.{lines, split}
 use Rattle.fields.specs.Split.Lines.{done, cut, line}
-use Rattle.fields.specs.Lines.{LineTaken}
+use Rattle.fields.specs.private.Lines.{LineTaken}
 use Rattle.fields.proofs.Output.{put_none, put_then}
 use Rattle.transcript.specs.Transcript.{asked, answer_line}
 use Rattle.transcript.specs.Served.{scratch, line_answer, line_state, served}
