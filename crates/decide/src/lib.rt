@@ -7,6 +7,7 @@ mod edges;
 pub mod memo;
 pub mod memo_choice;
 mod pairs;
+pub mod present;
 pub mod queries;
 mod rows;
 pub mod tables;

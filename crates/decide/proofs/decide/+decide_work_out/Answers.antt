@@ -18,16 +18,16 @@ use Rattle.decide.proofs.decide.+decide_work_out.Goals as goal
 
 -- Where `work_out` has read its entry.
 site : (t : ℕ) (c : work_out-After-mask-all t)
-    → sites.Site c.args.terms.now c.args.index.now c.args.relations.now c.args.past.now (assigned c.args.vars) c.args.x c.args.entry c.args.want
+    → sites.Site c.args.present.now.terms.now c.args.present.now.index.now c.args.present.now.relations.now c.args.present.now.past.now (assigned c.args.vars) c.args.x c.args.entry c.args.want
     c.op_of-op.result c.first_of-a.result c.second_of-b.result c.relations-r.result c.mask-all.result
 site t c = record {
-  ready = c.requires.ready;
+  ready = c.args.present.now.ready;
   asked = c.requires.rows_asked;
   o_is = c.op_of-op.ensures.value;
   a-is = c.first_of-a.ensures.value;
   b-is = c.second_of-b.ensures.value;
   r-is = c.relations-r.ensures.value;
-  all-is = sites.mask_is c.requires.ready c.mask-all.result c.members.result c.mask-all.ensures c.members.ensures.value;
+  all-is = sites.mask_is c.args.present.now.ready c.mask-all.result c.members.result c.mask-all.ensures c.members.ensures.value;
 }
 
 -- The past-time operators.
@@ -53,20 +53,17 @@ member-small {a = a} s m e l = subst (λ (y : ℕ). y < 64) (sym e) (sites.var_b
 
 pub decide-slot_for-slot-requires : goal.decide-slot_for-slot-requires
 decide-slot_for-slot-requires t c =
-    sites.entry_short c.requires.ready _ c.requires.rows_asked.exists
+    sites.entry_short c.args.present.now.ready _ c.requires.rows_asked.exists
 
 pub decide-work_out-requires : goal.decide-work_out-requires
 decide-work_out-requires t c =
     let miss = c.missing-need in (
       less _ t c.decreases,
       (
-        c.requires.ready,
+        sites.asked_fewer miss.result c.requires.rows_asked (rem.needed (assigned c.args.vars) c.args.x c.args.want miss.result c.args.memo.now miss.new.memo c.slot_for-slot.result miss.ensures),
         (
-          sites.asked_fewer miss.result c.requires.rows_asked (rem.needed (assigned c.args.vars) c.args.x c.args.want miss.result c.args.memo.now miss.new.memo c.slot_for-slot.result miss.ensures),
-          (
-            c.requires.out_len,
-            rem.memo_below (assigned c.args.vars) c.args.x c.args.want miss.result c.args.entry c.args.memo.now miss.new.memo c.slot_for-slot.result c.slot_for-slot.ensures c.requires.memo miss.ensures,
-          ),
+          c.requires.out_len,
+          rem.memo_below (assigned c.args.vars) c.args.x c.args.want miss.result c.args.entry c.args.memo.now miss.new.memo c.slot_for-slot.result c.slot_for-slot.ensures c.requires.memo miss.ensures,
         ),
       ),
     )
@@ -76,8 +73,8 @@ decide-returns-clause-rows t c =
     let x = c.args in
     let miss = c.missing-need in
     (rem.decided (assigned x.vars) x.x x.want miss.result x.entry x.memo.now miss.new.memo c.mask-all.result c.work_out.new.memo c.keep.new.memo c.work_out.new.out c.keep.new.out c.slot_for-slot.result
-    (good x.terms.now c.requires.ready.good).few_members
-    (sites.mask_is c.requires.ready c.mask-all.result c.members.result c.mask-all.ensures c.members.ensures.value)
+    (good x.present.now.terms.now c.args.present.now.ready.good).few_members
+    (sites.mask_is c.args.present.now.ready c.mask-all.result c.members.result c.mask-all.ensures c.members.ensures.value)
     c.requires.rows_asked.vars c.requires.rows_asked.wanted c.slot_for-slot.ensures c.requires.memo miss.ensures c.work_out.ensures.rows c.work_out.ensures.grown c.keep.ensures).0
 
 pub decide-returns-clause-grown : goal.decide-returns-clause-grown
@@ -85,8 +82,8 @@ decide-returns-clause-grown t c =
     let x = c.args in
     let miss = c.missing-need in
     (rem.decided (assigned x.vars) x.x x.want miss.result x.entry x.memo.now miss.new.memo c.mask-all.result c.work_out.new.memo c.keep.new.memo c.work_out.new.out c.keep.new.out c.slot_for-slot.result
-    (good x.terms.now c.requires.ready.good).few_members
-    (sites.mask_is c.requires.ready c.mask-all.result c.members.result c.mask-all.ensures c.members.ensures.value)
+    (good x.present.now.terms.now c.args.present.now.ready.good).few_members
+    (sites.mask_is c.args.present.now.ready c.mask-all.result c.members.result c.mask-all.ensures c.members.ensures.value)
     c.requires.rows_asked.vars c.requires.rows_asked.wanted c.slot_for-slot.ensures c.requires.memo miss.ensures c.work_out.ensures.rows c.work_out.ensures.grown c.keep.ensures).1
 
 pub work_out-returns-then-want-eq0-clause-rows : goal.work_out-returns-then-want-eq0-clause-rows
@@ -142,7 +139,7 @@ pub work_out-decide-requires : goal.work_out-decide-requires
 work_out-decide-requires t c =
     let s = site t (goal.at.work_out-decide-requires t c).After-mask-all in
     let q = sites.a_lower s 2 c.if-op-eq-NOT.true refl in
-    (lower _ _ t c.decreases q, (s.ready, (sites.operand_same s _ q, (c.requires.out_len, rem.memo_lower (below _ _ q) c.requires.memo))))
+    (lower _ _ t c.decreases q, (sites.operand_same s _ q, (c.requires.out_len, rem.memo_lower (below _ _ q) c.requires.memo)))
 
 pub work_out-returns-then-op-eq-NOT-clause-rows : goal.work_out-returns-then-op-eq-NOT-clause-rows
 work_out-returns-then-op-eq-NOT-clause-rows t c =
@@ -154,11 +151,6 @@ work_out-returns-then-op-eq-NOT-clause-grown t c =
     let s = site t (goal.at.work_out-returns-then-op-eq-NOT-clause-grown t c).After-mask-all in
     rem.grown_up (below _ _ (sites.a_lower s 2 c.if-op-eq-NOT.true refl)) c.requires.memo c.decide.ensures.grown
 
-pub work_out-event_of-event-requires : goal.work_out-event_of-event-requires
-work_out-event_of-event-requires t c =
-    let s = site t (goal.at.work_out-event_of-event-requires t c).After-mask-all in
-    ((good _ s.ready.good).few_events, s.ready.long_past)
-
 pub work_out-returns-then-op-is_absent-clause-rows : goal.work_out-returns-then-op-is_absent-clause-rows
 work_out-returns-then-op-is_absent-clause-rows t c =
     let s = site t (goal.at.work_out-returns-then-op-is_absent-clause-rows t c).After-mask-all in
@@ -168,14 +160,14 @@ pub work_out-decide-requires-in-3 : goal.work_out-decide-requires-in-3
 work_out-decide-requires-in-3 t c =
     let s = site t (goal.at.work_out-decide-requires-in-3 t c).After-mask-all in
     let q = sites.a_lower s 3 c.in-3.is refl in
-    (lower _ _ t c.decreases q, (s.ready, (sites.operand_same s _ q, (c.requires.out_len, rem.memo_lower (below _ _ q) c.requires.memo))))
+    (lower _ _ t c.decreases q, (sites.operand_same s _ q, (c.requires.out_len, rem.memo_lower (below _ _ q) c.requires.memo)))
 
 pub work_out-decide-requires-in-3-2 : goal.work_out-decide-requires-in-3-2
 work_out-decide-requires-in-3-2 t c =
     let s = site t (goal.at.work_out-decide-requires-in-3-2 t c).After-mask-all in
     let g = rem.grown_up (below _ _ (sites.a_lower s 3 c.in-3.is refl)) c.requires.memo c.decide-in-3.ensures.grown in
     let q = sites.b_lower s 3 c.in-3.is refl in
-    (lower _ _ t c.decreases q, (s.ready, (sites.operand_same s _ q, (refl, rem.memo_lower (below _ _ q) g.memo))))
+    (lower _ _ t c.decreases q, (sites.operand_same s _ q, (refl, rem.memo_lower (below _ _ q) g.memo)))
 
 pub work_out-ahead-need-requires : goal.work_out-ahead-need-requires
 work_out-ahead-need-requires t c =
@@ -186,7 +178,7 @@ pub work_out-decide-requires-in-4 : goal.work_out-decide-requires-in-4
 work_out-decide-requires-in-4 t c =
     let s = site t (goal.at.work_out-decide-requires-in-4 t c).After-mask-all in
     let q = sites.ahead_lower s c.in-4.is in
-    (lower _ _ t c.decreases q, (s.ready, (sites.operand_ahead s _ _ c.in-4.is (rw c.event_of-event.ensures at c.ahead-need.ensures), (refl, rem.memo_lower (below _ _ q) c.requires.memo))))
+    (lower _ _ t c.decreases q, (sites.operand_ahead s _ _ c.in-4.is (rw c.event_of-event.ensures at c.ahead-need.ensures), (refl, rem.memo_lower (below _ _ q) c.requires.memo)))
 
 pub work_out-gather-requires : goal.work_out-gather-requires
 work_out-gather-requires t c =
@@ -202,7 +194,7 @@ pub work_out-decide-requires-in-5 : goal.work_out-decide-requires-in-5
 work_out-decide-requires-in-5 t c =
     let s = site t (goal.at.work_out-decide-requires-in-5 t c).After-mask-all in
     let q = sites.b_lower s 5 c.in-5.is refl in
-    (lower _ _ t c.decreases q, (s.ready, (sites.operand_behind s _ _ c.in-5.is (rw c.event_of-event.ensures at c.senders-from-in-5.ensures) (rw c.event_of-event.ensures at c.behind-need.ensures), (refl, rem.memo_lower (below _ _ q) c.requires.memo))))
+    (lower _ _ t c.decreases q, (sites.operand_behind s _ _ c.in-5.is (rw c.event_of-event.ensures at c.senders-from-in-5.ensures) (rw c.event_of-event.ensures at c.behind-need.ensures), (refl, rem.memo_lower (below _ _ q) c.requires.memo)))
 
 pub work_out-scatter-requires : goal.work_out-scatter-requires
 work_out-scatter-requires t c =
@@ -224,7 +216,7 @@ work_out-decide-requires-in-loop-m t c =
     let s = site t (goal.at.work_out-decide-requires-in-loop-m t c).After-mask-all in
     let l = c.loop-m.invariant in
     let q = sites.b_lower s 8 c.in-8.is refl in
-    (lower _ _ t c.decreases q, (s.ready, (sites.operand_bound s _ _ _ c.in-8.is (taken_wanted l.rows.upon c.in-Some.ensures.steps) c.rebind.ensures (counting.single-is c.single.result _ c.single.ensures (taken_small c.in-Some.ensures.steps)), (c.single.array_long, rem.memo_lower (below _ _ q) l.grown.memo))))
+    (lower _ _ t c.decreases q, (sites.operand_bound s _ _ _ c.in-8.is (taken_wanted l.rows.upon c.in-Some.ensures.steps) c.rebind.ensures (counting.single-is c.single.result _ c.single.ensures (taken_small c.in-Some.ensures.steps)), (c.single.array_long, rem.memo_lower (below _ _ q) l.grown.memo)))
 
 pub work_out-loop-m-preserved : goal.work_out-loop-m-preserved
 work_out-loop-m-preserved t c =
@@ -240,20 +232,20 @@ pub work_out-decide-requires-in-10 : goal.work_out-decide-requires-in-10
 work_out-decide-requires-in-10 t c =
     let s = site t (goal.at.work_out-decide-requires-in-10 t c).After-mask-all in
     let q = sites.b_lower s 10 c.in-10.is refl in
-    (lower _ _ t c.decreases q, (s.ready, (sites.operand_zeros s c.in-10.is, (c.requires.out_len, rem.memo_lower (below _ _ q) c.requires.memo))))
+    (lower _ _ t c.decreases q, (sites.operand_zeros s c.in-10.is, (c.requires.out_len, rem.memo_lower (below _ _ q) c.requires.memo)))
 
 pub work_out-decide-requires-in-10-2 : goal.work_out-decide-requires-in-10-2
 work_out-decide-requires-in-10-2 t c =
     let s = site t (goal.at.work_out-decide-requires-in-10-2 t c).After-mask-all in
     let g = rem.grown_up (below _ _ (sites.b_lower s 10 c.in-10.is refl)) c.requires.memo c.decide-in-10.ensures.grown in
     let q = sites.c_lower s _ 10 c.third_of-c.ensures.value c.in-10.is refl in
-    (lower _ _ t c.decreases q, (s.ready, (ops.reached_asked s _ c.together-need.result c.third_of-c.ensures.value c.in-10.is c.decide-in-10.ensures.rows c.together-need.ensures, (refl, rem.memo_lower (below _ _ q) g.memo))))
+    (lower _ _ t c.decreases q, (ops.reached_asked s _ c.together-need.result c.third_of-c.ensures.value c.in-10.is c.decide-in-10.ensures.rows c.together-need.ensures, (refl, rem.memo_lower (below _ _ q) g.memo)))
 
 pub work_out-decide-requires-then-a-x-2 : goal.work_out-decide-requires-then-a-x-2
 work_out-decide-requires-then-a-x-2 t c =
     let s = site t (goal.at.work_out-decide-requires-then-a-x-2 t c).After-mask-all in
     let q = sites.b_lower s 9 c.in-9.is refl in
-    (lower _ _ t c.decreases q, (s.ready, (sites.operand_all s _ q, (refl, rem.memo_lower (below _ _ q) c.requires.memo))))
+    (lower _ _ t c.decreases q, (sites.operand_all s _ q, (refl, rem.memo_lower (below _ _ q) c.requires.memo)))
 
 pub work_out-member_of-c-requires : goal.work_out-member_of-c-requires
 work_out-member_of-c-requires t c =
@@ -265,7 +257,7 @@ work_out-decide-requires-else-a-x-2 t c =
     let s = site t (goal.at.work_out-decide-requires-else-a-x-2 t c).After-mask-all in
     let v = sites.a_variable s 9 c.in-9.is refl in
     let q = sites.b_lower s 9 c.in-9.is refl in
-    (lower _ _ t c.decreases q, (s.ready, (sites.operand_one s _ _ _ q v (counting.single-is c.single-else-a-x-2.result _ (λ k. c.single-else-a-x-2.ensures k ∙ ap (λ (y : ℕ). ltb k 64 && eqb k y) c.member_of-c.ensures) (sites.var_below s _ v)), (refl, rem.memo_lower (below _ _ q) c.requires.memo))))
+    (lower _ _ t c.decreases q, (sites.operand_one s _ _ _ q v (counting.single-is c.single-else-a-x-2.result _ (λ k. c.single-else-a-x-2.ensures k ∙ ap (λ (y : ℕ). ltb k 64 && eqb k y) c.member_of-c.ensures) (sites.var_below s _ v)), (refl, rem.memo_lower (below _ _ q) c.requires.memo)))
 
 pub work_out-bounds-f-c : goal.work_out-bounds-f-c
 work_out-bounds-f-c t c =

@@ -14,6 +14,6 @@ decreases-work_out l = 2 * l.entry
 
 abbrev pub invariant-work_out-loop-m : goal.invariant-work_out-loop-m
 invariant-work_out-loop-m l = record {
-  rows : loops.Filling l.want (cell (terms_of l.terms) l.relations l.past (assigned l.vars) l.x l.entry) l.initial.out l.m-iterator.rest l.out;
-  grown : Grown (terms_of l.terms) l.relations l.past l.entry l.initial.memo l.memo;
+  rows : loops.Filling l.want (cell (terms_of l.present.terms.now) l.present.relations.now l.present.past.now (assigned l.vars) l.x l.entry) l.initial.out l.m-iterator.rest l.out;
+  grown : Grown (terms_of l.present.terms.now) l.present.relations.now l.present.past.now l.entry l.initial.memo l.memo;
 }

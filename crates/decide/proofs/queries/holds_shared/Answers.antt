@@ -5,5 +5,5 @@ use Rattle.decide.proofs.queries.holds_shared.Goals as goal
 
 pub holds_at-requires-clause-memo : goal.holds_at-requires-clause-memo
 holds_at-requires-clause-memo c =
-    let l : c.args.entry < (terms_of c.args.terms.now).entries = c.requires.bound.0 in
-    rem.memo_lower (omega arith) (c.prepare.ensures.by_index c.args.relations.now c.args.past.now)
+    let l : c.args.entry < (terms_of c.args.present.now.terms.now).entries = c.requires.bound.0 in
+    rem.memo_lower (omega arith) (c.prepare.ensures.by_index c.args.present.now.relations.now c.args.present.now.past.now)

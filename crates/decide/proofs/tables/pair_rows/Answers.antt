@@ -21,12 +21,12 @@ loop-b-init c =
 
 pub decide-requires-clause-rows_asked : goal.decide-requires-clause-rows_asked
 decide-requires-clause-rows_asked c =
-    let T = terms_of c.args.terms.now in
+    let T = terms_of c.args.present.now.terms.now in
     record {
       exists = c.requires.operand_bound.0;
-      wanted = λ m e. ltb-true m T.members (sym (sites.mask_is c.requires.ready c.mask-all.result c.members-n.result c.mask-all.ensures c.members-n.ensures.value m) ∙ e);
+      wanted = λ m e. ltb-true m T.members (sym (sites.mask_is c.args.present.now.ready c.mask-all.result c.members-n.result c.mask-all.ensures c.members-n.ensures.value m) ∙ e);
       vars = assignments.vars_assign c.args.x c.loop-b.b c.requires.operand_bound.2 (omega arith) c.rebind-vars.ensures
-          (assignments.vars_zeros (good c.args.terms.now c.requires.ready.good).some_member);
+          (assignments.vars_zeros (good c.args.present.now.terms.now c.args.present.now.ready.good).some_member);
     }
 
 pub loop-b-preserved : goal.loop-b-preserved
@@ -36,8 +36,8 @@ loop-b-preserved c =
     let bound = c.requires.operand_bound in
     let members = c.members-n.ensures.value in
     record {
-      filled = pairs.pair_more (terms_of x.terms.now) x.relations.now x.past.now x.operand x.x x.y l.b _ bound.1 (omega arith) bound.3
-          (eqb-false x.x x.y bound.4) c.rebind-vars.ensures (sites.mask_is c.requires.ready c.mask-all.result c.members-n.result c.mask-all.ensures members)
+      filled = pairs.pair_more (terms_of x.present.now.terms.now) x.present.now.relations.now x.present.now.past.now x.operand x.x x.y l.b _ bound.1 (omega arith) bound.3
+          (eqb-false x.x x.y bound.4) c.rebind-vars.ensures (sites.mask_is c.args.present.now.ready c.mask-all.result c.members-n.result c.mask-all.ensures members)
           c.decide.ensures.rows l.invariant.filled (rw members at c.add_rows.ensures);
       grown = rem.grown_then l.invariant.grown c.decide.ensures.grown;
     }
@@ -46,9 +46,9 @@ pub returns : goal.returns
 returns c =
     let x = c.args in
     let l = c.loop-b in
-    let all : l.b ≡ (terms_of x.terms.now).members = omega arith in
+    let all : l.b ≡ (terms_of x.present.now.terms.now).members = omega arith in
     record {
       table = pairs.filled_all _ _ x.x x.y [] _
-          (subst (λ (b : ℕ). pairs.Filled (terms_of x.terms.now).members (operand_bits (terms_of x.terms.now) x.relations.now x.past.now (x.x ∷ x.y ∷ []) x.operand) b l.out) all l.invariant.filled);
+          (subst (λ (b : ℕ). pairs.Filled (terms_of x.present.now.terms.now).members (operand_bits (terms_of x.present.now.terms.now) x.present.now.relations.now x.present.now.past.now (x.x ∷ x.y ∷ []) x.operand) b l.out) all l.invariant.filled);
       grown = l.invariant.grown;
     }

@@ -8,6 +8,6 @@ use Rattle.decide.proofs.tables.pair_rows.Given as goal
 
 abbrev pub invariant-loop-b : goal.invariant-loop-b
 invariant-loop-b l = record {
-  filled : pairs.Filled (terms_of l.terms).members (operand_bits (terms_of l.terms) l.relations l.past (l.x ∷ l.y ∷ []) l.operand) l.b l.out;
-  grown : Grown (terms_of l.terms) l.relations l.past (l.operand + 1) l.initial.memo l.memo;
+  filled : pairs.Filled (terms_of l.present.terms.now).members (operand_bits (terms_of l.present.terms.now) l.present.relations.now l.present.past.now (l.x ∷ l.y ∷ []) l.operand) l.b l.out;
+  grown : Grown (terms_of l.present.terms.now) l.present.relations.now l.present.past.now (l.operand + 1) l.initial.memo l.memo;
 }
