@@ -8,6 +8,7 @@ ghost use Rattle.deciding.specs.private.Memo.{MemoOf, Fresh};
 ghost use Rattle.deciding.specs.private.Moving.{Movable, Becomes, prev_at, prev_moved, since_at, since_moved};
 
 use crate::moment::put_table;
+use decide::present::Present;
 use decide::{memo, tables};
 use memory::layout;
 use theory::operators::{PREV, SINCE};
@@ -42,7 +43,13 @@ fn prev_turn(
     ensures memo_of_2 { MemoOf (terms_of terms.now) (relations.now ++ own.new) n memo.new }
 {
     if layout::op_of(terms, n) == PREV {
-        tables::prev_table(terms, index, relations, own, memo, n, rows);
+        let present = Present {
+            terms,
+            index,
+            relations,
+            past: own,
+        };
+        tables::prev_table(&present, memo, n, rows);
         put_table(index, own, rows, n);
     }
 }
@@ -65,7 +72,13 @@ pub fn since_turn(
     ensures memo_of_2 { MemoOf (terms_of terms.now) (relations.now ++ own.new) (terms_of terms.now).entries memo.new × Fresh (terms_of terms.now).entries n memo.new }
 {
     if layout::op_of(terms, n) == SINCE {
-        tables::since_table(terms, index, relations, own, memo, n, f, rows);
+        let present = Present {
+            terms,
+            index,
+            relations,
+            past: own,
+        };
+        tables::since_table(&present, memo, n, f, rows);
         put_table(index, own, rows, n);
     }
 }

@@ -12,6 +12,7 @@ ghost use Rattle.banking.specs.private.Beside.{hushed};
 ghost use Rattle.moments.specs.private.Moments.{Moved};
 
 use crate::{apart, effects};
+use decide::present::Present;
 use decide::{memo, memo_choice, queries};
 use memory::{clear, layout};
 
@@ -40,16 +41,13 @@ pub fn is_granted(
 {
     let policy = layout::policy_of(terms, event);
     let memoless = memo_choice::is_brief(terms, policy);
-    queries::settle(
+    let present = Present {
         terms,
         index,
-        &relations[0..TABLES],
-        &own[0..OWN],
-        policy,
-        from,
-        to,
-        memoless,
-    )
+        relations: &relations[0..TABLES],
+        past: &own[0..OWN],
+    };
+    queries::settle(&present, policy, from, to, memoless)
 }
 
 // The moment itself: the effects, if the request is granted, the event edge of the bank, and none beside.

@@ -11,6 +11,7 @@ ghost use Rattle.deciding.specs.private.Moving.{Movable, Becomes, put, prev_at, 
 
 use crate::effects::enter;
 use crate::{apart, beside};
+use decide::present::Present;
 use decide::{memo, memo_choice, queries};
 use memory::{clear, layout, table_index};
 
@@ -29,16 +30,13 @@ pub fn is_so(terms: &[u16], index: &[u16], state: &[u64], entry: usize, u: usize
     ensures { result ≡ holds_at (terms_of terms.now) (state_of state.now) entry u v }
 {
     let memoless = memo_choice::is_brief(terms, entry);
-    queries::settle(
+    let present = Present {
         terms,
         index,
-        &state[0..TABLES],
-        &state[TABLES..layout::STATE],
-        entry,
-        u,
-        v,
-        memoless,
-    )
+        relations: &state[0..TABLES],
+        past: &state[TABLES..layout::STATE],
+    };
+    queries::settle(&present, entry, u, v, memoless)
 }
 
 // Whether the policy of the event holds now, at the initiator with variable 0 standing for the target.

@@ -9,8 +9,10 @@ use Rattle.deciding.proofs.MemoInSweep as steps
 use Rattle.deciding.proofs.Apart as parts
 use Rattle.moments.proofs.apart.prev_turn.Goals as goal
 
-pub prev_table-requires-clause-ready : goal.prev_table-requires-clause-ready
-prev_table-requires-clause-ready c = let m = c.requires.movable in parts.ready_apart c.args.relations.now c.args.own.now m.0 m.1 m.2
+pub invariant_of-present : goal.invariant_of-present
+invariant_of-present c =
+    let m = c.requires.movable in
+    record { ready = parts.ready_apart c.args.relations.now c.args.own.now m.0 m.1 m.2 }
 
 pub prev_table-requires-clause-memo : goal.prev_table-requires-clause-memo
 prev_table-requires-clause-memo c =

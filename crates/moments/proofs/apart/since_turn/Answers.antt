@@ -10,8 +10,10 @@ use Rattle.deciding.proofs.Remembering as rem
 use Rattle.deciding.proofs.Apart as parts
 use Rattle.moments.proofs.apart.since_turn.Goals as goal
 
-pub since_table-requires-clause-ready : goal.since_table-requires-clause-ready
-since_table-requires-clause-ready c = let m = c.requires.movable in parts.ready_apart c.args.relations.now c.args.own.now m.0 m.1 m.2
+pub invariant_of-present : goal.invariant_of-present
+invariant_of-present c =
+    let m = c.requires.movable in
+    record { ready = parts.ready_apart c.args.relations.now c.args.own.now m.0 m.1 m.2 }
 
 pub since_table-requires-clause-memo : goal.since_table-requires-clause-memo
 since_table-requires-clause-memo c =

@@ -10,20 +10,20 @@ use Rattle.deciding.proofs.Parts.{joined_long}
 use Rattle.deciding.proofs.SameDecision.{all_named}
 use Rattle.moments.proofs.beside.is_granted.Goals as goal
 
-pub settle-requires-clause-ready : goal.settle-requires-clause-ready
-settle-requires-clause-ready c =
+pub invariant_of-present : goal.invariant_of-present
+invariant_of-present c =
     let x = c.args in
     let t = c.requires.terms_words_in_bounds in
     let l = c.requires.relation_words_in_bounds in
     let bank = moves.movable x.terms.now x.index.now (joined x.relations.now x.own.now) t.0 t.1 t.2 (omega (arith, joined_long x.relations.now x.own.now l.0 l.1)) l.2 in
-    apart.ready_apart (take relation_words x.relations.now) (take own_words x.own.now) bank (length-take-le relation_words x.relations.now l.0) (length-take-le own_words x.own.now l.1)
+    record { ready = apart.ready_apart (take relation_words x.relations.now) (take own_words x.own.now) bank (length-take-le relation_words x.relations.now l.0) (length-take-le own_words x.own.now l.1) }
 
-pub settle-requires-clause-bound : goal.settle-requires-clause-bound
-settle-requires-clause-bound c =
+pub settle-requires : goal.settle-requires
+settle-requires c =
     let x = c.args in
     let g = good x.terms.now c.requires.terms_words_in_bounds.1 in
     let call = all_named (terms_of x.terms.now) g x.event x.from x.to c.requires.to_value in
-    (rw c.policy_of-policy.ensures.value (g.policy_exists x.event call.event), call.from, call.to)
+    record { bound = (rw c.policy_of-policy.ensures.value (g.policy_exists x.event call.event), call.from, call.to) }
 
 pub returns : goal.returns
 returns c =

@@ -5,12 +5,12 @@ use Rattle.memory.proofs.Accepted.{good}
 use Rattle.deciding.proofs.MomentSteps.{movable, readied, asked}
 use Rattle.moments.proofs.moment.is_so.Goals as goal
 
-pub settle-requires-clause-ready : goal.settle-requires-clause-ready
-settle-requires-clause-ready c =
+pub invariant_of-present : goal.invariant_of-present
+invariant_of-present c =
     let x = c.args in
     let t = c.requires.terms_words_in_bounds in
     let m = c.requires.state_words_in_bounds in
-    readied (movable x.terms.now x.index.now x.state.now t.0 t.1 t.2 m.0 m.1)
+    record { ready = readied (movable x.terms.now x.index.now x.state.now t.0 t.1 t.2 m.0 m.1) }
 
 pub returns : goal.returns
 returns c =
