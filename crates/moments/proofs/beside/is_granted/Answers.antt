@@ -1,4 +1,4 @@
-use Rattle.std.proofs.Common.{◌≡◌, take, rules, arith}
+use Rattle.std.proofs.Common.{◌≡◌, take, arith}
 use lib.Seq.{length-take-le}
 use Rattle.theory.specs.Meaning.{assign}
 use Rattle.memory.specs.Layout.{relation_words, own_words, joined, terms_of}
