@@ -135,8 +135,7 @@ fn always(
     if plan.len() / 2 <= k {
         return false;
     }
-    let mut i: usize = 0;
-    while i < MOVES {
+    for i in 0..MOVES {
         if is_offered(terms, i) {
             reply(terms, words, at, rival, i);
             let won = attempt(terms, words, at + STATE, plan, k, planner, goal, u, v);
@@ -156,7 +155,6 @@ fn always(
                 return false;
             }
         }
-        i += 1;
     }
     true
 }
