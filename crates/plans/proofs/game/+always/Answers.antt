@@ -1,5 +1,5 @@
 -- A move of the rival is met where what is played after it wins.
-use Rattle.std.proofs.Common.{◌≡◌, ℕ, arith, subst, true, ◌+◌, ◌∙◌}
+use Rattle.std.proofs.Common.{◌≡◌, arith, subst, true, ◌∙◌}
 use mathlib.Core.Path.{sym}
 use Rattle.sets.specs.Sets.{all_below}
 use Rattle.sets.proofs.Finite.{all_none, not_both}
@@ -52,14 +52,14 @@ loop-i-preserved t c =
     let ask = offer T x.terms.now x.rival (wins_from x.terms.now x.plan.now x.planner x.rival x.goal x.u x.v x.k) (standing x.at x.words.now) in
     let e = c.is_offered.ensures in
     elim c.if-is_offered.branch [
-      then-is_offered+else-not-always w ↦
-        let y = w.reply in
-        let z = w.attempt-won in
-        let a = w.always in (
-          rw w.words-is (turn_spared q.playable x.at x.k kl x.words.now l.words q.k_bound.1 q.k_bound.2 l.invariant.0 l.i y.new.words y.ensures z.result z.ensures.value z.new.words z.ensures.placed a.result a.ensures.value a.new.words a.ensures.spared),
-          offers_more l.i ask l.invariant.1 (implies (offered T l.i) (λ _. sym (turn_is q.playable x.at x.k kl x.words.now l.words q.k_bound.1 q.k_bound.2 l.invariant.0 l.i y.new.words y.ensures z.result z.ensures.value z.new.words z.ensures.placed a.result a.ensures.value a.new.words a.ensures.spared) ∙ w.if-not-always.false)),
-        )
-    | else-is_offered w ↦ (
+      | then-is_offered+else-not-always w ↦
+          let y = w.reply in
+          let z = w.attempt-won in
+          let a = w.always in (
+            rw w.words-is (turn_spared q.playable x.at x.k kl x.words.now l.words q.k_bound.1 q.k_bound.2 l.invariant.0 l.i y.new.words y.ensures z.result z.ensures.value z.new.words z.ensures.placed a.result a.ensures.value a.new.words a.ensures.spared),
+            offers_more l.i ask l.invariant.1 (implies (offered T l.i) (λ _. sym (turn_is q.playable x.at x.k kl x.words.now l.words q.k_bound.1 q.k_bound.2 l.invariant.0 l.i y.new.words y.ensures z.result z.ensures.value z.new.words z.ensures.placed a.result a.ensures.value a.new.words a.ensures.spared) ∙ w.if-not-always.false)),
+          )
+      | else-is_offered w ↦ (
         rw w.words-is l.invariant.0,
         offers_more l.i ask l.invariant.1 (implies (offered T l.i) (λ o. absurd (not_both _ o (sym e ∙ w.if-is_offered.false)))),
       )

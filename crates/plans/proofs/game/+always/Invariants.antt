@@ -1,6 +1,6 @@
 -- It calls itself with one move more made, so that fewer are left. The loop's invariant: after each move of the rival
 -- up to i the rest of the plan wins, and the state that it starts from is spared.
-use Rattle.std.proofs.Common.{◌≡◌, ℕ, ◌+◌, ◌-◌, ◌≤◌, true}
+use Rattle.std.proofs.Common.{◌≡◌, ◌+◌, ◌-◌, true}
 use Rattle.sets.specs.Sets.{all_below}
 use Rattle.memory.specs.Layout.{state_words, terms_of}
 use Rattle.plans.specs.private.Playing.{standing, Spared, wins_from}
