@@ -6,12 +6,13 @@ use mathlib.Core.List.{List, [], ◌∷◌}
 use lib.Dec.{eqb, lit<}
 use lib.ListN.{length, get_or, set}
 use Rattle.theory.specs.Keeper.{Answer}
-use Rattle.memory.specs.Outcome.{Outcome, has_passed}
+use Rattle.memory.specs.Outcome.{Outcome, outcome_of, has_passed}
+use Rattle.memory.specs.Outcome.Outcome.{passed}
 use Rattle.calls.specs.Monitor.{granted}
 use Rattle.calls.specs.SetList.{listing_of, answer_number, filled, listing, gain_of, blank}
-use Rattle.calls.specs.private.Listing.{turns_of}
+use Rattle.calls.specs.SetList.Listing.{counted}
 use Rattle.calls.specs.declared.Record.{Record}
-use Rattle.std.specs.Prelude.{Result}
+use Rattle.std.specs.Prelude.{Result, Ok, Err}
 use Rattle.memory.specs.declared.refusal.Refusal.{Refusal}
 use Rattle.banking.specs.Banking.{bank_answer, relations_after, own_after, other_after, cleared_after}
 use Rattle.banking.specs.BankList.{BankRun, bank_singly, bank_list_checks, bank_listed, bank_left}
@@ -117,19 +118,34 @@ module _ (t : List ℕ) where
         (listing_of r ≡ bank_listed t m₀.0 m₀.1.0 m₀.1.1.0 m₀.1.1.1.0 m₀.1.1.1.1.0 ys₀) × (ys ≡ leaves.records) × (m.0 ≡ leaves.relations)
         × (m.1.0 ≡ leaves.own) × (m.1.1.0 ≡ leaves.other) × (m.1.1.1.0 ≡ leaves.scratch) × (m.1.1.1.1.0 ≡ leaves.spare)
 
-    pub ends : (g : ℕ) (ys : List Record) (m : Mem) (o : Outcome) → o ≡ checks → (r : Result ℕ Refusal) → listing_of r ≡ listing o g → Facts (turns_of o (length ys₀)) g ys m →
-        Ended r ys m
+    -- What is left, by the outcome of the checks.
+    abbrev by : Outcome → BankRun
+    by o = cond (has_passed o) (run m₀ ys₀) (as_run (record { records = ys₀; grants = 0; mem = m₀ }))
+
+    pub ends : (g : ℕ) (ys : List Record) (m : Mem) → passed ≡ checks → Facts (length ys₀) g ys m → Ended (Ok g) ys m
     unfolding bank_listed bank_left
-    ends g ys m o e r said F =
-        let all = each_singly m₀ ys₀ in
-        let k = loop.counts ask after ys₀ m₀ Kept g ys m o _ (ap (λ (X : BankRun). X.grants) all) F in
-        let q = loop.leaves ask after ys₀ m₀ Kept g ys m as_run _ all o F
-        ∙ ap (λ (o : Outcome). cond (has_passed o) (run m₀ ys₀) (as_run (record { records = ys₀; grants = 0; mem = m₀ }))) e in (
-          said ∙ k ∙ ap (λ (o : Outcome). listing o (run m₀ ys₀).grants) e,
-          ap (λ (R : BankRun). R.records) q,
-          ap (λ (R : BankRun). R.relations) q,
-          ap (λ (R : BankRun). R.own) q,
-          ap (λ (R : BankRun). R.other) q,
-          ap (λ (R : BankRun). R.scratch) q,
-          ap (λ (R : BankRun). R.spare) q,
+    ends g ys m p F =
+        let q = ap as_run (loop.ran ask after ys₀ m₀ Kept g ys m F) ∙ each_singly m₀ ys₀ in
+        let o = q ∙ ap by p in (
+          ap (λ (R : BankRun). counted R.grants) q ∙ ap (λ (o : Outcome). listing o (run m₀ ys₀).grants) p,
+          ap (λ (R : BankRun). R.records) o,
+          ap (λ (R : BankRun). R.relations) o,
+          ap (λ (R : BankRun). R.own) o,
+          ap (λ (R : BankRun). R.other) o,
+          ap (λ (R : BankRun). R.scratch) o,
+          ap (λ (R : BankRun). R.spare) o,
+        )
+
+    -- A refused check leaves all as lent.
+    pub refuses : (r : Refusal) → outcome_of (Err r) ≡ checks → Ended (Err r) ys₀ m₀
+    unfolding bank_listed bank_left
+    refuses r p =
+        let o = ap by p in (
+          ap (λ (o : Outcome). listing o (run m₀ ys₀).grants) p,
+          ap (λ (R : BankRun). R.records) o,
+          ap (λ (R : BankRun). R.relations) o,
+          ap (λ (R : BankRun). R.own) o,
+          ap (λ (R : BankRun). R.other) o,
+          ap (λ (R : BankRun). R.scratch) o,
+          ap (λ (R : BankRun). R.spare) o,
         )

@@ -10,12 +10,8 @@ use mathlib.Core.List.{List, [], ◌∷◌, ◌++◌, append-nil}
 use lib.Dec.{eqb, lit≤}
 use lib.ListN.{length, get_or, set, length-append, length-set}
 use Rattle.theory.specs.Keeper.{Answer}
-use Rattle.memory.specs.Outcome.{Outcome, has_passed}
-use Rattle.memory.specs.Outcome.Outcome.{passed, refused}
 use Rattle.calls.specs.Monitor.{granted}
-use Rattle.calls.specs.SetList.{answer_number, filled, listing, gain_of, blank}
-use Rattle.calls.specs.SetList.Listing.{counted}
-use Rattle.calls.specs.private.Listing.{turns_of}
+use Rattle.calls.specs.SetList.{answer_number, filled, gain_of, blank}
 use Rattle.calls.specs.declared.Record.{Record}
 use Rattle.monitor.proofs.Records.{put_answer}
 
@@ -49,27 +45,6 @@ gain_small r = at (eqb r 1)
     at : (t : Bool) → cond t 1 0 ≤ 1
     at true = lit≤ tt
     at false = lit≤ tt
-
-pub turns_within : (o : Outcome) (n : ℕ) → turns_of o n ≤ n
-unfolding turns_of
-turns_within o n = at (has_passed o)
-  where
-    at : (t : Bool) → cond t n 0 ≤ n
-    at true = omega arith
-    at false = omega arith
-
--- A record that is answered is one of the list.
-pub within : (o : Outcome) (i n k m : ℕ) → i < n → n ≡ turns_of o m → k ≡ m → i < k
-within o i n k m l e s = omega (arith, turns_within o m)
-
--- A turn is made only where the checks pass.
-pub turns_passed : (o : Outcome) (i n : ℕ) → i < turns_of o n → has_passed o ≡ true
-unfolding turns_of
-turns_passed o i n = at (has_passed o)
-  where
-    at : (t : Bool) → i < cond t n 0 → t ≡ true
-    at true l = refl
-    at false l = absurd (omega (arith, l))
 
 -- ---- requests one after another
 
@@ -183,51 +158,18 @@ module _ {Mem : Type 0} (ask : Mem → Record → Answer) (after : Mem → Recor
 
     -- ---- at the end
 
-    module _ (g : ℕ) (ys : List Record) (m : Mem) where
-      abbrev now : Ran Mem
-      now = record { records = ys; grants = g; mem = m }
+    -- All records were answered: what was granted, and what is left.
+    pub ran : (g : ℕ) (ys : List Record) (m : Mem) → Facts (length ys₀) g ys m → record { records = ys; grants = g; mem = m } ≡ each m₀ ys₀
+    ran g ys m F = ap (λ (l : List Record). record { records = l; grants = g; mem = m }) ended ∙ F.run ∙ ap (each m₀) all
+      where
+        zero_left : length ys ≡ length F.done + length F.rest → length F.done ≡ length ys₀ → length ys ≡ length ys₀ → length F.rest ≡ 0
+        zero_left p k e = omega (arith, p, k, e)
 
-      abbrev lent : Ran Mem
-      lent = record { records = ys₀; grants = 0; mem = m₀ }
+        none_left : F.rest ≡ []
+        none_left = none F.rest (zero_left (ap length F.parts ∙ length-append F.done F.rest) F.place F.size)
 
-      -- All records were answered.
-      ran : Facts (length ys₀) g ys m → now ≡ each m₀ ys₀
-      ran F = ap (λ (l : List Record). record { records = l; grants = g; mem = m }) ended ∙ F.run ∙ ap (each m₀) all
-        where
-          zero_left : length ys ≡ length F.done + length F.rest → length F.done ≡ length ys₀ → length ys ≡ length ys₀ → length F.rest ≡ 0
-          zero_left p k e = omega (arith, p, k, e)
+        all : F.before ≡ ys₀
+        all = sym (F.whole ∙ ap (λ (l : List Record). F.before ++ l) none_left ∙ append-nil F.before)
 
-          none_left : F.rest ≡ []
-          none_left = none F.rest (zero_left (ap length F.parts ∙ length-append F.done F.rest) F.place F.size)
-
-          all : F.before ≡ ys₀
-          all = sym (F.whole ∙ ap (λ (l : List Record). F.before ++ l) none_left ∙ append-nil F.before)
-
-          ended : ys ≡ F.done
-          ended = F.parts ∙ ap (λ (l : List Record). F.done ++ l) none_left ∙ append-nil F.done
-
-      -- None was.
-      stayed : Facts 0 g ys m → now ≡ lent
-      unfolding each
-      stayed F = λ j. record { records = kept j; grants = (begun j).grants; mem = (begun j).mem }
-        where
-          first : F.before ≡ []
-          first = none F.before F.passed
-
-          kept : ys ≡ ys₀
-          kept = F.parts ∙ ap (λ (l : List Record). l ++ F.rest) (none F.done F.place) ∙ sym (F.whole ∙ ap (λ (l : List Record). l ++ F.rest) first)
-
-          begun : record { records = F.done; grants = g; mem = m } ≡ each m₀ []
-          begun = F.run ∙ ap (each m₀) first
-
-      -- By the outcome of the checks: what is counted, and what is left, as seen in another form.
-      pub counts : (o : Outcome) (k : ℕ) → (each m₀ ys₀).grants ≡ k → Facts (turns_of o (length ys₀)) g ys m → listing o g ≡ listing o k
-      unfolding turns_of
-      counts passed k e F = ap counted (ap (λ (X : Ran Mem). X.grants) (ran F) ∙ e)
-      counts (refused n l) k e F = refl
-
-      pub leaves : {Out : Type 0} (see : Ran Mem → Out) (all : Out) → see (each m₀ ys₀) ≡ all → (o : Outcome) → Facts (turns_of o (length ys₀)) g ys m →
-          see now ≡ cond (has_passed o) all (see lent)
-      unfolding turns_of
-      leaves see all e passed F = ap see (ran F) ∙ e
-      leaves see all e (refused n l) F = ap see (stayed F)
+        ended : ys ≡ F.done
+        ended = F.parts ∙ ap (λ (l : List Record). F.done ++ l) none_left ∙ append-nil F.done

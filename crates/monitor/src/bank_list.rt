@@ -7,7 +7,7 @@ ghost use Rattle.banking.specs.Banking.{bank_answer, relations_after, own_after,
 ghost use Rattle.banking.specs.BankList.{bank_list_checks, bank_listed, bank_left};
 
 use crate::banks::request;
-use crate::lists::{finish, number_of, tally, turns};
+use crate::lists::{number_of, tally};
 use calls::Record;
 use memory::layout;
 use memory::limits::ENTRIES;
@@ -76,14 +76,12 @@ pub fn set_list(
         × (scratch.new ≡ (bank_left terms.now relations.old own.old other.old scratch.old spare.old records.old).scratch)
         × (spare.new ≡ (bank_left terms.now relations.old own.old other.old scratch.old spare.old records.old).spare) }
 {
-    let checked = inspect_bank_list(terms, relations, own, other, scratch, spare);
-    let n = turns(checked, records.len());
-    let mut count = 0;
-    for i in 0..n {
-        let r = records[i];
-        let answer = step(terms, relations, own, other, scratch, spare, r);
-        records[i].answer = answer;
-        count = tally(count, answer);
+    inspect_bank_list(terms, relations, own, other, scratch, spare)?;
+    let mut granted = 0;
+    for r in records.iter_mut() {
+        let answer = step(terms, relations, own, other, scratch, spare, *r);
+        r.answer = answer;
+        granted = tally(granted, answer);
     }
-    finish(checked, count)
+    Ok(granted)
 }

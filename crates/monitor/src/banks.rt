@@ -120,7 +120,12 @@ pub fn request(
 }
 
 // Makes moment 0 of the relations for both banks; a refusal leaves their own words as lent.
-pub fn open(terms: &[u16], relations: &[u64], first: &mut [u64], second: &mut [u64]) -> Result<(), Refusal>
+pub fn open(
+    terms: &[u16],
+    relations: &[u64],
+    first: &mut [u64],
+    second: &mut [u64],
+) -> Result<(), Refusal>
     ensures result_value { outcome_of result ≡ banks_open terms.now relations.now first.old second.old }
     ensures first_after { first.new ≡ own_opened terms.now relations.now first.old second.old first.old }
     ensures second_after { second.new ≡ own_opened terms.now relations.now first.old second.old second.old }

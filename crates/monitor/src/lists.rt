@@ -1,22 +1,9 @@
-// What set lists of a state and of a bank share: how many records are answered, by which numbers, what is counted.
+// What set lists of a state and of a bank share: by which numbers records are answered, and what is counted.
 ghost use Rattle.std.specs.Prelude.{◌≡◌, ◌+◌, ◌<◌, ◌^◌};
-ghost use Rattle.memory.specs.Outcome.{outcome_of};
 ghost use Rattle.calls.specs.Monitor.{answer_of};
-ghost use Rattle.calls.specs.SetList.{listing_of, answer_number, listing, gain_of};
-ghost use Rattle.calls.specs.private.Listing.{turns_of};
+ghost use Rattle.calls.specs.SetList.{answer_number, gain_of};
 
 use calls::{Answer, Verdict};
-use memory::refusal::Refusal;
-
-// How many of n records are answered.
-pub(crate) fn turns(checked: Result<(), Refusal>, n: usize) -> usize
-    ensures { result ≡ turns_of (outcome_of checked) n }
-{
-    match checked {
-        Ok(()) => n,
-        Err(_) => 0,
-    }
-}
 
 // The number that is filled in for an answer.
 pub(crate) fn number_of(a: Answer) -> u32
@@ -36,12 +23,4 @@ pub(crate) fn tally(count: usize, answer: u32) -> usize
     ensures { result ≡ count + gain_of answer }
 {
     if answer == 1 { count + 1 } else { count }
-}
-
-// What a list gives: the count, or what refused it.
-pub(crate) fn finish(checked: Result<(), Refusal>, count: usize) -> Result<usize, Refusal>
-    ensures { listing_of result ≡ listing (outcome_of checked) count }
-{
-    checked?;
-    Ok(count)
 }

@@ -11,9 +11,9 @@ ghost use Rattle.calls.specs.SetList.{list_checks};
 ghost use Rattle.calls.specs.private.Listing.{MemoryPassed};
 
 use calls::{Answer, Verdict};
+use memory::layout;
 use memory::limits::ENTRIES;
 use memory::refusal::Refusal;
-use memory::layout;
 use moments::moment;
 
 // Checks terms, state and scratch, and leaves the table index where they pass.

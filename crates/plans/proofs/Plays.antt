@@ -2,12 +2,12 @@
 use Prim.Native.Nat.{ℕ, suc, ◌+◌, ◌-◌, ◌*◌, ◌/◌, ◌%◌, ◌≤◌, ◌<◌}
 use native.Mathlib.Omega.{arith}
 use native.Mathlib.Numerals.{add-one}
-use mathlib.Core.Path.{◌≡◌, refl, sym, ap, ap₂, subst, ◌∙◌}
+use mathlib.Core.Path.{◌≡◌, refl, sym, ap, ap₂, ◌∙◌}
 use mathlib.Core.List.{List, ◌++◌, append-nil}
 use mathlib.Core.Bool.{Bool, true, false, cond, ◌&&◌, ◌||◌}
 use lib.Dec.{eqb, ltb}
-use lib.ListN.{length, get_or, take, drop, set, replicate, length-append, length-drop, length-set, drop_of_length-le}
-use lib.Seq.{length-take-le, take_all, take_at, drop_at, drop-append-le, take-add, take-take, take-set-le, drop-set-add, get_or-drop}
+use lib.ListN.{length, get_or, take, drop, replicate, length-append, length-drop, drop_of_length-le}
+use lib.Seq.{length-take-le, take_all, take_at, drop_at, drop-append-le, take-add, take-take}
 use borrow.Author.Tests.{lt-ltb, ltb-true, ne_eqb}
 use borrow.Rule.Slice.PartMut.{put_mid}
 use Rattle.sets.specs.Sets.{all_below}
@@ -21,7 +21,7 @@ use Rattle.plans.specs.Plans.{stepped, reached_in, accepted}
 use Rattle.plans.specs.private.Playing.{standing, Spared, Placed, Playable, offered, replied, wins_from, outlasts}
 use Rattle.theory.proofs.Good.{implied, implies}
 use Rattle.calls.proofs.OneByOne.{after_long}
-use Rattle.deciding.proofs.Stored.{copied, put_back}
+use Rattle.deciding.proofs.Stored.{put_back}
 
 -- ---- states that stand in words
 

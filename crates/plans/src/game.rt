@@ -23,14 +23,6 @@ const PASS: usize = TARGETS * checks::EVENTS;
 
 const MOVES: usize = PASS + 1;
 
-// Copies words of the same number.
-fn copy_words(part: &mut [u64], from: &[u64])
-    requires { length part.old ≡ length from.now }
-    ensures { part.new ≡ from.now }
-{
-    part.copy_from_slice(from);
-}
-
 // Copies the state that stands from a place on behind itself.
 fn copy_on(words: &mut [u64], at: usize)
     requires { at + state_words + state_words ≤ length words.old }
@@ -135,8 +127,7 @@ fn always(
     if plan.len() / 2 <= k {
         return false;
     }
-    let mut i: usize = 0;
-    while i < MOVES {
+    for i in 0..MOVES {
         if is_offered(terms, i) {
             reply(terms, words, at, rival, i);
             let won = attempt(terms, words, at + STATE, plan, k, planner, goal, u, v);
@@ -156,7 +147,6 @@ fn always(
                 return false;
             }
         }
-        i += 1;
     }
     true
 }
@@ -178,7 +168,7 @@ pub(crate) fn play(
     ensures value { result ≡ accepted terms.now state.now plan.now planner rival goal u v }
     ensures words_after { words.new ≡ replicate game_words 0 }
 {
-    copy_words(&mut words[0..STATE], &state[0..STATE]);
+    words[0..STATE].copy_from_slice(&state[0..STATE]);
     let won = attempt(terms, words, 0, plan, 0, planner, goal, u, v);
     let r = always(terms, words, 0, plan, 1, won, planner, rival, goal, u, v);
     clear(&mut words[0..GAME]);

@@ -1,5 +1,5 @@
 -- `look`: the checks, and then the verdict.
-use Rattle.std.proofs.Common.{◌≡◌, refl}
+use Rattle.std.proofs.Common.{refl}
 use mathlib.Core.Path.{sym, ◌∙◌}
 use Rattle.calls.proofs.ListChecks.{list_ready, refused_alike}
 use Rattle.monitor.proofs.look.Goals as goal

@@ -1,5 +1,5 @@
 -- `open`: the checks, and then moment 0.
-use Rattle.std.proofs.Common.{◌≡◌, refl}
+use Rattle.std.proofs.Common.{refl}
 use mathlib.Core.Path.{sym, ◌∙◌}
 use Rattle.calls.proofs.Answers as answers
 use Rattle.calls.proofs.Refused.{opened_says}

@@ -1,5 +1,5 @@
 -- `request`: the checks, and then the answer and its moment.
-use Rattle.std.proofs.Common.{◌≡◌, refl}
+use Rattle.std.proofs.Common.{refl}
 use mathlib.Core.Path.{sym, ap, ◌∙◌}
 use Rattle.memory.specs.Layout.{terms_of}
 use Rattle.calls.specs.Monitor.{moves}

@@ -1,5 +1,5 @@
 -- `answer_call`: the scratches, terms and banks, what is asked, and then the verdict.
-use Rattle.std.proofs.Common.{◌≡◌, refl}
+use Rattle.std.proofs.Common.{refl}
 use mathlib.Core.Path.{sym, ◌∙◌}
 use Rattle.banking.proofs.BankAnswers as answers
 use Rattle.monitor.proofs.banks.answer_call.Goals as goal

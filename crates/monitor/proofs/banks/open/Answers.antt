@@ -1,6 +1,6 @@
 -- `open`: the checks, then moment 0 of the first bank, and its copy.
-use Rattle.std.proofs.Common.{◌≡◌, refl, arith}
-use mathlib.Core.Path.{sym, ◌∙◌}
+use Rattle.std.proofs.Common.{refl, arith}
+use mathlib.Core.Path.{sym}
 use lib.Seq.{length-take-le}
 use Rattle.banking.proofs.BankOpening.{banks_opened, own_unopened}
 use Rattle.monitor.proofs.BankBegun as begun

@@ -1,5 +1,5 @@
 -- `revise`: the checks, then the second relations, and what both banks begin with.
-use Rattle.std.proofs.Common.{◌≡◌, refl, arith, ℕ}
+use Rattle.std.proofs.Common.{refl, arith, ℕ}
 use mathlib.Core.Path.{◌∙◌}
 use lib.ListN.{length-replicate}
 use lib.Seq.{length-take-le}

@@ -1,4 +1,4 @@
-use Rattle.std.proofs.Common.{◌≡◌, ℕ, [], ◌++◌, rules, arith}
+use Rattle.std.proofs.Common.{◌≡◌, ℕ, [], ◌++◌, arith}
 use mathlib.Core.Path.{subst}
 use Rattle.memory.specs.Layout.{terms_of}
 use Rattle.deciding.specs.private.Starting.{Begun}

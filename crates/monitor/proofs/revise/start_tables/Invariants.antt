@@ -9,5 +9,5 @@ abbrev pub invariant-loop-n : goal.invariant-loop-n
 invariant-loop-n l = record {
   begun : Begun l.old (l.relations ++ l.own) l.new l.n [] (l.relations ++ l.second);
   memo_of : MemoOf (terms_of l.new) (l.relations ++ l.second) (terms_of l.new).entries l.memo;
-  fresh : Fresh (terms_of l.new).entries l.n l.memo
+  fresh : Fresh (terms_of l.new).entries l.n l.memo;
 }

@@ -1,4 +1,4 @@
-use Rattle.std.proofs.Common.{◌&&◌, ltb, rules, arith}
+use Rattle.std.proofs.Common.{◌&&◌, ltb, arith}
 use Rattle.memory.proofs.TermsTests.{testing_none, testing_more, testing_all}
 use Rattle.plans.proofs.checks.plan_named.Goals as goal
 

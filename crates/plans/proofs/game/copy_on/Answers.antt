@@ -1,4 +1,4 @@
-use Rattle.std.proofs.Common.{◌≡◌, ◌+◌, ◌-◌, take, drop, rules, arith}
+use Rattle.std.proofs.Common.{◌≡◌, ◌+◌, ◌-◌, take, drop, arith}
 use Rattle.memory.specs.Layout.{state_words}
 use Rattle.plans.proofs.Plays.{copied_on}
 use Rattle.plans.proofs.game.copy_on.Goals as goal

@@ -1,2 +1,0 @@
--- Definitions that no top theorem and no contract of a host rests on.
-pub mod Inspecting
