@@ -1,12 +1,12 @@
 -- A state m that is lent in two parts, its relations r and the words p behind them.
-use Prim.Native.Nat.{ℕ, ◌+◌, ◌*◌, ◌≤◌, ◌<◌}
+use Prim.Native.Nat.{ℕ, ◌+◌, ◌≤◌, ◌<◌}
 use native.Mathlib.Omega.{arith}
 use mathlib.Core.Path.{◌≡◌, sym, ap, ap₂, subst, ◌∙◌}
 use mathlib.Core.Bool.{true}
 use mathlib.Core.List.{List, ◌++◌, append_assoc}
 use lib.Dec.{ltb}
 use lib.ListN.{length, get_or, take, drop, get_or-append}
-use lib.Seq.{length-take-le, take_all, drop-drop, drop-append-add}
+use lib.Seq.{take_all, drop-drop, drop-append-add}
 use borrow.Rule.Slice.PartMut.{put_mid}
 use borrow.Author.Tests.{ltb-true}
 use Rattle.sets.specs.Sets.{bit}

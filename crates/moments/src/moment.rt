@@ -141,9 +141,7 @@ fn move_on(
             terms, index, relations, own, &mut none, rows, granted, event, from, to,
         );
     } else {
-        move_shared(
-            terms, index, relations, own, rows, granted, event, from, to,
-        );
+        move_shared(terms, index, relations, own, rows, granted, event, from, to);
     }
 }
 

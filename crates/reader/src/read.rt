@@ -20,7 +20,12 @@ use memory::refusal::{Fault, Refusal};
 
 // Reads the lines into words that are 0: the terms, the state, and the sets of free variables on the way.
 // A refusal has the first faulty line and in it the lowest number; what the words are then is not said.
-fn read_lines(text: &[u8], terms: &mut [u16], state: &mut [u64], masks: &mut [u64]) -> Result<Form, Refusal>
+fn read_lines(
+    text: &[u8],
+    terms: &mut [u16],
+    state: &mut [u64],
+    masks: &mut [u64],
+) -> Result<Form, Refusal>
     requires { (terms.old ≡ replicate terms_words 0) × (state.old ≡ replicate state_words 0) × (length masks.old ≡ 256) }
     ensures { Reads text.now (filling_of result) terms.new state.new masks.new }
 {
@@ -83,7 +88,11 @@ fn begins_stored(text: &[u8]) -> bool
 
 // Reads a terms file of the old form, as `fill` does, and of the state only the relations; a stored text
 // is refused where its S stands.
-pub fn fill_relations(text: &[u8], terms: &mut [u16], relations: &mut [u64]) -> Result<Form, Refusal>
+pub fn fill_relations(
+    text: &[u8],
+    terms: &mut [u16],
+    relations: &mut [u64],
+) -> Result<Form, Refusal>
     ensures result_value { filling_of result ≡ old_fill_gives text.now terms.old relations.old }
     ensures terms_after { terms.new ≡ old_terms text.now terms.old relations.old }
     ensures relations_after { relations.new ≡ old_relations text.now terms.old relations.old }

@@ -127,7 +127,15 @@ fn policy_fault(c: Context, j: usize, n: usize, m: u64, reaches: bool) -> Result
 }
 
 // The first fault of an E line.
-fn effect_fault(c: Context, j: usize, a: usize, k: usize, d: usize, m: u64, reaches: bool) -> Result<(), Fault>
+fn effect_fault(
+    c: Context,
+    j: usize,
+    a: usize,
+    k: usize,
+    d: usize,
+    m: u64,
+    reaches: bool,
+) -> Result<(), Fault>
     ensures { found result ≡ number_from 0 (context_tests c m reaches (Effect j a k d)) }
 {
     let p = first(Ok(()), Fault::Form, is_complete(c));
@@ -209,7 +217,15 @@ fn is_pair(c: Context, m: u64, t: usize) -> bool
 }
 
 // The number that a T line of a table with two columns is refused with, or 0.
-fn pair_fault(c: Context, t: usize, a: usize, b: usize, d: usize, m: u64, reaches: bool) -> Result<(), Fault>
+fn pair_fault(
+    c: Context,
+    t: usize,
+    a: usize,
+    b: usize,
+    d: usize,
+    m: u64,
+    reaches: bool,
+) -> Result<(), Fault>
     ensures { found result ≡ number_from 0 (context_tests c m reaches (PairBit t a b d)) }
 {
     let p = first(Ok(()), Fault::Form, c.stored);

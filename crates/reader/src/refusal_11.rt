@@ -6,10 +6,10 @@ ghost use Rattle.reader.specs.private.Partly.{table_word, partly_in, Found};
 
 use fields::lines::Lines;
 use file::line::{Line, parse_line};
+use memory::check;
 use memory::layout::{BLOCK, TABLES_AT, entries, members, op_of};
 use memory::limits::TABLES;
 use memory::table_index::{is_past, set_at};
-use memory::check;
 use sets::mask;
 
 // Past-time entry number t; 0 where there is none.

@@ -9,8 +9,8 @@ ghost use Rattle.file.specs.Line.{printed};
 ghost use Rattle.file.specs.declared.line.Line.TheVariants.{Entry, Effect};
 
 use crate::vocabulary::{put_action, put_direction, put_kind, put_operator};
-use file::vocabulary::Kind;
 use fields::emit::{put_byte, put_decimal};
+use file::vocabulary::Kind;
 use theory::operators::{MANY, REACH};
 
 // Puts a tab and the digits of n.

@@ -4,8 +4,8 @@ ghost use Rattle.fields.specs.private.Put.{Put};
 ghost use Rattle.file.specs.private.Kinds.{kind_number};
 ghost use Rattle.file.specs.Words.{operator_words, action_words, direction_words, kind_words};
 
-use file::vocabulary::Kind;
 use fields::emit::put_bytes;
+use file::vocabulary::Kind;
 use theory::operators::{AT, BIND, IN, MANY, NOT, OR, OUT, PREV, REACH, SINCE, TOP, VAR};
 
 // Puts the word of operator op; nothing for what is no operator.

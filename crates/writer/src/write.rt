@@ -14,13 +14,13 @@ use crate::bits::put_edges;
 use crate::fresh::is_fresh;
 use crate::print::{put_effect, put_entry, put_pair, put_single};
 use file::vocabulary::Kind;
+use memory::check;
 use memory::layout::{
     EFFECT, EFFECTS_AT, EVENT, entries, events, first_of, is_kept, members, op_of, policy_of,
     relations, second_of, third_of, word,
 };
 use memory::limits::EFFECTS;
 use memory::refusal::Refusal;
-use memory::check;
 
 // Puts the F line of entry n.
 fn put_entry_of(terms: &[u16], out: &mut [u8], at: usize, n: usize) -> usize

@@ -1,4 +1,4 @@
-use Rattle.std.proofs.Common.{◌≡◌, ◌++◌, rules, arith, sym}
+use Rattle.std.proofs.Common.{◌≡◌, ◌++◌, arith}
 use mathlib.Core.Path.{◌∙◌}
 use Rattle.memory.specs.Layout.{terms_of}
 use Rattle.deciding.proofs.MomentSteps as moves

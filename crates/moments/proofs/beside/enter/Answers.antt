@@ -1,5 +1,5 @@
 -- In the other bank, too, the relations get the effects if the request is granted.
-use Rattle.std.proofs.Common.{◌≡◌, List, ◌++◌, ℕ, length, rules, arith, sym, refl}
+use Rattle.std.proofs.Common.{◌≡◌, List, ◌++◌, ℕ, length, rules, sym, refl}
 use mathlib.Core.Path.{subst}
 use Rattle.theory.specs.Moment.Event.{none}
 use Rattle.memory.specs.Layout.{relation_words}
@@ -17,7 +17,7 @@ returns-clause-becomes_2 c =
     let P = λ (r : List ℕ). Becomes x.terms.now (affected_if x.granted x.event x.from x.to) (x.relations.now ++ x.other.now) (r ++ x.other.now) in
     let made : P c.if-granted.relations =
     elim c.if-granted.branch [
-      then-granted w ↦ subst P (sym w.relations-is) (made_effects x.event x.from x.to w.if-granted.true (w.make_effects.ensures x.other.now))
+      | then-granted w ↦ subst P (sym w.relations-is) (made_effects x.event x.from x.to w.if-granted.true (w.make_effects.ensures x.other.now))
       | else-granted w ↦ subst P (sym w.relations-is) (no_effects x.event x.from x.to w.if-granted.false)
     ] in
     hushed_by x.granted x.event x.from x.to made

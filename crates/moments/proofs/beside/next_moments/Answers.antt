@@ -1,4 +1,4 @@
-use Rattle.std.proofs.Common.{◌≡◌, length, drop, rules, arith}
+use Rattle.std.proofs.Common.{drop, arith}
 use mathlib.Core.Path.{◌∙◌}
 use lib.Seq.{length-take-le, drop_at}
 use Rattle.memory.specs.Layout.{relation_words, own_words, block_words, joined}

@@ -1,10 +1,8 @@
-use Rattle.std.proofs.Common.{List, ℕ, ◌≡◌, ◌+◌, ◌*◌, ◌<◌, Bool, true, cond, rules, arith}
+use Rattle.std.proofs.Common.{List, ℕ, ◌≡◌, ◌+◌, ◌*◌, ◌<◌, Bool, true, cond, arith}
 use lib.Dec.{eqb}
 use Rattle.memory.specs.Layout.{terms_of}
 use Rattle.memory.specs.Checks.{good_memory}
 use Rattle.memory.proofs.Accepted.{good}
-use Rattle.theory.specs.Fit.{Good}
-use Rattle.theory.specs.Terms.{Terms}
 use Rattle.deciding.proofs.MomentSteps.{end_member}
 use Rattle.deciding.proofs.Apart.{effect_apart}
 use Rattle.moments.proofs.effects.make_effect.Goals as goal

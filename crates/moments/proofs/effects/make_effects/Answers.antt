@@ -1,9 +1,9 @@
-use Rattle.std.proofs.Common.{◌≡◌, List, [], ℕ, get_or, rules, arith, refl, sym}
+use Rattle.std.proofs.Common.{◌≡◌, [], get_or, arith, sym}
 use mathlib.Core.Path.{◌∙◌}
 use Rattle.memory.specs.Layout.{terms_of, effect_at}
 use Rattle.memory.proofs.Accepted.{good}
 use Rattle.deciding.proofs.MomentSteps.{effecting, effect_relation, effect_more, four_made, fewer_made}
-use Rattle.deciding.proofs.SameDecision.{Named, all_named}
+use Rattle.deciding.proofs.SameDecision.{all_named}
 use Rattle.moments.proofs.effects.make_effects.Goals as goal
 
 pub loop-i-init : goal.loop-i-init

@@ -1,4 +1,4 @@
-use Rattle.std.proofs.Common.{◌≡◌, ℕ, ◌+◌, ◌*◌, ◌++◌, Bool, true, false, cond, rules, arith, refl, sym, ap}
+use Rattle.std.proofs.Common.{◌≡◌, ℕ, ◌+◌, ◌*◌, ◌++◌, Bool, true, false, cond, arith, refl, sym, ap}
 use mathlib.Core.Path.{◌∙◌, subst}
 use lib.ListN.{set}
 use Rattle.theory.specs.Terms.{Terms}
@@ -6,7 +6,7 @@ use Rattle.theory.specs.Tables.{named}
 use Rattle.memory.specs.Layout.{terms_of, event_word}
 use Rattle.memory.proofs.Accepted.{good}
 use Rattle.deciding.specs.private.Moving.{known, occurring, Becomes, evented}
-use Rattle.deciding.proofs.SameDecision.{Named, all_named}
+use Rattle.deciding.proofs.SameDecision.{all_named}
 use Rattle.deciding.proofs.Apart.{event_apart}
 use Rattle.moments.proofs.effects.put_event.Goals as goal
 

@@ -1,4 +1,4 @@
-use Rattle.std.proofs.Common.{◌≡◌, ◌≤◌, length, rules, arith, sym, ap}
+use Rattle.std.proofs.Common.{◌≡◌, length, arith, sym, ap}
 use mathlib.Core.Path.{◌∙◌}
 use Rattle.memory.specs.Layout.{relation_words, terms_of}
 use Rattle.memory.specs.Checks.{good_relations}

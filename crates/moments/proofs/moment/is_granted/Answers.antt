@@ -1,4 +1,3 @@
-use Rattle.std.proofs.Common.{rules}
 use Rattle.memory.specs.Layout.{terms_of}
 use Rattle.memory.proofs.Accepted.{good}
 use Rattle.deciding.proofs.SameDecision.{all_named}

@@ -1,7 +1,7 @@
-use Rattle.std.proofs.Common.{◌≡◌, ◌≤◌, length, rules, arith}
+use Rattle.std.proofs.Common.{arith}
 use mathlib.Core.Path.{◌∙◌}
 use lib.Seq.{length-take-le}
-use Rattle.memory.specs.Layout.{block_words, terms_of}
+use Rattle.memory.specs.Layout.{block_words}
 use Rattle.memory.proofs.Accepted.{good}
 use Rattle.deciding.proofs.Stored.{cleared_front}
 use Rattle.moments.proofs.Split.{split_movable, split_moved}
