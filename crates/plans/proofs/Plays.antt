@@ -51,9 +51,6 @@ stand_spared at w w' h p =
     ∙ ap (drop at) (sym (take-add at state_words w') ∙ p.before ∙ take-add at state_words w)
     ∙ drop_at (take at w) (standing at w) at (length-take-le at w (omega arith))
 
-pub placed_on : {at : ℕ} {s s' w w₁ w₂ : List ℕ} → Placed at s w w₁ → Placed at s' w₁ w₂ → Placed at s' w w₂
-placed_on p q = record { spared = spared_on p.spared q.spared; here = q.here }
-
 -- A part that was lent and came back.
 pub placed_part : (at : ℕ) (w ys s : List ℕ) → at + state_words ≤ length w → ys ≡ s → length s ≡ state_words →
     Placed at s w (put_mid at (at + state_words - at) w ys)
