@@ -62,13 +62,21 @@ pub fn is_granted(
     )
 }
 
+// Stores one finished table. (The function is lent that part and nothing else: docs/SCOPE.md, Forms.)
+fn store_table(part: &mut [u64], rows: &[u64])
+    requires { (length part.old ≡ block_words) × (length rows.now ≡ block_words) }
+    ensures { part.new ≡ rows.now }
+{
+    part.copy_from_slice(rows);
+}
+
 // Stores rows as the table of entry n, in a bank's own words. Only that part of them is lent on.
 pub fn put_table(index: &[u16], own: &mut [u64], rows: &[u64], n: usize)
     requires { (block_words * index_table (get_or index.now n 0) + block_words ≤ length own.old) × (length rows.now ≡ block_words) }
     ensures { own.new ≡ put (block_words * index_table (get_or index.now n 0)) rows.now own.old }
 {
     let k = ROWS * table_index::table_of(layout::word(index, n));
-    own[k..k + ROWS].copy_from_slice(rows);
+    store_table(&mut own[k..k + ROWS], rows);
 }
 
 // The state at the next moment, of relations and own words apart, with the lent memo. The tables are worked out in rows.

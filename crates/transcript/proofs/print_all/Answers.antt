@@ -1,5 +1,5 @@
 -- Terms that are too long, refused or accepted.
-use Rattle.std.proofs.Common.{arith, sym}
+use Rattle.std.proofs.Common.{arith}
 use Rattle.transcript.proofs.Long.{refused_near}
 use Rattle.transcript.proofs.Whole.{read_refused, output_long, output_refused, output_passed}
 use Rattle.transcript.proofs.print_all.Goals as goal

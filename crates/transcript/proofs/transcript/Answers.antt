@@ -1,6 +1,5 @@
 -- An output that is too short is left as lent.
 use Rattle.std.proofs.Common.{sym}
-use mathlib.Core.Path.{◌∙◌}
 use Rattle.transcript.proofs.Whole.{too_short, whole}
 use Rattle.transcript.proofs.transcript.Goals as goal
 

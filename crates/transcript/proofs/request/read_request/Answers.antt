@@ -20,8 +20,8 @@ pub returns-then-pieces-ne4 : goal.returns-then-pieces-ne4
 unfolding asked
 returns-then-pieces-ne4 c =
     elim c.then-pieces-ne4.branch [
-      then-pieces-ne4-via-then-pieces-ne4 w ↦ not_asked _ _ 0 (ne_eqb _ _ (λ e. w.if-pieces-ne4.true (c.pieces.ensures ∙ e)))
-    | then-pieces-ne4-via-else-pieces-ne4+then-not-same w ↦ not_asked _ _ 1 (first w.same.ensures w.piece.ensures ∙ w.if-not-same.true)
+      | then-pieces-ne4-via-then-pieces-ne4 w ↦ not_asked _ _ 0 (ne_eqb _ _ (λ e. w.if-pieces-ne4.true (c.pieces.ensures ∙ e)))
+      | then-pieces-ne4-via-else-pieces-ne4+then-not-same w ↦ not_asked _ _ 1 (first w.same.ensures w.piece.ensures ∙ w.if-not-same.true)
     ]
 
 pub returns-in_err-event : goal.returns-in_err-event
