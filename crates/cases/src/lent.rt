@@ -152,12 +152,7 @@ pub(crate) fn revising(
     if second.len() < m {
         return None;
     }
-    Some(revise(
-        &old[0..t],
-        &state[0..s],
-        &new[0..n],
-        &mut second[0..m],
-    ))
+    Some(revise(&old[0..t], &state[0..s], &new[0..n], &mut second[0..m]))
 }
 
 // Writes the first t words of terms and s of state into the first n bytes of out, in the stored form or the old.

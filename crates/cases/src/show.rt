@@ -1,6 +1,6 @@
 // The line of a case: its label, a tab, the result.
-use calls::{Answer, Verdict};
 use crate::lent::{Outcome, Written};
+use calls::{Answer, Verdict};
 use memory::refusal::Refusal;
 use std::io;
 

@@ -6,8 +6,8 @@ ghost use Rattle.std.specs.Prelude.{◌≡◌, ◌≤◌, length, take};
 ghost use Rattle.writer.specs.Write.{writing_of};
 ghost use Rattle.transcript.specs.Output.{transcript_gives, transcript_leaves};
 
-use std::rt::Files;
 use memory::refusal::Refusal;
+use std::rt::Files;
 
 // As many bytes as a file may have, and one more: a longer file is noticed by it.
 const TOO_MANY: usize = 65537;
