@@ -41,6 +41,7 @@ fn is_label(r: usize, e: usize, v: usize) -> bool
 }
 
 // Whether an operand is in its range, if it is no entry.
+#[tactic(auto, unfolding(file::specs::Reading::in_range, memory::specs::private::Operands::operand_kind))]
 fn in_range(kind: Kind, r: usize, e: usize, v: usize) -> bool
     ensures { result ≡ in_range (operand_kind kind) (r + 2 * e) v }
 {

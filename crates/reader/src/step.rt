@@ -63,6 +63,7 @@ pub(crate) fn slot_of(c: Context, j: usize) -> usize
 }
 
 // The counters after a line that has passed.
+#[tactic(auto, unfolding(crate::specs::private::Stepping::stepped))]
 pub(crate) fn step(c: Context, line: Line) -> Context
     requires ranges { Ranges c line }
     requires tables_bound { c.tables < 33 }
