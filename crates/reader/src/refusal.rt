@@ -30,14 +30,14 @@ fn first(k: Result<(), Fault>, fault: Fault, passes: bool) -> Result<(), Fault>
 fn if_past(o: usize, passes: bool) -> bool
     ensures { result ≡ (is_past o ⇒ passes) }
 {
-    !is_past(o) | passes
+    !is_past(o) || passes
 }
 
 // Whether v is a label, of r relations and e events, granted or denied.
 fn is_label(r: usize, e: usize, v: usize) -> bool
     ensures { result ≡ ltb v (r + 2 * e) }
 {
-    if v < r { true } else { (v - r) / 2 < e }
+    v < r || (v - r) / 2 < e
 }
 
 // Whether an operand is in its range, if it is no entry.
@@ -48,10 +48,10 @@ fn in_range(kind: Kind, r: usize, e: usize, v: usize) -> bool
     match kind {
         Kind::Unused => v == 0,
         Kind::Variable => v < VARIABLES,
-        Kind::Binder => (0 < v) & (v < VARIABLES),
+        Kind::Binder => 0 < v && v < VARIABLES,
         Kind::Label => is_label(r, e, v),
         Kind::Entry => true,
-        Kind::Count => (0 < v) & (v <= COUNT),
+        Kind::Count => 0 < v && v <= COUNT,
     }
 }
 
@@ -60,10 +60,7 @@ fn in_range(kind: Kind, r: usize, e: usize, v: usize) -> bool
 fn is_lower(kind: Kind, n: usize, v: usize) -> bool
     ensures { result ≡ is_lower (operand_kind kind) n v }
 {
-    match kind {
-        Kind::Entry => v < n,
-        Kind::Unused | Kind::Variable | Kind::Binder | Kind::Label | Kind::Count => true,
-    }
+    !matches!(kind, Kind::Entry) || v < n
 }
 
 // The first fault of an M line.
@@ -152,8 +149,7 @@ fn effect_fault(
 fn is_rising(kind: usize, c: Context, k: usize, a: usize, b: usize) -> bool
     ensures { result ≡ rising kind c k a b }
 {
-    (c.phase < kind)
-        | ((c.relation < k) | ((c.relation == k) & ((c.from < a) | ((c.from == a) & (c.to < b)))))
+    c.phase < kind || c.relation < k || c.relation == k && (c.from < a || c.from == a && c.to < b)
 }
 
 // The first fault of a G line.
@@ -204,17 +200,16 @@ fn is_rising_pair(c: Context, t: usize, a: usize, b: usize, d: usize) -> bool
 {
     let e = c.from / 4;
     let f = column_of(c.from, c.to);
-    (c.phase < 7)
-        | ((c.relation < t)
-            | ((c.relation == t)
-                & ((e < a) | ((e == a) & ((f < b) | ((f == b) & (c.to % 16 < d)))))))
+    c.phase < 7
+        || c.relation < t
+        || c.relation == t && (e < a || e == a && (f < b || f == b && c.to % 16 < d))
 }
 
 // Whether table t is there and has two columns, where m has the free variables of its entry.
 fn is_pair(c: Context, m: u64, t: usize) -> bool
     ensures { result ≡ is_pair c m t }
 {
-    (t < c.tables) & (rest_of(m) != 0)
+    t < c.tables && rest_of(m) != 0
 }
 
 // The number that a T line of a table with two columns is refused with, or 0.

@@ -45,7 +45,7 @@ fn is_partly(terms: &[u16], state: &[u64], masks: &[u64], full: u64, line: Line)
 {
     match line {
         Line::TableBit(t, a, _) => {
-            (set_at(masks, past_entry(terms, t)) == 0) & (table_word(state, t, a) != full)
+            set_at(masks, past_entry(terms, t)) == 0 && table_word(state, t, a) != full
         }
         _ => false,
     }

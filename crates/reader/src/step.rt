@@ -52,7 +52,7 @@ pub(crate) fn begin() -> Context
 pub(crate) fn is_complete(c: Context) -> bool
     ensures { result ≡ is_complete c }
 {
-    (2 <= c.phase) & (c.policies == c.events)
+    2 <= c.phase && c.policies == c.events
 }
 
 // How many effects of event j there are.
