@@ -41,7 +41,7 @@ fn is_label(r: usize, e: usize, v: usize) -> bool
 }
 
 // Whether an operand is in its range, if it is no entry.
-#[tactic(auto, unfolding(file::specs::Reading::in_range, memory::specs::private::Operands::operand_kind))]
+#[tactic(auto, unfolding(file::specs::Reading::in_range))]
 fn in_range(kind: Kind, r: usize, e: usize, v: usize) -> bool
     ensures { result ≡ in_range (operand_kind kind) (r + 2 * e) v }
 {
@@ -56,7 +56,7 @@ fn in_range(kind: Kind, r: usize, e: usize, v: usize) -> bool
 }
 
 // Whether an operand, if it is an entry, is lower than entry n.
-#[tactic(auto, unfolding(file::specs::Reading::is_lower, memory::specs::private::Operands::operand_kind))]
+#[tactic(auto, unfolding(file::specs::Reading::is_lower))]
 fn is_lower(kind: Kind, n: usize, v: usize) -> bool
     ensures { result ≡ is_lower (operand_kind kind) n v }
 {
@@ -64,6 +64,7 @@ fn is_lower(kind: Kind, n: usize, v: usize) -> bool
 }
 
 // The first fault of an M line.
+#[tactic(auto, unfolding(crate::specs::private::Testing::number_from, crate::specs::private::Testing::context_tests))]
 fn members_fault(c: Context, n: usize, m: u64, reaches: bool) -> Result<(), Fault>
     ensures { found result ≡ number_from 0 (context_tests c m reaches (Members n)) }
 {
@@ -73,6 +74,7 @@ fn members_fault(c: Context, n: usize, m: u64, reaches: bool) -> Result<(), Faul
 }
 
 // The first fault of an L line.
+#[tactic(auto, unfolding(crate::specs::private::Testing::number_from, crate::specs::private::Testing::context_tests))]
 fn labels_fault(c: Context, r: usize, e: usize, m: u64, reaches: bool) -> Result<(), Fault>
     ensures { found result ≡ number_from 0 (context_tests c m reaches (Labels r e)) }
 {
@@ -83,6 +85,7 @@ fn labels_fault(c: Context, r: usize, e: usize, m: u64, reaches: bool) -> Result
 }
 
 // The first fault of an F line.
+#[tactic(auto, unfolding(crate::specs::private::Testing::number_from, crate::specs::private::Testing::context_tests))]
 fn entry_fault(
     c: Context,
     n: usize,
@@ -114,6 +117,7 @@ fn entry_fault(
 }
 
 // The first fault of a P line.
+#[tactic(auto, unfolding(crate::specs::private::Testing::number_from, crate::specs::private::Testing::context_tests))]
 fn policy_fault(c: Context, j: usize, n: usize, m: u64, reaches: bool) -> Result<(), Fault>
     ensures { found result ≡ number_from 0 (context_tests c m reaches (Policy j n)) }
 {
@@ -125,6 +129,7 @@ fn policy_fault(c: Context, j: usize, n: usize, m: u64, reaches: bool) -> Result
 }
 
 // The first fault of an E line.
+#[tactic(auto, unfolding(crate::specs::private::Testing::number_from, crate::specs::private::Testing::context_tests))]
 fn effect_fault(
     c: Context,
     j: usize,
@@ -153,6 +158,7 @@ fn is_rising(kind: usize, c: Context, k: usize, a: usize, b: usize) -> bool
 }
 
 // The first fault of a G line.
+#[tactic(auto, unfolding(crate::specs::private::Testing::number_from, crate::specs::private::Testing::context_tests))]
 fn edge_fault(c: Context, k: usize, a: usize, b: usize, m: u64, reaches: bool) -> Result<(), Fault>
     ensures { found result ≡ number_from 0 (context_tests c m reaches (Edge k a b)) }
 {
@@ -165,6 +171,7 @@ fn edge_fault(c: Context, k: usize, a: usize, b: usize, m: u64, reaches: bool) -
 }
 
 // The first fault of an S line.
+#[tactic(auto, unfolding(crate::specs::private::Testing::number_from, crate::specs::private::Testing::context_tests))]
 fn form_fault(c: Context, n: usize, m: u64, reaches: bool) -> Result<(), Fault>
     ensures { found result ≡ number_from 0 (context_tests c m reaches (Form n)) }
 {
@@ -174,6 +181,7 @@ fn form_fault(c: Context, n: usize, m: u64, reaches: bool) -> Result<(), Fault>
 }
 
 // The first fault of a T line.
+#[tactic(auto, unfolding(crate::specs::private::Testing::number_from, crate::specs::private::Testing::context_tests))]
 fn bit_fault(c: Context, t: usize, a: usize, b: usize, m: u64, reaches: bool) -> Result<(), Fault>
     ensures { found result ≡ number_from 0 (context_tests c m reaches (TableBit t a b)) }
 {
@@ -213,6 +221,7 @@ fn is_pair(c: Context, m: u64, t: usize) -> bool
 }
 
 // The number that a T line of a table with two columns is refused with, or 0.
+#[tactic(auto, unfolding(crate::specs::private::Testing::number_from, crate::specs::private::Testing::context_tests))]
 fn pair_fault(
     c: Context,
     t: usize,
@@ -242,6 +251,7 @@ fn named(j: usize) -> usize
 }
 
 // The first fault of a V line.
+#[tactic(auto, unfolding(crate::specs::private::Testing::number_from, crate::specs::private::Testing::context_tests))]
 fn event_fault(c: Context, j: usize, u: usize, v: usize, m: u64, reaches: bool) -> Result<(), Fault>
     ensures { found result ≡ number_from 0 (context_tests c m reaches (EventEdge j u v)) }
 {
@@ -254,6 +264,7 @@ fn event_fault(c: Context, j: usize, u: usize, v: usize, m: u64, reaches: bool) 
 }
 
 // The first fault of a K line.
+#[tactic(auto, unfolding(crate::specs::private::Testing::number_from, crate::specs::private::Testing::context_tests))]
 fn mark_fault(c: Context, j: usize, m: u64, reaches: bool) -> Result<(), Fault>
     ensures { found result ≡ number_from 0 (context_tests c m reaches (Mark j)) }
 {
