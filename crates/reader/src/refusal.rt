@@ -1,4 +1,6 @@
 // The tests of a line against the counters, and its first fault.
+#![tactic(auto, unfolding(file::specs::Reading::in_range, file::specs::Reading::is_lower, crate::specs::private::Testing::refused_by, crate::specs::private::Testing::number_from, crate::specs::private::Testing::context_tests))]
+
 ghost use Rattle.std.specs.Prelude.{◌≡◌, ◌+◌, ◌*◌, ltb};
 ghost use Rattle.theory.specs.Formula.{is_past};
 ghost use Rattle.theory.specs.Columns.{pair_first};
@@ -41,7 +43,6 @@ fn is_label(r: usize, e: usize, v: usize) -> bool
 }
 
 // Whether an operand is in its range, if it is no entry.
-#[tactic(auto, unfolding(file::specs::Reading::in_range))]
 fn in_range(kind: Kind, r: usize, e: usize, v: usize) -> bool
     ensures { result ≡ in_range (operand_kind kind) (r + 2 * e) v }
 {
@@ -56,7 +57,6 @@ fn in_range(kind: Kind, r: usize, e: usize, v: usize) -> bool
 }
 
 // Whether an operand, if it is an entry, is lower than entry n.
-#[tactic(auto, unfolding(file::specs::Reading::is_lower))]
 fn is_lower(kind: Kind, n: usize, v: usize) -> bool
     ensures { result ≡ is_lower (operand_kind kind) n v }
 {
@@ -64,7 +64,6 @@ fn is_lower(kind: Kind, n: usize, v: usize) -> bool
 }
 
 // The first fault of an M line.
-#[tactic(auto, unfolding(crate::specs::private::Testing::number_from, crate::specs::private::Testing::context_tests))]
 fn members_fault(c: Context, n: usize, m: u64, reaches: bool) -> Result<(), Fault>
     ensures { found result ≡ number_from 0 (context_tests c m reaches (Members n)) }
 {
@@ -74,7 +73,6 @@ fn members_fault(c: Context, n: usize, m: u64, reaches: bool) -> Result<(), Faul
 }
 
 // The first fault of an L line.
-#[tactic(auto, unfolding(crate::specs::private::Testing::number_from, crate::specs::private::Testing::context_tests))]
 fn labels_fault(c: Context, r: usize, e: usize, m: u64, reaches: bool) -> Result<(), Fault>
     ensures { found result ≡ number_from 0 (context_tests c m reaches (Labels r e)) }
 {
@@ -85,7 +83,6 @@ fn labels_fault(c: Context, r: usize, e: usize, m: u64, reaches: bool) -> Result
 }
 
 // The first fault of an F line.
-#[tactic(auto, unfolding(crate::specs::private::Testing::number_from, crate::specs::private::Testing::context_tests))]
 fn entry_fault(
     c: Context,
     n: usize,
@@ -102,7 +99,7 @@ fn entry_fault(
     let one = kinds.first;
     let two = kinds.second;
     let three = kinds.third;
-    let k = first(Ok(()), Fault::Form, (c.phase == 2) | (c.phase == 3));
+    let k = first(Ok(()), Fault::Form, matches!(c.phase, 2 | 3));
     let k = first(k, Fault::Form, n == c.entries);
     let k = first(k, Fault::Range, n < ENTRIES);
     let k = first(k, Fault::Range, in_range(one, c.relations, c.events, a));
@@ -117,11 +114,10 @@ fn entry_fault(
 }
 
 // The first fault of a P line.
-#[tactic(auto, unfolding(crate::specs::private::Testing::number_from, crate::specs::private::Testing::context_tests))]
 fn policy_fault(c: Context, j: usize, n: usize, m: u64, reaches: bool) -> Result<(), Fault>
     ensures { found result ≡ number_from 0 (context_tests c m reaches (Policy j n)) }
 {
-    let k = first(Ok(()), Fault::Form, (2 <= c.phase) & (c.phase <= 4));
+    let k = first(Ok(()), Fault::Form, matches!(c.phase, 2..=4));
     let k = first(k, Fault::Form, j == c.policies);
     let k = first(k, Fault::Form, j < c.events);
     let k = first(k, Fault::Range, n < c.entries);
@@ -129,7 +125,6 @@ fn policy_fault(c: Context, j: usize, n: usize, m: u64, reaches: bool) -> Result
 }
 
 // The first fault of an E line.
-#[tactic(auto, unfolding(crate::specs::private::Testing::number_from, crate::specs::private::Testing::context_tests))]
 fn effect_fault(
     c: Context,
     j: usize,
@@ -158,7 +153,6 @@ fn is_rising(kind: usize, c: Context, k: usize, a: usize, b: usize) -> bool
 }
 
 // The first fault of a G line.
-#[tactic(auto, unfolding(crate::specs::private::Testing::number_from, crate::specs::private::Testing::context_tests))]
 fn edge_fault(c: Context, k: usize, a: usize, b: usize, m: u64, reaches: bool) -> Result<(), Fault>
     ensures { found result ≡ number_from 0 (context_tests c m reaches (Edge k a b)) }
 {
@@ -171,7 +165,6 @@ fn edge_fault(c: Context, k: usize, a: usize, b: usize, m: u64, reaches: bool) -
 }
 
 // The first fault of an S line.
-#[tactic(auto, unfolding(crate::specs::private::Testing::number_from, crate::specs::private::Testing::context_tests))]
 fn form_fault(c: Context, n: usize, m: u64, reaches: bool) -> Result<(), Fault>
     ensures { found result ≡ number_from 0 (context_tests c m reaches (Form n)) }
 {
@@ -181,7 +174,6 @@ fn form_fault(c: Context, n: usize, m: u64, reaches: bool) -> Result<(), Fault>
 }
 
 // The first fault of a T line.
-#[tactic(auto, unfolding(crate::specs::private::Testing::number_from, crate::specs::private::Testing::context_tests))]
 fn bit_fault(c: Context, t: usize, a: usize, b: usize, m: u64, reaches: bool) -> Result<(), Fault>
     ensures { found result ≡ number_from 0 (context_tests c m reaches (TableBit t a b)) }
 {
@@ -221,7 +213,6 @@ fn is_pair(c: Context, m: u64, t: usize) -> bool
 }
 
 // The number that a T line of a table with two columns is refused with, or 0.
-#[tactic(auto, unfolding(crate::specs::private::Testing::number_from, crate::specs::private::Testing::context_tests))]
 fn pair_fault(
     c: Context,
     t: usize,
@@ -251,7 +242,6 @@ fn named(j: usize) -> usize
 }
 
 // The first fault of a V line.
-#[tactic(auto, unfolding(crate::specs::private::Testing::number_from, crate::specs::private::Testing::context_tests))]
 fn event_fault(c: Context, j: usize, u: usize, v: usize, m: u64, reaches: bool) -> Result<(), Fault>
     ensures { found result ≡ number_from 0 (context_tests c m reaches (EventEdge j u v)) }
 {
@@ -264,7 +254,6 @@ fn event_fault(c: Context, j: usize, u: usize, v: usize, m: u64, reaches: bool) 
 }
 
 // The first fault of a K line.
-#[tactic(auto, unfolding(crate::specs::private::Testing::number_from, crate::specs::private::Testing::context_tests))]
 fn mark_fault(c: Context, j: usize, m: u64, reaches: bool) -> Result<(), Fault>
     ensures { found result ≡ number_from 0 (context_tests c m reaches (Mark j)) }
 {
