@@ -12,7 +12,7 @@ fn table_set(phase: usize, table: usize, last: u64, terms: &[u16], masks: &[u64]
     requires { LastSet terms.now masks.now phase table last }
     ensures { result ≡ table_set terms.now masks.now t }
 {
-    if (phase == 7) & (table == t) {
+    if phase == 7 && table == t {
         return last;
     }
     set_at(masks, past_entry(terms, t))

@@ -1,4 +1,6 @@
 // The tests of a line against the counters, and its first fault.
+#![tactic(auto, unfolding(file::specs::Reading::in_range, file::specs::Reading::is_lower, crate::specs::private::Testing::refused_by, crate::specs::private::Testing::number_from, crate::specs::private::Testing::context_tests))]
+
 ghost use Rattle.std.specs.Prelude.{◌≡◌, ◌+◌, ◌*◌, ltb};
 ghost use Rattle.theory.specs.Formula.{is_past};
 ghost use Rattle.theory.specs.Columns.{pair_first};
@@ -30,14 +32,14 @@ fn first(k: Result<(), Fault>, fault: Fault, passes: bool) -> Result<(), Fault>
 fn if_past(o: usize, passes: bool) -> bool
     ensures { result ≡ (is_past o ⇒ passes) }
 {
-    !is_past(o) | passes
+    !is_past(o) || passes
 }
 
 // Whether v is a label, of r relations and e events, granted or denied.
 fn is_label(r: usize, e: usize, v: usize) -> bool
     ensures { result ≡ ltb v (r + 2 * e) }
 {
-    if v < r { true } else { (v - r) / 2 < e }
+    v < r || (v - r) / 2 < e
 }
 
 // Whether an operand is in its range, if it is no entry.
@@ -47,22 +49,18 @@ fn in_range(kind: Kind, r: usize, e: usize, v: usize) -> bool
     match kind {
         Kind::Unused => v == 0,
         Kind::Variable => v < VARIABLES,
-        Kind::Binder => (0 < v) & (v < VARIABLES),
+        Kind::Binder => 0 < v && v < VARIABLES,
         Kind::Label => is_label(r, e, v),
         Kind::Entry => true,
-        Kind::Count => (0 < v) & (v <= COUNT),
+        Kind::Count => 0 < v && v <= COUNT,
     }
 }
 
 // Whether an operand, if it is an entry, is lower than entry n.
-#[tactic(auto, unfolding(file::specs::Reading::is_lower, memory::specs::private::Operands::operand_kind))]
 fn is_lower(kind: Kind, n: usize, v: usize) -> bool
     ensures { result ≡ is_lower (operand_kind kind) n v }
 {
-    match kind {
-        Kind::Entry => v < n,
-        Kind::Unused | Kind::Variable | Kind::Binder | Kind::Label | Kind::Count => true,
-    }
+    !matches!(kind, Kind::Entry) || v < n
 }
 
 // The first fault of an M line.
@@ -101,7 +99,7 @@ fn entry_fault(
     let one = kinds.first;
     let two = kinds.second;
     let three = kinds.third;
-    let k = first(Ok(()), Fault::Form, (c.phase == 2) | (c.phase == 3));
+    let k = first(Ok(()), Fault::Form, matches!(c.phase, 2 | 3));
     let k = first(k, Fault::Form, n == c.entries);
     let k = first(k, Fault::Range, n < ENTRIES);
     let k = first(k, Fault::Range, in_range(one, c.relations, c.events, a));
@@ -119,7 +117,7 @@ fn entry_fault(
 fn policy_fault(c: Context, j: usize, n: usize, m: u64, reaches: bool) -> Result<(), Fault>
     ensures { found result ≡ number_from 0 (context_tests c m reaches (Policy j n)) }
 {
-    let k = first(Ok(()), Fault::Form, (2 <= c.phase) & (c.phase <= 4));
+    let k = first(Ok(()), Fault::Form, matches!(c.phase, 2..=4));
     let k = first(k, Fault::Form, j == c.policies);
     let k = first(k, Fault::Form, j < c.events);
     let k = first(k, Fault::Range, n < c.entries);
@@ -151,8 +149,7 @@ fn effect_fault(
 fn is_rising(kind: usize, c: Context, k: usize, a: usize, b: usize) -> bool
     ensures { result ≡ rising kind c k a b }
 {
-    (c.phase < kind)
-        | ((c.relation < k) | ((c.relation == k) & ((c.from < a) | ((c.from == a) & (c.to < b)))))
+    c.phase < kind || c.relation < k || c.relation == k && (c.from < a || c.from == a && c.to < b)
 }
 
 // The first fault of a G line.
@@ -203,17 +200,16 @@ fn is_rising_pair(c: Context, t: usize, a: usize, b: usize, d: usize) -> bool
 {
     let e = c.from / 4;
     let f = column_of(c.from, c.to);
-    (c.phase < 7)
-        | ((c.relation < t)
-            | ((c.relation == t)
-                & ((e < a) | ((e == a) & ((f < b) | ((f == b) & (c.to % 16 < d)))))))
+    c.phase < 7
+        || c.relation < t
+        || c.relation == t && (e < a || e == a && (f < b || f == b && c.to % 16 < d))
 }
 
 // Whether table t is there and has two columns, where m has the free variables of its entry.
 fn is_pair(c: Context, m: u64, t: usize) -> bool
     ensures { result ≡ is_pair c m t }
 {
-    (t < c.tables) & (rest_of(m) != 0)
+    t < c.tables && rest_of(m) != 0
 }
 
 // The number that a T line of a table with two columns is refused with, or 0.

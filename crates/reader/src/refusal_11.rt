@@ -39,12 +39,13 @@ fn table_word(state: &[u64], t: usize, a: usize) -> u64
 }
 
 // Whether a line is a T line of a word that is not full, in a table without a free variable.
+#[tactic(auto, unfolding(crate::specs::private::Partly::partly_in))]
 fn is_partly(terms: &[u16], state: &[u64], masks: &[u64], full: u64, line: Line) -> bool
     ensures { result ≡ partly_in terms.now state.now masks.now full line }
 {
     match line {
         Line::TableBit(t, a, _) => {
-            (set_at(masks, past_entry(terms, t)) == 0) & (table_word(state, t, a) != full)
+            set_at(masks, past_entry(terms, t)) == 0 && table_word(state, t, a) != full
         }
         _ => false,
     }

@@ -52,7 +52,7 @@ pub(crate) fn begin() -> Context
 pub(crate) fn is_complete(c: Context) -> bool
     ensures { result ≡ is_complete c }
 {
-    (2 <= c.phase) & (c.policies == c.events)
+    2 <= c.phase && c.policies == c.events
 }
 
 // How many effects of event j there are.
@@ -63,6 +63,7 @@ pub(crate) fn slot_of(c: Context, j: usize) -> usize
 }
 
 // The counters after a line that has passed.
+#[tactic(auto, unfolding(crate::specs::private::Stepping::stepped))]
 pub(crate) fn step(c: Context, line: Line) -> Context
     requires ranges { Ranges c line }
     requires tables_bound { c.tables < 33 }

@@ -128,6 +128,7 @@ fn store_event(state: &mut [u64], j: usize, u: usize, v: usize)
 }
 
 // The words of the terms that a line gives.
+#[tactic(auto, unfolding(crate::specs::private::Storing::stored_terms))]
 pub(crate) fn store_terms(terms: &mut [u16], c: Context, line: Line)
     requires ranges { Ranges c line }
     requires terms_len { length terms.old ≡ terms_words }
@@ -145,6 +146,7 @@ pub(crate) fn store_terms(terms: &mut [u16], c: Context, line: Line)
 }
 
 // The word of the state that a line gives, or the bit of one.
+#[tactic(auto, unfolding(crate::specs::private::Storing::stored_state))]
 pub(crate) fn store_state(state: &mut [u64], c: Context, line: Line)
     requires ranges { Ranges c line }
     requires state_len { length state.old ≡ state_words }
@@ -160,6 +162,7 @@ pub(crate) fn store_state(state: &mut [u64], c: Context, line: Line)
 }
 
 // The free variables m of the entry that a line gives.
+#[tactic(auto, unfolding(crate::specs::private::Storing::stored_sets))]
 pub(crate) fn store_set(masks: &mut [u64], c: Context, line: Line, m: u64)
     requires ranges { Ranges c line }
     requires masks_len { length masks.old ≡ 256 }

@@ -24,11 +24,3 @@ returns-in_err-k c =
     let p = err_from_is_err_and c.from_residual.result c.from_residual.ensures.1 in
     let f = c.in_err-k.field-0.0 in
     rw (p.1, p.2, c.in_err-k.was, ne_eqb (fault_number f) 0 (some f))
-
-pub returns-then-passes : goal.returns-then-passes
-unfolding refused_by
-returns-then-passes c = rw (c.in_ok-k.was, c.if-passes.true)
-
-pub returns-else-passes : goal.returns-else-passes
-unfolding refused_by
-returns-else-passes c = rw (c.in_ok-k.was, c.if-passes.false)
