@@ -1,7 +1,6 @@
 -- Where the bit is set, its line is there.
 use Prim.Native.Nat.{◌%◌}
 use mathlib.Core.Bool.{true, false}
-use borrow.Author.Tests.{not-true, not-false}
 use Rattle.file.specs.Line.{fields_of}
 use Rattle.writer.proofs.PutLines.{put_bit_there, put_bit_none, put_one_said, put_two_said}
 use Rattle.writer.proofs.bits.put_bit.Goals as goal
@@ -14,19 +13,19 @@ returns-then-not-has-clause-put c =
 pub returns-then-not-table-clause-put : goal.returns-then-not-table-clause-put
 unfolding fields_of
 returns-then-not-table-clause-put c =
-    rw (not-true c.args.table c.if-not-table.true-raw)
+    rw c.if-not-table.true
     (put_bit_there false c.args.pairs c.args.w c.args.i c.args.b c.requires.1 _ c.has.ensures c.if-not-has.false c.put_triple.ensures.put)
 
 pub returns-then-has-clause-put : goal.returns-then-has-clause-put
 unfolding fields_of
 returns-then-has-clause-put c =
-    rw (not-false c.args.table c.if-not-table.false-raw)
+    rw c.if-not-table.false
     (put_bit_there true c.args.pairs c.args.w c.args.i c.args.b c.requires.1 _ c.has.ensures c.if-not-has.false
     (put_two_said c.args.pairs _ (c.args.i % 64) c.args.b _ c.has-2.ensures c.if-has.true c.put_quad.ensures.put))
 
 pub returns-clause-put : goal.returns-clause-put
 unfolding fields_of
 returns-clause-put c =
-    rw (not-false c.args.table c.if-not-table.false-raw)
+    rw c.if-not-table.false
     (put_bit_there true c.args.pairs c.args.w c.args.i c.args.b c.requires.1 _ c.has.ensures c.if-not-has.false
     (put_one_said c.args.pairs _ (c.args.i % 64) c.args.b _ c.has-2.ensures c.if-has.false c.put_triple-2.ensures.put))

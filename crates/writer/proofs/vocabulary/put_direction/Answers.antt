@@ -14,6 +14,4 @@ returns-in-1 c = put_at direction_words 1 _ c.in-1.is (c.put_bytes-in-1.ensures.
 
 pub returns-in_default : goal.returns-in_default
 unfolding direction_words
-returns-in_default c =
-    let r = c.in_default.in_default-own.rest in
-    put_past _ _ direction_words c.args.direction (omega (arith, r.0.1, r.1))
+returns-in_default c = put_past _ _ direction_words c.args.direction (omega arith)
