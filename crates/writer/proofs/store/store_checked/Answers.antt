@@ -21,8 +21,8 @@ put_stored-requires c = (c.requires.1, (passed_checked _ _ c.requires.0).long_st
 
 pub returns-clause-result_value : goal.returns-clause-result_value
 unfolding store_gives store_leaves
-returns-clause-result_value c =     (ends_whole _ (stored_text _ _) _ c.requires.0 _ c.count-n.ensures c.if-out-n.false _ _ c.put_stored.ensures.put).0
+returns-clause-result_value c = (ends_whole _ (stored_text _ _) _ c.requires.0 _ c.count-n.ensures c.if-out-n.false _ _ c.put_stored.ensures.put).0
 
 pub returns-clause-out_after : goal.returns-clause-out_after
 unfolding store_gives store_leaves
-returns-clause-out_after c =     (ends_whole _ (stored_text _ _) _ c.requires.0 _ c.count-n.ensures c.if-out-n.false _ _ c.put_stored.ensures.put).1
+returns-clause-out_after c = (ends_whole _ (stored_text _ _) _ c.requires.0 _ c.count-n.ensures c.if-out-n.false _ _ c.put_stored.ensures.put).1

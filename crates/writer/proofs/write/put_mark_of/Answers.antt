@@ -9,4 +9,4 @@ returns-then-not-is_kept-clause-put c = put_mark_none (terms_of c.args.terms.now
 
 pub returns-clause-put : goal.returns-clause-put
 unfolding fields_of
-returns-clause-put c =     put_mark_there (terms_of c.args.terms.now) c.args.j _ c.is_kept.ensures c.if-not-is_kept.false c.put_single.ensures.put
+returns-clause-put c = put_mark_there (terms_of c.args.terms.now) c.args.j _ c.is_kept.ensures c.if-not-is_kept.false c.put_single.ensures.put
