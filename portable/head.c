@@ -2,6 +2,13 @@
 
 #include <string.h>
 
+/* What is one function in the source is many here, down to the turn of a loop:
+ * gcc joins them at -O3, and at -O2 too few of them. */
+#if defined(__GNUC__) && !defined(__clang__) && defined(__OPTIMIZE__) &&       \
+    !defined(__OPTIMIZE_SIZE__)
+#pragma GCC optimize("O3")
+#endif
+
 /* A function with a large array is not inlined: two such arrays would share a
  * frame, and both would be on the stack where one is needed. */
 #ifdef __GNUC__

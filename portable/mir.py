@@ -177,10 +177,6 @@ class Program:
                     case {"Impl": [impl, index]}:
                         self.methods[impl, index] = name
 
-    def is_method(self, name):
-        """A function that others call through a dictionary, or a closure."""
-        return "::fn::" in name or self.items[name]["generics"]["method_of"] is not None
-
     def called(self, callee):
         """What a call calls, as ("Fn", name, types, dictionaries): a method is its impl's function."""
         match callee:

@@ -57,7 +57,7 @@ class Translation:
         static = "static"
         if any(layout(self.types, function.kinds[i])[0] >= LARGE for i in own):
             static += " OUT_OF_LINE"
-        elif function.types or self.program.is_method(function.name):
+        else:
             static += " inline"
         head = f"{static} {declared(kinds[0], self.name(function))}({parameters})"
         lines = [f"    {declared(kinds[i], f'l{i}')};" for i in own]

@@ -72,10 +72,12 @@ fn first_same(keys: &[u64], limit: usize, key: u64) -> usize
     requires { limit ≤ length keys.now }
     ensures { (result ≡ found keys.now limit key) × (result ≤ limit) }
 {
-    keys[..limit]
-        .iter()
-        .position(|k| *k == key)
-        .unwrap_or(limit)
+    for k in 0..limit {
+        if keys[k] == key {
+            return k;
+        }
+    }
+    limit
 }
 
 // The same, where those keys are marked.

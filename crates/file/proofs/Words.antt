@@ -2,21 +2,16 @@
 use Prim.Native.Nat.{ℕ, zero, suc, ◌+◌, ◌≤◌, ◌<◌}
 use mathlib.Core.Path.{◌≡◌, refl, sym, ap, ◌∙◌}
 use mathlib.Core.Logic.{⊎_elim}
-use mathlib.Core.List.{List, [], ◌∷◌, map}
-use mathlib.Core.Bool.{true, false, cond, not, and-false}
+use mathlib.Core.List.{List, [], ◌∷◌}
+use mathlib.Core.Bool.{true, false, not, and-false}
 use native.Mathlib.Omega.{arith}
 use native.Mathlib.Numerals.{add-one}
-use lib.Dec.{eqb, ltb}
-use lib.Pointwise.{pointwise}
-use denote.Ref.{Bor}
-use Rattle.std.proofs.Common.{Some, None}
-use Rattle.std.specs.List.{position_or_len}
-use lib.ListN.{length, get_or, length-map}
+use lib.Dec.{ltb}
+use lib.ListN.{length, get_or}
 use borrow.Author.Tests.{ne_eqb, not-true, lt-ltb, le-ltb, ltb-true, ltb-false}
 use Rattle.sets.proofs.Finite.{true_or_false, and_left, and_right}
 use Rattle.fields.specs.Split.{alike}
 use Rattle.file.specs.Words.{operator_words, action_words, direction_words, kind_words, absent, distinct, index_from, index_of, operator_of, action_of, direction_of, kind_of}
-use Rattle.fields.proofs.Scan.{alike_std}
 use Rattle.fields.proofs.Split.{alike_refl, alike_eq}
 
 -- ---- any table
@@ -62,26 +57,6 @@ from_back j (w ∷ ws) f (suc k) e h =
 
 index_of_back : (ws : List (List ℕ)) (f : List ℕ) (k : ℕ) → index_of ws f ≡ k → k < length ws → f ≡ get_or ws k []
 index_of_back ws f k e h = from_back 0 ws f k (omega arith) h
-
--- What code finds that goes through a table of words.
-index_std : (ws : List (Bor (List ℕ))) (f : List ℕ) (k : ℕ)
-    → index_from k (map (λ w. w.now) ws) f ≡ k + position_or_len (λ w. pointwise eqb f w.now) ws
-unfolding index_from
-index_std [] f k = omega arith
-index_std (w ∷ ws) f k =
-    let ih = index_std ws f (suc k) in
-    ⊎_elim
-    (λ (t : pointwise eqb f w.now ≡ true). rw (alike_std f w.now, t) (omega arith))
-    (λ (t : pointwise eqb f w.now ≡ false). rw (alike_std f w.now, t, ih) (omega arith))
-    (true_or_false (pointwise eqb f w.now))
-
-pub word_found : (ws : List (Bor (List ℕ))) (us : List (List ℕ)) (f : List ℕ) → map (λ w. w.now) ws ≡ us
-    → cond (ltb (position_or_len (λ w. pointwise eqb f w.now) ws) (length ws)) (Some (position_or_len (λ w. pointwise eqb f w.now) ws)) None
-    ≡ cond (ltb (index_of us f) (length us)) (Some (index_of us f)) None
-word_found ws us f e =
-    let l : length us ≡ length ws = rw (← e) (length-map ws (λ (w : Bor (List ℕ)). w.now)) in
-    let n : index_of us f ≡ position_or_len (λ w. pointwise eqb f w.now) ws = rw (← e) (index_std ws f 0 ∙ omega arith) in
-    rw (l, n) refl
 
 -- ---- the tables
 

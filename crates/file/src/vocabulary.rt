@@ -22,18 +22,38 @@ pub enum Kind {
     Mark,
 }
 
-const OPERATOR_WORDS: [&[u8]; 12] = [
-    b"top", b"var", b"not", b"or", b"out", b"in", b"prev", b"since", b"bind", b"at", b"reach",
-    b"many",
-];
-
-const DIRECTION_WORDS: [&[u8]; 2] = [b"fwd", b"back"];
-
-// The number of the operator whose word f is.
+// The number of the operator whose word f is. (A table of words would be a table of addresses, which the archive does
+// without.)
 pub fn read_operator(f: &[u8]) -> Option<usize>
     ensures { result ≡ cond (ltb (operator_of f.now) operators) (Some (operator_of f.now)) None }
 {
-    OPERATOR_WORDS.iter().position(|w| f == *w)
+    if same(f, b"top") {
+        Some(TOP)
+    } else if same(f, b"var") {
+        Some(VAR)
+    } else if same(f, b"not") {
+        Some(NOT)
+    } else if same(f, b"or") {
+        Some(OR)
+    } else if same(f, b"out") {
+        Some(OUT)
+    } else if same(f, b"in") {
+        Some(IN)
+    } else if same(f, b"prev") {
+        Some(PREV)
+    } else if same(f, b"since") {
+        Some(SINCE)
+    } else if same(f, b"bind") {
+        Some(BIND)
+    } else if same(f, b"at") {
+        Some(AT)
+    } else if same(f, b"reach") {
+        Some(REACH)
+    } else if same(f, b"many") {
+        Some(MANY)
+    } else {
+        None
+    }
 }
 
 // 1 for add, 2 for del.
@@ -53,7 +73,13 @@ pub fn read_action(f: &[u8]) -> Option<usize>
 pub fn read_direction(f: &[u8]) -> Option<usize>
     ensures { result ≡ cond (ltb (direction_of f.now) 2) (Some (direction_of f.now)) None }
 {
-    DIRECTION_WORDS.iter().position(|w| f == *w)
+    if same(f, b"fwd") {
+        Some(0)
+    } else if same(f, b"back") {
+        Some(1)
+    } else {
+        None
+    }
 }
 
 // The kind of a line, by its first field.

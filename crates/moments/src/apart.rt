@@ -54,6 +54,35 @@ fn prev_turn(
     }
 }
 
+// Moves the table of entry n on, which is a since. Out of line, so that a sweep over other entries does not pay for it.
+#[inline(never)]
+fn step_since(
+    terms: &[u16],
+    index: &[u16],
+    relations: &[u64],
+    own: &mut [u64],
+    memo: &mut [u64],
+    f: &mut [u64],
+    rows: &mut [u64],
+    n: usize,
+)
+    requires movable { Movable terms.now index.now (relations.now ++ own.old) × (length relations.now ≡ relation_words) × (length own.old ≡ own_words) }
+    requires n_bound { (n < (terms_of terms.now).entries) × (length rows.old ≡ block_words) × (length f.old ≡ block_words) }
+    requires op { ((terms_of terms.now).entry n).op ≡ 7 }
+    requires memo_of { MemoOf (terms_of terms.now) (relations.now ++ own.old) (terms_of terms.now).entries memo.old × Fresh (terms_of terms.now).entries n memo.old }
+    ensures becomes { Becomes terms.now (since_at n) (relations.now ++ own.old) (relations.now ++ own.new) }
+    ensures memo_of_2 { MemoOf (terms_of terms.now) (relations.now ++ own.new) (terms_of terms.now).entries memo.new × Fresh (terms_of terms.now).entries n memo.new }
+{
+    let present = Present {
+        terms,
+        index,
+        relations,
+        past: own,
+    };
+    tables::since_table(&present, memo, n, f, rows);
+    put_table(index, own, rows, n);
+}
+
 // Moves the table of entry n on, if that is a since.
 pub fn since_turn(
     terms: &[u16],
@@ -72,14 +101,7 @@ pub fn since_turn(
     ensures memo_of_2 { MemoOf (terms_of terms.now) (relations.now ++ own.new) (terms_of terms.now).entries memo.new × Fresh (terms_of terms.now).entries n memo.new }
 {
     if layout::op_of(terms, n) == SINCE {
-        let present = Present {
-            terms,
-            index,
-            relations,
-            past: own,
-        };
-        tables::since_table(&present, memo, n, f, rows);
-        put_table(index, own, rows, n);
+        step_since(terms, index, relations, own, memo, f, rows, n);
     }
 }
 

@@ -24,12 +24,14 @@ const ROWS: usize = layout::BLOCK;
 
 const EVENT: usize = layout::OWN_EVENT_AT;
 
-// Copies as many words as there is room for.
+// Copies as many words as there is room for. (A loop, since the library's copy may call `memmove`.)
 pub(crate) fn copy(to: &mut [u64], from: &[u64])
     requires { length to.old ≤ length from.now }
     ensures { to.new ≡ take (length to.old) from.now }
 {
-    to.copy_from_slice(&from[0..to.len()]);
+    for (i, word) in to.iter_mut().enumerate() {
+        *word = from[i];
+    }
 }
 
 // Fills in the table of new entry n with that of old entry k.

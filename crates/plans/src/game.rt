@@ -23,6 +23,16 @@ const PASS: usize = TARGETS * checks::EVENTS;
 
 const MOVES: usize = PASS + 1;
 
+// Copies words of the same number. (A loop, since the library's copy may call `memmove`.)
+fn copy_words(part: &mut [u64], from: &[u64])
+    requires { length part.old ≡ length from.now }
+    ensures { part.new ≡ from.now }
+{
+    for (i, word) in part.iter_mut().enumerate() {
+        *word = from[i];
+    }
+}
+
 // Copies the state that stands from a place on behind itself.
 fn copy_on(words: &mut [u64], at: usize)
     requires { at + state_words + state_words ≤ length words.old }
@@ -168,7 +178,7 @@ pub(crate) fn play(
     ensures value { result ≡ accepted terms.now state.now plan.now planner rival goal u v }
     ensures words_after { words.new ≡ replicate game_words 0 }
 {
-    words[0..STATE].copy_from_slice(&state[0..STATE]);
+    copy_words(&mut words[0..STATE], &state[0..STATE]);
     let won = attempt(terms, words, 0, plan, 0, planner, goal, u, v);
     let r = always(terms, words, 0, plan, 1, won, planner, rival, goal, u, v);
     clear(&mut words[0..GAME]);

@@ -212,7 +212,7 @@ fn is_pair(c: Context, m: u64, t: usize) -> bool
     t < c.tables && rest_of(m) != 0
 }
 
-// The number that a T line of a table with two columns is refused with, or 0.
+// The first fault of a T line of a table with two columns.
 fn pair_fault(
     c: Context,
     t: usize,

@@ -5,7 +5,7 @@ use Rattle.transcript.proofs.Whole.{read_refused, output_long, output_refused, o
 use Rattle.transcript.proofs.print_all.Goals as goal
 
 pub returns-then-terms-gt-LONGEST : goal.returns-then-terms-gt-LONGEST
-returns-then-terms-gt-LONGEST c = rw (output_long _ _ c.if-terms-gt-LONGEST.true) c.put_file.ensures
+returns-then-terms-gt-LONGEST c = rw (output_long _ _ c.if-terms-gt-LONGEST.true) (rw (c.number.ensures, c.line.ensures) at c.put_file.ensures)
 
 pub put_file-requires-in-Err : goal.put_file-requires-in-Err
 put_file-requires-in-Err c =
@@ -18,4 +18,5 @@ returns-in-Ok c =
 
 pub returns-in-Err : goal.returns-in-Err
 returns-in-Err c =
-    rw (output_refused _ _ _ _ c.if-terms-gt-LONGEST.false (read_refused _ _ _ c.in-Err.ensures.result_value)) c.put_file-in-Err.ensures
+    rw (output_refused _ _ _ _ c.if-terms-gt-LONGEST.false (read_refused _ _ _ c.in-Err.ensures.result_value), ← c.number-in-Err.ensures, ← c.line-line.ensures)
+    c.put_file-in-Err.ensures

@@ -17,14 +17,14 @@ returns-clause-value c =
     let x = c.args in
     let q = c.requires.state_words_in_bounds in
     let t = c.attempt-won in
-    let w = put_mid 0 state_words x.words.now c.copy_from_slice.new.self in
+    let w = put_mid 0 state_words x.words.now c.copy_words.new.part in
     played x.terms.now x.state.now x.plan.now x.planner x.rival x.goal x.u x.v (standing 0 w) (standing 0 t.new.words)
-    t.result c.always-r.result c.requires.playable.some_move (copied x.state.now x.words.now _ q.0 q.1 c.copy_from_slice.ensures.after).here t.ensures.value t.ensures.placed.here c.always-r.ensures.value
+    t.result c.always-r.result c.requires.playable.some_move (copied x.state.now x.words.now _ q.0 q.1 c.copy_words.ensures).here t.ensures.value t.ensures.placed.here c.always-r.ensures.value
 
 pub returns-clause-words_after : goal.returns-clause-words_after
 returns-clause-words_after c =
     let x = c.args in
     let q = c.requires.state_words_in_bounds in
     let long : length c.always-r.new.words ≡ game_words =
-    c.always-r.ensures.spared.long ∙ c.attempt-won.ensures.placed.spared.long ∙ (copied x.state.now x.words.now _ q.0 q.1 c.copy_from_slice.ensures.after).spared.long ∙ q.1 in
+    c.always-r.ensures.spared.long ∙ c.attempt-won.ensures.placed.spared.long ∙ (copied x.state.now x.words.now _ q.0 q.1 c.copy_words.ensures).spared.long ∙ q.1 in
     game_cleared c.always-r.new.words c.clear.new.words long c.clear.ensures

@@ -8,12 +8,12 @@ use Rattle.transcript.proofs.print.put_file.Goals as goal
 pub returns : goal.returns
 unfolding file_line
 returns c =
-    let l1 = digits_short c.number.result in
-    let l2 = digits_short c.line.result in
+    let l1 = digits_short c.args.number in
+    let l2 = digits_short c.args.line in
     let e1 = c.put_bytes-tab.ensures.all (omega arith) in
     let e2 = c.put_bytes-first.ensures.all (omega (arith, e1.next)) in
-    let e3 = c.put_decimal-next.ensures.all (omega (arith, c.number.ensures), omega (arith, e1.next, e2.next)) in
+    let e3 = c.put_decimal-next.ensures.all (omega arith, omega (arith, e1.next, e2.next)) in
     let e4 = c.put_bytes-second.ensures.all (omega (arith, e1.next, e2.next, e3.next)) in
-    let e5 = c.put_decimal-end.ensures.all (omega (arith, c.line.ensures), omega (arith, e1.next, e2.next, e3.next, e4.next)) in
+    let e5 = c.put_decimal-end.ensures.all (omega arith, omega (arith, e1.next, e2.next, e3.next, e4.next)) in
     let e6 = c.put_bytes.ensures.all (omega (arith, e1.next, e2.next, e3.next, e4.next, e5.next)) in
-    rw (← c.number.ensures, ← c.line.ensures) (put_then e1 (put_then e2 (put_then e3 (put_then e4 (put_then e5 e6)))))
+    (put_then e1 (put_then e2 (put_then e3 (put_then e4 (put_then e5 e6)))))
